@@ -1,0 +1,6 @@
+pub mod Step
+pub mod Names
+pub mod Room
+pub mod Effect
+pub mod Leaves
+pub mod Acts
