@@ -1,5 +1,6 @@
 -- What an act tells of a store, and what it leaves.
-use Rattle.std.specs.Prelude.{◌≡◌, ◌⊎◌, ℕ, ◌+◌, ◌-◌, ◌≤◌, ◌<◌, ◌^◌, min, Option, Some, None, Result, Ok, Err}
+use Rattle.std.specs.Prelude.{◌≡◌, ℕ, ◌≤◌, Option, Some, None, Result, Ok, Err}
+use Rattle.plfs_types.specs.Counts.{HasRisen, next_count}
 use Rattle.store_api.specs.declared.tree.Tree.{Tree}
 use Rattle.store_api.specs.declared.step.Answer.{Answer}
 use Rattle.store_api.specs.declared.store.Trouble.{Trouble}
@@ -19,14 +20,6 @@ pub record Stored : Type 0 where
 abbrev pub Goes : (Tree → Tree → Type 0) → Option Tree → Option Tree → Type 0
 Goes moves None new = new ≡ None
 Goes moves (Some old) new = (after : Tree) × (new ≡ Some after) × moves old after
-
--- one more, up to 2^64 - 1
-abbrev pub next_count : ℕ → ℕ
-next_count n = min (n + 1) (2 ^ 64 - 1)
-
--- a count of faults that is greater than before, or has come to its end
-abbrev pub HasRisen : ℕ → ℕ → Type 0
-HasRisen before after = (before < after) ⊎ (2 ^ 64 - 1 ≤ after)
 
 -- the step was made whole, and answered
 pub record IsMade (step : Step) (answer : Answer) (old new : Stored) : Type 0 where

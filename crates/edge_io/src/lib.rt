@@ -1,0 +1,23 @@
+//! The edge to the world: sources and sinks of bytes, clocks and gates, each by its contract, in memory for tests
+//! and over the standard library. It stands on the shared values alone.
+#![tactic(auto)]
+
+mod adapters;
+mod clock;
+mod failed;
+mod gate;
+mod list_clock;
+mod memory_sink;
+mod memory_source;
+mod sink;
+mod source;
+
+pub use adapters::{StdSink, StdSource, SystemClock};
+pub use clock::Clock;
+pub use failed::Failed;
+pub use gate::{Gate, NoGate};
+pub use list_clock::{ClockList, ListClock};
+pub use memory_sink::MemorySink;
+pub use memory_source::{CallList, MemorySource};
+pub use sink::Sink;
+pub use source::Source;

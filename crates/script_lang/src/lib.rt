@@ -1,0 +1,14 @@
+//! Scripts, what they have their actors do, and the lines that tell what became of each statement. It stands on
+//! the shared values alone.
+#![tactic(auto)]
+
+mod line;
+mod script;
+mod trouble;
+
+pub use line::{Line, Lines, MapText, Outcome, Why};
+pub use script::{
+    ActorDecl, ActorList, Data, Numbered, Phase, PhaseList, Script, Statement, StatementList,
+    TurnList, Turned,
+};
+pub use trouble::{Kind, ScriptTrouble};
