@@ -1,0 +1,3 @@
+pub mod Spelled
+mod Judgements
+mod Places

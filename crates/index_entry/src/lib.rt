@@ -1,0 +1,12 @@
+//! Index entries as 40 bytes: what an index dropping is made of, and the pieces of a flattened index too.
+//! It owns the one spelling of an entry and the rules of a valid one, and stands on the shared values alone.
+#![tactic(auto)]
+
+mod reading;
+mod writing;
+
+pub use reading::{BadEntry, decode};
+pub use writing::encode;
+
+#[cfg(test)]
+mod tests;
