@@ -1,0 +1,7 @@
+pub mod Histories
+pub mod Fronts
+mod Views
+mod Keeps
+mod Calls
+mod Ends
+mod Shares

@@ -1,0 +1,75 @@
+-- What each atomic step tells the pass that makes it.
+use Rattle.std.specs.Prelude.{◌≡◌, ◌≢◌, ℕ, ◌^◌, ◌<◌, ◌≤◌, List, [], ◌∷◌, ◌++◌, length, Option, Some, None}
+use Rattle.std.specs.List.{All}
+use Rattle.std.specs.declared.snapshot.Snapshot.{Snapshot}
+use Rattle.atomic_table.specs.Table.{Me, Step}
+use Rattle.turn_object.specs.declared.history.Entry.{Entry}
+use Rattle.turn_object.specs.declared.history.Ended.{Ended}
+use Rattle.turn_object.specs.declared.front.Front.{Front}
+use Rattle.turn_object.specs.declared.front.Stage.{Stage}
+use Rattle.turn_object.specs.declared.front.Stage.TheVariants.{Idle, Waiting, Serving}
+use Rattle.turn_object.specs.declared.slot.Resting.{Resting}
+use Rattle.turn_object.specs.History.{entry, state_after, number_at, StartsWith, IsLegal}
+use Rattle.turn_object.specs.Front.{IsOwn, KeepsIn, EndedIn, IsLegalFront}
+
+module _ {A R S : Type 0} where
+  -- the first pass
+  abbrev pub first_front : S → Front A R S
+  first_front start = record { start = Some start; seen = []; shorter = []; mine = []; ended = []; parts = 2 ^ 40; stage = Idle }
+
+  -- a pass that was joined into another one
+  abbrev pub spent_front : Front A R S
+  spent_front = record { start = None; seen = []; shorter = []; mine = []; ended = []; parts = 0; stage = Idle }
+
+  -- a pass whose call has come so far
+  abbrev pub at_stage : Stage → Front A R S → Front A R S
+  at_stage stage v = record { start = v.start; seen = v.seen; shorter = v.shorter; mine = v.mine; ended = v.ended; parts = v.parts; stage = stage }
+
+  -- a pass whose turn has come
+  abbrev pub served_front : ℕ → List (Entry A R S) → Front A R S → Front A R S
+  served_front ticket history v = record { start = v.start; seen = history; shorter = v.shorter; mine = v.mine; ended = v.ended; parts = v.parts; stage = Serving ticket }
+
+  -- a pass whose call is done
+  abbrev pub called_front : Entry A R S → Front A R S → Front A R S
+  called_front e v = record { start = v.start; seen = v.seen ++ e ∷ []; shorter = v.shorter; mine = v.mine ++ e ∷ []; ended = v.ended; parts = v.parts; stage = Idle }
+
+  -- a ticket was taken
+  abbrev pub Took : Step (Option (Resting A R S)) → Me (Option (Resting A R S)) (Front A R S) → ℕ → Me (Option (Resting A R S)) (Front A R S) → Type 0
+  Took st m found m' = m' ≡ (at_stage (Waiting found) m.0, m.1)
+
+  -- who ended is another caller, whose entries stand among these
+  abbrev pub EndedBefore : List (Entry A R S) → List (Entry A R S) → Ended A R S → Type 0
+  EndedBefore history mine gone = EndedIn history gone × (gone.number < length history) × ¬ (IsOwn mine gone.number)
+
+  module _ (step : S → ℕ → A → R → S → Type 0) (may : S → ℕ → A → Type 0) where
+    -- whose turn it is has seen the whole history, and has the object after it
+    pub record IsServed (ticket : ℕ) (m m' : Me (Option (Resting A R S)) (Front A R S)) : Type 0 where
+      pub history : List (Entry A R S)
+      pub start : S
+      pub resting : Resting A R S
+      pub begins : m.0.start ≡ Some start
+      pub after : m' ≡ (served_front ticket history m.0, (0, Some resting) ∷ [])
+      pub object : resting.object ≡ state_after start history
+      pub length_is : length history ≡ ticket
+      pub seen : StartsWith history m.0.seen
+      pub legal : IsLegal step may 0 start history
+      pub own : KeepsIn history m.0.mine
+      pub own_before : KeepsIn m.0.seen m.0.mine
+      pub number_low : number_at m.0.mine (length history) ≤ length history
+      pub ended : All (EndedBefore history m.0.mine) m.0.ended
+
+    -- a look at the ticket that is served
+    abbrev pub Looked : Step (Option (Resting A R S)) → Me (Option (Resting A R S)) (Front A R S) → ℕ → Me (Option (Resting A R S)) (Front A R S) → Type 0
+    Looked st m found m' =
+        (ticket : ℕ) → m.0.stage ≡ Waiting ticket → (found ≢ ticket → m' ≡ m) × (found ≡ ticket → IsServed ticket m m')
+
+    -- a look that changes nothing: after a join it tells that what the pass has seen is legal, and begins with the shorter of the two histories
+    abbrev pub Learned : Step (Option (Resting A R S)) → Me (Option (Resting A R S)) (Front A R S) → ℕ → Me (Option (Resting A R S)) (Front A R S) → Type 0
+    Learned st m found m' =
+        (m' ≡ m) × ((start : S) → m.0.start ≡ Some start → IsLegalFront step may start m.0 × StartsWith m.0.seen m.0.shorter)
+
+  -- the call that the slot tells of is the history's next entry
+  abbrev pub Passed : Step (Option (Resting A R S)) → Me (Option (Resting A R S)) (Front A R S) → ℕ → Me (Option (Resting A R S)) (Front A R S) → Type 0
+  Passed st m found m' =
+      (object : S) (ask : Snapshot A) (reply : Snapshot R) → m.1 ≡ (0, Some (record { object = object; last = Some (ask, reply) })) ∷ []
+      → m' ≡ (called_front (entry (number_at m.0.mine (length m.0.seen)) ask.value reply.value object) m.0, [])
