@@ -2,7 +2,6 @@
 //! and over the standard library. It stands on the shared values alone.
 #![tactic(auto)]
 
-mod adapters;
 mod clock;
 mod failed;
 mod gate;
@@ -11,8 +10,10 @@ mod memory_sink;
 mod memory_source;
 mod sink;
 mod source;
+mod std_sink;
+mod std_source;
+mod system_clock;
 
-pub use adapters::{StdSink, StdSource, SystemClock};
 pub use clock::Clock;
 pub use failed::Failed;
 pub use gate::{Gate, NoGate};
@@ -21,3 +22,9 @@ pub use memory_sink::MemorySink;
 pub use memory_source::{CallList, MemorySource};
 pub use sink::Sink;
 pub use source::Source;
+pub use std_sink::StdSink;
+pub use std_source::StdSource;
+pub use system_clock::SystemClock;
+
+#[cfg(test)]
+mod tests;
