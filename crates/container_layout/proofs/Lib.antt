@@ -1,0 +1,5 @@
+mod Decimals
+pub mod Dots
+mod Misses
+pub mod Places
+pub mod Short

@@ -1,0 +1,41 @@
+-- The table of items: where each one stands, and how its file is named.
+use Rattle.std.specs.Prelude.{◌≡◌, ℕ, ◌%◌, List, [], ◌∷◌, ◌++◌, codes}
+use Rattle.std.specs.Fmt.{decimal}
+use Rattle.plfs_types.specs.declared.names.Path.{Path}
+use Rattle.container_layout.specs.declared.items.Item.{Item}
+use Rattle.container_layout.specs.declared.items.Item.TheVariants.{Access, OpenHost, Meta, Trunc, Flat, TmpFlat, Index, Log}
+use Rattle.container_layout.specs.Items.{IsItem}
+use Rattle.container_layout.specs.Numbers.{dotted}
+
+-- the folder of a host's droppings
+abbrev pub hostdir_of : ℕ → List ℕ
+hostdir_of host = codes "hostdir." ++ decimal (host % 32)
+
+-- a folder, what the file's name begins with, and the numbers behind that
+pub record Row : Type 0 where
+  pub folder : List ℕ
+  pub word : List ℕ
+  pub numbers : List ℕ
+
+abbrev pub row_of : Item → Row
+row_of Access = record { folder = []; word = codes "access"; numbers = [] }
+row_of (OpenHost host writer) = record { folder = codes "openhosts"; word = []; numbers = host ∷ writer ∷ [] }
+row_of (Meta last bytes stamp host writer) = record { folder = codes "metadata"; word = []; numbers = last ∷ bytes ∷ stamp ∷ host ∷ writer ∷ [] }
+row_of (Trunc stamp size) = record { folder = codes "truncs"; word = []; numbers = stamp ∷ size ∷ [] }
+row_of (Flat id) = record { folder = codes "flats"; word = []; numbers = id ∷ [] }
+row_of (TmpFlat id) = record { folder = codes "flats"; word = codes "tmp."; numbers = id ∷ [] }
+row_of (Index host writer) = record { folder = hostdir_of host; word = codes "index."; numbers = host ∷ writer ∷ [] }
+row_of (Log host writer) = record { folder = hostdir_of host; word = codes "log."; numbers = host ∷ writer ∷ [] }
+
+-- the one path of an item
+abbrev pub path_of : Item → Path
+path_of item = record { folder = (row_of item).folder; file = (row_of item).word ++ dotted (row_of item).numbers }
+
+-- the path is the printed form of the item
+pub record IsAt (path : Path) (item : Item) : Type 0 where
+  pub is_item : IsItem item
+  pub printed : path ≡ path_of item
+
+-- the same in two parts
+abbrev pub IsIn : List ℕ → List ℕ → Item → Type 0
+IsIn folder file item = IsAt (record { folder = folder; file = file }) item
