@@ -1,0 +1,3 @@
+pub mod Parts
+pub mod Counting
+pub mod Stored

@@ -1,0 +1,38 @@
+//! Why a step came to no answer.
+use plfs_types::NoMemory;
+use std::alloc::{AllocError, AllocFailed};
+use std::io;
+
+/// Why a step came to no answer.
+#[derive(Clone, Copy, Debug, PartialEq, Eq)]
+pub enum Failure {
+    /// The system failed, or no name of the system can stand for a name of the step.
+    Failed,
+    /// Memory was refused before the step did anything.
+    NoMemory,
+}
+
+impl From<AllocError> for Failure {
+    fn from(_: AllocError) -> Self {
+        Failure::NoMemory
+    }
+}
+
+impl<T: Drop> From<AllocFailed<T>> for Failure {
+    fn from(_: AllocFailed<T>) -> Self {
+        Failure::NoMemory
+    }
+}
+
+impl From<NoMemory> for Failure {
+    fn from(_: NoMemory) -> Self {
+        Failure::NoMemory
+    }
+}
+
+/// An error of the system is a failure of it, also where the system had no memory: what it did is not known then.
+impl From<io::Error> for Failure {
+    fn from(_: io::Error) -> Self {
+        Failure::Failed
+    }
+}

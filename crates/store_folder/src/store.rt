@@ -1,0 +1,102 @@
+//! The store: a folder of the system, and the counts of its acts and faults.
+ghost use Rattle.std.specs.Prelude.{◌≡◌, ◌≤◌, IfOk};
+ghost use Rattle.store_api.specs.Step.{step_of};
+ghost use Rattle.store_api.specs.Acts.{Acts, next_count, HasRisen};
+ghost use Rattle.store_folder.specs.Counting.{untold, CountsFaults};
+ghost use Rattle.store_folder.specs.Stored.{stored_of};
+
+use crate::disk::{Disk, System};
+use crate::failure::Failure;
+use plfs_types::{NoMemory, Word};
+use std::alloc::Global;
+use store_api::{Answer, Step, Store, Trouble};
+
+/// How many acts were answered otherwise than by want of memory, and how many of these the system failed.
+/// Each stays at 2^64 - 1.
+#[derive(Clone, Copy)]
+struct Counts {
+    acts: u64,
+    faults: u64,
+}
+
+/// A backing store on the folder ROOT of the system, which is its own while it lives. It tells no tree.
+#[derive(Drop)]
+pub struct FolderStore<R> {
+    disk: Disk<R>,
+    counts: Counts,
+}
+
+impl<R: System> FolderStore<R> {
+    /// A store on the folder of this path. It touches nothing: the first act lists the folder and numbers its rooms.
+    ///
+    /// `NoMemory` leaves nothing behind.
+    pub fn open(rt: R, alloc: Global, root: &Word) -> Result<Self, NoMemory>
+        ensures fresh { IfOk result (λ store. stored_of store ≡ untold 0 0) }
+    {
+        match Disk::new(rt, alloc, root) {
+            Ok(disk) => Ok(FolderStore {
+                disk,
+                counts: Counts { acts: 0, faults: 0 },
+            }),
+            Err(_) => Err(NoMemory),
+        }
+    }
+}
+
+impl<R> FolderStore<R> {
+    /// How many acts were answered otherwise than by want of memory, up to 2^64 - 1.
+    pub fn acts(&self) -> u64
+        ensures { result ≡ (stored_of self.now).acts }
+    {
+        self.counts.acts
+    }
+
+    /// How many acts the system failed, up to 2^64 - 1.
+    pub fn faults(&self) -> u64
+        ensures { result ≡ (stored_of self.now).faults }
+    {
+        self.counts.faults
+    }
+}
+
+impl<R: System> Store for FolderStore<R> {
+    ghost stored = { λ store. stored_of store };
+
+    /// Makes one step, and answers it. `Fault` comes exactly where the system failed the step, or where a name of
+    /// the step can name nothing in a folder: the count of faults rose by one then, and in no other act.
+    fn act(&mut self, step: &Step<'_>) -> Result<Answer, Trouble>
+        ensures told { Acts (step_of step.now) (stored_of self.old) (stored_of self.new) result }
+        ensures counted { CountsFaults (stored_of self.old) (stored_of self.new) result }
+    {
+        match self.disk.make(step) {
+            Ok(answer) => {
+                self.counts.count_act();
+                Ok(answer)
+            }
+            Err(Failure::Failed) => {
+                self.counts.count_act();
+                self.counts.count_fault();
+                Err(Trouble::Fault)
+            }
+            Err(Failure::NoMemory) => Err(Trouble::NoMemory),
+        }
+    }
+}
+
+impl Counts {
+    fn count_act(&mut self)
+        ensures risen { self.new.acts ≡ next_count self.old.acts }
+        ensures same { self.new.faults ≡ self.old.faults }
+    {
+        self.acts = self.acts.saturating_add(1);
+    }
+
+    fn count_fault(&mut self)
+        ensures risen { self.new.faults ≡ next_count self.old.faults }
+        ensures cause { HasRisen self.old.faults self.new.faults }
+        ensures never_falls { self.old.faults ≤ self.new.faults }
+        ensures same { self.new.acts ≡ self.old.acts }
+    {
+        self.faults = self.faults.saturating_add(1);
+    }
+}
