@@ -48,7 +48,7 @@ newest_at-append es fs truncs x =
     let p : Entry → Bool = λ (e : Entry). covers e x && survives truncs x e in
     ap newest (filter-append p es fs) ∙ newest-append (filter p es) (filter p fs)
 
-newer_source-of : (x : ℕ) (o p : Option Entry) → option_map (source_of x) (newer o p) ≡ newer_source (option_map (source_of x) o) (option_map (source_of x) p)
+pub newer_source-of : (x : ℕ) (o p : Option Entry) → option_map (source_of x) (newer o p) ≡ newer_source (option_map (source_of x) o) (option_map (source_of x) p)
 newer_source-of x None p = refl
 newer_source-of x (Some e) None = refl
 newer_source-of x (Some e) (Some d) =

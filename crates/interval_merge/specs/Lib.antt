@@ -1,0 +1,4 @@
+pub mod Clip
+pub mod Sweep
+pub mod Lists
+pub mod Writer

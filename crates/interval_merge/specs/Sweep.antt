@@ -1,0 +1,46 @@
+-- What a sweep over two lists of pieces keeps.
+use Rattle.std.specs.Prelude.{ℕ, ◌+◌, ◌<◌, ◌≤◌, ◌≡◌, List, [], ◌∷◌, ◌++◌, Option, option_map, MatchOption, ◌^◌}
+use Rattle.std.specs.List.{AllByRecursion}
+use Rattle.plain_file.specs.declared.pieces.Piece.{Piece}
+use Rattle.plain_file.specs.Sources.{source_at, source_in}
+use Rattle.plain_file.specs.Runs.{AreRuns, IsPiece}
+
+-- all pieces end by this byte
+abbrev pub AllEndBy : ℕ → List Piece → Type 0
+AllEndBy n pieces = AllByRecursion (λ (p : Piece). p.at + p.len ≤ n) pieces
+
+-- the runs with one piece more, which may have grown the last one
+pub record Extends (old : List Piece) (piece : Piece) (new : List Piece) : Type 0 where
+  pub runs : AreRuns new
+  pub says : (x : ℕ) → source_at new x ≡ source_at (old ++ piece ∷ []) x
+  pub ends : AllEndBy (piece.at + piece.len) new
+
+-- the first piece, if there is one, ends past this byte
+abbrev pub EndsPast : ℕ → List Piece → Type 0
+EndsPast at [] = Unit {0}
+EndsPast at (p ∷ pieces) = at < p.at + p.len
+
+-- the first piece, if there is one, doesn't end before this byte
+abbrev pub EndsFrom : ℕ → List Piece → Type 0
+EndsFrom at [] = Unit {0}
+EndsFrom at (p ∷ pieces) = at ≤ p.at + p.len
+
+-- the piece has the bytes from one place up to another
+pub record Holds (from until : ℕ) (p : Piece) : Type 0 where
+  pub piece : IsPiece p
+  pub starts : p.at ≤ from
+  pub ends : until ≤ p.at + p.len
+
+-- from one byte up to another the pieces say the same: this piece, or nothing
+pub record SaysUntil (pieces : List Piece) (from : ℕ) (piece : Option Piece) (until : ℕ) : Type 0 where
+  pub more : from < until
+  pub within : until ≤ 2 ^ 40
+  pub first : EndsFrom until pieces
+  pub holds : MatchOption piece (Unit {0}) (Holds from until)
+  pub same : (x : ℕ) → from ≤ x → x < until → source_at pieces x ≡ option_map (source_in x) piece
+
+-- what is left of the pieces from a byte on
+pub record IsLeft (whole : List Piece) (from : ℕ) (left : List Piece) : Type 0 where
+  pub runs : AreRuns left
+  pub first : EndsPast from left
+  pub same : (x : ℕ) → from ≤ x → source_at left x ≡ source_at whole x
