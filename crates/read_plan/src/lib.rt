@@ -10,3 +10,6 @@ mod planning;
 
 pub use part::{Part, PartList};
 pub use planning::plan;
+
+#[cfg(test)]
+mod tests;

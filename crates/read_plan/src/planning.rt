@@ -17,7 +17,9 @@ use plfs_types::NoMemory;
 use std::alloc::Global;
 
 /// The parts of a read of `len` bytes from byte `at` on, of a file of `size` bytes with these
-/// pieces. They end where the file ends, so there are none at and past its end.
+/// pieces. They end where the file ends, so there are none at and past its end. It takes time for
+/// the pieces that meet the range, and to find the first of them by halves. Any range is taken, and
+/// `NoMemory` comes only where memory is refused.
 pub fn plan(
     alloc: Global,
     pieces: &Pieces,
