@@ -1,0 +1,115 @@
+//! The plan of a read.
+
+ghost use Rattle.std.specs.Prelude.{◌≡◌, ℕ, ◌+◌, ◌-◌, ◌<◌, ◌≤◌, [], ◌++◌, List, length, drop, map, filter, All, IfOk, OnOk, min, nat_le, sum_by};
+ghost use Rattle.plain_file.specs.declared.changes.Change.{Change};
+ghost use Rattle.plain_file.specs.File.{plain, plain_size, slice, HasItsBytes};
+ghost use Rattle.plain_file.specs.Keys.{KeysDiffer};
+ghost use Rattle.plain_file.specs.Shows.{entries_of};
+ghost use Rattle.plain_file.specs.Runs.{AreRuns, ArePiecesOf};
+ghost use Rattle.plain_file.specs.Logs.{IsLogged};
+ghost use Rattle.read_plan.specs.Parts.{part_len, is_logged, AreHolesApart, spelled};
+ghost use Rattle.read_plan.specs.Ranges.{end_of, pieces_in, EndsPast};
+ghost use Rattle.read_plan.specs.Plan.{part_of, hole, filled, plan_of};
+
+use crate::part::{Part, PartList};
+use plain_file::{Piece, Pieces};
+use plfs_types::NoMemory;
+use std::alloc::Global;
+
+/// The parts of a read of `len` bytes from byte `at` on, of a file of `size` bytes with these
+/// pieces. They end where the file ends, so there are none at and past its end. It takes time for
+/// the pieces that meet the range, and to find the first of them by halves. Any range is taken, and
+/// `NoMemory` comes only where memory is refused.
+pub fn plan(
+    alloc: Global,
+    pieces: &Pieces,
+    size: u64,
+    at: u64,
+    len: u64,
+) -> Result<PartList, NoMemory>
+    // The pieces that meet the range, each cut to it, with a hole for each gap.
+    ensures exact { IfOk result (λ parts. parts ≡ plan_of pieces.now size at len) }
+    // The bytes that the file has in the range.
+    ensures lengths { IfOk result (λ parts. sum_by part_len parts ≡ min len (size - at)) }
+    ensures none_empty { IfOk result (λ parts. All (λ part. 0 < part_len part) parts) }
+    ensures holes_apart { IfOk result AreHolesApart }
+    // One part for each piece that meets the range, in order.
+    ensures each_piece { IfOk result (λ parts.
+        filter is_logged parts ≡ map part_of (pieces_in at (end_of size at len) pieces.now)) }
+    ensures no_bytes { min len (size - at) ≡ 0 → IfOk result (λ parts. parts ≡ []) }
+    // The slice of every plain file that has these pieces and this size.
+    ensures spells { IfOk result (λ parts. (changes : List Change) (logs : ℕ → List ℕ)
+        → KeysDiffer (entries_of changes) → All HasItsBytes changes → All (IsLogged logs) changes
+        → ArePiecesOf changes pieces.now → size ≡ plain_size changes
+        → spelled logs parts ≡ slice (plain changes) at len) }
+{
+    let parts = parts_between(alloc, pieces, at, at + len.min(size.saturating_sub(at)))?;
+    Ok(parts)
+}
+
+/// The parts from byte `at` up to byte `until`.
+fn parts_between(alloc: Global, pieces: &Pieces, at: u64, until: u64) -> Result<PartList, NoMemory>
+    requires { at ≤ until }
+    ensures runs { AreRuns pieces.now }
+    ensures exact { IfOk result (λ parts. parts ≡ filled at until (pieces_in at until pieces.now)) }
+{
+    let mut parts = PartList::new(alloc);
+    let pieces = pieces.as_slice();
+    if at < until {
+        let first = first_past(pieces, at);
+        push_parts(&mut parts, &pieces[first..], at, until)?;
+    }
+    Ok(parts)
+}
+
+/// The place of the first piece that ends past this byte of the file.
+fn first_past(pieces: &[Piece], at: u64) -> usize
+    requires { AreRuns pieces.now }
+    ensures within { result ≤ length pieces.now }
+    ensures first { EndsPast at (drop result pieces.now) }
+    ensures skipped { (until : ℕ) → pieces_in at until (drop result pieces.now) ≡ pieces_in at until pieces.now }
+{
+    pieces.partition_point(|piece| ends_by(piece, at))
+}
+
+/// Whether the piece ends at or before this byte of the file.
+fn ends_by(piece: &Piece, at: u64) -> bool
+    ensures { result ≡ nat_le (piece.now.at + piece.now.len) at }
+{
+    piece.at <= at && piece.len <= at - piece.at
+}
+
+/// Adds the parts from byte `at` up to byte `until`. The first piece ends past `at`.
+fn push_parts(parts: &mut PartList, pieces: &[Piece], at: u64, until: u64) -> Result<(), NoMemory>
+    requires runs { AreRuns pieces.now }
+    requires first { EndsPast at pieces.now }
+    requires range { at < until }
+    ensures { OnOk result (parts.new ≡ parts.old ++ filled at until (pieces_in at until pieces.now)) }
+{
+    let mut from = at;
+    for piece in pieces {
+        if piece.at >= until {
+            break;
+        }
+        let begin = at.max(piece.at);
+        let end = until.min(piece.at + piece.len);
+        push_hole(parts, begin - from)?;
+        parts.push(Part::From {
+            writer: piece.writer,
+            physical: piece.physical + (begin - piece.at),
+            len: end - begin,
+        })?;
+        from = end;
+    }
+    push_hole(parts, until - from)
+}
+
+/// Adds a hole, unless it is empty.
+fn push_hole(parts: &mut PartList, len: u64) -> Result<(), NoMemory>
+    ensures { OnOk result (parts.new ≡ parts.old ++ hole len) }
+{
+    if len > 0 {
+        parts.push(Part::Hole { len })?;
+    }
+    Ok(())
+}
