@@ -3,10 +3,16 @@ use Rattle.std.specs.Prelude.{◌≡◌, ◌≤◌, ℕ, List, ◌++◌, length,
 use Rattle.plfs_types.specs.Counts.{HasRisen}
 use Rattle.edge_io.specs.declared.failed.Failed.{Failed}
 
--- what contracts see of a sink: the bytes it has taken, where it tells them; and how often it has failed
+-- what contracts see of a sink: the bytes it has taken, where it tells them; how often it has failed; and how
+-- often it took nothing of a piece that isn't empty
 pub record Taking : Type 0 where
   pub taken : Option (List ℕ)
   pub faults : ℕ
+  pub stalls : ℕ
+
+-- the same of a sink that tells no bytes
+abbrev pub taking_over : ℕ → ℕ → Taking
+taking_over faults stalls = record { taken = None; faults = faults; stalls = stalls }
 
 -- told bytes grow by this piece; bytes that aren't told stay untold
 abbrev pub TakesOn : List ℕ → Option (List ℕ) → Option (List ℕ) → Type 0
@@ -18,11 +24,14 @@ pub record HasWritten (n : ℕ) (piece : List ℕ) (old new : Taking) : Type 0 w
   pub within : n ≤ length piece
   pub bytes : TakesOn (take n piece) old.taken new.taken
   pub faults : old.faults ≤ new.faults
+  pub stalls : old.stalls ≤ new.stalls
+  pub stalled : n ≡ 0 → 1 ≤ length piece → HasRisen old.stalls new.stalls
 
 -- the write has failed, and the bytes taken are as they were
 pub record HasNotWritten (old new : Taking) : Type 0 where
   pub taken : new.taken ≡ old.taken
   pub faults : old.faults ≤ new.faults
+  pub stalls : old.stalls ≤ new.stalls
   pub cause : HasRisen old.faults new.faults
 
 -- what a write may tell, and leave

@@ -17,6 +17,7 @@ pub struct MemorySink {
     fails: CallList,
     calls: u64,
     faults: u64,
+    stalls: u64,
 }
 
 impl Model for MemorySink {
@@ -24,13 +25,13 @@ impl Model for MemorySink {
 
     ghost Value = { Intake };
 
-    ghost view = { λ s. record { taken = s.taken.items; piece = s.piece; fails = s.fails; calls = s.calls; faults = s.faults } };
+    ghost view = { λ s. record { taken = s.taken.items; piece = s.piece; fails = s.fails; calls = s.calls; faults = s.faults; stalls = s.stalls } };
 }
 
 impl MemorySink {
     /// A sink that has taken nothing. One call moves at most `piece` bytes, and the calls of these numbers fail.
     pub fn new(alloc: Global, piece: usize, fails: CallList) -> MemorySink
-        ensures { result ≡ record { taken = []; piece = piece; fails = fails; calls = 0; faults = 0 } }
+        ensures { result ≡ record { taken = []; piece = piece; fails = fails; calls = 0; faults = 0; stalls = 0 } }
     {
         MemorySink {
             taken: Vec::new(alloc),
@@ -38,6 +39,7 @@ impl MemorySink {
             fails,
             calls: 0,
             faults: 0,
+            stalls: 0,
         }
     }
 
@@ -53,6 +55,13 @@ impl MemorySink {
         ensures { result ≡ self.now.faults }
     {
         self.faults
+    }
+
+    /// How often it took nothing of a piece that isn't empty.
+    pub fn stalls(&self) -> u64
+        ensures { result ≡ self.now.stalls }
+    {
+        self.stalls
     }
 }
 
@@ -75,6 +84,9 @@ impl Sink for MemorySink {
         {
             self.faults = self.faults.saturating_add(1);
             return Err(Failed);
+        }
+        if count == 0 && !piece.is_empty() {
+            self.stalls = self.stalls.saturating_add(1);
         }
         Ok(count)
     }

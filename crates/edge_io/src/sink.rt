@@ -5,7 +5,8 @@ use crate::failed::Failed;
 
 /// A sink of bytes, which takes them in order and counts its faults.
 pub trait Sink {
-    /// The bytes it has taken, where it tells them, and its count of faults, which never falls.
+    /// The bytes it has taken, where it tells them; its count of faults; and how often it took nothing of a piece
+    /// that isn't empty. Neither count falls.
     ghost taking: { Self → Taking };
 
     /// Takes a front of the piece, and answers how many bytes.

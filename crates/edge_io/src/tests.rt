@@ -34,6 +34,10 @@ fn a_sink_takes_pieces_and_fails_where_it_is_told(rt: HostRuntime) -> Result<(),
     assert_eq!(rt; sink.write(b"lo"), Ok(2));
     assert_eq!(rt; sink.taken(), b"hello".as_slice());
     assert_eq!(rt; sink.faults(), 1);
+    assert_eq!(rt; sink.stalls(), 0);
+    let mut full = MemorySink::new(rt.alloc(), 0, numbers(rt.alloc(), &[])?);
+    assert_eq!(rt; full.write(b"hello"), Ok(0));
+    assert_eq!(rt; full.stalls(), 1);
     Ok(())
 }
 
@@ -78,6 +82,7 @@ fn readers_and_writers_are_sources_and_sinks(rt: HostRuntime) -> Result<(), Fail
     let mut sink = StdSink::new(&mut held);
     assert_eq!(rt; sink.write(b"abc"), Ok(3));
     assert_eq!(rt; sink.faults(), 0);
+    assert_eq!(rt; sink.stalls(), 0);
     assert_eq!(rt; held.as_slice(), b"abc".as_slice());
     Ok(())
 }
