@@ -1,0 +1,3 @@
+pub mod Items
+pub mod Text
+pub mod Words
