@@ -15,9 +15,13 @@ spaced words = join_with_byte 32 words
 abbrev pub text_of_outcome : Outcome → List ℕ
 text_of_outcome outcome = spaced (words_of outcome)
 
--- the number, the words of the outcome and a line feed
+-- the number and the words of the outcome
+abbrev pub body_of_line : Line → List ℕ
+body_of_line line = spaced (decimal line.number ∷ words_of line.outcome)
+
+-- the same and a line feed
 abbrev pub text_of_line : Line → List ℕ
-text_of_line line = spaced (decimal line.number ∷ words_of line.outcome) ++ 10 ∷ []
+text_of_line line = body_of_line line ++ 10 ∷ []
 
 abbrev pub text_of : List Line → List ℕ
 text_of lines = flat_map text_of_line lines
