@@ -5,7 +5,7 @@ ghost use Rattle.std.specs.List.{flat_map};
 ghost use Rattle.report_text.specs.Items.{pair_text, count_text, share_text, trunc_text, list_text};
 
 use crate::words::digits;
-use plfs_types::{Entry, Name, NoMemory, ShareBytes, Trunc, WriterCount};
+use plfs_types::{Name, NoMemory, ShareBytes, Trunc, WriterCount};
 
 // An item of a list that is one word.
 pub trait Item {

@@ -1,12 +1,11 @@
 //! Items and lists that stand within a word, from the front of a text.
-ghost use Rattle.std.specs.Prelude.{◌≡◌, ◌==◌, ℕ, List, [], Option};
+ghost use Rattle.std.specs.Prelude.{◌==◌, ℕ, List, Option};
 ghost use Rattle.std.specs.List.{slice_split};
-ghost use Rattle.report_text.specs.Reading.{Gives, pair_at, count_at, share_at, trunc_at, number_at, piece_at, short_at, all_at, list_at, list_field, content_at, name_at, short_name_at, place_at};
+ghost use Rattle.report_text.specs.Reading.{Gives, pair_at, count_at, share_at, trunc_at, number_at, piece_at, short_at, all_at, list_at, list_field};
 
 use crate::fields::{cut, number_before, number_of, parts};
 use crate::trouble::Trouble;
-use hex::FromHexError;
-use plfs_types::{Bytes, Entry, Name, Sequence, ShareBytes, Trunc, WriterCount};
+use plfs_types::{Entry, Name, Sequence, ShareBytes, Trunc, WriterCount};
 use std::alloc::Global;
 
 // An item that is read from its text.

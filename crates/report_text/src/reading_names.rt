@@ -1,7 +1,7 @@
 //! Contents and names from their texts.
-ghost use Rattle.std.specs.Prelude.{◌≡◌, ◌==◌, ℕ, List, [], Option, option_map, Some, ◌<◌, ◌≤◌, length, IfSome, IfOk};
+ghost use Rattle.std.specs.Prelude.{◌≡◌, ◌<◌, ◌≤◌, length, IfSome, IfOk};
 ghost use Rattle.hex.specs.Hex.{hex_digit_value};
-ghost use Rattle.report_text.specs.Reading.{Gives, short_at, content_at, escape_at, byte_at, name_at, short_name_at, place_at};
+ghost use Rattle.report_text.specs.Reading.{Gives, content_at, escape_at, byte_at, name_at, short_name_at, place_at};
 
 use crate::fields::parts;
 use crate::trouble::Trouble;

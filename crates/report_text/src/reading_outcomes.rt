@@ -1,5 +1,4 @@
 //! Outcomes from their words.
-ghost use Rattle.std.specs.Prelude.{◌≡◌, ℕ, List};
 ghost use Rattle.report_text.specs.Reading.{Gives};
 ghost use Rattle.report_text.specs.ReadingOutcomes.{wrote_at, reader_at, read_at, map_at, stat_at, flattened_at, recovered_at, listed_at, damaged_at, busy_at, why_at, plain_at, counted_at, told_at, outcome_at};
 
