@@ -1,0 +1,9 @@
+pub mod Again
+pub mod AgainOutcomes
+pub mod Begins
+pub mod Cuts
+pub mod Joined
+pub mod Lines
+pub mod Loops
+pub mod Numbers
+pub mod Texts

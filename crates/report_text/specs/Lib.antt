@@ -1,0 +1,7 @@
+pub mod Items
+pub mod Read
+pub mod Reading
+pub mod ReadingOutcomes
+pub mod Text
+pub mod Widths
+pub mod Words
