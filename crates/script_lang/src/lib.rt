@@ -2,9 +2,20 @@
 //! the shared values alone.
 #![tactic(auto)]
 
+mod cast;
+mod data;
+mod draft;
+mod flaw;
 mod line;
+mod meaning;
+mod names;
+mod numbers;
+mod reading;
 mod script;
+mod statement;
 mod trouble;
+mod verb;
+mod words;
 
 pub use line::{Line, Lines, MapText, Outcome, Why};
 pub use script::{
@@ -12,3 +23,6 @@ pub use script::{
     TurnList, Turned,
 };
 pub use trouble::{Kind, ScriptTrouble};
+
+#[cfg(test)]
+mod tests;

@@ -1,0 +1,59 @@
+//! Numbers in words: decimal, without sign and without leading zeros.
+ghost use Rattle.std.specs.Prelude.{◌≡◌};
+ghost use Rattle.script_lang.specs.Numbers.{digit_behind, value_of, number_of, number_in, number_or};
+
+use crate::trouble::Kind;
+
+// The number with one digit more, below 2^64.
+fn digit_behind(number: u64, byte: u8) -> Option<u64>
+    ensures { result ≡ digit_behind number byte }
+{
+    if !byte.is_ascii_digit() {
+        return None;
+    }
+    number.checked_mul(10)?.checked_add(u64::from(byte - b'0'))
+}
+
+// The number that digits write, of those below 2^64.
+fn value(digits: &[u8]) -> Option<u64>
+    ensures { result ≡ value_of digits.now }
+{
+    let mut value = 0u64;
+    for byte in digits {
+        match digit_behind(value, *byte) {
+            Some(longer) => value = longer,
+            None => return None,
+        }
+    }
+    Some(value)
+}
+
+// The number that a word writes, of those below 2^64.
+fn number(word: &[u8]) -> Option<u64>
+    ensures { result ≡ number_of word.now }
+{
+    if word.is_empty() || (word.len() > 1 && word[0] == b'0') {
+        return None;
+    }
+    value(word)
+}
+
+// The number that a word writes, from `least` to `most`.
+pub(crate) fn number_in(word: &[u8], least: u64, most: u64) -> Result<u64, Kind>
+    ensures { result ≡ number_in least most word.now }
+{
+    match number(word) {
+        Some(value) if least <= value && value <= most => Ok(value),
+        _ => Err(Kind::Number),
+    }
+}
+
+// The same, or `other` where the word is left out.
+pub(crate) fn number_or(word: &[u8], other: u64, least: u64, most: u64) -> Result<u64, Kind>
+    ensures { result ≡ number_or other least most word.now }
+{
+    if word.is_empty() {
+        return Ok(other);
+    }
+    number_in(word, least, most)
+}
