@@ -1,4 +1,6 @@
 mod Cuts
+mod Decimals
 mod Digits
 mod FileNames
 mod Keys
+mod ReadAgain

@@ -7,6 +7,7 @@ pub mod Numbers
 pub mod Reading
 pub mod Scripts
 pub mod Shown
+pub mod Spelling
 pub mod Spoken
 pub mod Statements
 pub mod Verbs

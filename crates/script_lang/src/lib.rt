@@ -12,6 +12,7 @@ mod names;
 mod numbers;
 mod reading;
 mod script;
+mod spelling;
 mod statement;
 mod trouble;
 mod verb;
@@ -22,6 +23,7 @@ pub use script::{
     ActorDecl, ActorList, Data, Numbered, Phase, PhaseList, Script, Statement, StatementList,
     TurnList, Turned,
 };
+pub use spelling::statements_are_read_again;
 pub use trouble::{Kind, ScriptTrouble};
 
 #[cfg(test)]

@@ -1,5 +1,6 @@
 //! Numbers in words: decimal, without sign and without leading zeros.
-ghost use Rattle.std.specs.Prelude.{◌≡◌};
+ghost use Rattle.std.specs.Prelude.{◌≡◌, ◌<◌, ◌^◌, ℕ, Some, IfSome};
+ghost use Rattle.std.specs.Fmt.{decimal};
 ghost use Rattle.script_lang.specs.Numbers.{digit_behind, value_of, number_of, number_in, number_or};
 
 use crate::trouble::Kind;
@@ -28,14 +29,23 @@ fn value(digits: &[u8]) -> Option<u64>
     Some(value)
 }
 
-// The number that a word writes, of those below 2^64.
-fn number(word: &[u8]) -> Option<u64>
+fn numeral(word: &[u8]) -> Option<u64>
     ensures { result ≡ number_of word.now }
 {
     if word.is_empty() || (word.len() > 1 && word[0] == b'0') {
         return None;
     }
     value(word)
+}
+
+// The number that a word writes, of those below 2^64.
+fn number(word: &[u8]) -> Option<u64>
+    ensures number { result ≡ number_of word.now }
+    // These are the words that are printed of numbers, and no others.
+    ensures written { IfSome result (λ n. word.now ≡ decimal n) }
+    ensures read { (n : ℕ) → n < 2 ^ 64 → word.now ≡ decimal n → result ≡ Some n }
+{
+    numeral(word)
 }
 
 // The number that a word writes, from `least` to `most`.

@@ -10,7 +10,7 @@ fn kind_of(alloc: Global, text: &str) -> Option<(u64, Kind)> {
 }
 
 // Each has one fault, or two of which the first in the order of kinds counts.
-const FAULTS: [(&str, u64, Kind); 40] = [
+const FAULTS: [(&str, u64, Kind); 41] = [
     ("actor a\na  sync", 2, Kind::Spaces),
     ("actor a\na sync ", 2, Kind::Spaces),
     (" ", 1, Kind::Spaces),
@@ -22,6 +22,7 @@ const FAULTS: [(&str, u64, Kind); 40] = [
     ("actor abcdefghijklmnopq", 1, Kind::Actor),
     ("actor a\nactor a", 2, Kind::Actor),
     ("actor a\nphase\nactor b", 3, Kind::Actor),
+    ("actor a\na sync\nactor b", 3, Kind::Actor),
     ("actor a\nturn b 1", 2, Kind::Actor),
     ("actor A 1 2 3", 1, Kind::Actor),
     ("actor a\na blow", 2, Kind::Word),
@@ -75,6 +76,11 @@ fn reads_sum_to_2_to_the_28th_at_most(rt: HostRuntime) -> Result<(), Fail> {
     assert!(rt; Script::read(rt.alloc(), most.as_bytes()).is_ok());
     let more = reads(rt.alloc(), "a read 7 1\n")?;
     assert_eq!(rt; kind_of(rt.alloc(), more.as_str()), Some((18, Kind::Reads)));
+    let number = reads(rt.alloc(), "a read 01 1\n")?;
+    assert_eq!(rt;
+        kind_of(rt.alloc(), number.as_str()),
+        Some((18, Kind::Number))
+    );
     Ok(())
 }
 
@@ -115,7 +121,7 @@ fn an_empty_script_has_one_empty_phase(rt: HostRuntime) -> Result<(), Fail> {
 }
 
 const LINES: &str =
-    "# two actors\nactor a 3\nactor b2 4294967295 4096\n\nb2 open f\nturn a 4294967295\na stop 1 18446744073709551615\nphase\nb2 write 18446744073709551615 text:\nb2 write 1 hex:00ff\na ropen f\na ropen f 16\na verify 0 ramp:16777216:255\n# end";
+    "# two actors\nactor a 3\nactor b2 4294967295 4096\n\nb2 open f\nturn a 4294967295\na stop 1 18446744073709551615\nphase\nb2 write 18446744073709551615 text:\nb2 write 1 hex:00ff\na ropen f\na ropen f 16\na verify 0 ramp:16777216:255\na write 0 hex:\n# end";
 
 #[test]
 fn lines_are_numbered_and_actors_are_placed(rt: HostRuntime) -> Result<(), Fail> {
@@ -136,7 +142,7 @@ fn lines_are_numbered_and_actors_are_placed(rt: HostRuntime) -> Result<(), Fail>
     assert_eq!(rt; (first[0].line, first[0].actor), (5, 1));
     assert_eq!(rt; (first[1].line, first[1].actor), (7, 0));
     let second = phases[1].statements.as_slice();
-    assert_eq!(rt; second.len(), 5);
+    assert_eq!(rt; second.len(), 6);
     assert_eq!(rt; (second[4].line, second[4].actor), (13, 0));
     assert!(rt;
         matches!(
@@ -144,6 +150,25 @@ fn lines_are_numbered_and_actors_are_placed(rt: HostRuntime) -> Result<(), Fail>
             Statement::Write {
                 at: u64::MAX,
                 content: Data::Text(_)
+            }
+        )
+    );
+    assert!(rt;
+        matches!(
+            second[5].statement,
+            Statement::Write {
+                at: 0,
+                content: Data::Hex(_)
+            }
+        )
+    );
+    let copy = second[1].statement.copy(rt.alloc())?;
+    assert!(rt;
+        matches!(
+            copy,
+            Statement::Write {
+                at: 1,
+                content: Data::Hex(_)
             }
         )
     );
