@@ -1,5 +1,5 @@
 -- Scripts, as far as their lines are read.
-use Rattle.std.specs.Prelude.{◌≡◌, ℕ, true, false, List, [], ◌∷◌, ◌++◌, Result, Ok, Err}
+use Rattle.std.specs.Prelude.{◌≡◌, ℕ, ◌≤◌, ◌^◌, true, false, All, List, [], ◌∷◌, ◌++◌, length, Result, Ok, Err}
 use Rattle.script_lang.specs.declared.draft.Draft.{Draft}
 use Rattle.script_lang.specs.declared.flaw.Flaw.{Flaw}
 use Rattle.script_lang.specs.declared.meaning.Meaning.{Meaning}
@@ -8,6 +8,7 @@ use Rattle.script_lang.specs.declared.script.Phase.{Phase}
 use Rattle.script_lang.specs.declared.script.Script.{Script}
 use Rattle.script_lang.specs.declared.trouble.Kind.{Kind}
 use Rattle.script_lang.specs.Lines.{line_meaning}
+use Rattle.script_lang.specs.Ranges.{FitsActor, FitsPhase}
 use Rattle.script_lang.specs.Reading.{Fails}
 
 abbrev pub empty_phase : Phase
@@ -53,3 +54,12 @@ line_draft number line d = after_meaning number (line_meaning d.cast d.begun d.r
 abbrev pub Follows : {A : Type 0} → Result A Flaw → Draft → Result Draft Kind → Type 0
 Follows (Ok _) left read = read ≡ Ok left
 Follows (Err flaw) left read = Fails flaw read
+
+-- what a draft keeps: all is in its ranges, and nothing is said before the last declaration
+pub record FitsDraft (d : Draft) : Type 0 where
+  pub few : length d.cast ≤ 256
+  pub declared : All FitsActor d.cast
+  pub waits : d.begun ≡ false → (d.phases ≡ []) × (d.phase ≡ empty_phase)
+  pub ended : All (FitsPhase (length d.cast)) d.phases
+  pub open_phase : FitsPhase (length d.cast) d.phase
+  pub reads : d.reads ≤ 2 ^ 28

@@ -4,6 +4,7 @@ pub mod Drafts
 pub mod Lines
 pub mod Names
 pub mod Numbers
+pub mod Ranges
 pub mod Reading
 pub mod Scripts
 pub mod Shown

@@ -1,5 +1,5 @@
 -- What a line says, or the first of its faults.
-use Rattle.std.specs.Prelude.{◌≡◌, ℕ, ◌+◌, ◌≤◌, ◌-◌, ◌^◌, ◌==◌, ◌||◌, nat_le, nat_lt, not, Bool, List, length, Option, Some, None, is_some, Result, Ok, Err, if◌then◌else◌, codes}
+use Rattle.std.specs.Prelude.{◌≡◌, ℕ, ◌+◌, ◌≤◌, ◌<◌, false, ◌-◌, ◌^◌, ◌==◌, ◌||◌, nat_le, nat_lt, not, Bool, List, length, Option, Some, None, is_some, Result, Ok, Err, if◌then◌else◌, codes}
 use Rattle.std.specs.List.{list_any}
 use Rattle.script_lang.specs.declared.meaning.Meaning.{Meaning}
 use Rattle.script_lang.specs.declared.meaning.Meaning.TheVariants as meaning
@@ -11,6 +11,7 @@ use Rattle.script_lang.specs.declared.trouble.Kind.TheVariants as kinds
 use Rattle.script_lang.specs.declared.verb.Verb.{Verb}
 use Rattle.script_lang.specs.Names.{is_word, is_actor_name, place_of}
 use Rattle.script_lang.specs.Numbers.{number_in, number_or}
+use Rattle.script_lang.specs.Ranges.{FitsActor, FitsTurned, FitsStatement}
 use Rattle.script_lang.specs.Reading.{◌>>=◌}
 use Rattle.script_lang.specs.Spoken.{Spoken, spoken}
 use Rattle.script_lang.specs.Statements.{statement_of}
@@ -89,13 +90,15 @@ line_meaning actors begun reads line =
     else if list_any is_empty (words_of line) then Err kinds.Spaces
     else meaning_of actors begun reads (spoken (words_of line))
 
--- what is said may be taken: a declared name is new, and the `read` lines stay within their limit
-abbrev pub IsFit : List ActorDecl → Meaning → Type 0
-IsFit actors (meaning.Declares actor) = place_of actors actor.name ≡ None
-IsFit actors (meaning.Says place made reads) = reads ≤ 2 ^ 28
-IsFit actors other = Unit {0}
+-- what is said may be taken: actors are declared once, in time and at most 256 times, all is in its ranges, and the
+-- `read` lines stay within their limit
+abbrev pub IsFit : List ActorDecl → Bool → Meaning → Type 0
+IsFit actors begun (meaning.Declares actor) = (place_of actors actor.name ≡ None) × (begun ≡ false) × (length actors < 256) × FitsActor actor
+IsFit actors begun (meaning.Turns turned) = FitsTurned (length actors) turned
+IsFit actors begun (meaning.Says place made reads) = (place < length actors) × FitsStatement made × (reads ≤ 2 ^ 28)
+IsFit actors begun other = Unit {0}
 
--- what is said declares an actor of this name, if any
+-- what is said declares an actor of this name, if any, in its ranges
 abbrev pub Names : List ℕ → Meaning → Type 0
-Names name (meaning.Declares actor) = actor.name ≡ name
+Names name (meaning.Declares actor) = (actor.name ≡ name) × FitsActor actor
 Names name other = Unit {0}

@@ -1,5 +1,5 @@
 //! The declared actors, and the place of each by its name.
-ghost use Rattle.std.specs.Prelude.{◌≡◌, ◌++◌, ◌∷◌, [], None, length, OnOk, IfOk};
+ghost use Rattle.std.specs.Prelude.{◌≡◌, ◌++◌, ◌∷◌, [], None, length, ◌<◌, OnOk, IfOk, IfSome};
 ghost use Rattle.script_lang.specs.Names.{place_of};
 
 use crate::script::{ActorDecl, ActorList};
@@ -45,7 +45,8 @@ impl Cast {
 
     // The place of the actor of this name.
     pub fn place(&self, name: &[u8]) -> Option<u64>
-        ensures { result ≡ place_of self.now name.now }
+        ensures place { result ≡ place_of self.now name.now }
+        ensures within { IfSome result (λ place. place < length self.now) }
     {
         match self.table.get_index_of(name) {
             Some(place) => Some(place as u64),

@@ -1,8 +1,9 @@
 //! Data in words.
-ghost use Rattle.std.specs.Prelude.{◌≡◌, ◌==◌, nat_eq, Some, IfSome, IsSome, ◌↔◌, IsTrue, codes, drop, length, MatchOption};
+ghost use Rattle.std.specs.Prelude.{◌≡◌, ◌==◌, nat_eq, Some, IfSome, IsSome, ◌↔◌, IsTrue, codes, drop, length, MatchOption, ◌≤◌, ◌^◌, IfOk};
 ghost use Rattle.std.specs.List.{list_all, starts_with, before_first, after_first};
 ghost use Rattle.script_lang.specs.Data.{is_lower_digit, is_seen, hex_data, text_data, pair_data, counted_data, data_in};
 ghost use Rattle.script_lang.specs.declared.script.Data.TheVariants as data_of;
+ghost use Rattle.script_lang.specs.Ranges.{FitsData};
 ghost use Rattle.script_lang.specs.Reading.{Gives};
 
 use crate::flaw::Flaw;
@@ -28,7 +29,9 @@ fn are_seen(word: &[u8]) -> bool
 
 // The bytes of an even number of lower-case digits.
 fn hex_data(alloc: Global, digits: &[u8]) -> Result<Data, Flaw>
-    ensures { Gives result (hex_data digits.now) }
+    requires { length digits.now ≤ 2 ^ 20 }
+    ensures given { Gives result (hex_data digits.now) }
+    ensures fits { IfOk result FitsData }
 {
     if !are_lower_digits(digits) {
         return Err(Flaw::Kind(Kind::Data));
@@ -42,7 +45,9 @@ fn hex_data(alloc: Global, digits: &[u8]) -> Result<Data, Flaw>
 
 // The bytes themselves, where they are seen.
 fn text_data(alloc: Global, bytes: &[u8]) -> Result<Data, Flaw>
-    ensures { Gives result (text_data bytes.now) }
+    requires { length bytes.now ≤ 2 ^ 20 }
+    ensures given { Gives result (text_data bytes.now) }
+    ensures fits { IfOk result FitsData }
 {
     if !are_seen(bytes) {
         return Err(Flaw::Kind(Kind::Data));
@@ -62,7 +67,8 @@ fn around_colon(pair: &[u8]) -> (&[u8], &[u8])
 }
 
 fn fill_data(pair: &[u8]) -> Result<Data, Kind>
-    ensures { result ≡ pair_data data_of.Fill pair.now }
+    ensures given { result ≡ pair_data data_of.Fill pair.now }
+    ensures fits { IfOk result FitsData }
 {
     let (len, byte) = around_colon(pair);
     match (number_in(len, 0, 1 << 24), number_in(byte, 0, 255)) {
@@ -75,7 +81,8 @@ fn fill_data(pair: &[u8]) -> Result<Data, Kind>
 }
 
 fn ramp_data(pair: &[u8]) -> Result<Data, Kind>
-    ensures { result ≡ pair_data data_of.Ramp pair.now }
+    ensures given { result ≡ pair_data data_of.Ramp pair.now }
+    ensures fits { IfOk result FitsData }
 {
     let (len, first) = around_colon(pair);
     match (number_in(len, 0, 1 << 24), number_in(first, 0, 255)) {
@@ -89,7 +96,8 @@ fn ramp_data(pair: &[u8]) -> Result<Data, Kind>
 
 // A length and a byte, and what they stand for.
 fn counted_data(word: &[u8]) -> Result<Data, Kind>
-    ensures { result ≡ counted_data word.now }
+    ensures given { result ≡ counted_data word.now }
+    ensures fits { IfOk result FitsData }
 {
     if word.starts_with(b"fill:") {
         return fill_data(&word[5..]);
@@ -102,7 +110,9 @@ fn counted_data(word: &[u8]) -> Result<Data, Kind>
 
 // The data that a word writes.
 pub(crate) fn data_in(alloc: Global, word: &[u8]) -> Result<Data, Flaw>
-    ensures { Gives result (data_in word.now) }
+    requires { length word.now ≤ 2 ^ 20 }
+    ensures given { Gives result (data_in word.now) }
+    ensures fits { IfOk result FitsData }
 {
     if word.starts_with(b"hex:") {
         return hex_data(alloc, &word[4..]);

@@ -1,9 +1,10 @@
 //! A script, as far as its lines are read.
 ghost use Rattle.std.specs.Prelude.{◌≡◌, ◌≤◌, ◌^◌, [], false, length, IfOk, OnOk};
 ghost use Rattle.script_lang.specs.Lines.{IsFit, line_meaning};
+ghost use Rattle.script_lang.specs.Ranges.{FitsScript};
 ghost use Rattle.script_lang.specs.Reading.{Gives};
 ghost use Rattle.script_lang.specs.Words.{is_passed};
-ghost use Rattle.script_lang.specs.Drafts.{empty_phase, empty_draft, draft_with, line_draft, Follows, script_in};
+ghost use Rattle.script_lang.specs.Drafts.{empty_phase, empty_draft, draft_with, line_draft, Follows, script_in, FitsDraft};
 
 use crate::cast::Cast;
 use crate::flaw::Flaw;
@@ -38,7 +39,8 @@ fn empty_phase(alloc: Global) -> Phase
 impl Draft {
     // Before the first line.
     pub fn new(alloc: Global) -> Draft
-        ensures { result ≡ empty_draft }
+        ensures draft { result ≡ empty_draft }
+        ensures fits { FitsDraft result }
     {
         Draft {
             cast: Cast::new(alloc),
@@ -51,8 +53,10 @@ impl Draft {
 
     // Takes what the line of this number says.
     fn take(&mut self, alloc: Global, number: u64, said: Meaning) -> Result<(), NoMemory>
-        requires { IsFit self.old.cast said }
-        ensures { OnOk result (self.new ≡ draft_with number said self.old) }
+        requires fit { IsFit self.old.cast self.old.begun said }
+        requires fits { FitsDraft self.old }
+        ensures taken { OnOk result (self.new ≡ draft_with number said self.old) }
+        ensures fits { OnOk result (FitsDraft self.new) }
     {
         match said {
             Meaning::Passed => {}
@@ -87,9 +91,9 @@ impl Draft {
     // Takes the line of this number.
     pub fn line(&mut self, alloc: Global, number: u64, line: &[u8]) -> Result<(), Flaw>
         requires short { length line.now ≤ 2 ^ 20 }
-        requires reads { self.old.reads ≤ 2 ^ 28 }
+        requires fits { FitsDraft self.old }
         ensures follows { Follows result self.new (line_draft number line.now self.old) }
-        ensures reads { OnOk result (self.new.reads ≤ 2 ^ 28) }
+        ensures fits { OnOk result (FitsDraft self.new) }
     {
         let said = said(alloc, self, line)?;
         self.take(alloc, number, said)?;
@@ -98,7 +102,9 @@ impl Draft {
 
     // The script, whose lines are read to their end.
     pub fn finish(self, alloc: Global) -> Result<Script, NoMemory>
-        ensures { IfOk result (λ script. script ≡ script_in self) }
+        requires { FitsDraft self }
+        ensures script { IfOk result (λ script. script ≡ script_in self) }
+        ensures fits { IfOk result FitsScript }
     {
         let mut phases = self.phases;
         phases.push(self.phase)?;
@@ -122,9 +128,9 @@ fn is_passed(line: &[u8]) -> bool
 // What a line says.
 fn said(alloc: Global, draft: &Draft, line: &[u8]) -> Result<Meaning, Flaw>
     requires short { length line.now ≤ 2 ^ 20 }
-    requires reads { draft.now.reads ≤ 2 ^ 28 }
+    requires fits { FitsDraft draft.now }
     ensures said { Gives result (line_meaning draft.now.cast draft.now.begun draft.now.reads line.now) }
-    ensures fit { IfOk result (IsFit draft.now.cast) }
+    ensures fit { IfOk result (IsFit draft.now.cast draft.now.begun) }
 {
     if is_passed(line) {
         return Ok(Meaning::Passed);

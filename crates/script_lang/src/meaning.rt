@@ -1,6 +1,7 @@
 //! What a line says.
-ghost use Rattle.std.specs.Prelude.{◌≡◌, ◌≤◌, ◌^◌, ◌+◌, Some, List, length, IfOk};
+ghost use Rattle.std.specs.Prelude.{◌≡◌, ◌≤◌, ◌^◌, ◌+◌, ◌<◌, Bool, Some, List, length, IfOk};
 ghost use Rattle.script_lang.specs.Lines.{is_refused, declared, declaration, beginning, turning, turns_at, read_length, within_reads, says_by, saying, meaning_of, Names, IsFit};
+ghost use Rattle.script_lang.specs.Ranges.{FitsStatement};
 ghost use Rattle.script_lang.specs.Reading.{Gives};
 ghost use Rattle.script_lang.specs.declared.script.ActorDecl.{ActorDecl};
 ghost use Rattle.script_lang.specs.Shown.{shown};
@@ -59,7 +60,7 @@ fn declared(words: &Words<'_>) -> Result<Meaning, Kind>
 
 fn declaration(cast: &Cast, begun: bool, words: &Words<'_>) -> Result<Meaning, Kind>
     ensures said { result ≡ declaration cast.now begun (shown words.now) }
-    ensures fit { IfOk result (IsFit cast.now) }
+    ensures fit { IfOk result (IsFit cast.now begun) }
 {
     if words.count == 1 {
         return Err(Kind::Count);
@@ -75,7 +76,7 @@ fn declaration(cast: &Cast, begun: bool, words: &Words<'_>) -> Result<Meaning, K
 
 fn turns_of(actor: u64, words: &Words<'_>) -> Result<Meaning, Kind>
     ensures said { result ≡ turns_at (Some actor) (shown words.now) }
-    ensures fit { (actors : List ActorDecl) → IfOk result (IsFit actors) }
+    ensures fit { (actors : List ActorDecl) (begun : Bool) → actor < length actors → IfOk result (IsFit actors begun) }
 {
     if words.count != 3 {
         return Err(Kind::Count);
@@ -86,7 +87,7 @@ fn turns_of(actor: u64, words: &Words<'_>) -> Result<Meaning, Kind>
 
 fn turning(cast: &Cast, words: &Words<'_>) -> Result<Meaning, Kind>
     ensures said { result ≡ turning cast.now (shown words.now) }
-    ensures fit { IfOk result (IsFit cast.now) }
+    ensures fit { (begun : Bool) → IfOk result (IsFit cast.now begun) }
 {
     if words.count == 1 {
         return Err(Kind::Count);
@@ -107,9 +108,10 @@ fn read_length(statement: &Statement) -> u64
 }
 
 fn within_reads(actor: u64, statement: Statement, reads: u64) -> Result<Meaning, Kind>
-    requires { reads ≤ 2 ^ 28 }
+    requires few { reads ≤ 2 ^ 28 }
+    requires fits { FitsStatement statement }
     ensures said { result ≡ within_reads actor statement (reads + read_length statement) }
-    ensures fit { (actors : List ActorDecl) → IfOk result (IsFit actors) }
+    ensures fit { (actors : List ActorDecl) (begun : Bool) → actor < length actors → IfOk result (IsFit actors begun) }
 {
     let reads = reads.saturating_add(read_length(&statement));
     if reads > 1 << 28 {
@@ -129,9 +131,10 @@ fn says(
     reads: u64,
     words: &Words<'_>,
 ) -> Result<Meaning, Flaw>
-    requires { reads ≤ 2 ^ 28 }
+    requires few { reads ≤ 2 ^ 28 }
+    requires short { length words.now.fourth.now ≤ 2 ^ 20 }
     ensures said { Gives result (says_by actor (Some verb) reads (shown words.now)) }
-    ensures fit { (actors : List ActorDecl) → IfOk result (IsFit actors) }
+    ensures fit { (actors : List ActorDecl) (begun : Bool) → actor < length actors → IfOk result (IsFit actors begun) }
 {
     if !has_words(verb, words.count) {
         return Err(Flaw::Kind(Kind::Count));
@@ -141,9 +144,10 @@ fn says(
 }
 
 fn saying(alloc: Global, cast: &Cast, reads: u64, words: &Words<'_>) -> Result<Meaning, Flaw>
-    requires { reads ≤ 2 ^ 28 }
+    requires few { reads ≤ 2 ^ 28 }
+    requires short { length words.now.fourth.now ≤ 2 ^ 20 }
     ensures said { Gives result (saying cast.now reads (shown words.now)) }
-    ensures fit { IfOk result (IsFit cast.now) }
+    ensures fit { (begun : Bool) → IfOk result (IsFit cast.now begun) }
 {
     let Some(actor) = cast.place(words.first) else {
         return Err(Flaw::Kind(Kind::Actor));
@@ -159,7 +163,7 @@ fn saying(alloc: Global, cast: &Cast, reads: u64, words: &Words<'_>) -> Result<M
 
 fn beginning(words: &Words<'_>) -> Result<Meaning, Kind>
     ensures said { result ≡ beginning (shown words.now) }
-    ensures fit { (actors : List ActorDecl) → IfOk result (IsFit actors) }
+    ensures fit { (actors : List ActorDecl) (begun : Bool) → IfOk result (IsFit actors begun) }
 {
     if words.count == 1 {
         Ok(Meaning::Begins)
@@ -176,9 +180,10 @@ pub(crate) fn meaning_of(
     reads: u64,
     words: &Words<'_>,
 ) -> Result<Meaning, Flaw>
-    requires { reads ≤ 2 ^ 28 }
+    requires few { reads ≤ 2 ^ 28 }
+    requires short { length words.now.fourth.now ≤ 2 ^ 20 }
     ensures said { Gives result (meaning_of cast.now begun reads (shown words.now)) }
-    ensures fit { IfOk result (IsFit cast.now) }
+    ensures fit { IfOk result (IsFit cast.now begun) }
 {
     if words.first == b"actor".as_slice() {
         return Ok(declaration(cast, begun, words)?);

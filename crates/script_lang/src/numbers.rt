@@ -1,5 +1,5 @@
 //! Numbers in words: decimal, without sign and without leading zeros.
-ghost use Rattle.std.specs.Prelude.{◌≡◌, ◌<◌, ◌^◌, ℕ, Some, IfSome};
+ghost use Rattle.std.specs.Prelude.{◌≡◌, ◌<◌, ◌^◌, ℕ, Some, IfSome, IfOk, ◌≤◌};
 ghost use Rattle.std.specs.Fmt.{decimal};
 ghost use Rattle.script_lang.specs.Numbers.{digit_behind, value_of, number_of, number_in, number_or};
 
@@ -50,7 +50,8 @@ fn number(word: &[u8]) -> Option<u64>
 
 // The number that a word writes, from `least` to `most`.
 pub(crate) fn number_in(word: &[u8], least: u64, most: u64) -> Result<u64, Kind>
-    ensures { result ≡ number_in least most word.now }
+    ensures number { result ≡ number_in least most word.now }
+    ensures limits { IfOk result (λ n. (least ≤ n) × (n ≤ most)) }
 {
     match number(word) {
         Some(value) if least <= value && value <= most => Ok(value),
@@ -60,7 +61,10 @@ pub(crate) fn number_in(word: &[u8], least: u64, most: u64) -> Result<u64, Kind>
 
 // The same, or `other` where the word is left out.
 pub(crate) fn number_or(word: &[u8], other: u64, least: u64, most: u64) -> Result<u64, Kind>
-    ensures { result ≡ number_or other least most word.now }
+    requires least { least ≤ other }
+    requires most { other ≤ most }
+    ensures number { result ≡ number_or other least most word.now }
+    ensures limits { IfOk result (λ n. (least ≤ n) × (n ≤ most)) }
 {
     if word.is_empty() {
         return Ok(other);

@@ -1,6 +1,7 @@
 //! Reads scripts.
-ghost use Rattle.std.specs.Prelude.{◌≡◌, ◌≤◌, ◌^◌, length};
-ghost use Rattle.script_lang.specs.Drafts.{empty_draft};
+ghost use Rattle.std.specs.Prelude.{◌≡◌, ◌≤◌, ◌^◌, length, IfOk};
+ghost use Rattle.script_lang.specs.Drafts.{FitsDraft, empty_draft};
+ghost use Rattle.script_lang.specs.Ranges.{FitsScript};
 ghost use Rattle.script_lang.specs.Scripts.{Answers, lines_draft, script_of, trouble_at};
 ghost use Rattle.script_lang.specs.Words.{lines_of};
 
@@ -27,7 +28,8 @@ fn trouble(line: u64, flaw: Flaw) -> ScriptTrouble
 // What all lines make of a script.
 fn read_lines(alloc: Global, bytes: &[u8]) -> Result<Draft, ScriptTrouble>
     requires { length bytes.now ≤ 2 ^ 20 }
-    ensures { Answers result (lines_draft 1 (lines_of bytes.now) empty_draft) }
+    ensures draft { Answers result (lines_draft 1 (lines_of bytes.now) empty_draft) }
+    ensures fits { IfOk result FitsDraft }
 {
     let mut draft = Draft::new(alloc);
     let mut number = 1;
@@ -49,7 +51,8 @@ impl Script {
     ///
     /// Takes time linear in the bytes.
     pub fn read(alloc: Global, bytes: &[u8]) -> Result<Script, ScriptTrouble>
-        ensures { Answers result (script_of bytes.now) }
+        ensures script { Answers result (script_of bytes.now) }
+        ensures fits { IfOk result FitsScript }
     {
         if bytes.len() > MAX_SCRIPT {
             return Err(ScriptTrouble::Fault {

@@ -1,5 +1,6 @@
 //! Statements in words.
-ghost use Rattle.std.specs.Prelude.{◌≡◌};
+ghost use Rattle.std.specs.Prelude.{◌≡◌, ◌≤◌, ◌^◌, length, IfOk};
+ghost use Rattle.script_lang.specs.Ranges.{FitsStatement};
 ghost use Rattle.script_lang.specs.Reading.{Gives};
 ghost use Rattle.script_lang.specs.Statements.{number, statement_of};
 
@@ -20,7 +21,8 @@ fn number(word: &[u8]) -> Result<u64, Kind>
 }
 
 fn ropen(name: &[u8], workers: &[u8]) -> Result<Statement, Kind>
-    ensures { result ≡ statement_of Verb.Ropen name.now workers.now }
+    ensures made { result ≡ statement_of Verb.Ropen name.now workers.now }
+    ensures fits { IfOk result FitsStatement }
 {
     let name = file_name(name)?;
     let workers = number_or(workers, 1, 1, 16)?;
@@ -31,7 +33,8 @@ fn ropen(name: &[u8], workers: &[u8]) -> Result<Statement, Kind>
 }
 
 fn read(at: &[u8], len: &[u8]) -> Result<Statement, Kind>
-    ensures { result ≡ statement_of Verb.Read at.now len.now }
+    ensures made { result ≡ statement_of Verb.Read at.now len.now }
+    ensures fits { IfOk result FitsStatement }
 {
     let at = number(at)?;
     let len = number_in(len, 0, 1 << 24)?;
@@ -39,7 +42,8 @@ fn read(at: &[u8], len: &[u8]) -> Result<Statement, Kind>
 }
 
 fn trunc(name: &[u8], size: &[u8]) -> Result<Statement, Kind>
-    ensures { result ≡ statement_of Verb.Trunc name.now size.now }
+    ensures made { result ≡ statement_of Verb.Trunc name.now size.now }
+    ensures fits { IfOk result FitsStatement }
 {
     let name = file_name(name)?;
     let size = number(size)?;
@@ -47,7 +51,8 @@ fn trunc(name: &[u8], size: &[u8]) -> Result<Statement, Kind>
 }
 
 fn rename(name: &[u8], to: &[u8]) -> Result<Statement, Kind>
-    ensures { result ≡ statement_of Verb.Rename name.now to.now }
+    ensures made { result ≡ statement_of Verb.Rename name.now to.now }
+    ensures fits { IfOk result FitsStatement }
 {
     let name = file_name(name)?;
     let to = file_name(to)?;
@@ -55,7 +60,8 @@ fn rename(name: &[u8], to: &[u8]) -> Result<Statement, Kind>
 }
 
 fn stop(call: &[u8], bytes: &[u8]) -> Result<Statement, Kind>
-    ensures { result ≡ statement_of Verb.Stop call.now bytes.now }
+    ensures made { result ≡ statement_of Verb.Stop call.now bytes.now }
+    ensures fits { IfOk result FitsStatement }
 {
     let call = number_in(call, 1, u64::MAX)?;
     let bytes = number(bytes)?;
@@ -63,7 +69,9 @@ fn stop(call: &[u8], bytes: &[u8]) -> Result<Statement, Kind>
 }
 
 fn write(alloc: Global, at: &[u8], content: &[u8]) -> Result<Statement, Flaw>
-    ensures { Gives result (statement_of Verb.Write at.now content.now) }
+    requires { length content.now ≤ 2 ^ 20 }
+    ensures made { Gives result (statement_of Verb.Write at.now content.now) }
+    ensures fits { IfOk result FitsStatement }
 {
     let at = number(at)?;
     let content = data_in(alloc, content)?;
@@ -71,7 +79,9 @@ fn write(alloc: Global, at: &[u8], content: &[u8]) -> Result<Statement, Flaw>
 }
 
 fn verify(alloc: Global, at: &[u8], content: &[u8]) -> Result<Statement, Flaw>
-    ensures { Gives result (statement_of Verb.Verify at.now content.now) }
+    requires { length content.now ≤ 2 ^ 20 }
+    ensures made { Gives result (statement_of Verb.Verify at.now content.now) }
+    ensures fits { IfOk result FitsStatement }
 {
     let at = number(at)?;
     let content = data_in(alloc, content)?;
@@ -85,7 +95,9 @@ pub(crate) fn statement(
     first: &[u8],
     second: &[u8],
 ) -> Result<Statement, Flaw>
-    ensures { Gives result (statement_of verb first.now second.now) }
+    requires { length second.now ≤ 2 ^ 20 }
+    ensures made { Gives result (statement_of verb first.now second.now) }
+    ensures fits { IfOk result FitsStatement }
 {
     Ok(match verb {
         Verb::Open => Statement::Open {

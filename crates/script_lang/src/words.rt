@@ -47,6 +47,9 @@ pub(crate) fn count_words(line: &[u8]) -> Option<usize>
 
 // The first of the words that are left, or nothing where none is, and the words behind it.
 pub(crate) fn next_word(left: Option<&[u8]>) -> (&[u8], Option<&[u8]>)
+    requires { IfSome left (λ words. length words.now ≤ 2 ^ 20) }
+    ensures short { length result.0.now ≤ 2 ^ 20 }
+    ensures left { IfSome result.1 (λ words. length words.now ≤ 2 ^ 20) }
     ensures word { result.0.now ≡ first_word (parts_behind 32 (option_map (λ r. r.now) left.entry)) }
     ensures later { parts_behind 32 (option_map (λ r. r.now) result.1) ≡ later_words (parts_behind 32 (option_map (λ r. r.now) left.entry)) }
 {
@@ -69,8 +72,9 @@ pub(crate) struct Words<'a> {
 // The words of a line, or None exactly where one of them is empty.
 pub(crate) fn split_words(line: &[u8]) -> Option<Words<'_>>
     requires { length line.now ≤ 2 ^ 20 }
-    ensures { MatchOption result (list_any is_empty (words_of line.now) ≡ true) (λ words.
+    ensures words { MatchOption result (list_any is_empty (words_of line.now) ≡ true) (λ words.
         (list_any is_empty (words_of line.now) ≡ false) × (shown words ≡ spoken (words_of line.now))) }
+    ensures short { IfSome result (λ words. length words.fourth.now ≤ 2 ^ 20) }
 {
     let count = count_words(line)?;
     let (first, left) = next_word(Some(line));
