@@ -1,0 +1,7 @@
+mod Cuts
+mod Decimals
+mod Digits
+mod FileNames
+mod Keeping
+mod Keys
+mod ReadAgain

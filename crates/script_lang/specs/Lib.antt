@@ -1,0 +1,15 @@
+pub mod Cuts
+pub mod Data
+pub mod Drafts
+pub mod Lines
+pub mod Names
+pub mod Numbers
+pub mod Ranges
+pub mod Reading
+pub mod Scripts
+pub mod Shown
+pub mod Spelling
+pub mod Spoken
+pub mod Statements
+pub mod Verbs
+pub mod Words

@@ -2,13 +2,29 @@
 //! the shared values alone.
 #![tactic(auto)]
 
+mod cast;
+mod data;
+mod draft;
+mod flaw;
 mod line;
+mod meaning;
+mod names;
+mod numbers;
+mod reading;
 mod script;
+mod spelling;
+mod statement;
 mod trouble;
+mod verb;
+mod words;
 
 pub use line::{Line, Lines, MapText, Outcome, Why};
 pub use script::{
     ActorDecl, ActorList, Data, Numbered, Phase, PhaseList, Script, Statement, StatementList,
     TurnList, Turned,
 };
+pub use spelling::statements_are_read_again;
 pub use trouble::{Kind, ScriptTrouble};
+
+#[cfg(test)]
+mod tests;

@@ -1,5 +1,8 @@
 //! What a script has its actors do. Data stands as it is written, and is not expanded.
-use plfs_types::{Bytes, LogicalName, Name, Sequence};
+ghost use Rattle.std.specs.Prelude.{◌≡◌, IfOk};
+
+use plfs_types::{Bytes, LogicalName, Name, NoMemory, Sequence};
+use std::alloc::Global;
 
 /// What is written or compared, as the script has it.
 #[derive(Drop)]
@@ -12,6 +15,26 @@ pub enum Data {
     Fill { len: u64, byte: u8 },
     /// `len` bytes, of which byte j is (`first` + j) mod 256.
     Ramp { len: u64, first: u8 },
+}
+
+impl Data {
+    /// A copy.
+    pub fn copy(&self, alloc: Global) -> Result<Data, NoMemory>
+        ensures { IfOk result (λ copy. copy ≡ self.now) }
+    {
+        Ok(match self {
+            Data::Hex(bytes) => Data::Hex(Bytes::copy(alloc, bytes.as_slice())?),
+            Data::Text(bytes) => Data::Text(Bytes::copy(alloc, bytes.as_slice())?),
+            Data::Fill { len, byte } => Data::Fill {
+                len: *len,
+                byte: *byte,
+            },
+            Data::Ramp { len, first } => Data::Ramp {
+                len: *len,
+                first: *first,
+            },
+        })
+    }
 }
 
 /// One statement of an actor. Places, lengths and sizes are in bytes.
@@ -49,6 +72,50 @@ pub enum Statement {
     Ls,
     /// Arms a stop within the `call`-th call of the actor's next statement, from 1, after so many bytes.
     Stop { call: u64, bytes: u64 },
+}
+
+impl Statement {
+    /// A copy.
+    pub fn copy(&self, alloc: Global) -> Result<Statement, NoMemory>
+        ensures { IfOk result (λ copy. copy ≡ self.now) }
+    {
+        Ok(match self {
+            Statement::Open { name } => Statement::Open { name: *name },
+            Statement::Write { at, content } => Statement::Write {
+                at: *at,
+                content: content.copy(alloc)?,
+            },
+            Statement::Sync => Statement::Sync,
+            Statement::Close => Statement::Close,
+            Statement::Ropen { name, workers } => Statement::Ropen {
+                name: *name,
+                workers: *workers,
+            },
+            Statement::Read { at, len } => Statement::Read { at: *at, len: *len },
+            Statement::Verify { at, content } => Statement::Verify {
+                at: *at,
+                content: content.copy(alloc)?,
+            },
+            Statement::Map => Statement::Map,
+            Statement::Rclose => Statement::Rclose,
+            Statement::Stat { name } => Statement::Stat { name: *name },
+            Statement::Flatten { name } => Statement::Flatten { name: *name },
+            Statement::Recover { name } => Statement::Recover { name: *name },
+            Statement::Trunc { name, size } => Statement::Trunc {
+                name: *name,
+                size: *size,
+            },
+            Statement::Rename { name, to } => Statement::Rename {
+                name: *name,
+                to: *to,
+            },
+            Statement::Ls => Statement::Ls,
+            Statement::Stop { call, bytes } => Statement::Stop {
+                call: *call,
+                bytes: *bytes,
+            },
+        })
+    }
 }
 
 /// A statement with the number of its line, from 1, and the place of its actor's declaration, from 0.

@@ -1,0 +1,66 @@
+//! Reads scripts.
+ghost use Rattle.std.specs.Prelude.{◌≡◌, ◌≤◌, ◌^◌, length, IfOk};
+ghost use Rattle.script_lang.specs.Drafts.{FitsDraft, empty_draft};
+ghost use Rattle.script_lang.specs.Ranges.{FitsScript};
+ghost use Rattle.script_lang.specs.Scripts.{Answers, lines_draft, script_of, trouble_at};
+ghost use Rattle.script_lang.specs.Words.{lines_of};
+
+use crate::draft::Draft;
+use crate::flaw::Flaw;
+use crate::script::Script;
+use crate::trouble::{Kind, ScriptTrouble};
+use crate::words::cut;
+use std::alloc::Global;
+
+/// The most bytes of a script.
+const MAX_SCRIPT: usize = 1 << 20;
+
+// The flaw of the line of this number.
+fn trouble(line: u64, flaw: Flaw) -> ScriptTrouble
+    ensures { result ≡ trouble_at line flaw }
+{
+    match flaw {
+        Flaw::Kind(kind) => ScriptTrouble::Fault { line, kind },
+        Flaw::NoMemory => ScriptTrouble::NoMemory,
+    }
+}
+
+// What all lines make of a script.
+fn read_lines(alloc: Global, bytes: &[u8]) -> Result<Draft, ScriptTrouble>
+    requires { length bytes.now ≤ 2 ^ 20 }
+    ensures draft { Answers result (lines_draft 1 (lines_of bytes.now) empty_draft) }
+    ensures fits { IfOk result FitsDraft }
+{
+    let mut draft = Draft::new(alloc);
+    let mut number = 1;
+    let mut rest = Some(bytes);
+    while let Some(lines) = rest {
+        let (line, later) = cut(lines, b'\n');
+        match draft.line(alloc, number, line) {
+            Ok(()) => {}
+            Err(flaw) => return Err(trouble(number, flaw)),
+        }
+        number += 1;
+        rest = later;
+    }
+    Ok(draft)
+}
+
+impl Script {
+    /// The script that these bytes are, or the first fault by its line and then by the order of kinds.
+    ///
+    /// Takes time linear in the bytes.
+    pub fn read(alloc: Global, bytes: &[u8]) -> Result<Script, ScriptTrouble>
+        ensures script { Answers result (script_of bytes.now) }
+        ensures fits { IfOk result FitsScript }
+    {
+        if bytes.len() > MAX_SCRIPT {
+            return Err(ScriptTrouble::Fault {
+                line: 0,
+                kind: Kind::Long,
+            });
+        }
+        let draft = read_lines(alloc, bytes)?;
+        Ok(draft.finish(alloc)?)
+    }
+}
