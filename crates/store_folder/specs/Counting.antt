@@ -3,7 +3,8 @@ use Rattle.std.specs.Prelude.{◌≡◌, ℕ, None, Result, Ok, Err}
 use Rattle.store_api.specs.declared.step.Answer.{Answer}
 use Rattle.store_api.specs.declared.store.Trouble.{Trouble}
 use Rattle.store_api.specs.declared.store.Trouble.TheVariants.{Fault, NoMemory}
-use Rattle.store_api.specs.Acts.{Stored, next_count}
+use Rattle.plfs_types.specs.Counts.{next_count}
+use Rattle.store_api.specs.Acts.{Stored}
 
 -- what is told of a real folder: no tree, and the counts
 abbrev pub untold : ℕ → ℕ → Stored

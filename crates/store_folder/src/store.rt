@@ -1,7 +1,8 @@
 //! The store: a folder of the system, and the counts of its acts and faults.
 ghost use Rattle.std.specs.Prelude.{◌≡◌, ◌≤◌, IfOk};
 ghost use Rattle.store_api.specs.Step.{step_of};
-ghost use Rattle.store_api.specs.Acts.{Acts, next_count, HasRisen};
+ghost use Rattle.plfs_types.specs.Counts.{next_count, HasRisen};
+ghost use Rattle.store_api.specs.Acts.{Acts};
 ghost use Rattle.store_folder.specs.Counting.{untold, CountsFaults};
 ghost use Rattle.store_folder.specs.Stored.{stored_of};
 

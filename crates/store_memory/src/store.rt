@@ -2,7 +2,8 @@
 ghost use Rattle.std.specs.Prelude.{◌≡◌, ◌==◌, ℕ, [], List, Option, Some, None, find, OnOk, OnErr, IfOk, IsErrOf, IsSomeAnd};
 ghost use Rattle.store_api.specs.Step.{step_of};
 ghost use Rattle.store_api.specs.Effect.{effect};
-ghost use Rattle.store_api.specs.Acts.{Acts, next_count};
+ghost use Rattle.plfs_types.specs.Counts.{next_count};
+ghost use Rattle.store_api.specs.Acts.{Acts};
 ghost use Rattle.store_memory.specs.Broken.{broken_off};
 
 use crate::perform::perform;

@@ -1,5 +1,5 @@
 use Rattle.std.proofs.Common.{◌∙◌, ℕ, ◌≤◌, refl, subst}
-use Rattle.store_api.specs.Acts.{HasRisen}
+use Rattle.plfs_types.specs.Counts.{HasRisen}
 use Rattle.store_folder.proofs.store.FolderStoreStore.act.Goals as goal
 
 pub returns-in-Err-Failed-clause-told : goal.returns-in-Err-Failed-clause-told

@@ -1,0 +1,9 @@
+mod CourseLemmas
+mod EntryLemmas
+mod FormLemmas
+mod FormLemmasBody
+mod FormLemmasLine
+mod InputLemmas
+mod LogLemmas
+mod OutputLemmas
+mod Played

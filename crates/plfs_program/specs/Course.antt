@@ -1,0 +1,71 @@
+-- How a run goes, from its words to its status.
+use Rattle.std.specs.Prelude.{ℕ, ◌≡◌, ◌≢◌, ◌⊎◌, ◌+◌, ◌^◌, true, List, [], ◌∷◌, Option, Some, codes}
+use Rattle.plfs_types.specs.Counts.{HasRisen}
+use Rattle.edge_io.specs.Sink.{Taking}
+use Rattle.edge_io.specs.Source.{Given}
+use Rattle.store_api.specs.Acts.{Stored}
+use Rattle.script_lang.specs.declared.line.Line.{Line}
+use Rattle.script_lang.specs.declared.script.Numbered.{Numbered}
+use Rattle.report_text.specs.Text.{text_of}
+use Rattle.plfs_program.specs.Form.{IsForm}
+use Rattle.plfs_program.specs.Input.{IsWholeInput}
+use Rattle.plfs_program.specs.Lines.{AreLinesOf, has_line, is_fault, status_of}
+use Rattle.plfs_program.specs.Output.{IsPrinted, IsCutOff}
+
+-- the words of the one command that is built
+abbrev pub play_words : List (List ℕ)
+play_words = codes "play" ∷ []
+
+abbrev pub usage_line : List ℕ
+usage_line = codes "usage: plfs ROOT run|play|gen N|cat NAME|stat NAME|map NAME|flatten NAME|trunc NAME SIZE|rename OLD NEW|recover NAME|ls\n"
+
+abbrev pub unbuilt_line : List ℕ
+unbuilt_line = codes "script 0 unbuilt\n"
+
+-- the sink and the store before and after
+pub record Ends : Type 0 where
+  pub taking : Taking
+  pub taking_after : Taking
+  pub stored : Stored
+  pub stored_after : Option Stored
+
+abbrev pub ends_of : Taking → Taking → Stored → Option Stored → Ends
+ends_of taking taking_after stored stored_after = record { taking = taking; taking_after = taking_after; stored = stored; stored_after = stored_after }
+
+-- no act was made
+abbrev pub IsUntouched : Ends → Type 0
+IsUntouched e = e.stored_after ≡ Some e.stored
+
+-- the line was printed, or a front of it where the sink broke
+abbrev pub IsSaid : List ℕ → Ends → Type 0
+IsSaid line e = IsPrinted line e.taking e.taking_after ⊎ IsCutOff line e.taking e.taking_after
+
+-- there is no line for a fault that isn't the store's own
+abbrev pub HasCause : List Line → Ends → Type 0
+HasCause lines e = (after : Stored) × (e.stored_after ≡ Some after) × (has_line is_fault lines ≡ true → HasRisen e.stored.faults after.faults)
+
+-- the bytes are a script, and these are the lines of its statements
+pub record IsPlayedAs (bytes : List ℕ) (lines : List Line) (e : Ends) : Type 0 where
+  pub statements : List Numbered
+  pub script : IsForm bytes statements
+  pub in_turn : AreLinesOf statements lines
+  pub cause : HasCause lines e
+
+-- what becomes of an input of these bytes, one way for each kind of end, with its status
+pub data InputCourse (bytes : List ℕ) (e : Ends) (status : ℕ) : Type 0 where
+  unbuilt : ((statements : List Numbered) → IsForm bytes statements → ⊥) → IsUntouched e → IsSaid unbuilt_line e → status ≡ 2 → InputCourse bytes e status
+  played : (lines : List Line) → IsPlayedAs bytes lines e → IsPrinted (text_of lines) e.taking e.taking_after → status ≡ status_of lines → InputCourse bytes e status
+  cut_off : (lines : List Line) → IsPlayedAs bytes lines e → IsCutOff (text_of lines) e.taking e.taking_after → status ≡ 6 → InputCourse bytes e status
+  starved : e.taking_after ≡ e.taking → status ≡ 3 → InputCourse bytes e status
+
+-- the input was read to its end, or to one byte past the limit of a script, and these are its bytes
+abbrev pub IsInput : List ℕ → Given → Given → Type 0
+IsInput bytes given after = IsWholeInput (2 ^ 20 + 1) bytes given after
+
+-- what becomes of a run: one way for each kind of end, with its status
+pub data Course (words : List (List ℕ)) (given after : Given) (e : Ends) (status : ℕ) : Type 0 where
+  usage : words ≢ play_words → after ≡ given → IsUntouched e → IsSaid usage_line e → status ≡ 2 → Course words given after e status
+  unread : words ≡ play_words → HasRisen given.faults after.faults → IsUntouched e → e.taking_after ≡ e.taking → status ≡ 5
+      → Course words given after e status
+  read : (bytes : List ℕ) → words ≡ play_words → IsInput bytes given after → InputCourse bytes e status → Course words given after e status
+  hungry : words ≡ play_words → IsUntouched e → e.taking_after ≡ e.taking → status ≡ 3 → Course words given after e status

@@ -1,0 +1,23 @@
+-- What was read of a source.
+use Rattle.std.specs.Prelude.{ℕ, ◌≡◌, ◌≤◌, ◌⊎◌, List, [], ◌++◌, length, Option, Some, None}
+use Rattle.edge_io.specs.Source.{Given, HandsOver, EndsAtLast}
+
+-- one read gave n bytes, which stand behind those that were there
+pub record HasMore (n : ℕ) (before after : List ℕ) (old new : Given) : Type 0 where
+  pub piece : List ℕ
+  pub count : length piece ≡ n
+  pub joined : after ≡ before ++ piece
+  pub handed : HandsOver piece old.left new.left
+  pub end : EndsAtLast n old.left
+
+-- no byte is left, where they are told
+abbrev pub IsAtEnd : Option (List ℕ) → Type 0
+IsAtEnd None = Unit {0}
+IsAtEnd (Some left) = left ≡ []
+
+-- the bytes were read from the front of the source, to its end or to the limit
+pub record IsWholeInput (limit : ℕ) (bytes : List ℕ) (old new : Given) : Type 0 where
+  pub handed : HandsOver bytes old.left new.left
+  pub faults : old.faults ≤ new.faults
+  pub within : length bytes ≤ limit
+  pub to_end : (length bytes ≡ limit) ⊎ IsAtEnd new.left

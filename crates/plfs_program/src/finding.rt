@@ -1,0 +1,181 @@
+//! What a container has, by the listings of its folders.
+ghost use Rattle.std.specs.Prelude.{◌≡◌, ◌≤◌, ◌^◌, true, IsErrOf};
+
+use crate::acting::{damaged, folder_path};
+use crate::backing::Backing;
+use crate::naming::{ACCESS, FLATS, METADATA, OPENHOSTS, TRUNCS, named};
+use crate::stuck::Stuck;
+use container_layout::{Item, hostdir, read};
+use plfs_types::{LogicalName, Name, NameList, Path, Trunc, TruncList};
+use script_lang::Why;
+use std::alloc::Global;
+use store_api::{Answer, Step, Store};
+
+/// The index dropping of a writer.
+#[derive(Clone, Copy, PartialEq, Eq, PartialOrd, Ord)]
+pub(crate) struct Dropping {
+    pub(crate) writer: u64,
+    pub(crate) host: u32,
+}
+
+/// The room of the file of this name.
+pub(crate) fn find<S: Store>(store: &mut Backing<S>, name: &LogicalName) -> Result<u64, Stuck>
+    ensures cause { IsErrOf result Stuck.Fault → store.new.faulted ≡ true }
+    ensures opened { store.new.opened ≡ store.old.opened }
+{
+    let name = name.name();
+    match store.act(&Step::FindRoom { name })? {
+        Answer::Number { value: room } => Ok(room),
+        Answer::Absent => Err(Stuck::Refused(Why::NoFile)),
+        _ => Err(damaged(&folder_path(Name::empty()))),
+    }
+}
+
+// The names in a folder. A missing folder is damage.
+fn list<S: Store>(store: &mut Backing<S>, room: u64, folder: Name) -> Result<NameList, Stuck>
+    ensures cause { IsErrOf result Stuck.Fault → store.new.faulted ≡ true }
+    ensures opened { store.new.opened ≡ store.old.opened }
+{
+    match store.act(&Step::List { room, folder })? {
+        Answer::Names(names) => Ok(names),
+        _ => Err(damaged(&folder_path(folder))),
+    }
+}
+
+// No flattened index is made so far, so each name there is damage.
+fn check_flats<S: Store>(store: &mut Backing<S>, room: u64) -> Result<(), Stuck>
+    ensures cause { IsErrOf result Stuck.Fault → store.new.faulted ≡ true }
+    ensures opened { store.new.opened ≡ store.old.opened }
+{
+    let folder = named(FLATS);
+    let names = list(store, room, folder)?;
+    match names.as_slice().first() {
+        None => Ok(()),
+        Some(file) => Err(damaged(&Path {
+            folder,
+            file: *file,
+        })),
+    }
+}
+
+fn is_hostdir(name: &Name) -> bool {
+    (0..32).any(|host| hostdir(host) == *name)
+}
+
+// Whether the top of a container may have this name.
+fn is_of_top(name: &Name) -> bool {
+    [ACCESS, OPENHOSTS, METADATA, TRUNCS, FLATS]
+        .iter()
+        .any(|item| name.bytes() == *item)
+        || is_hostdir(name)
+}
+
+// The names at the top. A foreign name is damage, and then a missing one is.
+fn top<S: Store>(store: &mut Backing<S>, room: u64) -> Result<NameList, Stuck>
+    ensures cause { IsErrOf result Stuck.Fault → store.new.faulted ≡ true }
+    ensures opened { store.new.opened ≡ store.old.opened }
+{
+    let names = list(store, room, Name::empty())?;
+    check_top(names.as_slice())?;
+    Ok(names)
+}
+
+fn check_top(names: &[Name]) -> Result<(), Stuck>
+    ensures { IsErrOf result Stuck.Fault → ⊥ }
+{
+    for name in names {
+        if !is_of_top(name) {
+            return Err(damaged(&Path {
+                folder: Name::empty(),
+                file: *name,
+            }));
+        }
+    }
+    let access = named(ACCESS);
+    if !names.contains(&access) {
+        return Err(damaged(&Path {
+            folder: Name::empty(),
+            file: access,
+        }));
+    }
+    for folder in [named(FLATS), named(METADATA), named(TRUNCS)] {
+        if !names.contains(&folder) {
+            return Err(damaged(&folder_path(folder)));
+        }
+    }
+    Ok(())
+}
+
+// Adds the index droppings of one folder. Each other name but a log's is damage.
+fn add_droppings(folder: Name, names: &[Name], droppings: &mut Vec<Dropping>) -> Result<(), Stuck>
+    ensures { IsErrOf result Stuck.Fault → ⊥ }
+{
+    for name in names {
+        let path = Path {
+            folder,
+            file: *name,
+        };
+        match read(&path) {
+            Some(Item::Index { host, writer }) => droppings.push(Dropping { writer, host })?,
+            Some(Item::Log { .. }) => {}
+            _ => return Err(damaged(&path)),
+        }
+    }
+    Ok(())
+}
+
+/// The index droppings of a container, by ascending writer.
+pub(crate) fn droppings<S: Store>(
+    alloc: Global,
+    store: &mut Backing<S>,
+    room: u64,
+) -> Result<Vec<Dropping>, Stuck>
+    ensures cause { IsErrOf result Stuck.Fault → store.new.faulted ≡ true }
+    ensures opened { store.new.opened ≡ store.old.opened }
+{
+    check_flats(store, room)?;
+    let top = top(store, room)?;
+    let mut droppings = Vec::new(alloc);
+    for host in 0..32 {
+        let folder = hostdir(host);
+        if top.as_slice().contains(&folder) {
+            let names = list(store, room, folder)?;
+            add_droppings(folder, names.as_slice(), &mut droppings)?;
+        }
+    }
+    droppings.sort()?;
+    Ok(droppings)
+}
+
+// Adds the truncates that these names tell. Each other name is damage.
+fn add_truncs(names: &[Name], truncs: &mut Vec<Trunc>) -> Result<(), Stuck>
+    ensures { IsErrOf result Stuck.Fault → ⊥ }
+{
+    for name in names {
+        let path = Path {
+            folder: named(TRUNCS),
+            file: *name,
+        };
+        match read(&path) {
+            Some(Item::Trunc { stamp, size }) => truncs.push(Trunc { stamp, size })?,
+            _ => return Err(damaged(&path)),
+        }
+    }
+    Ok(())
+}
+
+/// The truncates of a container, by stamp.
+pub(crate) fn truncs<S: Store>(
+    alloc: Global,
+    store: &mut Backing<S>,
+    room: u64,
+) -> Result<TruncList, Stuck>
+    ensures cause { IsErrOf result Stuck.Fault → store.new.faulted ≡ true }
+    ensures opened { store.new.opened ≡ store.old.opened }
+{
+    let names = list(store, room, named(TRUNCS))?;
+    let mut truncs = Vec::new(alloc);
+    add_truncs(names.as_slice(), &mut truncs)?;
+    truncs.sort_by_key(|trunc| (trunc.stamp, trunc.size))?;
+    Ok(TruncList::from_vec(truncs))
+}

@@ -1,0 +1,89 @@
+//! The input, read to its end or to its limit.
+ghost use Rattle.std.specs.Prelude.{◌≡◌, ◌≤◌, ◌+◌, ◌^◌, vec_len, IfOk, OnOk, IsErrOf};
+ghost use Rattle.plfs_types.specs.Counts.{HasRisen};
+ghost use Rattle.plfs_program.specs.Input.{IsWholeInput, HasMore};
+
+use edge_io::{Failed, Source};
+use plfs_types::NoMemory;
+use std::alloc::{AllocError, Global};
+
+/// The most bytes of a script.
+pub(crate) const MAX_SCRIPT: usize = 1 << 20;
+
+// How many bytes one read asks for at most.
+const PIECE: usize = 1 << 16;
+
+/// Why there is no input.
+#[derive(Clone, Copy)]
+pub(crate) enum NoInput {
+    /// A read failed.
+    Failed,
+    /// Memory was refused.
+    NoMemory,
+}
+
+impl From<Failed> for NoInput {
+    ghost use Rattle.std.specs.Prelude.{◌≡◌};
+    ghost use Rattle.plfs_program.specs.declared.input.NoInput.TheVariants as variant;
+
+    ghost from_gives = { λ _ why. why ≡ variant.Failed };
+
+    fn from(_: Failed) -> Self {
+        NoInput::Failed
+    }
+}
+
+impl From<AllocError> for NoInput {
+    ghost use Rattle.std.specs.Prelude.{◌≡◌};
+    ghost use Rattle.plfs_program.specs.declared.input.NoInput.TheVariants.{NoMemory};
+
+    ghost from_gives = { λ _ why. why ≡ NoMemory };
+
+    fn from(_: AllocError) -> Self {
+        NoInput::NoMemory
+    }
+}
+
+/// Reads the input to its end, or to one byte past the limit of a script.
+pub(crate) fn read_input<I: Source>(alloc: Global, input: &mut I) -> Result<Vec<u8>, NoInput>
+    ensures whole { IfOk result (λ bytes. IsWholeInput (2 ^ 20 + 1) bytes.items (I.given input.old) (I.given input.new)) }
+    ensures cause { IsErrOf result NoInput.Failed → HasRisen (I.given input.old).faults (I.given input.new).faults }
+{
+    let mut bytes = Vec::new(alloc);
+    let mut buffer = piece_buffer(alloc)?;
+    while bytes.len() <= MAX_SCRIPT {
+        let count = read_piece(&mut buffer, &mut bytes, input)?;
+        if count == 0 {
+            break;
+        }
+    }
+    Ok(bytes)
+}
+
+// Room for the bytes of one read.
+fn piece_buffer(alloc: Global) -> Result<Vec<u8>, AllocError>
+    ensures { IfOk result (λ buffer. vec_len buffer ≡ 2 ^ 16) }
+{
+    vec![in alloc; 0; PIECE]
+}
+
+// One read, whose bytes go behind those that are there.
+fn read_piece<I: Source>(
+    buffer: &mut Vec<u8>,
+    bytes: &mut Vec<u8>,
+    input: &mut I,
+) -> Result<usize, NoInput>
+    requires size { vec_len buffer.old ≡ 2 ^ 16 }
+    requires room { vec_len bytes.old ≤ 2 ^ 20 }
+    ensures size { vec_len buffer.new ≡ 2 ^ 16 }
+    ensures more { IfOk result (λ n. HasMore n bytes.old.items bytes.new.items (I.given input.old) (I.given input.new)) }
+    ensures limit { OnOk result (vec_len bytes.new ≤ 2 ^ 20 + 1) }
+    ensures faults { (I.given input.old).faults ≤ (I.given input.new).faults }
+    ensures cause { IsErrOf result NoInput.Failed → HasRisen (I.given input.old).faults (I.given input.new).faults }
+{
+    let room = PIECE.min(MAX_SCRIPT + 1 - bytes.len());
+    let into = &mut buffer[..room];
+    let count = input.read(into)?;
+    bytes.extend_from_slice(&into[..count])?;
+    Ok(count)
+}

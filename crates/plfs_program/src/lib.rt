@@ -1,0 +1,20 @@
+//! The commands of `plfs` over any store: words, input, script, mount, work, output, status.
+#![tactic(auto)]
+
+mod acting;
+mod backing;
+mod finding;
+mod form;
+mod indices;
+mod input;
+mod logs;
+mod mounting;
+mod naming;
+mod output;
+mod playing;
+mod reading;
+mod stuck;
+mod top;
+mod writing;
+
+pub use top::{Ended, USAGE, plfs, single};

@@ -1,0 +1,247 @@
+//! The statements of a script, one after the other.
+ghost use Rattle.std.specs.Prelude.{◌≡◌, ◌||◌, true, All, IfOk, IsErrOf};
+ghost use Rattle.report_text.specs.Text.{ListsLogicalNames, HaveText};
+ghost use Rattle.plfs_program.specs.Lines.{IsPlayed, IsAnswer, AreInTurn, is_fault, is_damage, has_line};
+
+use crate::backing::Backing;
+use crate::mounting::Mount;
+use crate::reading::{Sight, look, read};
+use crate::stuck::Stuck;
+use crate::writing::{Writer, open};
+use edge_io::Clock;
+use plfs_types::{Bytes, LogicalName, NoMemory};
+use script_lang::{Data, Line, Lines, Numbered, Outcome, Statement, Why};
+use std::alloc::Global;
+use store_api::Store;
+
+/// The actor: at most one writer and one reader, of which the plain file is kept that it saw as it opened.
+#[derive(Drop)]
+pub(crate) struct Actor {
+    writer: Option<Writer>,
+    reader: Option<Bytes>,
+}
+
+// Opens a writer.
+fn open_writer<S: Store>(
+    alloc: Global,
+    store: &mut Backing<S>,
+    mount: &mut Mount,
+    actor: &mut Actor,
+    name: &LogicalName,
+) -> Result<Outcome, Stuck>
+    ensures outcome { IfOk result IsAnswer }
+    ensures cause { IsErrOf result Stuck.Fault → store.new.faulted ≡ true }
+    ensures opened { store.new.opened ≡ store.old.opened }
+{
+    if actor.writer.is_some() {
+        return Err(Stuck::Refused(Why::AlreadyOpen));
+    }
+    let writer = open(alloc, store, mount, name)?;
+    let id = writer.id();
+    actor.writer = Some(writer);
+    Ok(Outcome::Opened { writer: id })
+}
+
+// Writes.
+fn write<S: Store, C: Clock>(
+    store: &mut Backing<S>,
+    clock: &mut C,
+    actor: &mut Actor,
+    at: u64,
+    bytes: &[u8],
+) -> Result<Outcome, Stuck>
+    ensures outcome { IfOk result IsAnswer }
+    ensures cause { IsErrOf result Stuck.Fault → store.new.faulted ≡ true }
+    ensures opened { store.new.opened ≡ store.old.opened }
+{
+    let Some(writer) = &mut actor.writer else {
+        return Err(Stuck::Refused(Why::NotOpen));
+    };
+    if bytes.is_empty() {
+        return Ok(Outcome::Wrote {
+            at,
+            len: 0,
+            stamp: None,
+        });
+    }
+    let stamp = writer.write(store, clock, at, bytes)?;
+    Ok(Outcome::Wrote {
+        at,
+        len: bytes.len() as u64,
+        stamp: Some(stamp),
+    })
+}
+
+// Syncs the writer.
+fn sync<S: Store>(store: &mut Backing<S>, actor: &mut Actor) -> Result<Outcome, Stuck>
+    ensures outcome { IfOk result IsAnswer }
+    ensures cause { IsErrOf result Stuck.Fault → store.new.faulted ≡ true }
+    ensures opened { store.new.opened ≡ store.old.opened }
+{
+    let Some(writer) = &mut actor.writer else {
+        return Err(Stuck::Refused(Why::NotOpen));
+    };
+    let landed = writer.sync(store)?;
+    Ok(Outcome::Synced { landed })
+}
+
+// Closes the writer.
+fn close<S: Store>(store: &mut Backing<S>, actor: &mut Actor) -> Result<Outcome, Stuck>
+    ensures outcome { IfOk result IsAnswer }
+    ensures cause { IsErrOf result Stuck.Fault → store.new.faulted ≡ true }
+    ensures opened { store.new.opened ≡ store.old.opened }
+{
+    let Some(writer) = &mut actor.writer else {
+        return Err(Stuck::Refused(Why::NotOpen));
+    };
+    let landed = writer.close(store)?;
+    actor.writer = None;
+    Ok(Outcome::Closed { landed })
+}
+
+// Opens a reader.
+fn open_reader<S: Store>(
+    alloc: Global,
+    store: &mut Backing<S>,
+    actor: &mut Actor,
+    name: &LogicalName,
+) -> Result<Outcome, Stuck>
+    ensures outcome { IfOk result IsAnswer }
+    ensures cause { IsErrOf result Stuck.Fault → store.new.faulted ≡ true }
+    ensures opened { store.new.opened ≡ store.old.opened }
+{
+    if actor.reader.is_some() {
+        return Err(Stuck::Refused(Why::AlreadyOpen));
+    }
+    let sight = look(alloc, store, name)?;
+    let size = sight.content.as_slice().len() as u64;
+    let Sight {
+        content,
+        cut,
+        truncs,
+    } = sight;
+    actor.reader = Some(content);
+    Ok(Outcome::Reader { size, cut, truncs })
+}
+
+// Reads from the reader.
+fn read_from(alloc: Global, actor: &Actor, at: u64, len: u64) -> Result<Outcome, Stuck>
+    ensures outcome { IfOk result IsAnswer }
+    ensures no_fault { IsErrOf result Stuck.Fault → ⊥ }
+{
+    let Some(content) = &actor.reader else {
+        return Err(Stuck::Refused(Why::NotOpen));
+    };
+    let content = read(alloc, content.as_slice(), at, len)?;
+    Ok(Outcome::Read { at, content })
+}
+
+// Makes one statement.
+fn make<S: Store, C: Clock>(
+    alloc: Global,
+    store: &mut Backing<S>,
+    clock: &mut C,
+    mount: &mut Mount,
+    actor: &mut Actor,
+    statement: &Statement,
+) -> Result<Outcome, Stuck>
+    requires { IsPlayed statement.now }
+    ensures outcome { IfOk result IsAnswer }
+    ensures cause { IsErrOf result Stuck.Fault → store.new.faulted ≡ true }
+    ensures opened { store.new.opened ≡ store.old.opened }
+{
+    match statement {
+        Statement::Open { name } => open_writer(alloc, store, mount, actor, name),
+        Statement::Write {
+            at,
+            content: Data::Text(bytes),
+        } => write(store, clock, actor, *at, bytes.as_slice()),
+        Statement::Sync => sync(store, actor),
+        Statement::Close => close(store, actor),
+        Statement::Ropen { name, .. } => open_reader(alloc, store, actor, name),
+        Statement::Read { at, len } => read_from(alloc, actor, *at, *len),
+        _ => unreachable!(),
+    }
+}
+
+/// What the line says of a statement, or of the mounting, that ended early. Want of memory has no line.
+pub(crate) fn trouble_of(stuck: Stuck) -> Result<Outcome, NoMemory>
+    ensures text { IfOk result ListsLogicalNames }
+    ensures fault { IfOk result (λ outcome. is_fault outcome ≡ true → stuck ≡ Stuck.Fault) }
+{
+    match stuck {
+        Stuck::Refused(why) => Ok(Outcome::Refused { why }),
+        Stuck::Damaged {
+            folder,
+            file,
+            place,
+        } => Ok(Outcome::Damaged {
+            folder,
+            file,
+            place,
+        }),
+        Stuck::Fault => Ok(Outcome::Fault),
+        Stuck::NoMemory => Err(NoMemory),
+    }
+}
+
+// What the line says of a statement that ended so.
+fn outcome_of(made: Result<Outcome, Stuck>) -> Result<Outcome, NoMemory>
+    requires { IfOk made IsAnswer }
+    ensures text { IfOk result ListsLogicalNames }
+    ensures fault { IfOk result (λ outcome. is_fault outcome ≡ true → IsErrOf made Stuck.Fault) }
+{
+    match made {
+        Ok(outcome) => Ok(outcome),
+        Err(stuck) => trouble_of(stuck),
+    }
+}
+
+// Whether a statement that ended so is the last one.
+fn is_last(outcome: &Outcome) -> bool
+    ensures { result ≡ (is_fault outcome.now || is_damage outcome.now) }
+{
+    matches!(outcome, Outcome::Fault | Outcome::Damaged { .. })
+}
+
+/// Makes the statements in order, and tells a line of each. A fault or damage is the last line.
+pub(crate) fn play<S: Store, C: Clock>(
+    alloc: Global,
+    store: &mut Backing<S>,
+    clock: &mut C,
+    mount: Mount,
+    statements: &[Numbered],
+) -> Result<Lines, NoMemory>
+    requires { All (λ s. IsPlayed s.statement) statements.now }
+    ensures in_turn { IfOk result (λ lines. AreInTurn statements.now lines) }
+    ensures text { IfOk result HaveText }
+    ensures cause { IfOk result (λ lines. has_line is_fault lines ≡ true → store.new.faulted ≡ true) }
+    ensures opened { store.new.opened ≡ store.old.opened }
+{
+    let mut mount = mount;
+    let mut actor = Actor {
+        writer: None,
+        reader: None,
+    };
+    let mut lines = Lines::new(alloc);
+    for numbered in statements {
+        let made = make(
+            alloc,
+            store,
+            clock,
+            &mut mount,
+            &mut actor,
+            &numbered.statement,
+        );
+        let outcome = outcome_of(made)?;
+        let last = is_last(&outcome);
+        lines.push(Line {
+            number: numbered.line,
+            outcome,
+        })?;
+        if last {
+            return Ok(lines);
+        }
+    }
+    Ok(lines)
+}

@@ -1,0 +1,280 @@
+//! The whole of a run: words, input, script, mount, work, output, status.
+ghost use Rattle.std.specs.Prelude.{◌≡◌, ◌≢◌, ◌⊎◌, ◌∷◌, ℕ, List, [], true, Some, All, IfOk, option_map};
+ghost use Rattle.std.specs.Bool.{OnTrue, OnFalse};
+ghost use Rattle.plfs_types.specs.Counts.{HasRisen};
+ghost use Rattle.report_text.specs.Text.{text_of, HaveText};
+ghost use Rattle.plfs_program.specs.Course.{Course, InputCourse, ends_of, play_words};
+ghost use Rattle.plfs_program.specs.Form.{IsForm};
+ghost use Rattle.plfs_program.specs.Lines.{AreLinesOf, IsPlayed, has_line, is_fault, is_damage, is_refusal, status_of};
+ghost use Rattle.plfs_program.specs.Output.{IsPrinted, IsCutOff};
+
+use crate::backing::Backing;
+use crate::form::read_form;
+use crate::input::{NoInput, read_input};
+use crate::mounting::draw_mount;
+use crate::output::write_out;
+use crate::playing::{play, trouble_of};
+use edge_io::{Clock, Gate, Sink, Source};
+use plfs_types::{NoMemory, Word};
+use report_text::print;
+use script_lang::{Line, Lines, Numbered, Outcome};
+use std::alloc::Global;
+use std::sync::Wait;
+use std::thread::Threads;
+use store_api::Store;
+
+/// The usage line, which words outside the grammar print, with its line feed.
+pub const USAGE: &[u8] =
+    b"usage: plfs ROOT run|play|gen N|cat NAME|stat NAME|map NAME|flatten NAME|trunc NAME SIZE|rename OLD NEW|recover NAME|ls\n";
+
+const UNBUILT: &[u8] = b"script 0 unbuilt\n";
+
+/// What a run leaves: the store, and the status with which the program ends.
+#[derive(Drop)]
+pub struct Ended<S> {
+    /// The store as the run left it.
+    pub store: Option<S>,
+    /// 0: each statement was made. 1: one was refused. 2: the words or the script are none that are played.
+    /// 3: memory was refused. 4: the store failed. 5: the source failed. 6: the sink failed, or took nothing.
+    /// 7: an item is damaged.
+    pub status: u8,
+}
+
+// Whether the word has these bytes.
+fn is_word(word: &Word, text: &[u8]) -> bool
+    ensures same { OnTrue result (word.now ≡ text.now) }
+    ensures other { OnFalse result (word.now ≢ text.now) }
+{
+    word.as_bytes() == text
+}
+
+// Whether the words are those of the one command that is built.
+fn is_play(words: &[Word]) -> bool
+    ensures play { OnTrue result (words.now ≡ play_words) }
+    ensures other { OnFalse result (words.now ≢ play_words) }
+{
+    match words {
+        [word] => is_word(word, b"play"),
+        _ => false,
+    }
+}
+
+fn has_fault(lines: &[Line]) -> bool
+    ensures { result ≡ has_line is_fault lines.now }
+{
+    lines
+        .iter()
+        .any(|line| matches!(line.outcome, Outcome::Fault))
+}
+
+fn has_damage(lines: &[Line]) -> bool
+    ensures { result ≡ has_line is_damage lines.now }
+{
+    lines
+        .iter()
+        .any(|line| matches!(line.outcome, Outcome::Damaged { .. }))
+}
+
+fn has_refusal(lines: &[Line]) -> bool
+    ensures { result ≡ has_line is_refusal lines.now }
+{
+    lines
+        .iter()
+        .any(|line| matches!(line.outcome, Outcome::Refused { .. }))
+}
+
+// The status of a run with these lines.
+fn status_of(lines: &[Line]) -> u8
+    ensures { result ≡ status_of lines.now }
+{
+    if has_damage(lines) {
+        7
+    } else if has_fault(lines) {
+        4
+    } else if has_refusal(lines) {
+        1
+    } else {
+        0
+    }
+}
+
+// The line of a mounting that ended so.
+fn mounting_line(alloc: Global, outcome: Outcome) -> Result<Lines, NoMemory>
+    ensures { IfOk result (λ lines. lines ≡ (record { number = 0; outcome = outcome }) ∷ []) }
+{
+    let mut lines = Lines::new(alloc);
+    lines.push(Line { number: 0, outcome })?;
+    Ok(lines)
+}
+
+// Mounts, and plays the statements.
+fn mount_and_play<S: Store, C: Clock>(
+    alloc: Global,
+    store: &mut Backing<S>,
+    clock: &mut C,
+    statements: &[Numbered],
+) -> Result<Lines, NoMemory>
+    requires { All (λ s. IsPlayed s.statement) statements.now }
+    ensures in_turn { IfOk result (AreLinesOf statements.now) }
+    ensures text { IfOk result HaveText }
+    ensures cause { IfOk result (λ lines. has_line is_fault lines ≡ true → store.new.faulted ≡ true) }
+    ensures opened { store.new.opened ≡ store.old.opened }
+{
+    match draw_mount(store) {
+        Ok(mount) => play(alloc, store, clock, mount, statements),
+        Err(stuck) => mounting_line(alloc, trouble_of(stuck)?),
+    }
+}
+
+// What the work on a store leaves.
+#[derive(Drop)]
+struct Worked<S> {
+    store: S,
+    lines: Result<Lines, NoMemory>,
+}
+
+// Mounts a store, and plays the statements on it.
+fn work<S: Store, C: Clock>(
+    alloc: Global,
+    store: S,
+    clock: &mut C,
+    statements: &[Numbered],
+) -> Worked<S>
+    requires { All (λ s. IsPlayed s.statement) statements.now }
+    ensures in_turn { IfOk result.lines (AreLinesOf statements.now) }
+    ensures text { IfOk result.lines HaveText }
+    ensures cause { IfOk result.lines (λ lines. has_line is_fault lines ≡ true → HasRisen (S.stored store).faults (S.stored result.store).faults) }
+{
+    let mut backing = Backing::new(store);
+    let lines = mount_and_play(alloc, &mut backing, clock, statements);
+    Worked {
+        store: backing.into_store(),
+        lines,
+    }
+}
+
+// Prints the lines, and ends with their status, or with 6 where the sink broke.
+fn report<O: Sink>(out: &mut O, text: &[u8], lines: &[Line]) -> u8
+    ensures told { (result ≡ status_of lines.now) × IsPrinted text.now (O.taking out.old) (O.taking out.new) ⊎ (result ≡ 6) × IsCutOff text.now (O.taking out.old) (O.taking out.new) }
+{
+    match write_out(out, text) {
+        Ok(()) => status_of(lines),
+        Err(_) => 6,
+    }
+}
+
+// Prints one line.
+fn say<O: Sink>(out: &mut O, line: &[u8])
+    ensures { IsPrinted line.now (O.taking out.old) (O.taking out.new) ⊎ IsCutOff line.now (O.taking out.old) (O.taking out.new) }
+{
+    let _ = write_out(out, line);
+}
+
+// Plays the statements of a script, and prints their lines.
+fn play_statements<S: Store, C: Clock, O: Sink>(
+    alloc: Global,
+    statements: &[Numbered],
+    out: &mut O,
+    store: S,
+    clock: &mut C,
+) -> Ended<S>
+    requires { All (λ s. IsPlayed s.statement) statements.now }
+    ensures { (bytes : List ℕ) → IsForm bytes statements.now → InputCourse bytes (ends_of (O.taking out.old) (O.taking out.new) (S.stored store) (option_map S.stored result.store)) result.status }
+{
+    let Worked { store, lines } = work(alloc, store, clock, statements);
+    let Ok(lines) = lines else {
+        return starved(store);
+    };
+    let Ok(text) = print(alloc, &lines) else {
+        return starved(store);
+    };
+    let status = report(out, text.as_slice(), lines.as_slice());
+    Ended {
+        store: Some(store),
+        status,
+    }
+}
+
+// The end for want of memory.
+fn starved<S>(store: S) -> Ended<S>
+    ensures store { result.store ≡ Some store }
+    ensures status { result.status ≡ 3 }
+{
+    Ended {
+        store: Some(store),
+        status: 3,
+    }
+}
+
+// Plays the script that these bytes are.
+fn play_input<S: Store, C: Clock, O: Sink>(
+    alloc: Global,
+    bytes: &[u8],
+    out: &mut O,
+    store: S,
+    clock: &mut C,
+) -> Ended<S>
+    ensures { InputCourse bytes.now (ends_of (O.taking out.old) (O.taking out.new) (S.stored store) (option_map S.stored result.store)) result.status }
+{
+    let Ok(form) = read_form(alloc, bytes) else {
+        return starved(store);
+    };
+    let Some(statements) = form else {
+        say(out, UNBUILT);
+        return Ended {
+            store: Some(store),
+            status: 2,
+        };
+    };
+    play_statements(alloc, statements.as_slice(), out, store, clock)
+}
+
+/// Runs a command that waits for nobody: reads the words, the input and the script, mounts the store, works, and
+/// prints a line for each statement.
+///
+/// So far the one command is `play`, for scripts of one actor `a` with at most 64 statements `open`, `write` of a
+/// text, `sync`, `close`, `ropen` and `read`. Every other script prints `script 0 unbuilt`, and all other words print
+/// the usage line. A fault or damage is the last line. What the lines say of the file is not in the contract.
+pub fn single<S: Store, C: Clock + Drop, I: Source, O: Sink>(
+    alloc: Global,
+    words: &[Word],
+    input: &mut I,
+    out: &mut O,
+    store: S,
+    clock: C,
+) -> Ended<S>
+    ensures { Course words.now (I.given input.old) (I.given input.new) (ends_of (O.taking out.old) (O.taking out.new) (S.stored store) (option_map S.stored result.store)) result.status }
+{
+    let mut clock = clock;
+    if !is_play(words) {
+        say(out, USAGE);
+        return Ended {
+            store: Some(store),
+            status: 2,
+        };
+    }
+    match read_input(alloc, input) {
+        Ok(bytes) => play_input(alloc, bytes.as_slice(), out, store, &mut clock),
+        Err(NoInput::Failed) => Ended {
+            store: Some(store),
+            status: 5,
+        },
+        Err(NoInput::NoMemory) => starved(store),
+    }
+}
+
+/// Runs a command. So far no command waits or starts threads, and this is `single`.
+pub fn plfs<R: Threads + Wait, S: Store, C: Clock + Drop, I: Source, O: Sink, G: Gate>(
+    _rt: &R,
+    alloc: Global,
+    words: &[Word],
+    input: &mut I,
+    out: &mut O,
+    store: S,
+    clock: C,
+    _gate: &G,
+) -> Ended<S>
+    ensures { Course words.now (I.given input.old) (I.given input.new) (ends_of (O.taking out.old) (O.taking out.new) (S.stored store) (option_map S.stored result.store)) result.status }
+{
+    single(alloc, words, input, out, store, clock)
+}

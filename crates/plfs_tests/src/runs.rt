@@ -1,0 +1,85 @@
+//! A run over a store in memory.
+use edge_io::{CallList, ClockList, ListClock, MemorySink, MemorySource};
+use plfs_program::single;
+use plfs_types::{Bytes, NoMemory, Word};
+use std::alloc::Global;
+use std::process::Abort;
+use std::test::Fail;
+use store_memory::{FailList, MemoryStore};
+
+/// What a run left.
+#[derive(Drop)]
+pub struct Run {
+    pub status: u8,
+    pub output: Bytes,
+    pub store: Option<MemoryStore>,
+}
+
+/// What a run is set up with: its words, its script, the clock's times, and the calls that fail.
+#[derive(Clone, Copy)]
+pub struct Setup<'a> {
+    pub word: &'a str,
+    pub script: &'a [u8],
+    pub times: &'a [u64],
+    pub source_fails: &'a [u64],
+    pub sink_fails: &'a [u64],
+    pub sink_piece: usize,
+}
+
+/// `play` of a script at the time 10, where nothing fails.
+pub fn playing(script: &[u8]) -> Setup<'_> {
+    Setup {
+        word: "play",
+        script,
+        times: &[10],
+        source_fails: &[],
+        sink_fails: &[],
+        sink_piece: 1 << 20,
+    }
+}
+
+fn numbers(alloc: Global, of: &[u64]) -> Result<CallList, NoMemory> {
+    Ok(ClockList::from_vec(Vec::from_slice(alloc, of)?))
+}
+
+/// Runs it over this store.
+pub fn run_on(alloc: Global, store: MemoryStore, setup: Setup<'_>) -> Result<Run, NoMemory> {
+    let mut words = Vec::new(alloc);
+    words.push(Word::copy(alloc, setup.word)?)?;
+    let script = Bytes::copy(alloc, setup.script)?;
+    let mut input = MemorySource::new(script, 7, numbers(alloc, setup.source_fails)?);
+    let mut out = MemorySink::new(alloc, setup.sink_piece, numbers(alloc, setup.sink_fails)?);
+    let clock = ListClock::new(numbers(alloc, setup.times)?);
+    let ended = single(alloc, &words, &mut input, &mut out, store, clock);
+    let output = Bytes::copy(alloc, out.taken())?;
+    Ok(Run {
+        status: ended.status,
+        output,
+        store: ended.store,
+    })
+}
+
+/// Runs it over an empty store.
+pub fn run_fresh(alloc: Global, setup: Setup<'_>) -> Result<Run, NoMemory> {
+    let store = MemoryStore::new(alloc, FailList::new(alloc))?;
+    run_on(alloc, store, setup)
+}
+
+/// The run ends so.
+pub fn ends(rt: &impl Abort, run: &Run, status: u8, output: &str) {
+    assert_eq!(rt; run.status, status);
+    assert_eq!(rt; run.output.as_slice(), output.as_bytes());
+}
+
+/// A script of the one actor, after its declaration, ends so at the time 10.
+pub fn plays(
+    rt: &impl Abort,
+    alloc: Global,
+    script: &str,
+    status: u8,
+    output: &str,
+) -> Result<(), Fail> {
+    let run = run_fresh(alloc, playing(script.as_bytes()))?;
+    ends(rt, &run, status, output);
+    Ok(())
+}

@@ -1,0 +1,75 @@
+//! Scripts with their lines.
+use crate::runs::{Setup, ends, playing, plays, run_fresh, run_on};
+use std::test::Fail;
+
+const HELLO: &str =
+    "actor a\na open f\na write 0 text:hello\na sync\na close\na ropen f\na read 0 5\n";
+
+const HELLO_LINES: &str =
+    "2 open 4294967297\n3 wrote 0 5 10\n4 synced 1\n5 closed 1\n6 reader 5 cut 4294967297:1 trunc -\n7 read 0 68656c6c6f\n";
+
+#[test]
+fn an_empty_script_prints_nothing(rt: HostRuntime) -> Result<(), Fail> {
+    plays(&rt, rt.alloc(), "", 0, "")
+}
+
+#[test]
+fn a_closed_writer_is_read(rt: HostRuntime) -> Result<(), Fail> {
+    plays(&rt, rt.alloc(), HELLO, 0, HELLO_LINES)
+}
+
+#[test]
+fn entries_that_wait_are_not_seen(rt: HostRuntime) -> Result<(), Fail> {
+    plays(
+        &rt,
+        rt.alloc(),
+        "actor a\na open f\na write 0 text:hello\na ropen f\na read 0 5\n",
+        0,
+        "2 open 4294967297\n3 wrote 0 5 10\n4 reader 0 cut - trunc -\n5 read 0 -\n",
+    )
+}
+
+#[test]
+fn stamps_rise_where_the_clock_falls(rt: HostRuntime) -> Result<(), Fail> {
+    let script = "actor a\na open f\na write 0 text:A\na write 1 text:B\n";
+    let run = run_fresh(
+        rt.alloc(),
+        Setup {
+            times: &[50, 20],
+            ..playing(script.as_bytes())
+        },
+    )?;
+    ends(
+        &rt,
+        &run,
+        0,
+        "2 open 4294967297\n3 wrote 0 1 50\n4 wrote 1 1 51\n",
+    );
+    Ok(())
+}
+
+#[test]
+fn a_hole_is_zeros_and_the_end_gives_nothing(rt: HostRuntime) -> Result<(), Fail> {
+    plays(
+        &rt,
+        rt.alloc(),
+        "actor a\na open f\na write 4 text:X\na close\na ropen f\na read 0 5\na read 5 3\na read 3 9\n",
+        0,
+        "2 open 4294967297\n3 wrote 4 1 10\n4 closed 1\n5 reader 5 cut 4294967297:1 trunc -\n6 read 0 0000000058\n7 read 5 -\n8 read 3 0058\n",
+    )
+}
+
+#[test]
+fn a_second_run_sees_the_first_and_has_ids_of_its_own(rt: HostRuntime) -> Result<(), Fail> {
+    let first = run_fresh(rt.alloc(), playing(HELLO.as_bytes()))?;
+    let store = first.store.ok_or("no store")?;
+    let again = "actor a\na open f\na write 5 text:!\na close\na ropen f\na read 0 9\n";
+    let second = run_on(rt.alloc(), store, playing(again.as_bytes()))?;
+    ends(
+        &rt,
+        &second,
+        0,
+        "2 open 8589934593\n3 wrote 5 1 10\n4 closed 1\n5 reader 6 cut 4294967297:1,8589934593:1 trunc -\n6 read 0 68656c6c6f21\n",
+    );
+    Ok(())
+}
