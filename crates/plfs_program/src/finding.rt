@@ -3,9 +3,8 @@ ghost use Rattle.std.specs.Prelude.{◌≡◌, ◌≤◌, ◌^◌, true, IsErrOf
 
 use crate::acting::{damaged, folder_path};
 use crate::backing::Backing;
-use crate::naming::{ACCESS, FLATS, METADATA, OPENHOSTS, TRUNCS, named};
 use crate::stuck::Stuck;
-use container_layout::{Item, hostdir, read};
+use container_layout::{Item, flats, hostdir, metadata, openhosts, print, read, truncs};
 use plfs_types::{LogicalName, Name, NameList, Path, Trunc, TruncList};
 use script_lang::Why;
 use std::alloc::Global;
@@ -47,7 +46,7 @@ fn check_flats<S: Store>(store: &mut Backing<S>, room: u64) -> Result<(), Stuck>
     ensures cause { IsErrOf result Stuck.Fault → store.new.faulted ≡ true }
     ensures opened { store.new.opened ≡ store.old.opened }
 {
-    let folder = named(FLATS);
+    let folder = flats();
     let names = list(store, room, folder)?;
     match names.as_slice().first() {
         None => Ok(()),
@@ -64,9 +63,14 @@ fn is_hostdir(name: &Name) -> bool {
 
 // Whether the top of a container may have this name.
 fn is_of_top(name: &Name) -> bool {
-    [ACCESS, OPENHOSTS, METADATA, TRUNCS, FLATS]
-        .iter()
-        .any(|item| name.bytes() == *item)
+    [
+        print(&Item::Access).file,
+        openhosts(),
+        metadata(),
+        truncs(),
+        flats(),
+    ]
+    .contains(name)
         || is_hostdir(name)
 }
 
@@ -91,14 +95,14 @@ fn check_top(names: &[Name]) -> Result<(), Stuck>
             }));
         }
     }
-    let access = named(ACCESS);
+    let access = print(&Item::Access).file;
     if !names.contains(&access) {
         return Err(damaged(&Path {
             folder: Name::empty(),
             file: access,
         }));
     }
-    for folder in [named(FLATS), named(METADATA), named(TRUNCS)] {
+    for folder in [flats(), metadata(), truncs()] {
         if !names.contains(&folder) {
             return Err(damaged(&folder_path(folder)));
         }
@@ -148,16 +152,16 @@ pub(crate) fn droppings<S: Store>(
 }
 
 // Adds the truncates that these names tell. Each other name is damage.
-fn add_truncs(names: &[Name], truncs: &mut Vec<Trunc>) -> Result<(), Stuck>
+fn add_truncates(names: &[Name], found: &mut Vec<Trunc>) -> Result<(), Stuck>
     ensures { IsErrOf result Stuck.Fault → ⊥ }
 {
     for name in names {
         let path = Path {
-            folder: named(TRUNCS),
+            folder: truncs(),
             file: *name,
         };
         match read(&path) {
-            Some(Item::Trunc { stamp, size }) => truncs.push(Trunc { stamp, size })?,
+            Some(Item::Trunc { stamp, size }) => found.push(Trunc { stamp, size })?,
             _ => return Err(damaged(&path)),
         }
     }
@@ -165,7 +169,7 @@ fn add_truncs(names: &[Name], truncs: &mut Vec<Trunc>) -> Result<(), Stuck>
 }
 
 /// The truncates of a container, by stamp.
-pub(crate) fn truncs<S: Store>(
+pub(crate) fn truncates<S: Store>(
     alloc: Global,
     store: &mut Backing<S>,
     room: u64,
@@ -173,9 +177,9 @@ pub(crate) fn truncs<S: Store>(
     ensures cause { IsErrOf result Stuck.Fault → store.new.faulted ≡ true }
     ensures opened { store.new.opened ≡ store.old.opened }
 {
-    let names = list(store, room, named(TRUNCS))?;
-    let mut truncs = Vec::new(alloc);
-    add_truncs(names.as_slice(), &mut truncs)?;
-    truncs.sort_by_key(|trunc| (trunc.stamp, trunc.size))?;
-    Ok(TruncList::from_vec(truncs))
+    let names = list(store, room, truncs())?;
+    let mut found = Vec::new(alloc);
+    add_truncates(names.as_slice(), &mut found)?;
+    found.sort_by_key(|trunc| (trunc.stamp, trunc.size))?;
+    Ok(TruncList::from_vec(found))
 }

@@ -1,4 +1,4 @@
-//! Names of rooms and folders.
+//! Names that are no item's of a container.
 ghost use Rattle.std.specs.Prelude.{◌≡◌, ◌≤◌, length};
 
 use plfs_types::Name;
@@ -16,18 +16,3 @@ pub(crate) const MARKS_ROOM: &[u8] = b".plfs";
 
 /// The folder of the mount's marks.
 pub(crate) const MOUNTS: &[u8] = b"mounts";
-
-/// The folder of the writers that have the container open.
-pub(crate) const OPENHOSTS: &[u8] = b"openhosts";
-
-/// The folder of what closed writers left.
-pub(crate) const METADATA: &[u8] = b"metadata";
-
-/// The folder of the truncates.
-pub(crate) const TRUNCS: &[u8] = b"truncs";
-
-/// The folder of the flattened indices.
-pub(crate) const FLATS: &[u8] = b"flats";
-
-/// The file that each container has.
-pub(crate) const ACCESS: &[u8] = b"access";

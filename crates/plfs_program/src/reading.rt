@@ -3,7 +3,7 @@ ghost use Rattle.std.specs.Prelude.{◌≡◌, true, IsErrOf, IfOk};
 ghost use Rattle.plain_file.specs.File.{slice};
 
 use crate::backing::Backing;
-use crate::finding::{droppings, find, truncs};
+use crate::finding::{droppings, find, truncates};
 use crate::indices::entries;
 use crate::logs::changes;
 use crate::stuck::Stuck;
@@ -33,7 +33,7 @@ pub(crate) fn look<S: Store>(
     let droppings = droppings(alloc, store, room)?;
     let mut cut = CountList::new(alloc);
     let found = entries(alloc, store, room, &droppings, &mut cut)?;
-    let truncs = truncs(alloc, store, room)?;
+    let truncs = truncates(alloc, store, room)?;
     let changes = changes(alloc, store, room, &found, truncs.as_slice())?;
     let content = replay(alloc, &changes)?;
     Ok(Sight {

@@ -6,9 +6,8 @@ ghost use Rattle.container_layout.specs.Items.{IsInRange};
 use crate::acting::{damaged, folder_path, make, make_or_keep, sync};
 use crate::backing::Backing;
 use crate::mounting::Mount;
-use crate::naming::{ACCESS, FLATS, METADATA, OPENHOSTS, TRUNCS, named};
 use crate::stuck::Stuck;
-use container_layout::{Item, hostdir, print, read};
+use container_layout::{Item, flats, hostdir, metadata, openhosts, print, read, truncs};
 use edge_io::Clock;
 use index_entry::encode;
 use plfs_types::{Entry, LogicalName, Name, Path, fits, stamp_for};
@@ -56,13 +55,8 @@ fn make_container<S: Store>(store: &mut Backing<S>, name: &LogicalName) -> Resul
 {
     let step = Step::MakeRoom {
         name: name.name(),
-        folders: &[
-            named(OPENHOSTS),
-            named(METADATA),
-            named(TRUNCS),
-            named(FLATS),
-        ],
-        files: &[named(ACCESS)],
+        folders: &[openhosts(), metadata(), truncs(), flats()],
+        files: &[print(&Item::Access).file],
     };
     match store.act(&step)? {
         Answer::Number { value: room } | Answer::Old { room } => Ok(room),
@@ -108,7 +102,7 @@ fn greatest_stamp(names: &[Name]) -> Result<u64, Stuck>
     let mut greatest = 0;
     for name in names {
         let path = Path {
-            folder: named(TRUNCS),
+            folder: truncs(),
             file: *name,
         };
         let Some(Item::Trunc { stamp, .. }) = read(&path) else {
@@ -124,7 +118,7 @@ fn floor<S: Store>(store: &mut Backing<S>, room: u64) -> Result<u64, Stuck>
     ensures cause { IsErrOf result Stuck.Fault → store.new.faulted ≡ true }
     ensures opened { store.new.opened ≡ store.old.opened }
 {
-    let folder = named(TRUNCS);
+    let folder = truncs();
     match store.act(&Step::List { room, folder })? {
         Answer::Names(names) => greatest_stamp(names.as_slice()),
         _ => Err(damaged(&folder_path(folder))),

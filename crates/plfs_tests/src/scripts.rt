@@ -1,6 +1,10 @@
 //! Scripts with their lines.
 use crate::runs::{Setup, ends, playing, plays, run_fresh, run_on};
+use container_layout::hostdir;
+use plfs_types::Name;
 use std::test::Fail;
+use store_api::{Answer, Step, Store};
+use store_memory::{Fail as Planned, FailList, MemoryStore};
 
 const HELLO: &str =
     "actor a\na open f\na write 0 text:hello\na sync\na close\na ropen f\na read 0 5\n";
@@ -70,6 +74,55 @@ fn a_second_run_sees_the_first_and_has_ids_of_its_own(rt: HostRuntime) -> Result
         &second,
         0,
         "2 open 8589934593\n3 wrote 5 1 10\n4 closed 1\n5 reader 6 cut 4294967297:1,8589934593:1 trunc -\n6 read 0 68656c6c6f21\n",
+    );
+    Ok(())
+}
+
+#[test]
+fn a_torn_entry_is_not_counted(rt: HostRuntime) -> Result<(), Fail> {
+    // The flush of two entries is the act of number 12, and leaves one of them and a byte.
+    let mut fails = FailList::new(rt.alloc());
+    fails.push(Planned { act: 12, part: 41 })?;
+    let store = MemoryStore::new(rt.alloc(), fails)?;
+    let writes = "actor a\na open f\na write 0 text:A\na write 1 text:B\na sync\n";
+    let first = run_on(rt.alloc(), store, playing(writes.as_bytes()))?;
+    ends(
+        &rt,
+        &first,
+        4,
+        "2 open 4294967297\n3 wrote 0 1 10\n4 wrote 1 1 11\n5 fault\n",
+    );
+    let store = first.store.ok_or("no store")?;
+    let reads = "actor a\na ropen f\na read 0 9\n";
+    let second = run_on(rt.alloc(), store, playing(reads.as_bytes()))?;
+    ends(
+        &rt,
+        &second,
+        0,
+        "2 reader 1 cut 4294967297:1 trunc -\n3 read 0 41\n",
+    );
+    Ok(())
+}
+
+#[test]
+fn a_bad_entry_is_damage(rt: HostRuntime) -> Result<(), Fail> {
+    let first = run_fresh(rt.alloc(), playing(HELLO.as_bytes()))?;
+    let mut store = first.store.ok_or("no store")?;
+    let zeros = Step::WriteAt {
+        room: 1,
+        folder: hostdir(0),
+        file: Name::from_bytes(b"index.0.4294967297").ok_or("a long name")?,
+        at: 0,
+        bytes: &[0; 40],
+    };
+    assert!(rt; matches!(store.act(&zeros), Ok(Answer::Made)));
+    let reads = "actor a\na ropen f\na read 0 5\n";
+    let second = run_on(rt.alloc(), store, playing(reads.as_bytes()))?;
+    ends(
+        &rt,
+        &second,
+        7,
+        "2 damaged hostdir.0/index.0.4294967297 0\n",
     );
     Ok(())
 }
