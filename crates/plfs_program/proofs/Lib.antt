@@ -1,8 +1,5 @@
 mod CourseLemmas
 mod EntryLemmas
-mod FormLemmas
-mod FormLemmasBody
-mod FormLemmasLine
 mod InputLemmas
 mod LogLemmas
 mod OutputLemmas

@@ -1,13 +1,16 @@
 -- How a run goes, from its words to its status.
-use Rattle.std.specs.Prelude.{ℕ, ◌≡◌, ◌≢◌, ◌⊎◌, ◌+◌, ◌^◌, true, List, [], ◌∷◌, Option, Some, codes}
+use Rattle.std.specs.Prelude.{ℕ, ◌≡◌, ◌≢◌, ◌⊎◌, ◌+◌, ◌^◌, true, false, List, [], ◌∷◌, Option, Some, Ok, Err, codes}
 use Rattle.plfs_types.specs.Counts.{HasRisen}
 use Rattle.edge_io.specs.Sink.{Taking}
 use Rattle.edge_io.specs.Source.{Given}
 use Rattle.store_api.specs.Acts.{Stored}
 use Rattle.script_lang.specs.declared.line.Line.{Line}
 use Rattle.script_lang.specs.declared.script.Numbered.{Numbered}
+use Rattle.script_lang.specs.declared.script.Script.{Script}
+use Rattle.script_lang.specs.Scripts.{Fault, script_of}
 use Rattle.report_text.specs.Text.{text_of}
-use Rattle.plfs_program.specs.Form.{IsForm}
+use Rattle.plfs_program.specs.Built.{IsBuiltScript, is_built}
+use Rattle.plfs_program.specs.Faults.{fault_line}
 use Rattle.plfs_program.specs.Input.{IsWholeInput}
 use Rattle.plfs_program.specs.Lines.{AreLinesOf, has_line, is_fault, status_of}
 use Rattle.plfs_program.specs.Output.{IsPrinted, IsCutOff}
@@ -44,16 +47,19 @@ IsSaid line e = IsPrinted line e.taking e.taking_after ⊎ IsCutOff line e.takin
 abbrev pub HasCause : List Line → Ends → Type 0
 HasCause lines e = (after : Stored) × (e.stored_after ≡ Some after) × (has_line is_fault lines ≡ true → HasRisen e.stored.faults after.faults)
 
--- the bytes are a script, and these are the lines of its statements
+-- the bytes are a script that is played so far, and these are the lines of its statements
 pub record IsPlayedAs (bytes : List ℕ) (lines : List Line) (e : Ends) : Type 0 where
   pub statements : List Numbered
-  pub script : IsForm bytes statements
+  pub built : IsBuiltScript bytes statements
   pub in_turn : AreLinesOf statements lines
   pub cause : HasCause lines e
 
 -- what becomes of an input of these bytes, one way for each kind of end, with its status
 pub data InputCourse (bytes : List ℕ) (e : Ends) (status : ℕ) : Type 0 where
-  unbuilt : ((statements : List Numbered) → IsForm bytes statements → ⊥) → IsUntouched e → IsSaid unbuilt_line e → status ≡ 2 → InputCourse bytes e status
+  faulty : (fault : Fault) → script_of bytes ≡ Err fault → IsUntouched e → IsSaid (fault_line fault.line fault.kind) e → status ≡ 2
+      → InputCourse bytes e status
+  unbuilt : (script : Script) → script_of bytes ≡ Ok script → is_built script ≡ false → IsUntouched e → IsSaid unbuilt_line e → status ≡ 2
+      → InputCourse bytes e status
   played : (lines : List Line) → IsPlayedAs bytes lines e → IsPrinted (text_of lines) e.taking e.taking_after → status ≡ status_of lines → InputCourse bytes e status
   cut_off : (lines : List Line) → IsPlayedAs bytes lines e → IsCutOff (text_of lines) e.taking e.taking_after → status ≡ 6 → InputCourse bytes e status
   starved : e.taking_after ≡ e.taking → status ≡ 3 → InputCourse bytes e status

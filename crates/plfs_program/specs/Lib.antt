@@ -1,6 +1,7 @@
+pub mod Built
 pub mod Course
 pub mod Entries
-pub mod Form
+pub mod Faults
 pub mod Input
 pub mod Lines
 pub mod Logged

@@ -4,7 +4,7 @@ use Rattle.std.specs.List.{list_any}
 use Rattle.script_lang.specs.declared.line.Line.{Line}
 use Rattle.script_lang.specs.declared.line.Outcome.{Outcome}
 use Rattle.script_lang.specs.declared.line.Outcome.TheVariants.{Refused, Fault, Damaged}
-use Rattle.script_lang.specs.declared.script.Data.TheVariants.{Text}
+use Rattle.script_lang.specs.declared.script.Data.TheVariants.{Hex, Text}
 use Rattle.script_lang.specs.declared.script.Statement.{Statement}
 use Rattle.script_lang.specs.declared.script.Statement.TheVariants.{Open, Write, Sync, Close, Ropen, Read}
 use Rattle.script_lang.specs.declared.script.Numbered.{Numbered}
@@ -38,6 +38,7 @@ status_of lines =
 abbrev pub IsPlayed : Statement → Type 0
 IsPlayed (Open name) = Unit {0}
 IsPlayed (Write at (Text text)) = Unit {0}
+IsPlayed (Write at (Hex bytes)) = Unit {0}
 IsPlayed Sync = Unit {0}
 IsPlayed Close = Unit {0}
 IsPlayed (Ropen name workers) = Unit {0}

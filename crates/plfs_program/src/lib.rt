@@ -3,8 +3,9 @@
 
 mod acting;
 mod backing;
+mod built;
+mod faults;
 mod finding;
-mod form;
 mod indices;
 mod input;
 mod logs;

@@ -154,7 +154,7 @@ fn make<S: Store, C: Clock>(
         Statement::Open { name } => open_writer(alloc, store, mount, actor, name),
         Statement::Write {
             at,
-            content: Data::Text(bytes),
+            content: Data::Text(bytes) | Data::Hex(bytes),
         } => write(store, clock, actor, *at, bytes.as_slice()),
         Statement::Sync => sync(store, actor),
         Statement::Close => close(store, actor),

@@ -1,15 +1,17 @@
 //! The whole of a run: words, input, script, mount, work, output, status.
-ghost use Rattle.std.specs.Prelude.{◌≡◌, ◌≢◌, ◌⊎◌, ◌∷◌, ℕ, List, [], true, Some, All, IfOk, option_map};
+ghost use Rattle.std.specs.Prelude.{◌≡◌, ◌≢◌, ◌⊎◌, ◌∷◌, ℕ, List, [], true, Some, All, Ok, Err, IfOk, option_map};
 ghost use Rattle.std.specs.Bool.{OnTrue, OnFalse};
 ghost use Rattle.plfs_types.specs.Counts.{HasRisen};
+ghost use Rattle.script_lang.specs.Scripts.{script_of};
 ghost use Rattle.report_text.specs.Text.{text_of, HaveText};
+ghost use Rattle.plfs_program.specs.Built.{IsBuiltScript};
 ghost use Rattle.plfs_program.specs.Course.{Course, InputCourse, ends_of, play_words};
-ghost use Rattle.plfs_program.specs.Form.{IsForm};
 ghost use Rattle.plfs_program.specs.Lines.{AreLinesOf, IsPlayed, has_line, is_fault, is_damage, is_refusal, status_of};
 ghost use Rattle.plfs_program.specs.Output.{IsPrinted, IsCutOff};
 
 use crate::backing::Backing;
-use crate::form::read_form;
+use crate::built::built;
+use crate::faults::fault_line;
 use crate::input::{NoInput, read_input};
 use crate::mounting::draw_mount;
 use crate::output::write_out;
@@ -17,7 +19,7 @@ use crate::playing::{play, trouble_of};
 use edge_io::{Clock, Gate, Sink, Source};
 use plfs_types::{NoMemory, Word};
 use report_text::print;
-use script_lang::{Line, Lines, Numbered, Outcome};
+use script_lang::{Kind, Line, Lines, Numbered, Outcome, Script, ScriptTrouble};
 use std::alloc::Global;
 use std::sync::Wait;
 use std::thread::Threads;
@@ -179,7 +181,7 @@ fn play_statements<S: Store, C: Clock, O: Sink>(
     clock: &mut C,
 ) -> Ended<S>
     requires { All (λ s. IsPlayed s.statement) statements.now }
-    ensures { (bytes : List ℕ) → IsForm bytes statements.now → InputCourse bytes (ends_of (O.taking out.old) (O.taking out.new) (S.stored store) (option_map S.stored result.store)) result.status }
+    ensures { (bytes : List ℕ) → IsBuiltScript bytes statements.now → InputCourse bytes (ends_of (O.taking out.old) (O.taking out.new) (S.stored store) (option_map S.stored result.store)) result.status }
 {
     let Worked { store, lines } = work(alloc, store, clock, statements);
     let Ok(lines) = lines else {
@@ -206,6 +208,46 @@ fn starved<S>(store: S) -> Ended<S>
     }
 }
 
+// Ends where the script has this fault.
+fn end_faulty<S: Store, O: Sink>(
+    alloc: Global,
+    line: u64,
+    kind: Kind,
+    out: &mut O,
+    store: S,
+) -> Ended<S>
+    ensures { (bytes : List ℕ) → script_of bytes ≡ Err (record { line = line; kind = kind }) → InputCourse bytes (ends_of (O.taking out.old) (O.taking out.new) (S.stored store) (option_map S.stored result.store)) result.status }
+{
+    let Ok(text) = fault_line(alloc, line, kind) else {
+        return starved(store);
+    };
+    say(out, &text);
+    Ended {
+        store: Some(store),
+        status: 2,
+    }
+}
+
+// Plays the script, where it is one that is built.
+fn play_script<S: Store, C: Clock, O: Sink>(
+    alloc: Global,
+    script: &Script,
+    out: &mut O,
+    store: S,
+    clock: &mut C,
+) -> Ended<S>
+    ensures { (bytes : List ℕ) → script_of bytes ≡ Ok script.now → InputCourse bytes (ends_of (O.taking out.old) (O.taking out.new) (S.stored store) (option_map S.stored result.store)) result.status }
+{
+    let Some(statements) = built(script) else {
+        say(out, UNBUILT);
+        return Ended {
+            store: Some(store),
+            status: 2,
+        };
+    };
+    play_statements(alloc, statements, out, store, clock)
+}
+
 // Plays the script that these bytes are.
 fn play_input<S: Store, C: Clock, O: Sink>(
     alloc: Global,
@@ -216,25 +258,22 @@ fn play_input<S: Store, C: Clock, O: Sink>(
 ) -> Ended<S>
     ensures { InputCourse bytes.now (ends_of (O.taking out.old) (O.taking out.new) (S.stored store) (option_map S.stored result.store)) result.status }
 {
-    let Ok(form) = read_form(alloc, bytes) else {
-        return starved(store);
-    };
-    let Some(statements) = form else {
-        say(out, UNBUILT);
-        return Ended {
-            store: Some(store),
-            status: 2,
-        };
-    };
-    play_statements(alloc, statements.as_slice(), out, store, clock)
+    match Script::read(alloc, bytes) {
+        Ok(script) => play_script(alloc, &script, out, store, clock),
+        Err(ScriptTrouble::Fault { line, kind }) => end_faulty(alloc, line, kind, out, store),
+        Err(ScriptTrouble::NoMemory) => starved(store),
+    }
 }
 
 /// Runs a command that waits for nobody: reads the words, the input and the script, mounts the store, works, and
 /// prints a line for each statement.
 ///
-/// So far the one command is `play`, for scripts of one actor `a` with at most 64 statements `open`, `write` of a
-/// text, `sync`, `close`, `ropen` and `read`. Every other script prints `script 0 unbuilt`, and all other words print
-/// the usage line. A fault or damage is the last line. What the lines say of the file is not in the contract.
+/// So far the one command is `play`, for scripts of at most one actor, on host 0 with a capacity of 64 entries, and of
+/// one phase without written turns. Its statements are `open`, `sync`, `close`, `ropen` with one worker, `write` of a
+/// text or of hexadecimal digits at a place of at most 2^23, and `read` of at most 2^20 bytes from a place of at most
+/// 2^23. Every other valid script prints `script 0 unbuilt`, a script with a fault prints `script`, the fault's line
+/// and its kind, and all other words print the usage line. A fault or damage is the last line. What the lines say of
+/// the file is not in the contract.
 pub fn single<S: Store, C: Clock + Drop, I: Source, O: Sink>(
     alloc: Global,
     words: &[Word],

@@ -16,10 +16,10 @@ use std::alloc::Global;
 use store_api::{Answer, Step, Store};
 
 /// The host of the one actor.
-const HOST: u32 = 0;
+pub(crate) const HOST: u32 = 0;
 
 /// How many entries wait for the index at most.
-const CAPACITY: u64 = 64;
+pub(crate) const CAPACITY: u64 = 64;
 
 /// The most bytes that one writer stores.
 const MAX_STORED: u64 = 1 << 56;

@@ -64,18 +64,80 @@ fn a_sink_that_takes_nothing_breaks_the_run(rt: HostRuntime) -> Result<(), Fail>
 #[test]
 fn other_scripts_are_not_built(rt: HostRuntime) -> Result<(), Fail> {
     for script in [
-        "actor a\na open f",
-        "actor a\na  open f\n",
-        "actor b\nb open f\n",
         "actor a\na map\n",
-        "actor a\na write 0 hex:00\n",
-        "actor a\na open .f\n",
-        "actor a\na\0open f\n",
+        "actor a\nactor b\n",
+        "actor a 1\n",
+        "actor a 0 65\n",
+        "actor a\nphase\n",
+        "actor a\nturn a 1\na sync\n",
+        "actor a\na write 0 fill:1:65\n",
+        "actor a\na write 0 ramp:1:65\n",
+        "actor a\na write 8388609 text:x\n",
+        "actor a\na read 8388609 1\n",
+        "actor a\na read 0 1048577\n",
+        "actor a\na ropen f 2\n",
+        "actor a\na open f\na ls\n",
     ] {
-        plays(&rt, rt.alloc(), script, 2, UNBUILT)?;
+        let run = run_fresh(rt.alloc(), playing(script.as_bytes()))?;
+        ends(&rt, &run, 2, UNBUILT);
+        let store = run.store.ok_or("no store")?;
+        assert_eq!(rt; store.acts(), 0);
     }
-    let run = run_fresh(rt.alloc(), playing(b"actor a\na open f\xff\n"))?;
-    ends(&rt, &run, 2, UNBUILT);
+    Ok(())
+}
+
+#[test]
+fn the_first_fault_of_a_script_is_said(rt: HostRuntime) -> Result<(), Fail> {
+    for (script, line) in [
+        ("actor a\na  open f\n", "script 2 spaces\n"),
+        ("b open f\n", "script 1 actor\n"),
+        ("actor a\na open f\na fly\n", "script 3 word\n"),
+        ("actor a\na sync now\n", "script 2 count\n"),
+        ("actor a\n\n# far\na read 01 1\n", "script 4 number\n"),
+        ("actor a\na open .f\n", "script 2 name\n"),
+        ("actor a\na write 0 hex:0\n", "script 2 data\n"),
+        ("actor a\na\0open f\n", "script 2 actor\n"),
+        ("actor a\nactor b\na map\na fly\n", "script 4 word\n"),
+    ] {
+        let run = run_fresh(rt.alloc(), playing(script.as_bytes()))?;
+        ends(&rt, &run, 2, line);
+        let store = run.store.ok_or("no store")?;
+        assert_eq!(rt; store.acts(), 0);
+    }
+    // A byte that is no text stands in a file's name, or begins a line of nobody.
+    let name = run_fresh(rt.alloc(), playing(b"actor a\na open f\xff\n"))?;
+    ends(&rt, &name, 2, "script 2 name\n");
+    let nobody = run_fresh(rt.alloc(), playing(b"\xff open f\n"))?;
+    ends(&rt, &nobody, 2, "script 1 actor\n");
+    Ok(())
+}
+
+#[test]
+fn reads_of_more_than_2_to_28_bytes_are_a_fault(rt: HostRuntime) -> Result<(), Fail> {
+    let mut script = Vec::from_slice(rt.alloc(), b"actor a\n")?;
+    for _ in 0..16 {
+        script.extend_from_slice(b"a read 0 16777216\n")?;
+    }
+    script.extend_from_slice(b"a read 0 1")?;
+    let run = run_fresh(rt.alloc(), playing(&script))?;
+    ends(&rt, &run, 2, "script 18 reads\n");
+    Ok(())
+}
+
+#[test]
+fn each_valid_script_of_one_actor_is_played(rt: HostRuntime) -> Result<(), Fail> {
+    for (script, output) in [
+        ("actor b\nb open f\n", "2 open 4294967297\n"),
+        ("actor a\na open f", "2 open 4294967297\n"),
+        ("# nobody\n\n", ""),
+        ("actor a 0 64\n\n# f\na open f\n", "4 open 4294967297\n"),
+        (
+            "actor a\na open f\na write 8388608 hex:00ff\na close\na ropen f 1\na read 8388608 1048576\n",
+            "2 open 4294967297\n3 wrote 8388608 2 10\n4 closed 1\n5 reader 8388610 cut 4294967297:1 trunc -\n6 read 8388608 00ff\n",
+        ),
+    ] {
+        plays(&rt, rt.alloc(), script, 0, output)?;
+    }
     Ok(())
 }
 
@@ -91,6 +153,6 @@ fn a_script_of_2_to_20_bytes_and_one_more(rt: HostRuntime) -> Result<(), Fail> {
     ends(&rt, &full, 0, "2 open 4294967297\n3 wrote 0 1048543 10\n");
     script.push(b'\n')?;
     let over = run_fresh(rt.alloc(), playing(&script))?;
-    ends(&rt, &over, 2, UNBUILT);
+    ends(&rt, &over, 2, "script 0 long\n");
     Ok(())
 }

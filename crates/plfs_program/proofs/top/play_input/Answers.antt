@@ -1,13 +1,11 @@
-use Rattle.plfs_program.specs.Form.{IsForm}
-use Rattle.plfs_program.proofs.CourseLemmas.{form_played, form_of_slice}
+use Rattle.script_lang.specs.declared.trouble.ScriptTrouble.TheVariants.{Fault}
+use Rattle.script_lang.specs.Scripts.{FailsWith, script_of}
 use Rattle.plfs_program.proofs.top.play_input.Goals as goal
 
-pub play_statements-requires : goal.play_statements-requires
-play_statements-requires g c =
-    let found : IsForm c.args.bytes.now c.in-Some.statements = rw c.in-Some.is at c.in-Ok.ensures.found in
-    form_played c.args.bytes.now c.as_slice.result.now (form_of_slice c.args.bytes.now c.in-Some.statements c.as_slice.result.now c.as_slice.ensures found)
+pub returns-in-Ok : goal.returns-in-Ok
+returns-in-Ok g c = c.play_script.ensures c.args.bytes.now c.in-Ok.ensures.script
 
-pub returns : goal.returns
-returns g c =
-    let found : IsForm c.args.bytes.now c.in-Some.statements = rw c.in-Some.is at c.in-Ok.ensures.found in
-    c.play_statements.ensures c.args.bytes.now (form_of_slice c.args.bytes.now c.in-Some.statements c.as_slice.result.now c.as_slice.ensures found)
+pub returns-in-Err-Fault : goal.returns-in-Err-Fault
+returns-in-Err-Fault g c =
+    let failed : FailsWith (Fault c.in-Err-Fault.line c.in-Err-Fault.kind) (script_of c.args.bytes.now) = rw c.in-Err-Fault.field-0-is at c.in-Err-Fault.ensures.script in
+    c.end_faulty.ensures c.args.bytes.now failed

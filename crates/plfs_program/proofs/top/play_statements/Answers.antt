@@ -5,9 +5,9 @@ use Rattle.plfs_program.proofs.CourseLemmas.{reported}
 use Rattle.plfs_program.proofs.top.play_statements.Goals as goal
 
 pub returns : goal.returns
-returns g c bytes form =
+returns g c bytes built =
     let e : Ends = ends_of (g.O.Sink.taking c.args.out.now) (g.O.Sink.taking c.report-status.new.out) (g.S.Store.stored c.args.store) (Some (g.S.Store.stored c.work-store.result.store)) in
     let in_turn : AreLinesOf c.args.statements.now c.in-Ok.lines = rw c.in-Ok.is at c.work-store.ensures.in_turn in
     let cause : HasCause c.in-Ok.lines e = (g.S.Store.stored c.work-store.result.store, refl, rw c.in-Ok.is at c.work-store.ensures.cause) in
-    reported bytes c.args.statements.now c.in-Ok.lines c.as_slice-2.result.now c.in-Ok-print.text c.as_slice.result.now e c.report-status.result form in_turn cause
+    reported bytes c.args.statements.now c.in-Ok.lines c.as_slice-2.result.now c.in-Ok-print.text c.as_slice.result.now e c.report-status.result built in_turn cause
     c.in-Ok-print.ensures c.as_slice.ensures c.as_slice-2.ensures c.report-status.ensures.told
