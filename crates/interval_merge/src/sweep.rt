@@ -38,7 +38,7 @@ fn merged_runs(alloc: Global, a: &[Piece], b: &[Piece]) -> Result<PieceList, NoM
 {
     let mut left_a = a;
     let mut left_b = b;
-    let mut done = PieceList::new(alloc);
+    let mut done = PieceList::from_vec(Vec::with_capacity(alloc, a.len() + b.len())?);
     let mut last = None;
     let mut from = 0;
     while from < MAX_SIZE {

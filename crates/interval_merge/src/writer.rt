@@ -69,7 +69,7 @@ fn forward_runs(alloc: Global, entries: &[Entry]) -> Result<PieceList, NoMemory>
     ensures runs { IfOk result (λ runs. AreRuns runs) }
     ensures says { IfOk result (λ runs. (x : ℕ) → source_at runs x ≡ source_at (map piece_of entries.now) x) }
 {
-    let mut done = PieceList::new(alloc);
+    let mut done = PieceList::from_vec(Vec::with_capacity(alloc, entries.len())?);
     let mut last = None;
     for entry in entries {
         last = Some(extend(&mut done, last, whole_piece(entry))?);
