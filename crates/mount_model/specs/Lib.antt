@@ -1,0 +1,17 @@
+pub mod Table
+pub mod State
+pub mod Paths
+pub mod Making
+pub mod Finding
+pub mod Looking
+pub mod Entering
+pub mod Flooring
+pub mod Building
+pub mod Writing
+pub mod Flushing
+pub mod Leaving
+pub mod Step
+pub mod Regular
+pub mod History
+pub mod Mounting
+pub mod Codes
