@@ -1,0 +1,6 @@
+pub mod Entries
+pub mod Ledger
+pub mod Dropping
+pub mod Kept
+pub mod Sound
+pub mod Issued
