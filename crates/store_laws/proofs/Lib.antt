@@ -1,1 +1,6 @@
-pub mod Looking
+pub mod Places
+pub mod Naming
+pub mod Searches
+pub mod Differing
+pub mod Rooms
+pub mod Entering
