@@ -9,11 +9,11 @@ use Rattle.store_api.specs.declared.step.Answer.TheVariants.{Absent, NoRoom, NoF
 use Rattle.store_api.specs.Step.{Name}
 use Rattle.store_api.specs.Room.{Outcome, stays, has_folder, place_of, file_in, in_folder, or_absent, at_place, in_file, is_at}
 use Rattle.store_api.specs.Effect.{Effect, stays as tree_stays, room_after, or_no_room, in_room}
-use Rattle.store_api.proofs.Files.{found_at_place}
+use Rattle.store_api.proofs.Files.{position_is, found_at_place}
 use Rattle.store_laws.specs.Files.{file_at}
 use Rattle.store_laws.specs.Changes.{with_room}
 use Rattle.store_laws.specs.Outcomes.{Stays}
-use Rattle.store_laws.proofs.Places.{slice_set_same}
+use Rattle.store_laws.proofs.Places.{slice_set_same, item}
 use Rattle.store_laws.proofs.Searches.{find_unplaced}
 use Rattle.store_laws.proofs.Rooms.{file_at_none, found_has_path}
 
@@ -52,14 +52,25 @@ pub record FoundAt (room : Room) (path : Path) (place : ℕ) (file : File) : Typ
   pub found : file_in room path.folder path.file ≡ Some file
   pub has_path : file.path ≡ path
 
+stands_found : (room : Room) (path : Path) (place : ℕ) (file : File) → place_of room path.folder path.file ≡ Some place → slice_get room.files place ≡ Some file → FoundAt room path place file
+stands_found room path place file at e =
+    let is : file_in room path.folder path.file ≡ Some file = sym (found_at_place room path.folder path.file place at) ∙ e in
+    record { placed = at; stands = e; found = is; has_path = found_has_path room path file is }
+
+-- at the place that a search gives there is a file
+pub placed_file : (room : Room) (path : Path) (place : ℕ) → place_of room path.folder path.file ≡ Some place → (file : File) × FoundAt room path place file
+placed_file room path place at =
+    let within = (position_is (is_at path.folder path.file) room.files place at).1 in
+    let file = item room.files place within in
+    (file.0, stands_found room path place file.0 at file.1)
+
 by_file : (room : Room) (path : Path) (place : ℕ) (outcome : ℕ → File → Outcome) (P : Outcome → Type 0) (found : Option File) → place_of room path.folder path.file ≡ Some place → slice_get room.files place ≡ found
     → (file_in room path.folder path.file ≡ None → P (stays room Absent))
     → ((place : ℕ) (file : File) → FoundAt room path place file → P (outcome place file))
     → P (or_absent room found (outcome place))
 by_file room path place outcome P None at e none some = none (sym (found_at_place room path.folder path.file place at) ∙ e)
 by_file room path place outcome P (Some file) at e none some =
-    let is : file_in room path.folder path.file ≡ Some file = sym (found_at_place room path.folder path.file place at) ∙ e in
-    some place file record { placed = at; stands = e; found = is; has_path = found_has_path room path file is }
+    some place file (stands_found room path place file at e)
 
 by_place : (room : Room) (path : Path) (outcome : ℕ → File → Outcome) (P : Outcome → Type 0) (place : Option ℕ) → place_of room path.folder path.file ≡ place
     → (file_in room path.folder path.file ≡ None → P (stays room Absent))

@@ -4,3 +4,5 @@ pub mod Searches
 pub mod Differing
 pub mod Rooms
 pub mod Entering
+pub mod Creating
+pub mod Writing

@@ -40,3 +40,9 @@ slice_get_more (z ∷ xs) zero x y e = (λ at. absurd (omega arith), λ other. e
 slice_get_more (z ∷ xs) (suc i) x y e =
     let rest = slice_get_more xs i x y e in
     (λ at. rest.0 (omega arith), λ other. rest.1 (λ at. other (ap suc at)))
+
+-- each place within a list has an item
+pub item : {X : Type 0} (xs : List X) (i : ℕ) → i < length xs → (x : X) × (slice_get xs i ≡ Some x)
+item [] i l = absurd (omega arith)
+item (x ∷ xs) zero l = (x, refl)
+item (x ∷ xs) (suc i) l = item xs i (omega arith)
