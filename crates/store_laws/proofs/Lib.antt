@@ -6,3 +6,5 @@ pub mod Rooms
 pub mod Entering
 pub mod Creating
 pub mod Writing
+pub mod Removing
+pub mod Folders
