@@ -10,3 +10,5 @@ pub mod Removing
 pub mod Folders
 pub mod ByteOrder
 pub mod Listings
+pub mod Emptied
+pub mod NewRooms
