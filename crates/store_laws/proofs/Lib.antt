@@ -8,3 +8,7 @@ pub mod Creating
 pub mod Writing
 pub mod Removing
 pub mod Folders
+pub mod ByteOrder
+pub mod Listings
+pub mod Emptied
+pub mod NewRooms
