@@ -12,3 +12,4 @@ pub mod ByteOrder
 pub mod Listings
 pub mod Emptied
 pub mod NewRooms
+pub mod Moving

@@ -30,7 +30,7 @@ pub file_at_same : (room new : Room) (path : Path) → new.files ≡ room.files 
 unfolding file_at
 file_at_same room new path e = ap (λ files. option_map (λ (f : File). f.bytes) (find (is_at path.folder path.file) files)) e
 
-file_at_alike : (room new : Room) (path : Path) → file_in new path.folder path.file ≡ file_in room path.folder path.file → file_at new path ≡ file_at room path
+pub file_at_alike : (room new : Room) (path : Path) → file_in new path.folder path.file ≡ file_in room path.folder path.file → file_at new path ≡ file_at room path
 unfolding file_at
 file_at_alike room new path e = ap (λ found. option_map (λ (f : File). f.bytes) found) e
 
