@@ -13,3 +13,4 @@ pub mod Listings
 pub mod Emptied
 pub mod NewRooms
 pub mod Moving
+pub mod Telling
