@@ -14,3 +14,4 @@ pub mod Emptied
 pub mod NewRooms
 pub mod Moving
 pub mod Telling
+pub mod Answering
