@@ -15,3 +15,4 @@ pub mod NewRooms
 pub mod Moving
 pub mod Telling
 pub mod Answering
+pub mod Overwriting
