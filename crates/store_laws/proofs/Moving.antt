@@ -72,25 +72,28 @@ module _ (tree : Tree) (n : ℕ) (path : Path) (to : Name) (room : Room) (has_ro
       let is : Some file.bytes ≡ Some bytes = sym (file_at_found clear path file f.found) ∙ same in
       let whole : file.bytes ≡ bytes = cc in
       let target : File = moved file (beside path to) in
-      inl (refl, inl record {
-        room = room;
-        bytes = bytes;
-        new = with_file clear place target;
-        has_room = has_room;
-        folder = there;
-        there = held;
-        another = another;
-        now = λ d. file_at_found (with_file clear place target) (beside path to) target
-          (find_set_new (is_at path.folder to) clear.files place file target f.stands (c.gone d) (path_at (beside path to) target refl)) ∙ ap (λ b. Some b) whole;
-        gone = λ d. file_at_none (with_file clear place target) path
-          (find_none (is_at path.folder path.file) (slice_set clear.files place target) (gone_set clear.files place file target path f.stands f.has_path (not_at path target (λ e. two_apart path (beside path to) two (sym e))) (c.differ d)));
-        same_name = c.others.name;
-        same_folders = c.others.folders;
-        others = λ other a b. file_at_alike clear (with_file clear place target) other
-          (find-set_other (is_at other.folder other.file) clear.files place file target f.stands (not_at other file (λ e. two_apart other path a (sym e ∙ f.has_path))) (not_at other target (λ e. two_apart other (beside path to) b (sym e)))) ∙ c.others.files other b;
-        differ = λ d. files_renamed clear.files place target (none_found (is_at path.folder to) clear.files (c.gone d)) (c.differ d);
-        gives = refl;
-      })
+      inl (
+        refl,
+        inl record {
+          room = room;
+          bytes = bytes;
+          new = with_file clear place target;
+          has_room = has_room;
+          folder = there;
+          there = held;
+          another = another;
+          now = λ d. file_at_found (with_file clear place target) (beside path to) target
+              (find_set_new (is_at path.folder to) clear.files place file target f.stands (c.gone d) (path_at (beside path to) target refl)) ∙ ap (λ b. Some b) whole;
+          gone = λ d. file_at_none (with_file clear place target) path
+              (find_none (is_at path.folder path.file) (slice_set clear.files place target) (gone_set clear.files place file target path f.stands f.has_path (not_at path target (λ e. two_apart path (beside path to) two (sym e))) (c.differ d)));
+          same_name = c.others.name;
+          same_folders = c.others.folders;
+          others = λ other a b. file_at_alike clear (with_file clear place target) other
+              (find-set_other (is_at other.folder other.file) clear.files place file target f.stands (not_at other file (λ e. two_apart other path a (sym e ∙ f.has_path))) (not_at other target (λ e. two_apart other (beside path to) b (sym e)))) ∙ c.others.files other b;
+          differ = λ d. files_renamed clear.files place target (none_found (is_at path.folder to) clear.files (c.gone d)) (c.differ d);
+          gives = refl;
+        },
+      )
 
   named : (clear : Room) → Cleared room (beside path to) clear → Replaces tree n path to (room_after tree n (file_named clear path.folder path.file to))
   named clear c =

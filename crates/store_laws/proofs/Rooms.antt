@@ -69,7 +69,7 @@ with_file_others room path place old file at was is = record {
   name = refl;
   folders = refl;
   files = λ other two. file_at_alike room (with_file room place file) other
-    (find-set_other (is_at other.folder other.file) room.files place old file at (other_than other path old two was) (other_than other path file two is));
+      (find-set_other (is_at other.folder other.file) room.files place old file at (other_than other path old two was) (other_than other path file two is));
 }
 
 pub with_file_now : (room : Room) (path : Path) (place : ℕ) (file : File) → place_of room path.folder path.file ≡ Some place → file.path ≡ path → file_at (with_file room place file) path ≡ Some file.bytes
