@@ -6,3 +6,5 @@ pub mod Local
 pub mod Live
 pub mod Making
 pub mod Working
+pub mod Stages
+pub mod Building
