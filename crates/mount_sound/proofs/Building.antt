@@ -61,12 +61,7 @@ no_index es landed file m e = subst (λ o. MatchOption o (landed ≡ 0) (Begins 
 empty_index : (es : List Entry) (landed : ℕ) (file : Option (List ℕ)) → landed ≡ 0 → file ≡ Some [] → MatchOption file (landed ≡ 0) (Begins es landed)
 empty_index es landed file e now = subst (λ o. MatchOption o (landed ≡ 0) (Begins es landed)) (sym now) (record { prefix = tt; long = omega (arith, e) })
 
--- a writer that has its folder, or its index dropping, and has done no more
-pub record IsBuilding (row : Row) : Type 0 where
-  pub from : 1 ≤ rank row.stage
-  pub to : rank row.stage < 4
-
-not_closing : (row : Row) → rank row.stage < 4 → row.stage ≡ Closing → ⊥
+pub not_closing : (row : Row) → rank row.stage < 4 → row.stage ≡ Closing → ⊥
 not_closing row l e = omega (arith, l, ap rank e)
 
 indexed_stage : (room new : Room) (row : Row) (s : Stage) (es : List Entry) → Fits row → rank row.stage ≡ 2 → 2 ≤ rank s → rank s < 4 → IsAtStage room row es → SameButItem (Index row.host row.id) room new → file_at new (index_path row.host row.id) ≡ Some [] → IsAtStage new (at_stage s row) es
@@ -102,7 +97,7 @@ index_made last issued rows rows' tree after row s at far near w turned c =
     (indexed_holds c.room c.new row s (issued row.room row.id) fits at far near (its_kept last issued rows tree row w c.room c.has_room) (its_stage last issued rows tree row w c.room c.has_room) (its_own last issued rows tree row w c.room c.has_room) b c.none c.now))
 
 -- a file that was there
-stage_with : (room : Room) (row : Row) (s : Stage) (es : List Entry) → rank row.stage < 4 → IsAtStage room row es
+pub stage_with : (room : Room) (row : Row) (s : Stage) (es : List Entry) → rank row.stage < 4 → IsAtStage room row es
     → (1 ≤ rank s → 1 ≤ rank row.stage)
     → (2 ≤ rank s → has_folder room (hostdir_of row.host) ≡ true)
     → (3 ≤ rank s → (bytes : List ℕ) × (file_at room (index_path row.host row.id) ≡ Some bytes))

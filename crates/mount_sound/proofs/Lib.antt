@@ -8,3 +8,4 @@ pub mod Making
 pub mod Working
 pub mod Stages
 pub mod Building
+pub mod Openings
