@@ -61,7 +61,7 @@ no_index es landed file m e = subst (λ o. MatchOption o (landed ≡ 0) (Begins 
 empty_index : (es : List Entry) (landed : ℕ) (file : Option (List ℕ)) → landed ≡ 0 → file ≡ Some [] → MatchOption file (landed ≡ 0) (Begins es landed)
 empty_index es landed file e now = subst (λ o. MatchOption o (landed ≡ 0) (Begins es landed)) (sym now) (record { prefix = tt; long = omega (arith, e) })
 
-pub not_closing : (row : Row) → rank row.stage < 4 → row.stage ≡ Closing → ⊥
+pub not_closing : (row : Row) → rank row.stage < 5 → row.stage ≡ Closing → ⊥
 not_closing row l e = omega (arith, l, ap rank e)
 
 indexed_stage : (room new : Room) (row : Row) (s : Stage) (es : List Entry) → Fits row → rank row.stage ≡ 2 → 2 ≤ rank s → rank s < 4 → IsAtStage room row es → SameButItem (Index row.host row.id) room new → file_at new (index_path row.host row.id) ≡ Some [] → IsAtStage new (at_stage s row) es
@@ -110,7 +110,7 @@ stage_with room row s es early a from housed indexed logged = record {
   housed = housed;
   indexed = indexed;
   logged = logged;
-  closing = λ m. absurd (not_closing row early (a.closing m).0);
+  closing = λ m. absurd (not_closing row (omega arith) (a.closing m).0);
   has_meta = a.has_meta;
 }
 

@@ -9,3 +9,5 @@ pub mod Working
 pub mod Stages
 pub mod Building
 pub mod Openings
+pub mod Flushes
+pub mod WriteEntries
