@@ -11,3 +11,5 @@ pub mod Building
 pub mod Openings
 pub mod Flushes
 pub mod WriteEntries
+pub mod Writes
+pub mod Flooring
