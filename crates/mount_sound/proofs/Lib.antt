@@ -13,3 +13,5 @@ pub mod Flushes
 pub mod WriteEntries
 pub mod Writes
 pub mod Flooring
+pub mod Entering
+pub mod Closing
