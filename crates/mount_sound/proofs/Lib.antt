@@ -15,3 +15,7 @@ pub mod Writes
 pub mod Flooring
 pub mod Entering
 pub mod Closing
+pub mod Leaving
+pub mod NewRooms
+pub mod Looking
+pub mod Steps
