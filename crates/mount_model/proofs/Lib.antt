@@ -1,2 +1,5 @@
 pub mod Tables
 pub mod Deciding
+pub mod Places
+pub mod Ranges
+pub mod Rows
