@@ -1,5 +1,5 @@
 -- What it says that a call was not refused.
-use Rattle.std.proofs.Common.{◌≡◌, ℕ, ◌+◌, ◌-◌, ◌<◌, ◌≤◌, ◌^◌, List, length, Bool, true, false, nat_eq, nat_le, nat_lt, ◌||◌, ◌&&◌, Option, Some, None, refl, sym, ◌∙◌, ◌⊎◌, inl, inr, subst, arith, if◌then◌else◌}
+use Rattle.std.proofs.Common.{◌≡◌, ℕ, ◌+◌, ◌-◌, ◌<◌, ◌≤◌, ◌^◌, List, length, Bool, true, false, nat_eq, nat_le, nat_lt, ◌||◌, ◌&&◌, Option, Some, None, refl, ◌⊎◌, inl, inr, subst, arith, if◌then◌else◌}
 use Rattle.std.specs.Prelude.{MatchOption}
 use Rattle.std.proofs.lemmas.Bool.Decides.{nat_tests}
 use Rattle.mount_model.specs.declared.row.Row.{Row}
@@ -10,7 +10,7 @@ use Rattle.mount_model.specs.State.{State}
 use Rattle.mount_model.specs.Table.{row_of, rank, only, held_by, writer_of}
 use Rattle.mount_model.specs.Entering.{enter_check}
 use Rattle.mount_model.specs.Writing.{write_check}
-use Rattle.mount_model.specs.Making.{Refuses, OnWriter, UnlessRefused}
+use Rattle.mount_model.specs.Making.{OnWriter, UnlessRefused}
 use Rattle.mount_model.proofs.Tables.{alike, apart, row_of_id}
 
 -- ---- the caller's writer

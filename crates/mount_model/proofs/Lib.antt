@@ -3,3 +3,5 @@ pub mod Deciding
 pub mod Places
 pub mod Ranges
 pub mod Rows
+pub mod Outcomes
+pub mod Lasting

@@ -1,5 +1,5 @@
 -- No call changes where the mount stands.
-use Rattle.std.proofs.Common.{◌≡◌, ℕ, ◌+◌, ◌≤◌, List, [], ◌∷◌, length, Bool, Option, refl, sym, ap, ◌∙◌, ◌⊎◌, inl, inr, subst, arith}
+use Rattle.std.proofs.Common.{◌≡◌, ℕ, List, [], ◌∷◌, Bool, Option, refl, sym, ap, ◌∙◌, inl, inr, subst, arith}
 use Rattle.plfs_types.specs.declared.entries.Entry.{Entry}
 use Rattle.store_api.specs.Step.{Step}
 use Rattle.mount_model.specs.declared.row.Row.{Row}
@@ -9,17 +9,13 @@ use Rattle.mount_model.specs.declared.call.Call.TheVariants.{Greet, Find, MakeCo
 use Rattle.mount_model.specs.declared.call.Ask.{Ask}
 use Rattle.mount_model.specs.declared.reply.Refusal.{Refusal}
 use Rattle.mount_model.specs.declared.reply.Reply.{Reply}
-use Rattle.mount_model.specs.Table.{only, may_close, is_live}
-use Rattle.mount_model.specs.declared.row.Stage.TheVariants as stage
 use Rattle.mount_model.specs.State.{State, drawn, timed}
 use Rattle.mount_model.specs.Making.{Told, Outcome, Makes, OnWriter, UnlessRefused}
-use Rattle.mount_model.specs.Finding.{Finds, MakesContainer, NamesRooms}
-use Rattle.mount_model.specs.Looking.{Looks, room_check}
-use Rattle.mount_model.specs.Entering.{Enters, EntersAs, enter_check}
-use Rattle.mount_model.specs.Flooring.{Floors, FloorsRow}
-use Rattle.mount_model.specs.Writing.{Writes, WritesAt, write_check}
+use Rattle.mount_model.specs.Finding.{NamesRooms}
+use Rattle.mount_model.specs.Entering.{EntersAs}
+use Rattle.mount_model.specs.Flooring.{FloorsRow}
+use Rattle.mount_model.specs.Writing.{WritesAt}
 use Rattle.mount_model.specs.Flushing.{FlushesRow}
-use Rattle.mount_model.specs.Leaving.{put_meta_check, exit_check}
 use Rattle.mount_model.specs.Step.{Answers, IsStep}
 use Rattle.mount_model.specs.Places.{KeepsPlace}
 use Rattle.mount_model.proofs.Deciding.{on_writer, unless_refused}

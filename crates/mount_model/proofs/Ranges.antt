@@ -1,6 +1,5 @@
 -- The numbers of a writer stay in their ranges, whatever becomes of it.
-use Rattle.std.proofs.Common.{◌≡◌, ℕ, ◌+◌, ◌-◌, ◌<◌, ◌≤◌, ◌^◌, List, [], ◌∷◌, ◌++◌, length, max, min, refl, sym, ap, ◌∙◌, ◌⊎◌, inl, inr, subst, arith}
-use Rattle.std.specs.List.{All}
+use Rattle.std.proofs.Common.{◌≡◌, ℕ, ◌+◌, ◌-◌, ◌<◌, ◌≤◌, ◌^◌, List, [], ◌∷◌, ◌++◌, length, max, refl, inl, inr, arith}
 use Rattle.std.proofs.lemmas.List.{length-append}
 use Rattle.std.proofs.lemmas.List.Elements.{All-nil, All-cons, All-append}
 use Rattle.plfs_types.specs.declared.entries.Entry.{Entry}
@@ -119,7 +118,7 @@ counted_by stamp row at len some may s c =
       cap_fits = c.cap_fits;
       within_cap = omega (arith, longer, may.free);
       valid = All-append IsValidEntry row.pending.entries (entry_of stamp row at len ∷ []) c.valid
-        (All-cons IsValidEntry (entry_of stamp row at len) [] (valid_entry stamp row at len some may.near s.some s.fits) (All-nil IsValidEntry));
+          (All-cons IsValidEntry (entry_of stamp row at len) [] (valid_entry stamp row at len some may.near s.some s.fits) (All-nil IsValidEntry));
       entries = omega (arith, longer, c.entries, some);
       stored_fits = may.few;
       end_fits = greater_fits row.end (at + len) (2 ^ 40) c.end_fits may.near;

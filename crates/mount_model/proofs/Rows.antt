@@ -1,13 +1,12 @@
 -- The rows of a table stay regular where one of them changes.
-use Rattle.std.proofs.Common.{◌≡◌, ◌≢◌, ℕ, ◌+◌, ◌*◌, ◌<◌, ◌≤◌, ◌^◌, List, [], ◌∷◌, ◌++◌, Option, Some, None, refl, sym, ap, ◌∙◌, ◌⊎◌, inl, inr, subst, arith}
+use Rattle.std.proofs.Common.{◌≡◌, ◌≢◌, ℕ, ◌+◌, ◌<◌, ◌≤◌, ◌^◌, List, [], ◌∷◌, ◌++◌, Some, arith}
 use Rattle.std.specs.List.{All}
 use Rattle.std.proofs.lemmas.List.Elements.{All-nil, All-cons, All-append, All-weaker}
-use Rattle.store_api.specs.Acts.{Stored}
 use Rattle.mount_model.specs.declared.row.Row.{Row}
-use Rattle.mount_model.specs.State.{State, Table, id_of, put, take_out, drawn}
+use Rattle.mount_model.specs.State.{State, Table, id_of}
 use Rattle.mount_model.specs.Table.{row_of, with_row, without_row}
 use Rattle.mount_model.specs.Regular.{IsCounted, AreAscending, IsRegular}
-use Rattle.mount_model.proofs.Tables.{row_of_id, row_of_all, all-with_row, ascending-with_row, all-without_row, ascending-without_row, ascending-push}
+use Rattle.mount_model.proofs.Tables.{row_of_all, all-with_row, ascending-with_row, all-without_row, ascending-without_row, ascending-push}
 
 -- the id is of a serial of this mount up to this one
 abbrev pub IsOfSerial : ℕ → ℕ → ℕ → Type 0
@@ -90,11 +89,11 @@ pub regular_pushed : (mount last marks : ℕ) (rows : List Row) (new : Row) → 
 regular_pushed mount last marks rows new is counted apart r =
     let wider = regular_drawn mount last marks rows r in
     let less : All (λ (row : Row). row.id < new.id) rows =
-      All-weaker (λ (x : Row). IsOfSerial mount last x.id) (λ (x : Row). x.id < new.id) (λ x d. omega (arith, below_next mount last x.id d, is)) rows r.drawn in
+    All-weaker (λ (x : Row). IsOfSerial mount last x.id) (λ (x : Row). x.id < new.id) (λ x d. omega (arith, below_next mount last x.id d, is)) rows r.drawn in
     record {
       counted = All-append IsCounted rows (new ∷ []) r.counted (All-cons IsCounted new [] counted (All-nil IsCounted));
       ascending = ascending-push rows new less r.ascending;
       drawn = All-append (λ (x : Row). IsOfSerial mount (last + 1) x.id) rows (new ∷ []) wider.drawn
-        (All-cons (λ (x : Row). IsOfSerial mount (last + 1) x.id) new [] (last + 1, omega arith, omega arith, is) (All-nil (λ (x : Row). IsOfSerial mount (last + 1) x.id)));
+          (All-cons (λ (x : Row). IsOfSerial mount (last + 1) x.id) new [] (last + 1, omega arith, omega arith, is) (All-nil (λ (x : Row). IsOfSerial mount (last + 1) x.id)));
       apart = All-append (λ (x : Row). x.room ≢ marks) rows (new ∷ []) r.apart (All-cons (λ (x : Row). x.room ≢ marks) new [] apart (All-nil (λ (x : Row). x.room ≢ marks)));
     }
