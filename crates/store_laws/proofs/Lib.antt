@@ -16,3 +16,4 @@ pub mod Moving
 pub mod Telling
 pub mod Answering
 pub mod Overwriting
+pub mod Keeping
