@@ -17,3 +17,4 @@ pub mod Telling
 pub mod Answering
 pub mod Overwriting
 pub mod Keeping
+pub mod Touching
