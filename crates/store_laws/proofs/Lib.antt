@@ -18,3 +18,4 @@ pub mod Answering
 pub mod Overwriting
 pub mod Keeping
 pub mod Touching
+pub mod Lengthening

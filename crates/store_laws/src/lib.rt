@@ -5,6 +5,7 @@
 mod answers;
 mod changes;
 mod tells;
+mod touches;
 
 pub use answers::{
     finding_tells, length_tells, listing_tells, looks_change_nothing, reading_tells, rooms_tell,
@@ -16,3 +17,4 @@ pub use changes::{
     a_replace_moves_one_file, a_write_changes_one_file,
 };
 pub use tells::{a_create_was_made_or_not, a_told_tree_goes_on, a_write_was_made_or_in_part};
+pub use touches::{files_only_grow, steps_change_what_they_name};
