@@ -24,17 +24,20 @@ by_place : (tree : Tree) (n : ℕ) (path : Path) (room : Room) → slice_get tre
 by_place tree n path room e there None at =
     let none : file_in room path.folder path.file ≡ None = find_unplaced _ room.files at in
     let file : File = empty_file path.folder path.file in
-    inl (refl, record {
-      room = room;
-      new = with_new_file room file;
-      has_room = e;
-      folder = there;
-      none = file_at_none room path none;
-      now = with_new_file_now room path file none refl;
-      others = with_new_file_others room path file refl;
-      differ = with_new_file_differs room path file none refl;
-      gives = refl;
-    })
+    inl (
+      refl,
+      record {
+        room = room;
+        new = with_new_file room file;
+        has_room = e;
+        folder = there;
+        none = file_at_none room path none;
+        now = with_new_file_now room path file none refl;
+        others = with_new_file_others room path file refl;
+        differ = with_new_file_differs room path file none refl;
+        gives = refl;
+      },
+    )
 by_place tree n path room e there (Some place) at =
     let found = placed_file room path place at in
     inr (stays_in tree n room (Old 0) Made (WhyNotCreated tree n path) e (λ m. cc)

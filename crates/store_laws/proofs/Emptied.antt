@@ -61,17 +61,20 @@ Removes tree n folder out = ChangesOrStays tree Made (FolderRemoved tree n folde
 
 by_listing : (tree : Tree) (n : ℕ) (folder : Name) (room : Room) → slice_get tree.rooms n ≡ Some room → has_folder room folder ≡ true → (names : List Name) → listing room folder ≡ names
     → Removes tree n folder (room_after tree n (removed_if_empty room folder names))
-by_listing tree n folder room e there [] is = inl (refl, record {
-  room = room;
-  new = without_folder room folder;
-  has_room = e;
-  there = there;
-  empty = λ name. no_files room folder name is;
-  gone = or_none (is_top folder) (is_listed folder (filter (λ name. not (same_name name folder)) room.folders)) (taken_out folder room.folders);
-  others = record { name = refl; folders = λ other apart. ap (λ b. is_top other || b) (left_in folder other room.folders apart); files = refl };
-  differ = λ d. names_kept (λ name. not (same_name name folder)) room.folders d;
-  gives = refl;
-})
+by_listing tree n folder room e there [] is = inl (
+  refl,
+  record {
+    room = room;
+    new = without_folder room folder;
+    has_room = e;
+    there = there;
+    empty = λ name. no_files room folder name is;
+    gone = or_none (is_top folder) (is_listed folder (filter (λ name. not (same_name name folder)) room.folders)) (taken_out folder room.folders);
+    others = record { name = refl; folders = λ other apart. ap (λ b. is_top other || b) (left_in folder other room.folders apart); files = refl };
+    differ = λ d. names_kept (λ name. not (same_name name folder)) room.folders d;
+    gives = refl;
+  },
+)
 by_listing tree n folder room e there (least ∷ more) is =
     inr (stays_in tree n room (NotEmpty least) Made (WhyNoFolderRemoved tree n folder) e (λ m. cc)
     (more, record { room = room; has_room = e; there = there; entries = subst (AreNamesOf room folder) is (listing_names room folder) }))

@@ -52,16 +52,19 @@ by_folder : (tree : Tree) (n : ℕ) (folder : Name) (room : Room) → slice_get 
     → Makes tree n folder (room_after tree n (if b then stays room (Old 0) else becomes (with_folder room folder)))
 by_folder tree n folder room e true there =
     inr (stays_in tree n room (Old 0) Made (WhyNoFolderMade tree n folder) e (λ m. cc) (refl, record { room = room; has_room = e; there = there }))
-by_folder tree n folder room e false none = inl (refl, record {
-  room = room;
-  new = with_folder room folder;
-  has_room = e;
-  none = none;
-  now = with_folder_now room folder;
-  others = record { name = refl; folders = with_folder_other room folder; files = refl };
-  differ = λ d. names_more room.folders folder d (unlisted (is_top folder) (is_listed folder room.folders) none);
-  gives = refl;
-})
+by_folder tree n folder room e false none = inl (
+  refl,
+  record {
+    room = room;
+    new = with_folder room folder;
+    has_room = e;
+    none = none;
+    now = with_folder_now room folder;
+    others = record { name = refl; folders = with_folder_other room folder; files = refl };
+    differ = λ d. names_more room.folders folder d (unlisted (is_top folder) (is_listed folder room.folders) none);
+    gives = refl;
+  },
+)
 
 -- a folder is made, or the tree stays
 pub make_folder_cases : (tree : Tree) (n : ℕ) (folder : Name) → ChangesOrStays tree Made (FolderMade tree n folder) (WhyNoFolderMade tree n folder) (effect tree (make_folder n folder))

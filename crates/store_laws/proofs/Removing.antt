@@ -28,15 +28,18 @@ remove_cases tree n path =
     (λ room e. file_cases room path (λ place file. becomes (without room place)) (λ out. Removes tree n path (room_after tree n out))
     (λ none. inr (stays_in tree n room NoFolder Made (WhyNoFile tree n path) e (λ m. cc) record { room = room; has_room = e; none = none }))
     (λ there none. inr (stays_in tree n room Absent Made (WhyNoFile tree n path) e (λ m. cc) record { room = room; has_room = e; folder = there; none = file_at_none room path none }))
-    (λ place file there f. inl (refl, record {
-      room = room;
-      old = file.bytes;
-      new = without room place;
-      has_room = e;
-      folder = there;
-      there = file_at_found room path file f.found;
-      gone = λ d. file_at_none (without room place) path (without_gone room path place file f.stands f.has_path d);
-      others = without_others room path place file f.stands f.has_path;
-      differ = λ d. files_removed room.files place d;
-      gives = refl;
-    })))
+    (λ place file there f. inl (
+      refl,
+      record {
+        room = room;
+        old = file.bytes;
+        new = without room place;
+        has_room = e;
+        folder = there;
+        there = file_at_found room path file f.found;
+        gone = λ d. file_at_none (without room place) path (without_gone room path place file f.stands f.has_path d);
+        others = without_others room path place file f.stands f.has_path;
+        differ = λ d. files_removed room.files place d;
+        gives = refl;
+      },
+    )))

@@ -30,7 +30,7 @@ pub file_at_same : (room new : Room) (path : Path) → new.files ≡ room.files 
 unfolding file_at
 file_at_same room new path e = ap (λ files. option_map (λ (f : File). f.bytes) (find (is_at path.folder path.file) files)) e
 
-file_at_alike : (room new : Room) (path : Path) → file_in new path.folder path.file ≡ file_in room path.folder path.file → file_at new path ≡ file_at room path
+pub file_at_alike : (room new : Room) (path : Path) → file_in new path.folder path.file ≡ file_in room path.folder path.file → file_at new path ≡ file_at room path
 unfolding file_at
 file_at_alike room new path e = ap (λ found. option_map (λ (f : File). f.bytes) found) e
 
@@ -69,7 +69,7 @@ with_file_others room path place old file at was is = record {
   name = refl;
   folders = refl;
   files = λ other two. file_at_alike room (with_file room place file) other
-    (find-set_other (is_at other.folder other.file) room.files place old file at (other_than other path old two was) (other_than other path file two is));
+      (find-set_other (is_at other.folder other.file) room.files place old file at (other_than other path old two was) (other_than other path file two is));
 }
 
 pub with_file_now : (room : Room) (path : Path) (place : ℕ) (file : File) → place_of room path.folder path.file ≡ Some place → file.path ≡ path → file_at (with_file room place file) path ≡ Some file.bytes

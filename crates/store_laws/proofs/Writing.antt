@@ -59,19 +59,22 @@ module _ (tree : Tree) (n : ℕ) (path : Path) (at : ℕ) (change : List ℕ →
   by_length : (room : Room) (place : ℕ) (file : File) → slice_get tree.rooms n ≡ Some room → has_folder room path.folder ≡ true → FoundAt room path place file → (b : Bool) → nat_le at (length file.bytes) ≡ b
       → Rewrites tree n path at change (room_after tree n (if b then becomes (with_file room place (changed file change)) else stays room Beyond))
   by_length room place file e there f true fits =
-      inl (refl, record {
-        room = room;
-        old = file.bytes;
-        new = with_file room place (changed file change);
-        has_room = e;
-        folder = there;
-        there = file_at_found room path file f.found;
-        within = longer at (length file.bytes) fits;
-        now = with_file_now room path place (changed file change) f.placed f.has_path;
-        others = with_file_others room path place file (changed file change) f.stands f.has_path f.has_path;
-        differ = files_set room.files place file (changed file change) f.stands refl;
-        gives = refl;
-      })
+      inl (
+        refl,
+        record {
+          room = room;
+          old = file.bytes;
+          new = with_file room place (changed file change);
+          has_room = e;
+          folder = there;
+          there = file_at_found room path file f.found;
+          within = longer at (length file.bytes) fits;
+          now = with_file_now room path place (changed file change) f.placed f.has_path;
+          others = with_file_others room path place file (changed file change) f.stands f.has_path f.has_path;
+          differ = files_set room.files place file (changed file change) f.stands refl;
+          gives = refl;
+        },
+      )
   by_length room place file e there f false past =
       inr (stays_in tree n room Beyond Made (WhyNotWritten tree n path at) e (λ m. cc)
       (record { room = room; bytes = file.bytes; has_room = e; folder = there; there = file_at_found room path file f.found }, shorter at (length file.bytes) past))

@@ -6,3 +6,4 @@ pub mod Says
 pub mod Tells
 pub mod Changes
 pub mod Outcomes
+pub mod Naming

@@ -35,6 +35,11 @@ abbrev pub WriteTold : ℕ → Path → ℕ → List ℕ → Tree → Result Ans
 WriteTold n path at bytes tree told after =
     ((told ≡ made) × Wrote tree n path at bytes after) ⊎ ((told ≡ made → ⊥) × WroteInPart n path at bytes tree after)
 
+-- the tree stays, and the answer tells of it
+pub record Looks (tree : Tree) (says : Answer → Type 0) (out : Effect) : Type 0 where
+  pub same : out.tree ≡ tree
+  pub says_so : says out.answer
+
 -- a step that changes nothing
 abbrev pub IsLook : Step → Type 0
 IsLook rooms = Unit {0}
