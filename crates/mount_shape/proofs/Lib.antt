@@ -1,3 +1,5 @@
 pub mod Items
 pub mod Containers
 pub mod Trees
+pub mod Acting
+pub mod Steps
