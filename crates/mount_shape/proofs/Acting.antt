@@ -1,5 +1,5 @@
 -- A tree keeps its shape through each act, whatever it tells.
-use Rattle.std.proofs.Common.{◌≡◌, ℕ, ◌≤◌, ◌<◌, Bool, true, false, ◌||◌, List, [], ◌∷◌, ◌++◌, take, length, slice_get, slice_set, Some, None, refl, sym, ap, ◌∙◌, ◌⊎◌, inl, inr, subst, arith, if◌then◌else◌}
+use Rattle.std.proofs.Common.{◌≡◌, ℕ, ◌≤◌, Bool, true, false, ◌||◌, List, [], ◌∷◌, ◌++◌, take, slice_get, Some, refl, sym, ap, ◌∙◌, ◌⊎◌, inl, inr, subst, if◌then◌else◌}
 use Rattle.std.specs.Prelude.{Result, Ok, Err}
 use Rattle.std.proofs.lemmas.List.Folds.{list_any-append}
 use Rattle.plfs_types.specs.Names.{IsLogicalName}
@@ -15,9 +15,9 @@ use Rattle.store_api.specs.declared.store.Trouble.{Trouble}
 use Rattle.store_api.specs.declared.store.Trouble.TheVariants.{Fault, NoMemory}
 use Rattle.store_api.specs.Step.{Step, make_room, make_folder, create, remove, write_at}
 use Rattle.store_api.specs.Names.{same_name}
-use Rattle.store_api.specs.Room.{Outcome, stays, becomes, has_folder, folder_made}
-use Rattle.store_api.specs.Effect.{Effect, effect, tree_after, or_no_room}
-use Rattle.store_api.specs.Leaves.{MayLeave, not_made, whole, in_part, with_first}
+use Rattle.store_api.specs.Room.{stays, becomes, has_folder, folder_made}
+use Rattle.store_api.specs.Effect.{Effect, tree_after, or_no_room}
+use Rattle.store_api.specs.Leaves.{not_made, whole, in_part, with_first}
 use Rattle.store_laws.specs.Files.{AreTwo}
 use Rattle.store_laws.specs.Differ.{is_listed}
 use Rattle.store_laws.specs.Tells.{Tells}
@@ -29,7 +29,7 @@ use Rattle.store_laws.proofs.Folders.{with_folder, make_folder_cases}
 use Rattle.store_laws.proofs.Keeping.{changed_room}
 use Rattle.mount_model.specs.Paths.{Name, new_folders, new_files, access_path}
 use Rattle.mount_shape.specs.Marks.{HasMark}
-use Rattle.mount_shape.specs.Container.{IsContainerFolder, MayHold, IsWritersOf, IsContainer}
+use Rattle.mount_shape.specs.Container.{IsContainerFolder, MayHold, IsWritersOf}
 use Rattle.mount_shape.specs.Shape.{IsDrawnBy}
 use Rattle.mount_shape.proofs.Containers.{container_filed, container_removed, container_foldered, container_made}
 use Rattle.mount_shape.proofs.Trees.{IsShapedFor, shape_later, shape_changed, shape_added}
@@ -45,7 +45,7 @@ new_folders_are : (tree : Tree) (n : ℕ) (folder : Name) (made : FolderMade tre
 new_folders_are tree n folder made =
     let trees : with_room tree n made.new ≡ with_room tree n (with_folder made.room folder) = sym made.gives ∙ folder_whole tree n folder made.room made.has_room made.none in
     let rooms : Some made.new ≡ Some (with_folder made.room folder) =
-      sym (changed_room tree n made.room made.new made.has_room) ∙ ap (λ (t : Tree). slice_get t.rooms n) trees ∙ changed_room tree n made.room (with_folder made.room folder) made.has_room in
+    sym (changed_room tree n made.room made.new made.has_room) ∙ ap (λ (t : Tree). slice_get t.rooms n) trees ∙ changed_room tree n made.room (with_folder made.room folder) made.has_room in
     let same : made.new ≡ with_folder made.room folder = cc in
     ap (λ (r : Room). r.folders) same
 

@@ -1,9 +1,7 @@
 -- A container stays one where a file or a folder of it has changed, and a new one is one.
-use Rattle.std.proofs.Common.{◌≡◌, ℕ, Bool, true, false, ◌||◌, List, [], ◌∷◌, ◌++◌, length, nat_eq, Some, None, refl, sym, ap, ◌∙◌, ◌⊎◌, inl, inr, subst, arith}
+use Rattle.std.proofs.Common.{◌≡◌, ℕ, Bool, true, false, ◌||◌, List, [], ◌∷◌, Some, None, refl, sym, ap, ◌∙◌, ◌⊎◌, inl, inr, subst, arith}
 use Rattle.std.specs.Prelude.{codes}
-use Rattle.std.specs.List.{list_any}
 use Rattle.std.proofs.lemmas.Bool.Decides.{nat_tests}
-use Rattle.std.proofs.lemmas.List.Folds.{list_any-append}
 use Rattle.plfs_types.specs.Names.{IsLogicalName}
 use Rattle.plfs_types.specs.declared.names.Path.{Path}
 use Rattle.container_layout.specs.declared.items.Item.{Item}
@@ -14,7 +12,7 @@ use Rattle.store_api.specs.declared.tree.Tree.{Tree}
 use Rattle.store_api.specs.Names.{same_name}
 use Rattle.store_api.specs.Room.{is_top, has_folder}
 use Rattle.store_laws.specs.Files.{file_at, AreTwo, SameButFile, SameButFolder}
-use Rattle.store_laws.specs.Differ.{is_listed, NamesDiffer, FoldersDiffer, PathsDiffer}
+use Rattle.store_laws.specs.Differ.{is_listed, FoldersDiffer, PathsDiffer}
 use Rattle.store_laws.specs.Changes.{RoomMade}
 use Rattle.store_laws.proofs.Naming.{name_eq, name_cases, path_cases, path_eq}
 use Rattle.store_laws.proofs.Keeping.{folder_kept, folders_differ_kept, each_file, file_kept, paths_differ_kept, each_folder, each_new_file, has_new_file, has_new_folder, new_folders_differ}
@@ -47,8 +45,8 @@ container_wider few many room more c = record {
   folders = c.folders;
   top_unlisted = c.top_unlisted;
   files = λ path bytes at.
-    let f = c.files path bytes at in
-    record { item = f.item; is_at = f.is_at; holds = f.holds; writer = writers_wider few many f.item more f.writer; housed = f.housed };
+      let f = c.files path bytes at in
+      record { item = f.item; is_at = f.is_at; holds = f.holds; writer = writers_wider few many f.item more f.writer; housed = f.housed };
 }
 
 -- ---- a file
@@ -130,8 +128,8 @@ container_foldered allowed room new folder known now others differ top c = recor
   ];
   top_unlisted = top;
   files = λ path bytes at.
-    let f = c.files path bytes (sym (file_kept folder room new path others) ∙ at) in
-    record { item = f.item; is_at = f.is_at; holds = f.holds; writer = f.writer; housed = has_still folder path.folder room new others now f.housed };
+      let f = c.files path bytes (sym (file_kept folder room new path others) ∙ at) in
+      record { item = f.item; is_at = f.is_at; holds = f.holds; writer = f.writer; housed = has_still folder path.folder room new others now f.housed };
 }
 
 -- ---- a new room

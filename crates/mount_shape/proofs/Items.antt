@@ -1,5 +1,5 @@
 -- The items of a writer, and where they stand.
-use Rattle.std.proofs.Common.{◌≡◌, ℕ, ◌+◌, ◌*◌, ◌%◌, ◌<◌, ◌≤◌, ◌^◌, List, [], ◌∷◌, ◌++◌, refl, sym, ap, ◌∙◌, inl, inr, subst, arith}
+use Rattle.std.proofs.Common.{◌≡◌, ℕ, ◌%◌, ◌<◌, ◌^◌, List, [], ◌++◌, refl, ap, inr, subst, arith}
 use Rattle.std.specs.Prelude.{codes}
 use Rattle.std.specs.Fmt.{decimal}
 use Rattle.plfs_types.specs.declared.names.Path.{Path}
@@ -9,7 +9,7 @@ use Rattle.container_layout.specs.Items.{IsMetaRange}
 use Rattle.container_layout.specs.Paths.{IsAt, hostdir_of}
 use Rattle.container_layout.proofs.Places.{one_item}
 use Rattle.store_laws.specs.Files.{AreTwo}
-use Rattle.mount_model.specs.Paths.{Name, access_path, open_path, index_path, log_path, meta_path}
+use Rattle.mount_model.specs.Paths.{access_path, open_path, index_path, log_path, meta_path}
 use Rattle.mount_model.specs.State.{id_of}
 use Rattle.mount_shape.specs.Container.{IsContainerFolder, MayHold}
 

@@ -1,6 +1,5 @@
 -- Each step of the mount keeps the shape of what its store tells.
-use Rattle.std.proofs.Common.{◌≡◌, ◌≢◌, ℕ, ◌+◌, ◌-◌, ◌*◌, ◌<◌, ◌≤◌, ◌^◌, List, [], ◌∷◌, length, Option, Some, None, refl, sym, ap, ◌∙◌, ◌⊎◌, inl, inr, subst, arith, Bool, false, nat_eq}
-use Rattle.std.specs.Prelude.{Result, if◌then◌else◌}
+use Rattle.std.proofs.Common.{◌≡◌, ℕ, ◌+◌, ◌<◌, ◌≤◌, ◌^◌, List, [], ◌∷◌, Option, Some, None, refl, sym, ◌⊎◌, inl, inr, subst, arith, Bool}
 use Rattle.plfs_types.specs.declared.entries.Entry.{Entry}
 use Rattle.container_layout.specs.Items.{IsMetaRange}
 use Rattle.container_layout.specs.Paths.{hostdir_of}
@@ -20,20 +19,20 @@ use Rattle.mount_model.specs.declared.call.Ask.{Ask}
 use Rattle.mount_model.specs.declared.reply.Refusal.{Refusal}
 use Rattle.mount_model.specs.declared.reply.Reply.{Reply}
 use Rattle.mount_model.specs.Paths.{Name, truncs, open_path, index_path, log_path, meta_path}
-use Rattle.mount_model.specs.State.{State, id_of, last_id, drawn, timed}
+use Rattle.mount_model.specs.State.{State, last_id, drawn, timed}
 use Rattle.mount_model.specs.Making.{Told, Outcome, Makes, OnWriter, UnlessRefused}
 use Rattle.mount_model.specs.Finding.{NamesRooms, MakesContainer}
 use Rattle.mount_model.specs.Looking.{look_step}
-use Rattle.mount_model.specs.Entering.{EntersAs, enter_check, enter_step, next_id}
+use Rattle.mount_model.specs.Entering.{EntersAs, enter_check, next_id}
 use Rattle.mount_model.specs.Flooring.{FloorsRow}
 use Rattle.mount_model.specs.Building.{hostdir_step, index_step, log_step}
-use Rattle.mount_model.specs.Writing.{WritesAt, write_step}
+use Rattle.mount_model.specs.Writing.{WritesAt}
 use Rattle.mount_model.specs.Flushing.{FlushesRow, flush_step, sync_log_step, sync_index_step}
 use Rattle.mount_model.specs.Leaving.{put_meta_step, exit_step}
 use Rattle.mount_model.specs.Step.{Answers, IsStep}
 use Rattle.mount_model.specs.Regular.{IsCounted, IsRegular}
-use Rattle.mount_model.proofs.Deciding.{IsHeld, on_writer, unless_refused, may_enter}
-use Rattle.mount_model.proofs.Rows.{IsRegularRow, IsOfSerial, rows_of, regular_row}
+use Rattle.mount_model.proofs.Deciding.{on_writer, unless_refused, may_enter}
+use Rattle.mount_model.proofs.Rows.{IsRegularRow, rows_of, regular_row}
 use Rattle.mount_shape.specs.Marks.{HasMark}
 use Rattle.mount_shape.specs.Shape.{IsDrawnBy, HasShape}
 use Rattle.mount_shape.proofs.Items.{id_fits, open_is_at, index_is_at, log_is_at, meta_is_at, open_apart, hostdir_is_folder}
@@ -75,7 +74,7 @@ module _ (old : State) (regular : IsRegular old) (shape : HasShape old) (reply :
   by_writer : (caller : ℕ) (stages : Stage → Bool) (id : ℕ) (does : Row → Type 0) → OnWriter caller stages id old reply new does
       → ((row : Row) → IsRegularRow old.mount old.serial old.marks row → does row → HasShape new) → HasShape new
   by_writer caller stages id does on keeps = on_writer caller stages id old reply new does (HasShape new) on (shape_as old new shape)
-    (λ row held. keeps row (regular_row old.mount old.serial old.marks id old.table.writers row (rows_of old regular) held.found))
+      (λ row held. keeps row (regular_row old.mount old.serial old.marks id old.table.writers row (rows_of old regular) held.found))
 
   by_check : (check : Option Refusal) (does : Type 0) → UnlessRefused check old reply new does → (check ≡ None → does → HasShape new) → HasShape new
   by_check check does on keeps = unless_refused check old reply new does (HasShape new) on (shape_as old new shape) keeps
@@ -83,7 +82,7 @@ module _ (old : State) (regular : IsRegular old) (shape : HasShape old) (reply :
   -- an act that only looks
   by_look : (step : Step) (outcome : Told → Outcome) → IsLook step → Makes step outcome old reply new → HasShape new
   by_look step outcome look m = makes_shape step outcome old reply new shape.tree shape.told
-    (λ told after t. look_shape (last_id old) (last_id old) old.marks old.mount shape.tree (omega arith) kept told after step look t) m
+      (λ told after t. look_shape (last_id old) (last_id old) old.marks old.mount shape.tree (omega arith) kept told after step look t) m
 
   -- the id of a row was drawn
   row_drawn : (row : Row) → IsRegularRow old.mount old.serial old.marks row → (t : Tree) → HasMark t old.mount → IsDrawnBy (last_id old) t row.id
@@ -100,7 +99,7 @@ module _ (old : State) (regular : IsRegular old) (shape : HasShape old) (reply :
 
   container_shape : (name : Name) → MakesContainer name old reply new → HasShape new
   container_shape name m = makes_shape _ _ old reply new shape.tree shape.told
-    (λ told after t. make_room_shape (last_id old) (last_id old) old.marks old.mount shape.tree (omega arith) kept told after refl name m.named t) m.makes
+      (λ told after t. make_room_shape (last_id old) (last_id old) old.marks old.mount shape.tree (omega arith) kept told after refl name m.named t) m.makes
 
   enter_shape : (caller room host most : ℕ) → enter_check old room ≡ None → EntersAs caller room host most old reply new → HasShape new
   enter_shape caller room host most none e =
@@ -127,27 +126,27 @@ module _ (old : State) (regular : IsRegular old) (shape : HasShape old) (reply :
 
   hostdir_shape : (row : Row) → IsRegularRow old.mount old.serial old.marks row → (outcome : Told → Outcome) → Makes (hostdir_step row) outcome old reply new → HasShape new
   hostdir_shape row r outcome m = makes_shape _ outcome old reply new shape.tree shape.told
-    (λ told after t. make_folder_shape (last_id old) (last_id old) old.marks old.mount shape.tree (omega arith) kept told after row.room (hostdir_of row.host) r.apart (hostdir_is_folder row.host) t) m
+      (λ told after t. make_folder_shape (last_id old) (last_id old) old.marks old.mount shape.tree (omega arith) kept told after row.room (hostdir_of row.host) r.apart (hostdir_is_folder row.host) t) m
 
   index_shape : (row : Row) → IsRegularRow old.mount old.serial old.marks row → (outcome : Told → Outcome) → Makes (index_step row) outcome old reply new → HasShape new
   index_shape row r outcome m = makes_shape _ outcome old reply new shape.tree shape.told
-    (λ told after t. create_shape (last_id old) (last_id old) old.marks old.mount shape.tree (omega arith) kept told after
-    row.room (index_path row.host row.id) (Index row.host row.id) r.apart (index_is_at row.host row.id r.counted.host_fits (row_fits row r)) tt (row_drawn row r) t) m
+      (λ told after t. create_shape (last_id old) (last_id old) old.marks old.mount shape.tree (omega arith) kept told after
+      row.room (index_path row.host row.id) (Index row.host row.id) r.apart (index_is_at row.host row.id r.counted.host_fits (row_fits row r)) tt (row_drawn row r) t) m
 
   log_shape : (row : Row) → IsRegularRow old.mount old.serial old.marks row → (outcome : Told → Outcome) → Makes (log_step row) outcome old reply new → HasShape new
   log_shape row r outcome m = makes_shape _ outcome old reply new shape.tree shape.told
-    (λ told after t. create_shape (last_id old) (last_id old) old.marks old.mount shape.tree (omega arith) kept told after
-    row.room (log_path row.host row.id) (Log row.host row.id) r.apart (log_is_at row.host row.id r.counted.host_fits (row_fits row r)) tt (row_drawn row r) t) m
+      (λ told after t. create_shape (last_id old) (last_id old) old.marks old.mount shape.tree (omega arith) kept told after
+      row.room (log_path row.host row.id) (Log row.host row.id) r.apart (log_is_at row.host row.id r.counted.host_fits (row_fits row r)) tt (row_drawn row r) t) m
 
   written_shape : (at : ℕ) (bytes : List ℕ) (row : Row) → IsRegularRow old.mount old.serial old.marks row → WritesAt row at bytes old reply new → HasShape new
   written_shape at bytes row r w = makes_shape _ _ (timed w.times old) reply new shape.tree shape.told
-    (λ told after t. write_shape (last_id old) (last_id old) old.marks old.mount shape.tree (omega arith) kept told after
-    row.room (log_path row.host row.id) row.stored bytes (Log row.host row.id) r.apart (log_is_at row.host row.id r.counted.host_fits (row_fits row r)) (λ b. tt) (row_drawn row r) t) w.makes
+      (λ told after t. write_shape (last_id old) (last_id old) old.marks old.mount shape.tree (omega arith) kept told after
+      row.room (log_path row.host row.id) row.stored bytes (Log row.host row.id) r.apart (log_is_at row.host row.id r.counted.host_fits (row_fits row r)) (λ b. tt) (row_drawn row r) t) w.makes
 
   flush_shape : (row : Row) → IsRegularRow old.mount old.serial old.marks row → (outcome : Told → Outcome) → Makes (flush_step row) outcome old reply new → HasShape new
   flush_shape row r outcome m = makes_shape _ outcome old reply new shape.tree shape.told
-    (λ told after t. write_shape (last_id old) (last_id old) old.marks old.mount shape.tree (omega arith) kept told after
-    row.room (index_path row.host row.id) _ _ (Index row.host row.id) r.apart (index_is_at row.host row.id r.counted.host_fits (row_fits row r)) (λ b. tt) (row_drawn row r) t) m
+      (λ told after t. write_shape (last_id old) (last_id old) old.marks old.mount shape.tree (omega arith) kept told after
+      row.room (index_path row.host row.id) _ _ (Index row.host row.id) r.apart (index_is_at row.host row.id r.counted.host_fits (row_fits row r)) (λ b. tt) (row_drawn row r) t) m
 
   flushed_shape : (row : Row) → IsRegularRow old.mount old.serial old.marks row → (pending : List Entry) → FlushesRow row pending old reply new → HasShape new
   flushed_shape row r [] f = shape_as old new shape f.1
@@ -155,14 +154,14 @@ module _ (old : State) (regular : IsRegular old) (shape : HasShape old) (reply :
 
   meta_shape : (row : Row) → IsRegularRow old.mount old.serial old.marks row → (outcome : Told → Outcome) → Makes (put_meta_step row) outcome old reply new → HasShape new
   meta_shape row r outcome m = makes_shape _ outcome old reply new shape.tree shape.told
-    (λ told after t. create_shape (last_id old) (last_id old) old.marks old.mount shape.tree (omega arith) kept told after
-    row.room (meta_path row.end row.stored row.last row.host row.id) (Meta row.end row.stored row.last row.host row.id) r.apart
-    (meta_is_at row.end row.stored row.last row.host row.id (meta_range row r.counted) r.counted.host_fits (row_fits row r)) refl (row_drawn row r) t) m
+      (λ told after t. create_shape (last_id old) (last_id old) old.marks old.mount shape.tree (omega arith) kept told after
+      row.room (meta_path row.end row.stored row.last row.host row.id) (Meta row.end row.stored row.last row.host row.id) r.apart
+      (meta_is_at row.end row.stored row.last row.host row.id (meta_range row r.counted) r.counted.host_fits (row_fits row r)) refl (row_drawn row r) t) m
 
   exit_shape : (row : Row) → IsRegularRow old.mount old.serial old.marks row → (outcome : Told → Outcome) → Makes (exit_step row) outcome old reply new → HasShape new
   exit_shape row r outcome m = makes_shape _ outcome old reply new shape.tree shape.told
-    (λ told after t. remove_shape (last_id old) (last_id old) old.marks old.mount shape.tree (omega arith) kept told after
-    row.room (open_path row.host row.id) r.apart (open_apart row.host row.id) t) m
+      (λ told after t. remove_shape (last_id old) (last_id old) old.marks old.mount shape.tree (omega arith) kept told after
+      row.room (open_path row.host row.id) r.apart (open_apart row.host row.id) t) m
 
   answers_shape : (caller : ℕ) (call : Call) → Answers old caller call reply new → HasShape new
   answers_shape caller Greet a = shape_as old new shape a.1

@@ -1,6 +1,5 @@
 -- A tree keeps its shape where one room of it has changed, or one was added.
-use Rattle.std.proofs.Common.{◌≡◌, ℕ, ◌+◌, ◌*◌, ◌<◌, ◌≤◌, ◌^◌, List, [], ◌∷◌, ◌++◌, slice_get, Some, None, refl, sym, ap, ◌∙◌, ◌⊎◌, inl, inr, subst, arith}
-use Rattle.std.proofs.lemmas.Bool.{cases_eq}
+use Rattle.std.proofs.Common.{◌≡◌, ℕ, ◌<◌, ◌≤◌, ◌^◌, [], ◌∷◌, ◌++◌, slice_get, Some, refl, sym, ◌∙◌, ◌⊎◌, inl, inr, subst, arith}
 use Rattle.store_api.specs.declared.tree.Room.{Room}
 use Rattle.store_api.specs.declared.tree.Tree.{Tree}
 use Rattle.store_laws.specs.Files.{file_at}
@@ -9,7 +8,7 @@ use Rattle.store_laws.specs.Changes.{with_room}
 use Rattle.store_laws.proofs.Keeping.{other_room, each_room, earlier_room, each_with_added, rooms_differ_kept, rooms_differ_added}
 use Rattle.mount_model.specs.Paths.{marks_name, mark_path}
 use Rattle.mount_model.specs.State.{State, id_of, last_id}
-use Rattle.mount_shape.specs.Marks.{IsMarksRoom, HasMark, IsOfMark}
+use Rattle.mount_shape.specs.Marks.{IsMarksRoom, HasMark}
 use Rattle.mount_shape.specs.Container.{IsContainer}
 use Rattle.mount_shape.specs.Shape.{IsShapedTree, IsDrawnBy, HasShape}
 use Rattle.mount_shape.proofs.Containers.{container_wider}

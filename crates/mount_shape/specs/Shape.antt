@@ -4,7 +4,7 @@ use Rattle.store_api.specs.declared.tree.Room.{Room}
 use Rattle.store_api.specs.declared.tree.Tree.{Tree}
 use Rattle.store_laws.specs.Files.{file_at}
 use Rattle.store_laws.specs.Differ.{RoomsDiffer}
-use Rattle.mount_model.specs.Paths.{marks_name, mark_path}
+use Rattle.mount_model.specs.Paths.{mark_path}
 use Rattle.mount_model.specs.State.{State, last_id}
 use Rattle.mount_shape.specs.Marks.{IsMarksRoom, IsOfMark}
 use Rattle.mount_shape.specs.Container.{IsContainer}
