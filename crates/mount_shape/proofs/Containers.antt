@@ -138,17 +138,17 @@ pub is_top_empty : (folder : Name) → is_top folder ≡ true → folder ≡ []
 is_top_empty [] t = refl
 is_top_empty (x ∷ xs) t = absurd (grind (arith, nat_tests))
 
-one_of : (a b : Bool) → (a || b) ≡ true → (a ≡ true) ⊎ (b ≡ true)
+pub one_of : (a b : Bool) → (a || b) ≡ true → (a ≡ true) ⊎ (b ≡ true)
 one_of true b e = inl refl
 one_of false b e = inr e
 
-listed_first : (name other : Name) (names : List Name) → is_listed name (other ∷ names) ≡ true → (name ≡ other) ⊎ (is_listed name names ≡ true)
+pub listed_first : (name other : Name) (names : List Name) → is_listed name (other ∷ names) ≡ true → (name ≡ other) ⊎ (is_listed name names ≡ true)
 listed_first name other names e = elim (one_of (same_name other name) (is_listed name names) e) as (λ _. (name ≡ other) ⊎ (is_listed name names ≡ true)) [
   | inl same ↦ inl (sym (name_eq other name same))
   | inr rest ↦ inr rest
 ]
 
-listed_none : (name : Name) → is_listed name [] ≡ true → ⊥
+pub listed_none : (name : Name) → is_listed name [] ≡ true → ⊥
 listed_none name e = cc
 
 -- the folders of a new container are those that one may have

@@ -3,3 +3,4 @@ pub mod Containers
 pub mod Trees
 pub mod Acting
 pub mod Steps
+pub mod Mounts

@@ -8,7 +8,7 @@ use Rattle.store_laws.specs.Changes.{with_room}
 use Rattle.store_laws.proofs.Keeping.{other_room, each_room, earlier_room, each_with_added, rooms_differ_kept, rooms_differ_added}
 use Rattle.mount_model.specs.Paths.{marks_name, mark_path}
 use Rattle.mount_model.specs.State.{State, id_of, last_id}
-use Rattle.mount_shape.specs.Marks.{IsMarksRoom, HasMark}
+use Rattle.mount_shape.specs.Marks.{IsMarksRoom, HasMark, IsOfMark}
 use Rattle.mount_shape.specs.Container.{IsContainer}
 use Rattle.mount_shape.specs.Shape.{IsShapedTree, IsDrawnBy, HasShape}
 use Rattle.mount_shape.proofs.Containers.{container_wider}
@@ -40,14 +40,23 @@ own_drawn mount serial last tree mark mount_fits last_fits some within =
 only_marks : (last marks mount n : ℕ) (tree : Tree) (room : Room) → IsShapedFor last marks mount tree → slice_get tree.rooms n ≡ Some room → room.name ≡ marks_name → n ≡ marks
 only_marks last marks mount n tree room s there named = s.shaped.rooms_differ n marks room s.room there s.has_room (named ∙ sym s.is_marks.named)
 
+-- an id stays one of a mark, where the marks stay
+pub of_mark_kept : (tree after : Tree) → ((mount : ℕ) → HasMark tree mount → HasMark after mount) → (id : ℕ) → IsOfMark tree id → IsOfMark after id
+of_mark_kept tree after marks id o = record {
+  mount = o.mount;
+  serial = o.serial;
+  has_mark = marks o.mount o.has_mark;
+  mount_fits = o.mount_fits;
+  some = o.some;
+  serial_fits = o.serial_fits;
+  is = o.is;
+}
+
 drawn_kept : (last last' : ℕ) (tree after : Tree) → last ≤ last' → ((mount : ℕ) → HasMark tree mount → HasMark after mount) → (id : ℕ) → IsDrawnBy last tree id → IsDrawnBy last' after id
-drawn_kept last last' tree after grows marks id (of_mark, within) =
-    (record { mount = of_mark.mount; serial = of_mark.serial; has_mark = marks of_mark.mount of_mark.has_mark; mount_fits = of_mark.mount_fits; some = of_mark.some; serial_fits = of_mark.serial_fits; is = of_mark.is }, omega (arith, within, grows))
+drawn_kept last last' tree after grows marks id (of_mark, within) = (of_mark_kept tree after marks id of_mark, omega (arith, within, grows))
 
-same_room : (a b : Room) (tree : Tree) (n : ℕ) → slice_get tree.rooms n ≡ Some a → slice_get tree.rooms n ≡ Some b → a ≡ b
-same_room a b tree n e f = let both : Some a ≡ Some b = sym e ∙ f in cc
-
-room_kept : (few many : ℕ → Type 0) (room : Room) → ((id : ℕ) → few id → many id) → IsMarksRoom room ⊎ IsContainer few room → IsMarksRoom room ⊎ IsContainer many room
+-- a room that is no container's stays so, and a container where more ids are allowed
+pub room_kept : (few many : ℕ → Type 0) (room : Room) → ((id : ℕ) → few id → many id) → IsMarksRoom room ⊎ IsContainer few room → IsMarksRoom room ⊎ IsContainer many room
 room_kept few many room more is = elim is as (λ _. IsMarksRoom room ⊎ IsContainer many room) [
   | inl m ↦ inl m
   | inr c ↦ inr (container_wider few many room more c)
@@ -109,23 +118,23 @@ module _ (last last' marks mount n : ℕ) (tree : Tree) (room new : Room) (grows
 
 -- ---- a room that was added
 
-abbrev with_added : Tree → Room → Tree
+abbrev pub with_added : Tree → Room → Tree
 with_added tree new = record { rooms = tree.rooms ++ new ∷ [] }
 
-module _ (last marks mount : ℕ) (tree : Tree) (new : Room) (s : IsShapedFor last marks mount tree) where
-  has_mark_added : (m : ℕ) → HasMark tree m → HasMark (with_added tree new) m
-  has_mark_added m has = record {
-    number = has.number;
-    room = has.room;
-    there = earlier_room tree has.number has.room new has.there;
-    named = has.named;
-    mark = has.mark;
-  }
+pub has_mark_added : (tree : Tree) (new : Room) (m : ℕ) → HasMark tree m → HasMark (with_added tree new) m
+has_mark_added tree new m has = record {
+  number = has.number;
+  room = has.room;
+  there = earlier_room tree has.number has.room new has.there;
+  named = has.named;
+  mark = has.mark;
+}
 
+module _ (last marks mount : ℕ) (tree : Tree) (new : Room) (s : IsShapedFor last marks mount tree) where
   -- the tree keeps its shape, where the room is a container of a name that none had
   pub shape_added : IsFree tree new.name → IsContainer (IsDrawnBy last (with_added tree new)) new → IsShapedFor last marks mount (with_added tree new)
   shape_added free is =
-      let wider = drawn_kept last last tree (with_added tree new) (omega arith) has_mark_added in
+      let wider = drawn_kept last last tree (with_added tree new) (omega arith) (has_mark_added tree new) in
       record {
         shaped = record {
           rooms_differ = rooms_differ_added tree new free s.shaped.rooms_differ;

@@ -6,4 +6,4 @@
 
 mod laws;
 
-pub use laws::shape_lasts;
+pub use laws::{mounting_has_shape, shape_lasts};
