@@ -5,3 +5,4 @@ pub mod Ranges
 pub mod Rows
 pub mod Outcomes
 pub mod Lasting
+pub mod Holding
