@@ -4,3 +4,4 @@ pub mod Trees
 pub mod Acting
 pub mod Steps
 pub mod Mounts
+pub mod Held
