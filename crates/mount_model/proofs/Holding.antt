@@ -1,5 +1,5 @@
 -- No call holds a room or flattens yet.
-use Rattle.std.proofs.Common.{◌≡◌, ℕ, List, [], ◌∷◌, Option, refl, sym, ap, ◌∙◌, ◌⊎◌, inl, inr, Bool, Ok}
+use Rattle.std.proofs.Common.{◌≡◌, ℕ, List, [], ◌∷◌, Option, refl, ap, ◌∙◌, inl, inr, Bool, Ok}
 use Rattle.plfs_types.specs.declared.entries.Entry.{Entry}
 use Rattle.store_api.specs.declared.step.Answer.TheVariants.{Names}
 use Rattle.store_api.specs.Step.{Step}
@@ -13,7 +13,7 @@ use Rattle.mount_model.specs.declared.reply.Reply.{Reply}
 use Rattle.mount_model.specs.State.{State, Table, drawn, timed}
 use Rattle.mount_model.specs.Making.{Told, Outcome, Makes, OnWriter, UnlessRefused}
 use Rattle.mount_model.specs.Entering.{EntersAs, entered}
-use Rattle.mount_model.specs.Flooring.{FloorsRow, FloorOutcome}
+use Rattle.mount_model.specs.Flooring.{FloorOutcome}
 use Rattle.mount_model.specs.Writing.{WritesAt, stamp_at}
 use Rattle.mount_model.specs.Flushing.{FlushesRow}
 use Rattle.mount_model.specs.Step.{Answers, IsStep}

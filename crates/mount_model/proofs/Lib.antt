@@ -6,3 +6,4 @@ pub mod Rows
 pub mod Outcomes
 pub mod Lasting
 pub mod Holding
+pub mod Beginning

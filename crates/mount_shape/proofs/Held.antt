@@ -1,5 +1,5 @@
 -- What a file at an item's path says, in a room of a sound tree.
-use Rattle.std.proofs.Common.{◌≡◌, ◌<◌, ℕ, List, [], true, slice_get, Option, Some, None, refl, sym, ap, ◌∙◌, ◌⊎◌, inl, inr, subst, arith}
+use Rattle.std.proofs.Common.{◌≡◌, ◌<◌, ℕ, List, [], true, slice_get, Option, Some, None, refl, sym, ap, ◌∙◌, subst, arith}
 use Rattle.container_layout.specs.declared.items.Item.{Item}
 use Rattle.container_layout.specs.declared.items.Item.TheVariants.{OpenHost, Meta, Index, Log}
 use Rattle.container_layout.specs.Items.{IsItem}
@@ -9,11 +9,11 @@ use Rattle.store_api.specs.declared.tree.Room.{Room}
 use Rattle.store_api.specs.declared.tree.Tree.{Tree}
 use Rattle.store_api.specs.Room.{has_folder}
 use Rattle.store_laws.specs.Files.{file_at}
-use Rattle.mount_shape.specs.Marks.{IsMarksRoom, IsOfMark}
+use Rattle.mount_shape.specs.Marks.{IsOfMark}
 use Rattle.mount_shape.specs.Container.{MayHold, IsWritersOf, IsContainer}
 use Rattle.mount_shape.specs.Shape.{IsShapedTree, IsDrawnBy, HasShape}
 use Rattle.mount_model.specs.State.{State, last_id}
-use Rattle.mount_shape.proofs.Trees.{IsShapedFor, container_at, shape_of, room_kept}
+use Rattle.mount_shape.proofs.Trees.{IsShapedFor, container_at, room_kept}
 
 -- a container has the item's file, with bytes that it may hold
 pub record Holds (allowed : ℕ → Type 0) (room : Room) (item : Item) (bytes : List ℕ) : Type 0 where

@@ -1,21 +1,18 @@
 -- A mount over a tree of the right shape has it.
-use Rattle.std.proofs.Common.{◌≡◌, ◌≢◌, ℕ, ◌+◌, ◌-◌, ◌*◌, ◌<◌, ◌≤◌, ◌^◌, Bool, true, false, ◌||◌, List, [], ◌∷◌, ◌++◌, length, slice_get, Option, Some, None, refl, sym, ap, ◌∙◌, ◌⊎◌, inl, inr, subst, arith}
+use Rattle.std.proofs.Common.{◌≡◌, ℕ, ◌+◌, ◌<◌, ◌≤◌, ◌^◌, true, false, ◌||◌, List, [], ◌∷◌, length, slice_get, Option, Some, refl, sym, ap, ◌∙◌, ◌⊎◌, inl, inr, subst, arith}
 use Rattle.std.specs.Prelude.{is_some, Ok}
 use Rattle.std.specs.List.{All}
-use Rattle.std.specs.Fmt.{decimal}
 use Rattle.std.proofs.lemmas.Bool.{cases_eq}
 use Rattle.std.proofs.lemmas.Fmt.{decimal_injective}
 use Rattle.std.proofs.lemmas.List.Elements.{All-head, All-tail}
 use Rattle.plfs_types.specs.Names.{IsLogicalName}
-use Rattle.plfs_types.specs.declared.names.Path.{Path}
 use Rattle.store_api.specs.declared.tree.Room.{Room}
 use Rattle.store_api.specs.declared.tree.Tree.{Tree}
-use Rattle.store_api.specs.declared.step.Answer.{Answer}
 use Rattle.store_api.specs.declared.step.Answer.TheVariants.{Made, Old, Number, Names}
 use Rattle.store_api.specs.Step.{Step, make_room, list_folder, create}
 use Rattle.store_api.specs.Acts.{Stored, Acts}
 use Rattle.store_api.specs.Room.{is_top, has_folder}
-use Rattle.store_laws.specs.Files.{file_at, AreTwo, SameButFile}
+use Rattle.store_laws.specs.Files.{file_at, SameButFile}
 use Rattle.store_laws.specs.Differ.{is_listed, PathsDiffer}
 use Rattle.store_laws.specs.There.{IsRoomOf, ListsFolder}
 use Rattle.store_laws.specs.Changes.{with_room, Created, RoomMade}
@@ -24,9 +21,9 @@ use Rattle.store_laws.specs.Tells.{Tells}
 use Rattle.store_laws.proofs.Naming.{path_cases}
 use Rattle.store_laws.proofs.Telling.{acts_told, make_room_told, create_told}
 use Rattle.store_laws.proofs.Answering.{list_tells, look_answered}
-use Rattle.store_laws.proofs.Keeping.{changed_room, other_room, each_room, added_room, each_with_added, rooms_differ_kept, rooms_differ_added, folder_kept, folders_differ_kept, each_file, each_new_file, has_new_folder, new_folders_differ}
+use Rattle.store_laws.proofs.Keeping.{changed_room, each_room, added_room, each_with_added, rooms_differ_kept, rooms_differ_added, folder_kept, folders_differ_kept, each_file, each_new_file, has_new_folder, new_folders_differ}
 use Rattle.mount_model.specs.Paths.{Name, marks_name, marks_folder, mark_name, mark_path}
-use Rattle.mount_model.specs.State.{State, id_of, last_id}
+use Rattle.mount_model.specs.State.{State, id_of}
 use Rattle.mount_model.specs.Mounting.{IsGreatestMark, IsMounted}
 use Rattle.mount_shape.specs.Marks.{IsMarkFile, IsMarksRoom, HasMark, IsOfMark}
 use Rattle.mount_shape.specs.Container.{IsContainer}
