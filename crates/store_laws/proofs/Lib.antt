@@ -19,3 +19,4 @@ pub mod Overwriting
 pub mod Keeping
 pub mod Touching
 pub mod Lengthening
+pub mod OrderKept
