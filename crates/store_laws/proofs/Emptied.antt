@@ -1,8 +1,7 @@
 -- A step that removes a folder.
-use Rattle.std.proofs.Common.{◌≡◌, ℕ, Bool, true, false, cond, not, ◌||◌, ◌&&◌, List, [], ◌∷◌, slice_get, Option, Some, None, refl, ap, sym, ◌∙◌, ◌⊎◌, inl, inr, subst}
+use Rattle.std.proofs.Common.{◌≡◌, ℕ, Bool, true, false, cond, not, ◌||◌, ◌&&◌, List, [], ◌∷◌, slice_get, Option, Some, None, refl, ap, sym, ◌∙◌, inl, inr, subst}
 use Rattle.std.specs.Prelude.{is_some}
-use Rattle.std.specs.List.{list_any, filter}
-use Rattle.plfs_types.specs.declared.names.Path.{Path}
+use Rattle.std.specs.List.{filter}
 use Rattle.store_api.specs.declared.tree.Room.{Room}
 use Rattle.store_api.specs.declared.tree.Tree.{Tree}
 use Rattle.store_api.specs.declared.step.Answer.TheVariants.{Made, NoFolder, NotEmpty}
@@ -15,7 +14,7 @@ use Rattle.store_laws.specs.Differ.{is_listed}
 use Rattle.store_laws.specs.There.{has_entry, AreNamesOf}
 use Rattle.store_laws.specs.Changes.{FolderRemoved}
 use Rattle.store_laws.specs.Says.{WhyNoFolderRemoved}
-use Rattle.store_laws.specs.Outcomes.{Stays, ChangesOrStays}
+use Rattle.store_laws.specs.Outcomes.{ChangesOrStays}
 use Rattle.store_laws.proofs.Naming.{name_eq, name_other}
 use Rattle.store_laws.proofs.Differing.{names_kept}
 use Rattle.store_laws.proofs.Entering.{room_cases, folder_cases, stays_in}

@@ -20,3 +20,4 @@ pub mod Keeping
 pub mod Touching
 pub mod Lengthening
 pub mod OrderKept
+pub mod Listed

@@ -1,5 +1,5 @@
 -- An orderly tree stays orderly, whatever an act tells.
-use Rattle.std.proofs.Common.{◌≡◌, ℕ, true, false, ◌||◌, List, [], ◌∷◌, ◌++◌, take, slice_get, Some, None, refl, ap, sym, ◌∙◌, ◌⊎◌, inl, inr, subst}
+use Rattle.std.proofs.Common.{◌≡◌, ℕ, true, ◌||◌, List, [], ◌∷◌, ◌++◌, take, slice_get, Some, None, ap, sym, ◌∙◌, inl, inr, subst}
 use Rattle.std.specs.Prelude.{Result}
 use Rattle.plfs_types.specs.declared.names.Path.{Path}
 use Rattle.store_api.specs.declared.tree.Room.{Room}
@@ -7,12 +7,11 @@ use Rattle.store_api.specs.declared.tree.Tree.{Tree}
 use Rattle.store_api.specs.declared.step.Answer.{Answer}
 use Rattle.store_api.specs.declared.store.Trouble.{Trouble}
 use Rattle.store_api.specs.Step.{Step, Name, rooms as all_rooms, find_room, make_room, rename_room, make_folder, remove_folder, list_folder, create, remove, replace, length_of, read_at, write_at, cut, sync}
-use Rattle.store_api.specs.Room.{is_top, has_folder}
-use Rattle.store_laws.specs.Files.{file_at, AreTwo}
-use Rattle.store_laws.specs.Differ.{is_listed, NamesDiffer, FoldersDiffer, FilesDiffer}
+use Rattle.store_api.specs.Room.{has_folder}
+use Rattle.store_laws.specs.Files.{file_at}
+use Rattle.store_laws.specs.Differ.{is_listed, NamesDiffer, FilesDiffer}
 use Rattle.store_laws.specs.Tells.{Tells}
-use Rattle.store_laws.specs.Changes.{with_room, FileChanged, Moved, Replaced, beside, FolderMade, FolderRemoved, RoomMade, RoomRenamed}
-use Rattle.store_laws.specs.Outcomes.{IsLook, WroteInPart}
+use Rattle.store_laws.specs.Changes.{with_room, FileChanged, Moved, beside, FolderMade, FolderRemoved, RoomMade, RoomRenamed}
 use Rattle.store_laws.specs.Orderly.{IsOrderlyRoom, IsOrderly, MakesOrderly}
 use Rattle.store_laws.proofs.Naming.{name_cases, path_cases}
 use Rattle.store_laws.proofs.Rooms.{file_at_same, has_folder_same}

@@ -8,8 +8,8 @@ mod tells;
 mod touches;
 
 pub use answers::{
-    finding_tells, length_tells, listing_tells, looks_change_nothing, reading_tells, rooms_tell,
-    syncing_tells,
+    finding_tells, length_tells, listing_tells, listings_are_one, looks_change_nothing,
+    reading_tells, rooms_tell, syncing_tells,
 };
 pub use changes::{
     adds_one_room, creates_one_file, cuts_one_file, makes_one_folder, moves_one_file,
