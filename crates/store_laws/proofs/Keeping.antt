@@ -1,5 +1,5 @@
 -- What stays of a tree and its rooms through each change.
-use Rattle.std.proofs.Common.{◌≡◌, ◌<◌, ℕ, Bool, true, false, cond, ◌||◌, ◌&&◌, List, [], ◌∷◌, ◌++◌, length, slice_get, slice_set, Option, Some, None, refl, ap, sym, ◌∙◌, ◌⊎◌, inl, inr, subst, arith, if◌then◌else◌}
+use Rattle.std.proofs.Common.{◌≡◌, ◌<◌, ℕ, Bool, true, false, ◌||◌, ◌&&◌, List, [], ◌∷◌, ◌++◌, length, slice_get, Option, Some, None, refl, ap, sym, ◌∙◌, ◌⊎◌, inl, inr, subst, if◌then◌else◌}
 use Rattle.std.proofs.lemmas.Bool.{cases_eq}
 use Rattle.std.proofs.lemmas.Option.{slice_get_within}
 use Rattle.plfs_types.specs.declared.names.Path.{Path}
@@ -10,7 +10,7 @@ use Rattle.store_api.specs.Room.{is_top, has_folder}
 use Rattle.store_laws.specs.Files.{file_at, AreTwo, SameButFile, SameButFolder}
 use Rattle.store_laws.specs.Differ.{is_listed, NamesDiffer, FoldersDiffer, FilesDiffer, PathsDiffer, RoomsDiffer}
 use Rattle.store_laws.specs.There.{IsFree}
-use Rattle.store_laws.specs.Changes.{with_room, FileChanged, Created, Wrote, WasCut, Removed, FolderMade, FolderRemoved, RoomMade, RoomRenamed}
+use Rattle.store_laws.specs.Changes.{with_room, FileChanged, Created, Wrote, WasCut, Removed, RoomMade}
 use Rattle.store_laws.proofs.Places.{slice_get-slice_set, slice_get_other-slice_set, slice_get_before, slice_get_last, slice_get_more}
 use Rattle.store_laws.proofs.Naming.{name_cases, path_cases}
 use Rattle.store_laws.proofs.Rooms.{file_at_same, has_folder_same}

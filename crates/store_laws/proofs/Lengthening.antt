@@ -1,5 +1,5 @@
 -- A step that removes no file and cuts none leaves each file no shorter.
-use Rattle.std.proofs.Common.{◌≡◌, ◌≤◌, ℕ, List, [], length, take, slice_get, Some, None, refl, ap, sym, ◌∙◌, ◌⊎◌, inl, inr, subst, arith}
+use Rattle.std.proofs.Common.{◌≡◌, ◌≤◌, ℕ, List, [], length, take, slice_get, Some, None, refl, ap, sym, ◌∙◌, inl, inr, subst, arith}
 use Rattle.std.specs.Prelude.{Result}
 use Rattle.std.proofs.lemmas.Bool.{cases_eq}
 use Rattle.plfs_types.specs.Bytes.{overwritten}
@@ -8,7 +8,7 @@ use Rattle.store_api.specs.declared.tree.Room.{Room}
 use Rattle.store_api.specs.declared.tree.Tree.{Tree}
 use Rattle.store_api.specs.declared.step.Answer.{Answer}
 use Rattle.store_api.specs.declared.store.Trouble.{Trouble}
-use Rattle.store_api.specs.Step.{Step, Name, rooms, find_room, make_room, rename_room, make_folder, remove_folder, list_folder, create, remove, replace, length_of, read_at, write_at, cut, sync}
+use Rattle.store_api.specs.Step.{Step, create, remove, replace, write_at, cut}
 use Rattle.store_laws.specs.Files.{file_at, AreTwo}
 use Rattle.store_laws.specs.Tells.{Tells}
 use Rattle.store_laws.specs.Changes.{with_room, Wrote, Created}

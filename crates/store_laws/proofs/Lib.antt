@@ -19,3 +19,6 @@ pub mod Overwriting
 pub mod Keeping
 pub mod Touching
 pub mod Lengthening
+pub mod OrderKept
+pub mod Listed
+pub mod Exactly

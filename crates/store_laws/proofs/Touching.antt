@@ -1,25 +1,20 @@
 -- A step changes what it names, and nothing else.
-use Rattle.std.proofs.Common.{◌≡◌, ◌≤◌, ℕ, List, [], ◌∷◌, ◌++◌, length, slice_get, slice_set, Option, Some, None, refl, ap, sym, ◌∙◌, ◌⊎◌, inl, inr, subst, arith}
-use Rattle.std.specs.Prelude.{Result, Ok, Err}
+use Rattle.std.proofs.Common.{◌≡◌, ℕ, slice_get, Some, refl, ap, sym, ◌∙◌, inl, inr, subst}
+use Rattle.std.specs.Prelude.{Result}
 use Rattle.std.proofs.lemmas.Bool.{cases_eq}
-use Rattle.plfs_types.specs.Bytes.{overwritten}
 use Rattle.plfs_types.specs.declared.names.Path.{Path}
 use Rattle.store_api.specs.declared.tree.Room.{Room}
 use Rattle.store_api.specs.declared.tree.Tree.{Tree}
 use Rattle.store_api.specs.declared.step.Answer.{Answer}
 use Rattle.store_api.specs.declared.store.Trouble.{Trouble}
 use Rattle.store_api.specs.Step.{Step, Name, rooms, find_room, make_room, rename_room, make_folder, remove_folder, list_folder, create, remove, replace, length_of, read_at, write_at, cut, sync}
-use Rattle.store_api.specs.Room.{has_folder}
-use Rattle.store_laws.specs.Files.{file_at, AreTwo, SameButFile, SameButFolder}
+use Rattle.store_laws.specs.Files.{AreTwo, SameButFolder}
 use Rattle.store_laws.specs.Tells.{Tells}
-use Rattle.store_laws.specs.Changes.{with_room, FileChanged, Created, Wrote, Moved, Replaced, FolderMade, FolderRemoved, RoomMade, RoomRenamed, beside}
-use Rattle.store_laws.specs.Outcomes.{IsLook, WroteInPart}
-use Rattle.store_laws.specs.Naming.{IsPathOf, NamesFile, NamesFolder, NamesRoom, KeepsRoom, KeepsRooms, Lengthens, OnlyAdds}
-use Rattle.store_laws.proofs.Naming.{path_cases, path_eq}
+use Rattle.store_laws.specs.Changes.{with_room, FileChanged}
+use Rattle.store_laws.specs.Naming.{NamesFile, NamesFolder, KeepsRoom, KeepsRooms}
 use Rattle.store_laws.proofs.Rooms.{file_at_same, has_folder_same}
 use Rattle.store_laws.proofs.Telling.{create_told, remove_told, replace_told, write_told, cut_told, make_folder_told, remove_folder_told, make_room_told, rename_room_told}
 use Rattle.store_laws.proofs.Answering.{look_told}
-use Rattle.store_laws.proofs.Overwriting.{length-overwritten}
 use Rattle.store_laws.proofs.Keeping.{changed_room, other_room, earlier_room, created_one, wrote_one, cut_one, removed_one}
 
 keeps_itself : (step : Step) (n : ℕ) (room : Room) → KeepsRoom step n room room

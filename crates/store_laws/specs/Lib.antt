@@ -7,3 +7,4 @@ pub mod Tells
 pub mod Changes
 pub mod Outcomes
 pub mod Naming
+pub mod Orderly

@@ -3,7 +3,7 @@ use Rattle.std.specs.Prelude.{◌≡◌, ◌⊎◌, ◌≤◌, ℕ, List, length
 use Rattle.plfs_types.specs.declared.names.Path.{Path}
 use Rattle.store_api.specs.declared.tree.Room.{Room}
 use Rattle.store_api.specs.declared.tree.Tree.{Tree}
-use Rattle.store_api.specs.Step.{Step, Name, make_room, rename_room, make_folder, remove_folder, create, remove, replace, write_at, cut}
+use Rattle.store_api.specs.Step.{Step, Name, rename_room, make_folder, remove_folder, create, remove, replace, write_at, cut}
 use Rattle.store_api.specs.Room.{has_folder}
 use Rattle.store_laws.specs.Files.{file_at}
 

@@ -1,5 +1,5 @@
 use Rattle.store_laws.proofs.NewRooms.{rename_room_cases}
-use Rattle.store_laws.proofs.changes.a_rename_names_one_room.Goals as goal
+use Rattle.store_laws.proofs.changes.renames_one_room.Goals as goal
 
 pub returns : goal.returns
 returns c = rename_room_cases

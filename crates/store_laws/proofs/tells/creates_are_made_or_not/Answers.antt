@@ -1,5 +1,5 @@
 use Rattle.store_laws.proofs.Telling.{create_told}
-use Rattle.store_laws.proofs.tells.a_create_was_made_or_not.Goals as goal
+use Rattle.store_laws.proofs.tells.creates_are_made_or_not.Goals as goal
 
 pub returns : goal.returns
 returns c = create_told

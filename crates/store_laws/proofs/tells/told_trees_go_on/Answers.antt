@@ -1,5 +1,5 @@
 use Rattle.store_laws.proofs.Telling.{acts_told}
-use Rattle.store_laws.proofs.tells.a_told_tree_goes_on.Goals as goal
+use Rattle.store_laws.proofs.tells.told_trees_go_on.Goals as goal
 
 pub returns : goal.returns
 returns c = acts_told
