@@ -1,5 +1,5 @@
 -- Steps that change nothing: what their answers tell.
-use Rattle.std.proofs.Common.{◌≡◌, ℕ, Bool, true, false, ◌||◌, List, [], ◌∷◌, length, map, take, drop, slice_get, Option, Some, None, refl, ap, sym, ◌∙◌, subst}
+use Rattle.std.proofs.Common.{◌≡◌, ℕ, true, false, ◌||◌, List, [], ◌∷◌, length, map, take, drop, slice_get, Option, Some, None, refl, ap, sym, ◌∙◌, subst}
 use Rattle.std.specs.Prelude.{Result, Ok, Err}
 use Rattle.std.specs.List.{list_any}
 use Rattle.plfs_types.specs.declared.names.Path.{Path}
@@ -11,17 +11,17 @@ use Rattle.store_api.specs.declared.step.Answer.TheVariants.{Made, Absent, NoRoo
 use Rattle.store_api.specs.declared.store.Trouble.{Trouble}
 use Rattle.store_api.specs.declared.store.Trouble.TheVariants.{Fault, NoMemory}
 use Rattle.store_api.specs.Step.{Step, Name, rooms, find_room, make_room, rename_room, make_folder, remove_folder, list_folder, create, remove, replace, length_of, read_at, write_at, cut, sync as sync_file}
-use Rattle.store_api.specs.Names.{same_name, in_byte_order}
-use Rattle.store_api.specs.Room.{Outcome, stays, has_folder, listing, folder_listed, length_told, bytes_read, file_synced, in_file}
+use Rattle.store_api.specs.Names.{same_name}
+use Rattle.store_api.specs.Room.{stays, has_folder, listing, folder_listed, in_file}
 use Rattle.store_api.specs.Effect.{Effect, effect, tree_after, number_of, number_or_absent, room_after, in_room}
 use Rattle.store_api.specs.Leaves.{MayLeave, not_made, whole, in_part, with_first}
 use Rattle.store_laws.specs.Files.{file_at}
 use Rattle.store_laws.specs.Differ.{is_listed}
 use Rattle.store_laws.specs.Tells.{Tells}
-use Rattle.store_laws.specs.Says.{AreRoomNames, RoomsTell, FindTells, ListTells, LengthTells, ReadTells, SyncTells, WhyNoFile}
+use Rattle.store_laws.specs.Says.{RoomsTell, FindTells, ListTells, LengthTells, ReadTells, SyncTells}
 use Rattle.store_laws.specs.Outcomes.{IsLook, Looks}
 use Rattle.store_laws.proofs.Rooms.{file_at_found, file_at_none}
-use Rattle.store_laws.proofs.Entering.{FoundAt, room_cases, folder_cases, file_cases, same_room}
+use Rattle.store_laws.proofs.Entering.{room_cases, folder_cases, file_cases, same_room}
 use Rattle.store_laws.proofs.ByteOrder.{listed_in_order, in_order}
 use Rattle.store_laws.proofs.Listings.{listing_names}
 use Rattle.store_laws.proofs.NewRooms.{numbered, unnumbered}

@@ -1,19 +1,19 @@
 -- A step that makes a file.
-use Rattle.std.proofs.Common.{◌≡◌, ℕ, Bool, true, false, List, [], slice_get, Option, Some, None, refl, ap, sym, ◌∙◌, ◌⊎◌, inl, inr, subst}
+use Rattle.std.proofs.Common.{◌≡◌, ℕ, true, slice_get, Option, Some, None, refl, inl, inr}
 use Rattle.plfs_types.specs.declared.names.Path.{Path}
 use Rattle.store_api.specs.declared.tree.File.{File}
 use Rattle.store_api.specs.declared.tree.Room.{Room}
 use Rattle.store_api.specs.declared.tree.Tree.{Tree}
-use Rattle.store_api.specs.declared.step.Answer.TheVariants.{Made, Old, NoRoom, NoFolder}
+use Rattle.store_api.specs.declared.step.Answer.TheVariants.{Made, Old, NoFolder}
 use Rattle.store_api.specs.Step.{create}
-use Rattle.store_api.specs.Room.{Outcome, has_folder, place_of, file_in, empty_file, with_new_file, made_if_absent, file_created}
+use Rattle.store_api.specs.Room.{has_folder, place_of, file_in, empty_file, with_new_file, made_if_absent, file_created}
 use Rattle.store_api.specs.Effect.{Effect, effect, room_after}
 use Rattle.store_laws.specs.Changes.{Created}
 use Rattle.store_laws.specs.Says.{WhyNotCreated}
-use Rattle.store_laws.specs.Outcomes.{Stays, ChangesOrStays}
+use Rattle.store_laws.specs.Outcomes.{ChangesOrStays}
 use Rattle.store_laws.proofs.Rooms.{file_at_found, file_at_none, with_new_file_now, with_new_file_others, with_new_file_differs}
 use Rattle.store_laws.proofs.Searches.{find_unplaced}
-use Rattle.store_laws.proofs.Entering.{FoundAt, placed_file, room_cases, folder_cases, stays_in}
+use Rattle.store_laws.proofs.Entering.{placed_file, room_cases, folder_cases, stays_in}
 
 -- how the step ends
 abbrev Makes : Tree → ℕ → Path → Effect → Type 0

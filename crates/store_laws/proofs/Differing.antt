@@ -1,14 +1,14 @@
 -- Lists in which nothing stands twice stay so.
-use Rattle.std.proofs.Common.{◌≡◌, ℕ, zero, suc, Bool, true, false, cond, not, ◌||◌, List, [], ◌∷◌, ◌++◌, map, slice_get, slice_set, Some, None, refl, ap, sym, ◌∙◌, subst}
-use Rattle.std.specs.List.{find, list_any, filter, remove}
+use Rattle.std.proofs.Common.{◌≡◌, ℕ, zero, suc, Bool, true, false, cond, List, [], ◌∷◌, ◌++◌, slice_get, slice_set, Some, refl, ap, sym, ◌∙◌, subst}
+use Rattle.std.specs.List.{list_any, filter, remove}
 use Rattle.plfs_types.specs.declared.names.Path.{Path}
 use Rattle.store_api.specs.declared.tree.File.{File}
 use Rattle.store_api.specs.Step.{Name}
 use Rattle.store_api.specs.Names.{same_name}
-use Rattle.store_api.specs.Room.{is_at, empty_file}
+use Rattle.store_api.specs.Room.{is_at}
 use Rattle.store_laws.specs.Differ.{is_listed, NamesDiffer, is_there, FilesDiffer}
-use Rattle.store_laws.proofs.Naming.{name_eq, name_apart, name_other, at_path, path_at, not_at, apart_at}
-use Rattle.store_laws.proofs.Searches.{find_none, none_at, none_more, none_set, none_removed}
+use Rattle.store_laws.proofs.Naming.{name_apart, name_other, not_at, apart_at}
+use Rattle.store_laws.proofs.Searches.{none_at, none_more, none_set, none_removed}
 
 -- a file whose path a later one doesn't have, doesn't have that one's
 turned : (a b : File) → is_at a.path.folder a.path.file b ≡ false → is_at b.path.folder b.path.file a ≡ false

@@ -1,8 +1,7 @@
 -- A step that removes a folder.
-use Rattle.std.proofs.Common.{◌≡◌, ℕ, Bool, true, false, cond, not, ◌||◌, ◌&&◌, List, [], ◌∷◌, slice_get, Option, Some, None, refl, ap, sym, ◌∙◌, ◌⊎◌, inl, inr, subst}
+use Rattle.std.proofs.Common.{◌≡◌, ℕ, Bool, true, false, cond, not, ◌||◌, ◌&&◌, List, [], ◌∷◌, slice_get, Option, Some, None, refl, ap, sym, ◌∙◌, inl, inr, subst}
 use Rattle.std.specs.Prelude.{is_some}
-use Rattle.std.specs.List.{list_any, filter}
-use Rattle.plfs_types.specs.declared.names.Path.{Path}
+use Rattle.std.specs.List.{filter}
 use Rattle.store_api.specs.declared.tree.Room.{Room}
 use Rattle.store_api.specs.declared.tree.Tree.{Tree}
 use Rattle.store_api.specs.declared.step.Answer.TheVariants.{Made, NoFolder, NotEmpty}
@@ -15,7 +14,7 @@ use Rattle.store_laws.specs.Differ.{is_listed}
 use Rattle.store_laws.specs.There.{has_entry, AreNamesOf}
 use Rattle.store_laws.specs.Changes.{FolderRemoved}
 use Rattle.store_laws.specs.Says.{WhyNoFolderRemoved}
-use Rattle.store_laws.specs.Outcomes.{Stays, ChangesOrStays}
+use Rattle.store_laws.specs.Outcomes.{ChangesOrStays}
 use Rattle.store_laws.proofs.Naming.{name_eq, name_other}
 use Rattle.store_laws.proofs.Differing.{names_kept}
 use Rattle.store_laws.proofs.Entering.{room_cases, folder_cases, stays_in}
@@ -50,10 +49,13 @@ neither : (file : Option (List ℕ)) (b : Bool) → false ≡ (is_some file || b
 neither None b e = refl
 neither (Some bytes) b e = absurd (cc)
 
-no_files : (room : Room) (folder name : Name) → listing room folder ≡ [] → file_at room (record { folder = folder; file = name }) ≡ None
-no_files room folder name e =
+no_entries : (room : Room) (folder name : Name) → listing room folder ≡ [] → has_entry room folder name ≡ false
+no_entries room folder name e =
     let exact : is_listed name (listing room folder) ≡ has_entry room folder name = (listing_names room folder).exactly name in
-    neither (file_at room (record { folder = folder; file = name })) (is_top folder && is_listed name room.folders) (subst (λ names. is_listed name names ≡ has_entry room folder name) e exact)
+    sym (subst (λ names. is_listed name names ≡ has_entry room folder name) e exact)
+
+no_files : (room : Room) (folder name : Name) → listing room folder ≡ [] → file_at room (record { folder = folder; file = name }) ≡ None
+no_files room folder name e = neither (file_at room (record { folder = folder; file = name })) (is_top folder && is_listed name room.folders) (sym (no_entries room folder name e))
 
 -- how the step ends
 abbrev Removes : Tree → ℕ → Name → Effect → Type 0
@@ -68,6 +70,7 @@ by_listing tree n folder room e there [] is = inl (
     new = without_folder room folder;
     has_room = e;
     there = there;
+    bare = λ name. no_entries room folder name is;
     empty = λ name. no_files room folder name is;
     gone = or_none (is_top folder) (is_listed folder (filter (λ name. not (same_name name folder)) room.folders)) (taken_out folder room.folders);
     others = record { name = refl; folders = λ other apart. ap (λ b. is_top other || b) (left_in folder other room.folders apart); files = refl };

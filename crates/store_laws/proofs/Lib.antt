@@ -16,3 +16,9 @@ pub mod Moving
 pub mod Telling
 pub mod Answering
 pub mod Overwriting
+pub mod Keeping
+pub mod Touching
+pub mod Lengthening
+pub mod OrderKept
+pub mod Listed
+pub mod Exactly

@@ -1,5 +1,5 @@
 -- A step that gives a file another name.
-use Rattle.std.proofs.Common.{◌≡◌, ℕ, zero, suc, Bool, true, false, cond, ◌||◌, List, [], ◌∷◌, slice_get, slice_set, Option, Some, None, refl, ap, sym, ◌∙◌, ◌⊎◌, inl, inr, subst, if◌then◌else◌}
+use Rattle.std.proofs.Common.{◌≡◌, ℕ, zero, suc, Bool, true, false, cond, ◌||◌, List, [], ◌∷◌, slice_get, slice_set, Option, Some, None, refl, ap, sym, ◌∙◌, ◌⊎◌, inl, inr, if◌then◌else◌}
 use Rattle.std.specs.List.{find, list_any}
 use Rattle.plfs_types.specs.declared.names.Path.{Path}
 use Rattle.store_api.specs.declared.tree.File.{File}
@@ -8,18 +8,18 @@ use Rattle.store_api.specs.declared.tree.Tree.{Tree}
 use Rattle.store_api.specs.declared.step.Answer.TheVariants.{Made, Absent, NoFolder}
 use Rattle.store_api.specs.Step.{Name, replace}
 use Rattle.store_api.specs.Names.{same_name}
-use Rattle.store_api.specs.Room.{Outcome, stays, becomes, is_at, has_folder, place_of, file_in, with_file, without_file, in_file, file_named, file_renamed}
+use Rattle.store_api.specs.Room.{stays, becomes, is_at, has_folder, place_of, file_in, with_file, without_file, file_named, file_renamed}
 use Rattle.store_api.specs.Effect.{Effect, effect, room_after}
 use Rattle.store_api.proofs.Files.{find-set_other}
 use Rattle.store_laws.specs.Files.{file_at, AreTwo, SameButFile}
-use Rattle.store_laws.specs.Differ.{is_there, FilesDiffer, PathsDiffer}
-use Rattle.store_laws.specs.Changes.{Moved, Replaced, beside}
+use Rattle.store_laws.specs.Differ.{PathsDiffer}
+use Rattle.store_laws.specs.Changes.{Replaced, beside}
 use Rattle.store_laws.specs.Says.{WhyNoFile}
 use Rattle.store_laws.specs.Outcomes.{Stays, ChangesOrStays}
 use Rattle.store_laws.proofs.Naming.{name_eq, name_apart, path_at, not_at, two_apart}
 use Rattle.store_laws.proofs.Searches.{find_none, none_found, find_unplaced}
 use Rattle.store_laws.proofs.Differing.{files_removed, files_renamed, gone_set}
-use Rattle.store_laws.proofs.Rooms.{file_at_found, file_at_none, file_at_alike, none_in, has_folder_same, without, without_others, without_gone}
+use Rattle.store_laws.proofs.Rooms.{file_at_found, file_at_none, file_at_alike, has_folder_same, without_others, without_gone}
 use Rattle.store_laws.proofs.Entering.{FoundAt, placed_file, room_cases, file_cases, same_room, stays_in}
 
 -- a room in which no file has the new name

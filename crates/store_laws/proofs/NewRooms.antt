@@ -1,7 +1,7 @@
 -- Steps that make a room, or give one another name.
-use Rattle.std.proofs.Common.{◌≡◌, ◌<◌, ℕ, zero, suc, Bool, true, false, cond, nat_eq, ◌||◌, ◌&&◌, ◌==◌, List, [], ◌∷◌, ◌++◌, length, map, slice_get, Option, Some, None, refl, ap, sym, ◌∙◌, ◌⊎◌, inl, inr, subst, arith, if◌then◌else◌, get_or}
+use Rattle.std.proofs.Common.{◌≡◌, ◌<◌, ℕ, Bool, true, false, cond, ◌||◌, ◌&&◌, List, [], ◌∷◌, length, map, slice_get, Option, Some, None, refl, ap, ◌∙◌, inl, inr, subst, arith, if◌then◌else◌}
 use Rattle.std.specs.Prelude.{option_map}
-use Rattle.std.specs.List.{find, list_any, position}
+use Rattle.std.specs.List.{find, list_any}
 use Rattle.std.proofs.lemmas.Bool.Decides.{nat_tests}
 use Rattle.std.proofs.lemmas.List.Quantifiers.{position-Some}
 use Rattle.std.proofs.lemmas.Option.{get_or_from_slice_get}
@@ -9,19 +9,19 @@ use Rattle.plfs_types.specs.declared.names.Path.{Path}
 use Rattle.store_api.specs.declared.tree.File.{File}
 use Rattle.store_api.specs.declared.tree.Room.{Room}
 use Rattle.store_api.specs.declared.tree.Tree.{Tree}
-use Rattle.store_api.specs.declared.step.Answer.TheVariants.{Made, Old, NoRoom, TargetThere, Number, Absent}
-use Rattle.store_api.specs.Step.{Name, make_room, rename_room, find_room}
+use Rattle.store_api.specs.declared.step.Answer.TheVariants.{Made, TargetThere, Number}
+use Rattle.store_api.specs.Step.{Name, make_room, rename_room}
 use Rattle.store_api.specs.Names.{same_name}
 use Rattle.store_api.specs.Room.{is_top, is_at, empty_file}
-use Rattle.store_api.specs.Effect.{Effect, effect, new_room, number_of, number_or_absent, room_made, renamed, room_after, stays}
+use Rattle.store_api.specs.Effect.{Effect, effect, new_room, number_of, room_made, renamed, room_after}
 use Rattle.store_laws.specs.Files.{file_at}
 use Rattle.store_laws.specs.Differ.{is_listed, NamesDiffer, is_there, FilesDiffer}
 use Rattle.store_laws.specs.There.{IsRoomOf, IsFree}
 use Rattle.store_laws.specs.Changes.{RoomMade, RoomRenamed}
-use Rattle.store_laws.specs.Says.{WhyNoRoomMade, WhyNotRenamed, FindTells}
-use Rattle.store_laws.specs.Outcomes.{Stays, ChangesOrStays}
+use Rattle.store_laws.specs.Says.{WhyNoRoomMade, WhyNotRenamed}
+use Rattle.store_laws.specs.Outcomes.{ChangesOrStays}
 use Rattle.store_laws.proofs.Places.{item}
-use Rattle.store_laws.proofs.Naming.{name_eq, name_same, name_apart}
+use Rattle.store_laws.proofs.Naming.{name_eq, name_apart}
 use Rattle.store_laws.proofs.Searches.{find_unplaced, none_found, none_at}
 use Rattle.store_laws.proofs.Entering.{room_cases, stays_in}
 

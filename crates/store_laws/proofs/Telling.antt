@@ -12,10 +12,10 @@ use Rattle.store_api.specs.Step.{Step, Name, make_room, rename_room, make_folder
 use Rattle.store_api.specs.Effect.{Effect, effect, tree_after}
 use Rattle.store_api.specs.Leaves.{MayLeave, not_made, whole, in_part, with_first}
 use Rattle.store_api.specs.Acts.{Stored, Acts, Goes}
-use Rattle.store_laws.specs.Tells.{Tells, made}
+use Rattle.store_laws.specs.Tells.{Tells}
 use Rattle.store_laws.specs.Changes.{Created, Wrote, WasCut, Removed, Replaced, FolderMade, FolderRemoved, RoomMade, RoomRenamed}
 use Rattle.store_laws.specs.Says.{WhyNoRoomMade, WhyNotRenamed, WhyNoFolderMade, WhyNoFolderRemoved, WhyNotCreated, WhyNoFile, WhyNotWritten}
-use Rattle.store_laws.specs.Outcomes.{Stays, ChangesOrStays, MadeOrNot, WroteInPart, WriteTold}
+use Rattle.store_laws.specs.Outcomes.{ChangesOrStays, MadeOrNot, WroteInPart, WriteTold}
 use Rattle.store_laws.proofs.Creating.{create_cases}
 use Rattle.store_laws.proofs.Writing.{write_cases, cut_cases}
 use Rattle.store_laws.proofs.Removing.{remove_cases}

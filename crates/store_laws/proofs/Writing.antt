@@ -1,12 +1,11 @@
 -- Steps that write a file, or cut it.
-use Rattle.std.proofs.Common.{◌≡◌, ◌≤◌, ◌<◌, ℕ, Bool, true, false, List, [], length, take, nat_le, slice_get, Option, Some, None, refl, ap, sym, ◌∙◌, ◌⊎◌, inl, inr, subst, arith, if◌then◌else◌}
+use Rattle.std.proofs.Common.{◌≡◌, ◌≤◌, ◌<◌, ℕ, Bool, true, false, List, length, take, nat_le, slice_get, Some, refl, inl, inr, arith, if◌then◌else◌}
 use Rattle.std.proofs.lemmas.Bool.Decides.{nat_tests}
 use Rattle.plfs_types.specs.Bytes.{overwritten}
 use Rattle.plfs_types.specs.declared.names.Path.{Path}
 use Rattle.store_api.specs.declared.tree.File.{File}
 use Rattle.store_api.specs.declared.tree.Room.{Room}
 use Rattle.store_api.specs.declared.tree.Tree.{Tree}
-use Rattle.store_api.specs.declared.step.Answer.{Answer}
 use Rattle.store_api.specs.declared.step.Answer.TheVariants.{Made, Absent, NoFolder, Beyond}
 use Rattle.store_api.specs.Step.{write_at, cut}
 use Rattle.store_api.specs.Room.{Outcome, stays, becomes, has_folder, in_file, with_file}
@@ -15,7 +14,7 @@ use Rattle.store_laws.specs.Files.{file_at, SameButFile}
 use Rattle.store_laws.specs.Differ.{PathsDiffer}
 use Rattle.store_laws.specs.Changes.{with_room, Wrote, WasCut}
 use Rattle.store_laws.specs.Says.{WhyNotWritten}
-use Rattle.store_laws.specs.Outcomes.{Stays, ChangesOrStays}
+use Rattle.store_laws.specs.Outcomes.{ChangesOrStays}
 use Rattle.store_laws.proofs.Rooms.{file_at_found, file_at_none, with_file_now, with_file_others}
 use Rattle.store_laws.proofs.Differing.{files_set}
 use Rattle.store_laws.proofs.Entering.{FoundAt, room_cases, file_cases, stays_in}

@@ -1,5 +1,5 @@
 -- What each step that changes a tree has changed in it.
-use Rattle.std.specs.Prelude.{◌≡◌, ◌⊎◌, ◌≤◌, ℕ, List, [], ◌∷◌, ◌++◌, length, take, Bool, true, false, Option, Some, None, slice_get, slice_set, if◌then◌else◌, ◌&&◌}
+use Rattle.std.specs.Prelude.{◌≡◌, ◌⊎◌, ◌≤◌, ℕ, List, [], ◌∷◌, ◌++◌, length, take, true, false, Some, None, slice_get, slice_set, if◌then◌else◌, ◌&&◌}
 use Rattle.plfs_types.specs.Bytes.{overwritten}
 use Rattle.plfs_types.specs.declared.names.Path.{Path}
 use Rattle.store_api.specs.declared.tree.Room.{Room}
@@ -8,11 +8,21 @@ use Rattle.store_api.specs.Step.{Name}
 use Rattle.store_api.specs.Room.{is_top, has_folder}
 use Rattle.store_laws.specs.Files.{file_at, AreTwo, SameButFile, SameButFolder}
 use Rattle.store_laws.specs.Differ.{is_listed, NamesDiffer, FoldersDiffer, PathsDiffer}
-use Rattle.store_laws.specs.There.{IsFree, HoldsFile}
+use Rattle.store_laws.specs.There.{IsFree, HoldsFile, has_entry}
 
 -- the tree with another room of this number
 abbrev pub with_room : Tree → ℕ → Room → Tree
 with_room tree n room = record { rooms = slice_set tree.rooms n room }
+
+-- one file of one room has come, gone or changed
+pub record FileChanged (tree : Tree) (n : ℕ) (path : Path) (after : Tree) : Type 0 where
+  pub room : Room
+  pub new : Room
+  pub has_room : slice_get tree.rooms n ≡ Some room
+  pub folder : has_folder room path.folder ≡ true
+  pub others : SameButFile path room new
+  pub differ : PathsDiffer room → PathsDiffer new
+  pub gives : after ≡ with_room tree n new
 
 -- an empty file was made in a folder that is there
 pub record Created (tree : Tree) (n : ℕ) (path : Path) (after : Tree) : Type 0 where
@@ -109,6 +119,7 @@ pub record FolderRemoved (tree : Tree) (n : ℕ) (folder : Name) (after : Tree) 
   pub new : Room
   pub has_room : slice_get tree.rooms n ≡ Some room
   pub there : has_folder room folder ≡ true
+  pub bare : (name : Name) → has_entry room folder name ≡ false
   pub empty : (name : Name) → file_at room (record { folder = folder; file = name }) ≡ None
   pub gone : has_folder new folder ≡ is_top folder
   pub others : SameButFolder folder room new

@@ -1,11 +1,13 @@
 //! Laws: what the answer of a step tells of the tree, where the step changes nothing.
-ghost use Rattle.std.specs.Prelude.{◌≡◌, ℕ, Result};
+ghost use Rattle.std.specs.Prelude.{◌≡◌, ℕ, List, Result};
 ghost use Rattle.plfs_types.specs.declared.names.Path.{Path};
+ghost use Rattle.store_api.specs.declared.tree.Room.{Room};
 ghost use Rattle.store_api.specs.declared.tree.Tree.{Tree};
 ghost use Rattle.store_api.specs.declared.step.Answer.{Answer};
 ghost use Rattle.store_api.specs.declared.store.Trouble.{Trouble};
 ghost use Rattle.store_api.specs.Step.{Step, Name, rooms, find_room, list_folder, length_of, read_at, sync};
 ghost use Rattle.store_api.specs.Effect.{effect};
+ghost use Rattle.store_laws.specs.There.{AreNamesOf};
 ghost use Rattle.store_laws.specs.Tells.{Tells};
 ghost use Rattle.store_laws.specs.Outcomes.{IsLook, Looks};
 ghost use Rattle.store_laws.specs.Says.{RoomsTell, FindTells, ListTells, LengthTells, ReadTells, SyncTells};
@@ -45,4 +47,9 @@ pub fn reading_tells()
 /// A law: a sync tells whether the file is there.
 pub fn syncing_tells()
     ensures { (tree : Tree) (n : ℕ) (path : Path) → Looks tree (SyncTells tree n path) (effect tree (sync n path.folder path.file)) }
+{}
+
+/// A law: the entries of a folder determine the names that are told of it.
+pub fn listings_are_one()
+    ensures { (room : Room) (folder : Name) (names others : List Name) → AreNamesOf room folder names → AreNamesOf room folder others → names ≡ others }
 {}

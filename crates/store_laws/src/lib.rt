@@ -5,14 +5,15 @@
 mod answers;
 mod changes;
 mod tells;
+mod touches;
 
 pub use answers::{
-    finding_tells, length_tells, listing_tells, looks_change_nothing, reading_tells, rooms_tell,
-    syncing_tells,
+    finding_tells, length_tells, listing_tells, listings_are_one, looks_change_nothing,
+    reading_tells, rooms_tell, syncing_tells,
 };
 pub use changes::{
-    a_create_makes_one_file, a_cut_changes_one_file, a_made_room_is_added, a_make_makes_one_folder,
-    a_remove_removes_one_file, a_removed_folder_was_empty, a_rename_names_one_room,
-    a_replace_moves_one_file, a_write_changes_one_file,
+    adds_one_room, creates_one_file, cuts_one_file, makes_one_folder, moves_one_file,
+    removes_one_empty_folder, removes_one_file, renames_one_room, writes_one_file,
 };
-pub use tells::{a_create_was_made_or_not, a_told_tree_goes_on, a_write_was_made_or_in_part};
+pub use tells::{creates_are_made_or_not, told_trees_go_on, writes_are_made_or_in_part};
+pub use touches::{files_only_grow, order_is_kept, steps_change_what_they_name};

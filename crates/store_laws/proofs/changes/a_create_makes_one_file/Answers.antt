@@ -1,5 +1,0 @@
-use Rattle.store_laws.proofs.Creating.{create_cases}
-use Rattle.store_laws.proofs.changes.a_create_makes_one_file.Goals as goal
-
-pub returns : goal.returns
-returns c = create_cases

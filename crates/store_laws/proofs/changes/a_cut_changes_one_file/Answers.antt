@@ -1,5 +1,0 @@
-use Rattle.store_laws.proofs.Writing.{cut_cases}
-use Rattle.store_laws.proofs.changes.a_cut_changes_one_file.Goals as goal
-
-pub returns : goal.returns
-returns c = cut_cases

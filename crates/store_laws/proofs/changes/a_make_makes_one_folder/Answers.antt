@@ -1,5 +1,0 @@
-use Rattle.store_laws.proofs.Folders.{make_folder_cases}
-use Rattle.store_laws.proofs.changes.a_make_makes_one_folder.Goals as goal
-
-pub returns : goal.returns
-returns c = make_folder_cases

@@ -1,5 +1,0 @@
-use Rattle.store_laws.proofs.Removing.{remove_cases}
-use Rattle.store_laws.proofs.changes.a_remove_removes_one_file.Goals as goal
-
-pub returns : goal.returns
-returns c = remove_cases

@@ -1,5 +1,0 @@
-use Rattle.store_laws.proofs.Moving.{replace_cases}
-use Rattle.store_laws.proofs.changes.a_replace_moves_one_file.Goals as goal
-
-pub returns : goal.returns
-returns c = replace_cases

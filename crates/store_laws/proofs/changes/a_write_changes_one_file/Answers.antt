@@ -1,5 +1,0 @@
-use Rattle.store_laws.proofs.Writing.{write_cases}
-use Rattle.store_laws.proofs.changes.a_write_changes_one_file.Goals as goal
-
-pub returns : goal.returns
-returns c = write_cases

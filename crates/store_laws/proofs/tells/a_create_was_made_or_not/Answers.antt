@@ -1,5 +1,0 @@
-use Rattle.store_laws.proofs.Telling.{create_told}
-use Rattle.store_laws.proofs.tells.a_create_was_made_or_not.Goals as goal
-
-pub returns : goal.returns
-returns c = create_told

@@ -1,5 +1,0 @@
-use Rattle.store_laws.proofs.Telling.{acts_told}
-use Rattle.store_laws.proofs.tells.a_told_tree_goes_on.Goals as goal
-
-pub returns : goal.returns
-returns c = acts_told

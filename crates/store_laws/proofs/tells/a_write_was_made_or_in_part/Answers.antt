@@ -1,5 +1,0 @@
-use Rattle.store_laws.proofs.Telling.{write_told}
-use Rattle.store_laws.proofs.tells.a_write_was_made_or_in_part.Goals as goal
-
-pub returns : goal.returns
-returns c = write_told
