@@ -8,7 +8,9 @@ use Rattle.mount_model.specs.State.{State}
 use Rattle.mount_model.specs.Step.{Answers, IsStep, IsOwed}
 use Rattle.mount_model.specs.History.{Event, IsLegal, state_after}
 use Rattle.mount_model.specs.Regular.{IsRegular}
+use Rattle.mount_model.proofs.Lasting.{step_regular}
 use Rattle.mount_shape.specs.Shape.{HasShape}
+use Rattle.mount_shape.proofs.Steps.{step_shape}
 use Rattle.mount_sound.specs.Ledger.{Ledger}
 use Rattle.mount_sound.specs.Sound.{IsSoundFor}
 use Rattle.mount_sound.specs.Issued.{issued, issued_after}
@@ -43,22 +45,15 @@ answers_keep l old caller (SyncIndex writer) reply new r s f a = sync_index_keep
 answers_keep l old caller (PutMeta writer) reply new r s f a = meta_keeps l old caller writer reply new r f a
 answers_keep l old caller (Exit writer) reply new r s f a = exit_keeps l old caller writer reply new r f a
 
--- what lasts of a state beside the ledger's part
-abbrev pub RegularLasts : Type 0
-RegularLasts = (old new : State) (caller : ℕ) (ask : Ask) (reply : Reply) → IsOwed ask → IsStep old caller ask reply new → IsRegular old → IsRegular new
-
-abbrev pub ShapeLasts : Type 0
-ShapeLasts = (old new : State) (caller : ℕ) (ask : Ask) (reply : Reply) → IsRegular old → IsStep old caller ask reply new → HasShape old → HasShape new
-
 -- Each step keeps soundness, for what was issued then.
-pub step_keeps : RegularLasts → ShapeLasts → (l : Ledger) (old new : State) (caller : ℕ) (ask : Ask) (reply : Reply) → IsOwed ask → IsStep old caller ask reply new → IsSoundFor l old → IsSoundFor (issued_after l old ask.call reply) new
-step_keeps regular_lasts shape_lasts l old new caller ask reply owed step s =
-    sound_for (issued_after l old ask.call reply) new (regular_lasts old new caller ask reply owed step s.regular) (shape_lasts old new caller ask reply s.regular step s.shape)
+pub step_keeps : (l : Ledger) (old new : State) (caller : ℕ) (ask : Ask) (reply : Reply) → IsOwed ask → IsStep old caller ask reply new → IsSoundFor l old → IsSoundFor (issued_after l old ask.call reply) new
+step_keeps l old new caller ask reply owed step s =
+    sound_for (issued_after l old ask.call reply) new (step_regular old new caller ask reply owed step s.regular) (step_shape old new caller ask reply s.regular step s.shape)
     (answers_keep l old caller ask.call reply new s.regular s.shape step.answers (accounted l old s))
 
 -- Soundness lasts along a legal history.
-pub history_keeps : RegularLasts → ShapeLasts → (l : Ledger) (start : State) (events : List Event) → IsLegal start events → IsSoundFor l start → IsSoundFor (issued l start events) (state_after start events)
-history_keeps regular_lasts shape_lasts l start [] legal s = s
-history_keeps regular_lasts shape_lasts l start (e ∷ events) legal s =
-    history_keeps regular_lasts shape_lasts (issued_after l start e.ask.call e.reply) e.after events legal.2
-    (step_keeps regular_lasts shape_lasts l start e.after e.caller e.ask e.reply legal.0 legal.1 s)
+pub history_keeps : (l : Ledger) (start : State) (events : List Event) → IsLegal start events → IsSoundFor l start → IsSoundFor (issued l start events) (state_after start events)
+history_keeps l start [] legal s = s
+history_keeps l start (e ∷ events) legal s =
+    history_keeps (issued_after l start e.ask.call e.reply) e.after events legal.2
+    (step_keeps l start e.after e.caller e.ask e.reply legal.0 legal.1 s)
