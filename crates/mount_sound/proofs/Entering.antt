@@ -55,11 +55,11 @@ allowed_owner allowed (TmpFlat n) id o w = absurd (cc)
 allowed_owner allowed (Index host writer) id o w = let same : writer ≡ id = cc in subst allowed same w
 allowed_owner allowed (Log host writer) id o w = let same : writer ≡ id = cc in subst allowed same w
 
-absent : (o : Option (List ℕ)) → ((bytes : List ℕ) → o ≡ Some bytes → ⊥) → o ≡ None
+pub absent : (o : Option (List ℕ)) → ((bytes : List ℕ) → o ≡ Some bytes → ⊥) → o ≡ None
 absent None never = refl
 absent (Some bytes) never = absurd (never bytes refl)
 
-new_here : (allowed : ℕ → Type 0) (room : Room) (id : ℕ) → (allowed id → ⊥) → IsContainer allowed room → IsNew room id
+pub new_here : (allowed : ℕ → Type 0) (room : Room) (id : ℕ) → (allowed id → ⊥) → IsContainer allowed room → IsNew room id
 new_here allowed room id never c = record {
   none = λ item is o. absent (file_at room (path_of item)) (λ bytes e.
       let f = c.files (path_of item) bytes e in

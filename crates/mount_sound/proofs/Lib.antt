@@ -19,3 +19,7 @@ pub mod Leaving
 pub mod NewRooms
 pub mod Looking
 pub mod Steps
+pub mod Landing
+pub mod Trees
+pub mod Mounting
+pub mod Fine

@@ -70,10 +70,10 @@ bare_writer room writer bare = record {
 bare_truncates : (room : Room) → IsBare room → TruncatesDiffer room
 bare_truncates room bare stamp size other a b has_a has_b = absurd (no_item room (Trunc stamp size) a bare refl has_a)
 
-not_top : (b l : Bool) (some none : Option (List ℕ)) → b ≡ false → (if b && l then some else none) ≡ none
-not_top b l some none e = rw e refl
+not_top : (b l : Bool) (inside outside : Option (List ℕ)) → b ≡ false → (if b && l then inside else outside) ≡ outside
+not_top b l inside outside e = rw e refl
 
-made_bare : (tree : Tree) (name : Name) (folders files : List Name) (after : Tree) (m : RoomMade tree name folders files after) → IsBare m.new
+pub made_bare : (tree : Tree) (name : Name) (folders files : List Name) (after : Tree) (m : RoomMade tree name folders files after) → IsBare m.new
 made_bare tree name folders files after m = record {
   none = λ item below. m.has_files (path_of item) ∙ not_top (is_top (path_of item).folder) (is_listed (path_of item).file files) (Some []) None below
 }
@@ -92,7 +92,7 @@ absent_before (x ∷ xs) (suc i) y e = absent_before xs i y e
 no_room : (room : Room) (o : Option Room) → o ≡ Some room → o ≡ None → ⊥
 no_room room o p q = cc
 
-more : (last : ℕ) (issued : Ledger) (rows : List Row) (tree : Tree) (new : Room) → IsBare new → AreSound last issued rows tree → AreSound last issued rows (record { rooms = tree.rooms ++ new ∷ [] })
+pub more : (last : ℕ) (issued : Ledger) (rows : List Row) (tree : Tree) (new : Room) → IsBare new → AreSound last issued rows tree → AreSound last issued rows (record { rooms = tree.rooms ++ new ∷ [] })
 more last issued rows tree new bare s = record {
   rooms = λ m r e.
       let g = slice_get_more tree.rooms m r new e in

@@ -7,4 +7,7 @@
 
 mod laws;
 
-pub use laws::{soundness_lasts, steps_keep_soundness};
+pub use laws::{
+    a_left_tree_is_sound, an_empty_tree_is_sound, fineness_lasts, mounting_is_fine,
+    mounting_is_sound, soundness_lasts, steps_keep_soundness,
+};
