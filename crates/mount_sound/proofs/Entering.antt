@@ -1,5 +1,5 @@
 -- Entering a writer keeps soundness.
-use Rattle.std.proofs.Common.{◌≡◌, ◌≤◌, ◌<◌, ◌+◌, ◌*◌, ◌-◌, ◌^◌, ℕ, List, [], ◌∷◌, ◌++◌, Option, Some, None, true, false, nat_eq, nat_le, refl, ap, sym, ◌∙◌, ◌⊎◌, inl, inr, subst, arith}
+use Rattle.std.proofs.Common.{◌≡◌, ◌<◌, ◌+◌, ◌-◌, ◌^◌, ℕ, List, [], ◌∷◌, ◌++◌, Option, Some, None, true, false, nat_eq, nat_le, refl, sym, ◌∙◌, ◌⊎◌, inl, inr, subst, arith}
 use Rattle.std.specs.Prelude.{slice_get, MatchOption, Ok, if◌then◌else◌}
 use Rattle.std.proofs.lemmas.Bool.Decides.{nat_tests}
 use Rattle.container_layout.specs.declared.items.Item.{Item}
@@ -11,30 +11,28 @@ use Rattle.store_api.specs.declared.step.Answer.TheVariants.{Made, NoFolder}
 use Rattle.store_api.specs.declared.tree.Room.{Room}
 use Rattle.store_api.specs.declared.tree.Tree.{Tree}
 use Rattle.store_laws.specs.Files.{file_at}
-use Rattle.store_laws.specs.Changes.{with_room, Created}
+use Rattle.store_laws.specs.Changes.{Created}
 use Rattle.store_laws.specs.Tells.{Tells, made}
 use Rattle.store_laws.proofs.Telling.{create_told}
 use Rattle.mount_model.specs.declared.row.Row.{Row}
 use Rattle.mount_model.specs.declared.reply.Reply.{Reply}
-use Rattle.mount_model.specs.declared.reply.Refusal.{Refusal}
 use Rattle.mount_model.specs.declared.reply.Refusal.TheVariants.{NoRoom, IdsSpent}
 use Rattle.mount_model.specs.Entering.{enter_check, next_id, entered, enter_step, enter_outcome, EntersAs, Enters}
 use Rattle.mount_model.specs.Making.{Told}
 use Rattle.mount_model.specs.Paths.{open_path, index_path}
 use Rattle.mount_model.specs.Regular.{IsRegular}
-use Rattle.mount_model.specs.State.{State, Table, id_of, last_id, drawn}
+use Rattle.mount_model.specs.State.{State, Table, last_id, drawn}
 use Rattle.mount_model.specs.Table.{row_of}
 use Rattle.mount_shape.specs.Container.{IsWritersOf, IsContainer}
-use Rattle.mount_shape.specs.Marks.{IsMarksRoom}
-use Rattle.mount_shape.specs.Shape.{IsDrawnBy, IsShapedTree, HasShape}
-use Rattle.mount_sound.specs.Items.{HasItem, HasItemOf}
-use Rattle.mount_sound.specs.Ledger.{Written, entries_in, content, Ledger}
+use Rattle.mount_shape.specs.Shape.{IsDrawnBy, HasShape}
+use Rattle.mount_sound.specs.Items.{HasItemOf}
+use Rattle.mount_sound.specs.Ledger.{Ledger}
 use Rattle.mount_sound.specs.Dropping.{IsDropping, IsWriter}
 use Rattle.mount_sound.specs.Kept.{Begins, IsKept}
 use Rattle.mount_sound.specs.Sound.{AreSound}
-use Rattle.mount_sound.proofs.Items.{SameButItem, same_but_item, owner, is_index, is_open, had, same_for, same_truncates}
+use Rattle.mount_sound.proofs.Items.{SameButItem, same_but_item, owner, is_index, is_open, same_for, same_truncates}
 use Rattle.mount_sound.proofs.Live.{one_host_kept, had_meta_but}
-use Rattle.mount_sound.proofs.Local.{AllFit, Changes, local, grown}
+use Rattle.mount_sound.proofs.Local.{local, grown}
 use Rattle.mount_sound.proofs.Making.{AreRight, IsAccounted, one_tree, makes_accounted, accounted_as, all_fit, drawn_by, id_fits}
 use Rattle.mount_sound.proofs.Stages.{unless_refused}
 use Rattle.mount_sound.proofs.Tables.{row_of_id, row_of_other-push, row_of-push}
@@ -64,7 +62,7 @@ new_here allowed room id never c = record {
   none = λ item is o. absent (file_at room (path_of item)) (λ bytes e.
       let f = c.files (path_of item) bytes e in
       let same : item ≡ f.item = same_items item f.item is f.is_at.is_item f.is_at.printed in
-      never (allowed_owner allowed item id o (subst (IsWritersOf allowed) (sym same) f.writer)))
+      never (allowed_owner allowed item id o (subst (IsWritersOf allowed) (sym same) f.writer)));
 }
 
 -- a container has no item of the next id

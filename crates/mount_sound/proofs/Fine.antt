@@ -1,5 +1,5 @@
 -- A mount begins fine, and each step keeps it so.
-use Rattle.std.proofs.Common.{◌≡◌, ℕ, List, Option, Some, ap, sym, ◌∙◌}
+use Rattle.std.proofs.Common.{ℕ, List, Option, ap, sym, ◌∙◌}
 use Rattle.store_api.specs.Acts.{Stored}
 use Rattle.mount_model.specs.declared.call.Ask.{Ask}
 use Rattle.mount_model.specs.declared.reply.Reply.{Reply}

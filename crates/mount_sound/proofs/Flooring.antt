@@ -1,13 +1,12 @@
 -- Finding a writer's floor keeps soundness.
-use Rattle.std.proofs.Common.{◌≡◌, ◌≤◌, ◌<◌, ℕ, List, [], ◌∷◌, Option, Some, None, Bool, true, false, cond, refl, ap, sym, ◌∙◌, ◌⊎◌, inl, inr, subst, arith}
-use Rattle.std.specs.Prelude.{slice_get, Ok, Err, is_some, ◌||◌}
-use Rattle.std.specs.List.{All, AllByRecursion}
+use Rattle.std.proofs.Common.{◌≡◌, ◌≤◌, ℕ, List, [], ◌∷◌, Option, Some, None, Bool, true, false, refl, ap, sym, ◌∙◌, ◌⊎◌, inl, inr, subst, arith}
+use Rattle.std.specs.Prelude.{Ok, is_some, ◌||◌}
+use Rattle.std.specs.List.{AllByRecursion}
 use Rattle.std.proofs.lemmas.List.Elements.{recursion_from_All}
 use Rattle.plfs_types.specs.declared.entries.Entry.{Entry}
 use Rattle.container_layout.specs.declared.items.Item.TheVariants.{Trunc}
 use Rattle.container_layout.specs.Paths.{path_of, IsIn}
 use Rattle.container_layout.proofs.Places.{same_items}
-use Rattle.store_api.specs.declared.step.Answer.{Answer}
 use Rattle.store_api.specs.declared.step.Answer.TheVariants.{Names}
 use Rattle.store_api.specs.declared.tree.Room.{Room}
 use Rattle.store_api.specs.declared.tree.Tree.{Tree}
@@ -17,7 +16,7 @@ use Rattle.store_api.specs.Effect.{Effect}
 use Rattle.store_laws.specs.Files.{file_at}
 use Rattle.store_laws.specs.Differ.{is_listed}
 use Rattle.store_laws.specs.Tells.{Tells}
-use Rattle.store_laws.specs.There.{has_entry, AreNamesOf, ListsFolder}
+use Rattle.store_laws.specs.There.{AreNamesOf, ListsFolder}
 use Rattle.store_laws.specs.Says.{ListTells}
 use Rattle.store_laws.proofs.Naming.{name_eq}
 use Rattle.store_laws.proofs.Answering.{list_tells, look_told}

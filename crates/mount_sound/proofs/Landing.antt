@@ -1,21 +1,21 @@
 -- What has landed of the writes of a sound room accounts for it alone.
-use Rattle.std.proofs.Common.{◌≡◌, ◌≤◌, ◌<◌, ◌+◌, ◌^◌, ℕ, zero, suc, List, [], ◌∷◌, ◌++◌, length, take, min, Option, Some, None, refl, ap, sym, ◌∙◌, inl, inr, subst, arith, length-append}
+use Rattle.std.proofs.Common.{◌≡◌, ◌≤◌, ◌<◌, ◌+◌, ◌^◌, ℕ, zero, suc, List, [], ◌∷◌, ◌++◌, length, take, Option, Some, None, refl, ap, sym, ◌∙◌, inl, inr, subst, arith}
 use Rattle.std.specs.Prelude.{slice_get, MatchOption}
 use Rattle.std.proofs.lemmas.Bool.{cases_lt}
-use Rattle.std.proofs.lemmas.List.{length-take-le, length-map}
+use Rattle.std.proofs.lemmas.List.{length-take-le}
 use Rattle.plfs_types.specs.declared.entries.Entry.{Entry}
 use Rattle.index_entry.specs.Spelling.{spelling_all}
 use Rattle.store_api.specs.declared.tree.Room.{Room}
 use Rattle.store_api.specs.declared.tree.Tree.{Tree}
 use Rattle.store_laws.specs.Files.{file_at}
 use Rattle.store_laws.specs.Prefix.{IsPrefix}
-use Rattle.store_laws.proofs.Overwriting.{prefix_self, prefix_front, prefix_length, prefix_trans}
+use Rattle.store_laws.proofs.Overwriting.{prefix_trans}
 use Rattle.mount_model.specs.declared.row.Row.{Row}
 use Rattle.mount_model.specs.Paths.{index_path}
-use Rattle.mount_sound.specs.Entries.{MayFollow, AreInOrder, logged}
+use Rattle.mount_sound.specs.Entries.{AreInOrder, logged}
 use Rattle.mount_sound.specs.Ledger.{Written, entries_in, content, AreFull, AreWritesOf, Ledger}
 use Rattle.mount_sound.specs.Dropping.{log_bytes, IsDropping, IsToldOf, AreBeside, IsWriter}
-use Rattle.mount_sound.specs.Sound.{IsSoundRoom, AreSoundRooms}
+use Rattle.mount_sound.specs.Sound.{AreSoundRooms}
 
 -- ---- the first writes
 

@@ -1,10 +1,7 @@
 -- A call that makes one act keeps soundness, if its outcome does at each thing that the act may tell.
-use Rattle.std.proofs.Common.{◌≡◌, ◌≤◌, ◌<◌, ◌^◌, ◌+◌, ◌*◌, ℕ, List, [], Option, Some, None, refl, ap, sym, ◌∙◌, subst, arith, true}
-use Rattle.std.specs.Prelude.{slice_get}
-use Rattle.store_api.specs.declared.tree.Room.{Room}
+use Rattle.std.proofs.Common.{◌≡◌, ◌≤◌, ◌<◌, ◌^◌, ℕ, [], Option, Some, sym, subst, arith}
 use Rattle.store_api.specs.declared.tree.Tree.{Tree}
 use Rattle.store_api.specs.Step.{Step}
-use Rattle.store_api.specs.Acts.{Acts}
 use Rattle.store_laws.specs.Tells.{Tells}
 use Rattle.store_laws.proofs.Telling.{acts_told}
 use Rattle.mount_model.specs.declared.row.Row.{Row}
@@ -17,8 +14,7 @@ use Rattle.mount_model.specs.Regular.{IsRegular, IsCounted, IsDrawn}
 use Rattle.mount_shape.specs.Shape.{HasShape}
 use Rattle.mount_sound.specs.Ledger.{Ledger}
 use Rattle.mount_sound.specs.Sound.{AreSound, IsSoundFor}
-use Rattle.mount_sound.proofs.Frames.{Fits}
-use Rattle.mount_sound.proofs.Tables.{of_row, row_of_id}
+use Rattle.mount_sound.proofs.Tables.{of_row}
 use Rattle.mount_sound.proofs.Local.{AllFit}
 
 -- the table and the tree are right for what was issued

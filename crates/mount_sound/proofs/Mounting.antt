@@ -1,11 +1,10 @@
 -- A mount over a sound tree begins sound.
-use Rattle.std.proofs.Common.{◌≡◌, ◌≤◌, ◌<◌, ◌-◌, ◌+◌, ◌*◌, ◌^◌, ℕ, List, [], ◌∷◌, ◌++◌, length, get_or, Option, Some, None, refl, ap, sym, ◌∙◌, ◌⊎◌, inl, inr, subst, arith, length-append}
-use Rattle.std.specs.Prelude.{slice_get, MatchOption, Ok}
+use Rattle.std.proofs.Common.{◌≡◌, ◌≤◌, ◌<◌, ◌-◌, ◌^◌, ℕ, List, [], ◌∷◌, length, get_or, Option, Some, None, refl, ap, sym, ◌∙◌, inl, inr, subst, arith, length-append}
+use Rattle.std.specs.Prelude.{slice_get, Ok}
 use Rattle.std.proofs.lemmas.Bool.{cases_lt}
 use Rattle.plfs_types.specs.declared.names.Path.{Path}
 use Rattle.container_layout.specs.declared.items.Item.{Item}
 use Rattle.container_layout.specs.declared.items.Item.TheVariants.{Access, OpenHost, Meta, Trunc, Flat, TmpFlat, Index, Log}
-use Rattle.container_layout.specs.Items.{IsItem}
 use Rattle.container_layout.specs.Paths.{path_of}
 use Rattle.container_layout.proofs.Places.{elsewhere}
 use Rattle.store_api.specs.Acts.{Stored, Acts}
@@ -16,8 +15,7 @@ use Rattle.store_api.specs.declared.tree.Tree.{Tree}
 use Rattle.store_api.specs.Step.{Step, make_room, list_folder, create}
 use Rattle.store_laws.specs.Files.{file_at, AreTwo, SameButFile}
 use Rattle.store_laws.specs.Prefix.{IsPrefix}
-use Rattle.store_laws.specs.Changes.{with_room, Created}
-use Rattle.store_laws.specs.Tells.{Tells, made}
+use Rattle.store_laws.specs.Changes.{Created}
 use Rattle.store_laws.proofs.Answering.{look_told}
 use Rattle.store_laws.proofs.Overwriting.{prefix_length}
 use Rattle.store_laws.proofs.Rooms.{has_folder_same}
@@ -25,16 +23,14 @@ use Rattle.store_laws.proofs.Telling.{acts_told, make_room_told, create_told}
 use Rattle.mount_model.specs.declared.row.Row.{Row}
 use Rattle.mount_model.specs.Mounting.{IsMounted}
 use Rattle.mount_model.specs.Paths.{Name, marks_name, marks_folder, mark_name, mark_path, log_path}
-use Rattle.mount_model.specs.Regular.{IsRegular}
 use Rattle.mount_model.specs.State.{State, last_id}
 use Rattle.mount_model.proofs.Beginning.{mounted_regular}
-use Rattle.mount_shape.specs.Container.{IsContainer}
 use Rattle.mount_shape.specs.Marks.{IsMarksRoom}
 use Rattle.mount_shape.specs.Shape.{IsDrawnBy, HasShape}
 use Rattle.mount_shape.proofs.Mounts.{mounted_shape}
 use Rattle.mount_sound.specs.Entries.{AreInOrder}
 use Rattle.mount_sound.specs.Ledger.{Written, entries_in, content, AreFull, Ledger}
-use Rattle.mount_sound.specs.Dropping.{bytes_of, log_bytes, IsWriter}
+use Rattle.mount_sound.specs.Dropping.{bytes_of, IsWriter}
 use Rattle.mount_sound.specs.Sound.{AreSound, IsSoundFor, IsSoundTree}
 use Rattle.mount_sound.proofs.Entering.{IsNew, new_here, absent}
 use Rattle.mount_sound.proofs.Frames.{writer_frame}
@@ -99,11 +95,14 @@ IsToldSound last issued stored = (tree : Tree) × (stored.tree ≡ Some tree) ×
 roomed : (last : ℕ) (issued : Ledger) (opened new : Stored) (tree : Tree) (answer : Answer) → opened.tree ≡ Some tree → AreSound last issued [] tree → Acts making opened new (Ok answer) → IsToldSound last issued new
 roomed last issued opened new tree answer told s a =
     let t = acts_told making opened new tree (Ok answer) told a in
-    let m = make_room_told marks_name (marks_folder ∷ []) [] tree (Ok answer) t.0 t.2 in
-    (t.0, t.1, elim m.either as (λ _. AreSound last issued [] t.0) [
-      | inl r ↦ subst (AreSound last issued []) (sym r.gives) (more last issued [] tree r.new (made_bare tree marks_name (marks_folder ∷ []) [] t.0 r) s)
-      | inr same ↦ subst (AreSound last issued []) (sym same) s
-    ])
+    let m = make_room_told marks_name (marks_folder ∷ []) [] tree (Ok answer) t.0 t.2 in (
+      t.0,
+      t.1,
+      elim m.either as (λ _. AreSound last issued [] t.0) [
+        | inl r ↦ subst (AreSound last issued []) (sym r.gives) (more last issued [] tree r.new (made_bare tree marks_name (marks_folder ∷ []) [] t.0 r) s)
+        | inr same ↦ subst (AreSound last issued []) (sym same) s
+      ],
+    )
 
 -- a sound tree is sound for its writes, with whatever ids of 64 bits
 tree_sound : (tree : Tree) (s : IsSoundTree tree) → AreSound (2 ^ 64 - 1) s.issued [] tree

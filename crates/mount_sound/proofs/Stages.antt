@@ -1,10 +1,9 @@
 -- Calls on a writer, and rows that come to another stage.
-use Rattle.std.proofs.Common.{◌≡◌, ◌≤◌, ◌<◌, ℕ, List, [], Option, Some, None, Bool, true, nat_eq, refl, sym, ◌∙◌, inl, inr, subst, arith}
-use Rattle.std.specs.Prelude.{nat_lt, MatchOption}
+use Rattle.std.proofs.Common.{◌≡◌, ◌<◌, ℕ, List, Option, Some, None, Bool, true, nat_eq, sym, inl, inr, subst, arith}
+use Rattle.std.specs.Prelude.{nat_lt}
 use Rattle.std.proofs.lemmas.Bool.Decides.{nat_tests}
 use Rattle.plfs_types.specs.declared.entries.Entry.{Entry}
 use Rattle.store_api.specs.declared.tree.Room.{Room}
-use Rattle.store_api.specs.declared.tree.Tree.{Tree}
 use Rattle.mount_model.specs.declared.row.Row.{Row}
 use Rattle.mount_model.specs.declared.row.Stage.{Stage}
 use Rattle.mount_model.specs.declared.reply.Reply.{Reply}

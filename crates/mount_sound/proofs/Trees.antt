@@ -1,12 +1,12 @@
 -- Sound trees: the empty one, and that which a mount leaves.
-use Rattle.std.proofs.Common.{◌≡◌, ◌≤◌, ◌<◌, ◌^◌, ℕ, List, [], Option, Some, None, refl, ap, sym, ◌∙◌, subst, arith}
+use Rattle.std.proofs.Common.{◌≡◌, ℕ, [], Some, None, refl, ap, sym, ◌∙◌}
 use Rattle.std.specs.Prelude.{slice_get}
 use Rattle.store_api.specs.declared.tree.Room.{Room}
 use Rattle.store_api.specs.declared.tree.Tree.{Tree}
 use Rattle.mount_model.specs.State.{State}
 use Rattle.mount_shape.proofs.Held.{left_shaped, empty_shaped}
 use Rattle.mount_sound.specs.Ledger.{Ledger}
-use Rattle.mount_sound.specs.Sound.{IsSoundRoom, IsSoundFor, IsSoundTree}
+use Rattle.mount_sound.specs.Sound.{IsSoundFor, IsSoundTree}
 use Rattle.mount_sound.proofs.Landing.{no_writes, landed_ledger, whole, landed_fitting, landed_roomless, landed_valid}
 
 no_room : (tree : Tree) (n : ℕ) (room : Room) → tree.rooms ≡ [] → slice_get tree.rooms n ≡ Some room → ⊥

@@ -1,5 +1,5 @@
 -- A writer of the table does something: what is known of it, and what is to be shown.
-use Rattle.std.proofs.Common.{◌≡◌, ◌≤◌, ◌<◌, ◌^◌, ℕ, List, [], Option, Some, None, refl, ap, sym, ◌∙◌, subst, arith, true}
+use Rattle.std.proofs.Common.{◌≡◌, ◌≤◌, ◌<◌, ◌^◌, ℕ, List, Some, refl, sym, subst, arith, true}
 use Rattle.std.specs.Prelude.{slice_get}
 use Rattle.container_layout.specs.declared.items.Item.{Item}
 use Rattle.container_layout.specs.declared.items.Item.TheVariants.{Trunc}
@@ -18,7 +18,7 @@ use Rattle.mount_sound.specs.Sound.{AreSound}
 use Rattle.mount_sound.proofs.Items.{SameFor, SameButItem, owner, same_refl, same_for, same_truncates}
 use Rattle.mount_sound.proofs.Frames.{Fits}
 use Rattle.mount_sound.proofs.Tables.{one_row, row_of_other-with_row, row_of-with_row}
-use Rattle.mount_sound.proofs.Local.{AllFit, SameBut, Changes, local, same_tree}
+use Rattle.mount_sound.proofs.Local.{AllFit, SameBut, local, same_tree}
 use Rattle.mount_sound.proofs.Live.{Own, live_writer, own_of}
 
 -- the table has this row of the writer, if any, and the others as before

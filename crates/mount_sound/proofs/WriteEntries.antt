@@ -8,16 +8,15 @@ use Rattle.plfs_types.specs.declared.entries.Entry.{Entry}
 use Rattle.plfs_types.specs.Stamps.{next_stamp}
 use Rattle.index_entry.specs.Spelling.{spelling_all}
 use Rattle.index_entry.proofs.Spelled.{spelling_all-append}
-use Rattle.container_layout.specs.declared.items.Item.TheVariants.{OpenHost, Meta, Trunc, Index, Log}
+use Rattle.container_layout.specs.declared.items.Item.TheVariants.{OpenHost, Meta, Index, Log}
 use Rattle.container_layout.specs.Paths.{hostdir_of}
 use Rattle.store_api.specs.declared.tree.Room.{Room}
 use Rattle.store_laws.specs.Files.{file_at}
 use Rattle.store_laws.specs.Prefix.{IsPrefix}
 use Rattle.store_laws.proofs.Overwriting.{prefix-append, prefix-over, prefix_front}
 use Rattle.mount_model.specs.declared.row.Row.{Row}
-use Rattle.mount_model.specs.declared.reply.Refusal.{Refusal}
 use Rattle.mount_model.specs.declared.reply.Refusal.TheVariants.{TooFar, StampsSpent, Full}
-use Rattle.mount_model.specs.Paths.{open_path, index_path, log_path}
+use Rattle.mount_model.specs.Paths.{index_path, log_path}
 use Rattle.mount_model.specs.Table.{rank}
 use Rattle.mount_model.specs.Writing.{write_check, entry_of, wrote}
 use Rattle.mount_sound.specs.Entries.{MayFollow, AreInOrder, logged, last_stamp, greatest_end}
@@ -28,7 +27,7 @@ use Rattle.mount_sound.specs.Dropping.{bytes_of, log_bytes}
 use Rattle.mount_sound.specs.Kept.{Begins, IsAtStage, IsKept}
 use Rattle.mount_sound.proofs.Building.{not_closing}
 use Rattle.mount_sound.proofs.Frames.{Fits}
-use Rattle.mount_sound.proofs.Items.{SameButItem, is_index, is_open, had}
+use Rattle.mount_sound.proofs.Items.{SameButItem, is_index, is_open}
 use Rattle.mount_sound.proofs.Live.{Own, one_host_kept, had_meta_but, has_meta_but, had_trunc_but}
 use Rattle.mount_sound.proofs.Orders.{in_order_push, in_order_from_0, logged_push, last_stamp_push, greatest_end_push, drop_push, last_stamp_floor}
 use Rattle.mount_sound.proofs.Stages.{live_stage}

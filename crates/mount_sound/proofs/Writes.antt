@@ -1,13 +1,11 @@
 -- A write keeps soundness, whatever its act leaves.
-use Rattle.std.proofs.Common.{◌≡◌, ◌≤◌, ◌<◌, ℕ, List, [], ◌∷◌, ◌++◌, length, take, Option, Some, None, true, false, nat_eq, refl, ap, sym, ◌∙◌, ◌⊎◌, inl, inr, subst, arith}
-use Rattle.std.specs.Prelude.{slice_get, Ok, Err}
+use Rattle.std.proofs.Common.{◌≡◌, ◌≤◌, ℕ, List, [], ◌∷◌, ◌++◌, length, take, Option, Some, true, false, nat_eq, refl, sym, inl, inr, subst, arith}
+use Rattle.std.specs.Prelude.{Ok, Err}
 use Rattle.std.proofs.lemmas.Bool.Decides.{nat_tests}
 use Rattle.std.proofs.lemmas.Bool.{cases_eq}
-use Rattle.plfs_types.specs.Bytes.{overwritten}
 use Rattle.container_layout.specs.declared.items.Item.TheVariants.{Log}
 use Rattle.store_api.specs.declared.step.Answer.TheVariants.{Made}
 use Rattle.store_api.specs.declared.store.Trouble.TheVariants.{Fault, NoMemory}
-use Rattle.store_api.specs.declared.tree.Room.{Room}
 use Rattle.store_api.specs.declared.tree.Tree.{Tree}
 use Rattle.store_laws.specs.Changes.{Wrote}
 use Rattle.store_laws.specs.Tells.{Tells, made}
@@ -23,7 +21,7 @@ use Rattle.mount_model.specs.Regular.{IsRegular}
 use Rattle.mount_model.specs.State.{State, Table, last_id, timed}
 use Rattle.mount_model.specs.Table.{with_row, row_of, held_by, rank, only}
 use Rattle.mount_model.specs.Writing.{write_check, stamp_at, wrote, write_step, write_outcome, WritesAt, Writes}
-use Rattle.mount_sound.specs.Ledger.{Written, entries_in, AreWritesOf, Ledger}
+use Rattle.mount_sound.specs.Ledger.{Written, AreWritesOf, Ledger}
 use Rattle.mount_sound.specs.Issued.{with_write, written_by, noted}
 use Rattle.mount_sound.specs.Sound.{AreSound}
 use Rattle.mount_sound.proofs.Items.{SameButItem, same_but_item, is_log}
