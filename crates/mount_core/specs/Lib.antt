@@ -1,0 +1,6 @@
+pub mod Places
+pub mod Roll
+pub mod Stages
+pub mod Writable
+pub mod Settling
+pub mod Standing

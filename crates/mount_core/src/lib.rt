@@ -1,0 +1,16 @@
+//! The code of the mount: the table of its writers, and the calls, each of which is a check and at most one act.
+//!
+//! It owns what lies in memory while a store is mounted. Contracts see a mount as a `State` of `mount_model`, and
+//! each call is proved to be a step of that crate's relation. It stands on `mount_model`, on the contracts of stores
+//! and clocks, and on the names of what a container holds.
+#![tactic(auto)]
+
+mod building;
+mod mount;
+mod paths;
+mod places;
+mod roster;
+mod stages;
+mod telling;
+
+pub use mount::Mount;
