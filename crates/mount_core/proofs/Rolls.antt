@@ -30,6 +30,10 @@ pub here : (roll now : Roll) (place : ℕ) (row : Row) (P : Row → Type 0) → 
 here roll now place row P view lt is holds =
     from_place roll place row P (read roll.table.writers place row (within roll now place view lt) is) (subst (λ (n : Roll). AtPlace n place P) (sym view) holds)
 
+pub at_now : (roll now : Roll) (place : ℕ) (row : Row) (P : Row → Type 0) → roll ≡ now → place < length now.table.writers → row ≡ get_or roll.table.writers place row → P row → AtPlace now place P
+at_now roll now place row P view lt is holds =
+    subst (λ (n : Roll). AtPlace n place P) view (at_place roll place row P (within roll now place view lt) is holds)
+
 pub counted_at : (roll now : Roll) (place : ℕ) (row : Row) → roll ≡ now → IsRegularRoll roll → place < length now.table.writers → row ≡ get_or roll.table.writers place row → IsCounted row
 counted_at roll now place row view regular lt is = All-at IsCounted roll.table.writers place row regular.counted (read roll.table.writers place row (within roll now place view lt) is)
 

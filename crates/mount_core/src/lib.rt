@@ -6,11 +6,15 @@
 #![tactic(auto)]
 
 mod building;
+mod flushing;
+mod leaving;
+mod looking;
 mod mount;
 mod paths;
 mod places;
 mod roster;
 mod stages;
 mod telling;
+mod writing;
 
 pub use mount::Mount;

@@ -2,6 +2,7 @@
 ghost use Rattle.std.specs.Prelude.{◌≡◌, ◌<◌, ◌^◌, length, Some, slice_get, IfNone, IfSome, None};
 ghost use Rattle.mount_model.specs.Table.{writer_of, at_stage};
 ghost use Rattle.mount_model.specs.State.{put, take_out};
+ghost use Rattle.mount_model.specs.Regular.{IsCounted};
 ghost use Rattle.mount_model.specs.Flooring.{floored};
 ghost use Rattle.mount_model.specs.Writing.{wrote};
 ghost use Rattle.mount_model.specs.Flushing.{flushed};
@@ -41,6 +42,13 @@ impl Model for Roster {
 }
 
 impl Roster {
+    /// The room of the mounts' marks.
+    pub(crate) fn marks(&self) -> u64
+        ensures { result ≡ self.now.marks }
+    {
+        self.marks
+    }
+
     /// This mount's mark.
     pub(crate) fn number(&self) -> u32
         ensures { result ≡ self.now.mount }
@@ -60,7 +68,8 @@ impl Roster {
     /// The row at this place.
     pub(crate) fn row(&self, place: usize) -> &Row
         requires { place < length self.now.table.writers }
-        ensures { slice_get self.now.table.writers place ≡ Some result.now }
+        ensures same { slice_get self.now.table.writers place ≡ Some result.now }
+        ensures counted { IsCounted result.now }
     {
         &self.writers[place]
     }
@@ -115,14 +124,17 @@ impl Roster {
         row.end = row.end.max(at + len);
     }
 
-    /// Counts the pending entries of the writer at this place as landed.
-    pub(crate) fn land(&mut self, place: usize)
+    /// Counts the pending entries of the writer at this place as landed: how many have landed then.
+    pub(crate) fn land(&mut self, place: usize) -> u64
         requires { place < length self.old.table.writers }
-        ensures { AtPlace self.old place (λ row. self.new ≡ with_table (put (flushed row) self.old.table) self.old) }
+        ensures count { AtPlace self.old place (λ row. result ≡ (flushed row).landed) }
+        ensures left { AtPlace self.old place (λ row. self.new ≡ with_table (put (flushed row) self.old.table) self.old) }
     {
         let row = &mut self.writers[place];
-        row.landed += row.pending.pending();
+        let landed = row.landed + row.pending.pending();
+        row.landed = landed;
         row.pending.clear();
+        landed
     }
 
     /// Takes the writer at this place out of the table.
