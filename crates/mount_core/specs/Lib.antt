@@ -4,3 +4,6 @@ pub mod Stages
 pub mod Writable
 pub mod Settling
 pub mod Standing
+pub mod Admitting
+pub mod Scanning
+pub mod Opening

@@ -37,9 +37,13 @@ state_of store opened times roll = record {
 abbrev pub unknown : Stored
 unknown = record { tree = None; acts = 0; faults = 0 }
 
+-- the state of which nothing more is known
+abbrev pub bare : Roll → State
+bare roll = state_of unknown unknown None roll
+
 -- what holds of the table in every state, whatever the store and the clock are
 abbrev pub IsRegularRoll : Roll → Type 0
-IsRegularRoll roll = IsRegular (state_of unknown unknown None roll)
+IsRegularRoll roll = IsRegular (bare roll)
 
 -- the roll with another table
 abbrev pub with_table : Table → Roll → Roll

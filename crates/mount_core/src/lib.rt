@@ -6,6 +6,7 @@
 #![tactic(auto)]
 
 mod building;
+mod entering;
 mod flushing;
 mod leaving;
 mod looking;
@@ -13,8 +14,11 @@ mod mount;
 mod paths;
 mod places;
 mod roster;
+mod scanning;
 mod stages;
 mod telling;
+mod trouble;
 mod writing;
 
 pub use mount::Mount;
+pub use trouble::MountTrouble;
