@@ -5,3 +5,5 @@ pub mod Fine
 pub mod Timed
 pub mod Scans
 pub mod Admits
+pub mod Logical
+pub mod Mounts

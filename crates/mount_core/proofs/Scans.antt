@@ -10,7 +10,15 @@ use Rattle.std.proofs.lemmas.Cmp.{nat_list_cmp_total}
 use Rattle.std.proofs.lemmas.List.{length-append, get_or_append_left, take_more}
 use Rattle.std.proofs.lemmas.List.Elements.{All-nil, All-push, All-weaker}
 use Rattle.std.proofs.lemmas.List.Quantifiers.{Any-push}
-use Rattle.mount_model.specs.Paths.{Name}
+use Rattle.std.proofs.lemmas.Option.{none-some}
+use Rattle.container_layout.specs.declared.items.Item.{Item}
+use Rattle.container_layout.specs.declared.items.Item.TheVariants.{Access, OpenHost, Meta, Trunc, Flat, TmpFlat, Index, Log}
+use Rattle.container_layout.specs.Paths.{IsAt, IsIn}
+use Rattle.container_layout.proofs.Places.{elsewhere, first_of_folder}
+use Rattle.mount_model.specs.Paths.{Name, truncs, mark_name}
+use Rattle.mount_model.specs.Flooring.{IsFloorOf, IsLeastForeign, IsForeign}
+use Rattle.mount_model.specs.Mounting.{IsGreatestMark}
+use Rattle.mount_core.specs.declared.scanning.Listing.TheVariants.{Truncates, Marks}
 use Rattle.mount_core.specs.declared.scanning.Listing.{Listing}
 use Rattle.mount_core.specs.Scanning.{HasNumber, HasNone, IsGreatest, IsLeastOther, IsScanned, IsLesser}
 
@@ -125,3 +133,38 @@ pub next_other : (listing : Listing) (names : List Name) (i : ℕ) (name : Name)
 next_other listing names i name greatest other lesser new_greatest new_other known lt is none least greatest_is other_is =
     let more : take (i + 1) names ≡ take i names ++ name ∷ [] = take_more names i name lt ∙ ap (λ (n : Name). take i names ++ n ∷ []) (sym is) in
     rw (more, greatest_is, other_is) (scanned_other listing (take i names) greatest other name lesser known none least)
+
+-- ---- the names of a container's truncates, and of the marks
+
+pub none_read : (folder name : Name) → folder ≡ truncs → ((item : Item) → IsAt (record { folder = folder; file = name }) item → None ≡ Some item) → HasNone Truncates name
+none_read folder name is only =
+    λ stamp h. none-some (Trunc stamp h.0) (only (Trunc stamp h.0) (subst (λ (f : Name). IsIn f name (Trunc stamp h.0)) (sym is) h.1))
+
+pub floor_known : (names : List Name) (floor : ℕ) → IsGreatest Truncates names floor → IsFloorOf names floor
+floor_known names floor known = record {
+  truncates = All-weaker (λ name. (stamp : ℕ) × HasNumber Truncates name stamp × (stamp ≤ floor)) (λ name. (stamp size : ℕ) × IsIn truncs name (Trunc stamp size) × (stamp ≤ floor)) (λ name h. (h.0, h.1.0, h.1.1, h.2)) names known.numbers;
+  greatest = known.reached;
+}
+
+not_item : (name : Name) → HasNone Truncates name → (item : Item) → IsIn truncs name item → ⊥
+not_item name none (Trunc stamp size) is = none stamp (size, is)
+not_item name none item is = elsewhere (first_of_folder is.printed) refl
+
+foreign_here : (name : Name) → HasNone Truncates name → IsForeign truncs name
+foreign_here name none = λ item is. not_item name none item is
+
+pub foreign_known : (names : List Name) (name : Name) → IsLeastOther Truncates names name → IsLeastForeign truncs names name
+foreign_known names name known = record {
+  there = known.there;
+  foreign = foreign_here name known.foreign;
+  least = All-weaker (λ other. HasNone Truncates other → slice_cmp nat_cmp name other ≢ Greater) (λ other. IsForeign truncs other → slice_cmp nat_cmp name other ≢ Greater) (λ other h foreign. h (λ stamp is. foreign (Trunc stamp is.0) is.1)) names known.least;
+}
+
+Any-weaker : {X : Type 0} (P Q : X → Type 0) → ((x : X) → P x → Q x) → (xs : List X) → Any P xs → Any Q xs
+Any-weaker P Q more xs any = (any.0, any.1, any.2, any.3, more any.1 any.4)
+
+pub mark_known : (names : List Name) (greatest : ℕ) → IsGreatest Marks names greatest → IsGreatestMark names greatest
+mark_known names greatest known = record {
+  marks = All-weaker (λ name. (n : ℕ) × HasNumber Marks name n × (n ≤ greatest)) (λ name. (n : ℕ) × (1 ≤ n) × (n ≤ greatest) × (name ≡ mark_name n)) (λ name h. (h.0, h.1.0, h.2, h.1.2)) names known.numbers;
+  reached = elim known.reached [ inl none ↦ inl none | inr any ↦ inr (Any-weaker (λ name. HasNumber Marks name greatest) (λ name. name ≡ mark_name greatest) (λ name h. h.2) names any) ];
+}

@@ -1,4 +1,4 @@
--- Why a store was not mounted, and what the acts that were made left of it.
+-- How a store is mounted or why it is not, and what the acts that were made left of it.
 use Rattle.std.specs.Prelude.{◌≡◌, ◌⊎◌, ℕ, ◌+◌, ◌-◌, ◌<◌, ◌^◌, List, [], ◌∷◌, Bool, true, false, Option, Some, None, Ok, Err}
 use Rattle.store_api.specs.declared.step.Answer.TheVariants.{Made, Old, Number, Names}
 use Rattle.store_api.specs.declared.store.Trouble.TheVariants as told_trouble
@@ -61,6 +61,13 @@ LeavesNone names trouble =
     ((file : Name) × IsLeastOther Marks names file × (trouble ≡ Damaged file))
     ⊎ (IsGreatest Marks names (2 ^ 32 - 1) × (trouble ≡ Spent))
 
+-- the next mark is the one behind the greatest
+pub record IsNextMark (names : List Name) (mount : ℕ) : Type 0 where
+  pub greatest : ℕ
+  pub found : IsGreatest Marks names greatest
+  pub next : mount ≡ greatest + 1
+  pub fits : mount < 2 ^ 32
+
 -- The first act told no room; or the second no names; or they leave no next mark; or the third did not make it.
 pub data FailsToMount (opened : Stored) (trouble : MountTrouble) (left : Stored) : Type 0 where
   no_room : FailsAt marks_step (λ told. room_told told ≡ None) opened trouble left → FailsToMount opened trouble left
@@ -68,19 +75,16 @@ pub data FailsToMount (opened : Stored) (trouble : MountTrouble) (left : Stored)
       → FailsAt (list_step room) (λ told. names_told told ≡ None) roomed trouble left → FailsToMount opened trouble left
   no_next : (roomed : Stored) (room : ℕ) (names : List Name) → TellsRoom opened roomed room
       → Acts (list_step room) roomed left (Ok (Names names)) → LeavesNone names trouble → FailsToMount opened trouble left
-  no_mark : (roomed listed : Stored) (room : ℕ) (names : List Name) (greatest : ℕ) → TellsRoom opened roomed room
-      → Acts (list_step room) roomed listed (Ok (Names names)) → IsGreatest Marks names greatest → greatest < 2 ^ 32 - 1
-      → FailsAt (mark_step room (greatest + 1)) (λ told. made_told told ≡ false) listed trouble left → FailsToMount opened trouble left
+  no_mark : (roomed listed : Stored) (room : ℕ) (names : List Name) (mount : ℕ) → TellsRoom opened roomed room
+      → Acts (list_step room) roomed listed (Ok (Names names)) → IsNextMark names mount
+      → FailsAt (mark_step room mount) (λ told. made_told told ≡ false) listed trouble left → FailsToMount opened trouble left
 
--- the room was told, and the mark behind the greatest one was made
+-- the room was told, and the next mark was made
 pub record DrawsMark (opened : Stored) (room mount : ℕ) (new : Stored) : Type 0 where
   pub roomed : Stored
   pub listed : Stored
   pub names : List Name
-  pub greatest : ℕ
-  pub makes : TellsRoom opened roomed room
+  pub tells : TellsRoom opened roomed room
   pub lists : Acts (list_step room) roomed listed (Ok (Names names))
-  pub found : IsGreatest Marks names greatest
-  pub next : mount ≡ greatest + 1
-  pub fits : mount < 2 ^ 32
+  pub next : IsNextMark names mount
   pub marked : Acts (mark_step room mount) listed new (Ok Made)

@@ -1,5 +1,5 @@
 -- What contracts see of a mount beside its store and clock: its marks, the serials that it drew, and its table.
-use Rattle.std.specs.Prelude.{ℕ, List, Option, Some, None, refl, slice_get, IfSome}
+use Rattle.std.specs.Prelude.{ℕ, List, [], Option, Some, None, refl, slice_get, IfSome}
 use Rattle.std.specs.Coded.{Coded, code_by, coded×, coded_ℕ}
 use Rattle.store_api.specs.Acts.{Stored}
 use Rattle.mount_model.specs.declared.row.Row.{Row}
@@ -44,6 +44,10 @@ bare roll = state_of unknown unknown None roll
 -- what holds of the table in every state, whatever the store and the clock are
 abbrev pub IsRegularRoll : Roll → Type 0
 IsRegularRoll roll = IsRegular (bare roll)
+
+-- the roll of a mount that was opened
+abbrev pub new_roll : ℕ → ℕ → ℕ → Roll
+new_roll marks mount serial = record { marks = marks; mount = mount; serial = serial; table = record { writers = []; holders = []; flattenings = [] } }
 
 -- the roll with another table
 abbrev pub with_table : Table → Roll → Roll

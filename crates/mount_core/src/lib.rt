@@ -5,12 +5,16 @@
 //! and clocks, and on the names of what a container holds.
 #![tactic(auto)]
 
+mod apply;
 mod building;
 mod entering;
+mod finding;
+mod flooring;
 mod flushing;
 mod leaving;
 mod looking;
 mod mount;
+mod opening;
 mod paths;
 mod places;
 mod roster;

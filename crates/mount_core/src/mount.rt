@@ -1,5 +1,6 @@
 //! The mount.
 ghost use Rattle.std.specs.Prelude.{◌≡◌};
+ghost use Rattle.mount_model.specs.Regular.{IsRegular};
 
 use crate::roster::Roster;
 use edge_io::Clock;
@@ -45,5 +46,13 @@ impl<S: Store + Drop, C: Clock + Drop> Mount<S, C> {
     {
         let Mount { store, .. } = self;
         store
+    }
+
+    /// What holds of the table after every call, whatever the store did.
+    #[tactic(auto, using(crate::proofs::Rolls::regular_as))]
+    pub fn regular(&self)
+        ensures { IsRegular self.now }
+    {
+        self.roster.regular();
     }
 }

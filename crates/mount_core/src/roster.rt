@@ -7,7 +7,7 @@ ghost use Rattle.mount_model.specs.Flooring.{floored};
 ghost use Rattle.mount_model.specs.Writing.{wrote};
 ghost use Rattle.mount_model.specs.Flushing.{flushed};
 ghost use Rattle.mount_model.specs.Leaving.{closed};
-ghost use Rattle.mount_core.specs.Roll.{with_table, AtPlace};
+ghost use Rattle.mount_core.specs.Roll.{new_roll, with_table, IsRegularRoll, AtPlace};
 ghost use Rattle.mount_core.specs.Writable.{IsFine, IsStampFor};
 ghost use Rattle.mount_core.specs.Stages.{allowed};
 
@@ -15,6 +15,7 @@ use crate::places::find;
 use crate::stages::Stages;
 use mount_model::{Flattening, Holder, Row, Stage};
 use plfs_types::Entry;
+use std::alloc::Global;
 use std::marker::Model;
 
 /// The marks and the serials of a mount, and its table. Contracts see it as a `Roll`.
@@ -42,6 +43,27 @@ impl Model for Roster {
 }
 
 impl Roster {
+    /// The marks of a mount whose last serial this is, with an empty table. It takes no memory.
+    pub(crate) fn new(alloc: Global, marks: u64, mount: u32, serial: u32) -> Roster
+        ensures { result ≡ new_roll marks mount serial }
+    {
+        Roster {
+            marks,
+            mount,
+            serial,
+            writers: Vec::new(alloc),
+            holders: Vec::new(alloc),
+            flattenings: Vec::new(alloc),
+        }
+    }
+
+    /// What holds of every table.
+    pub(crate) fn regular(&self)
+        ensures { IsRegularRoll self.now }
+    {
+        let _ = &self.marks;
+    }
+
     /// The room of the mounts' marks.
     pub(crate) fn marks(&self) -> u64
         ensures { result ≡ self.now.marks }
