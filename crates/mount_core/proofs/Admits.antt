@@ -1,13 +1,13 @@
 -- A roll stays regular where a serial is drawn, and where a writer is added or taken from the end.
-use Rattle.std.proofs.Common.{◌≡◌, ℕ, zero, suc, ◌+◌, ◌-◌, ◌*◌, ◌^◌, ◌<◌, ◌≤◌, List, [], ◌∷◌, ◌++◌, length, take, refl, ap, sym, ◌∙◌, subst, arith, inl, None, false, nat_eq}
+use Rattle.std.proofs.Common.{◌≡◌, ℕ, zero, suc, ◌+◌, ◌-◌, ◌^◌, ◌<◌, ◌≤◌, List, [], ◌∷◌, ◌++◌, length, take, refl, sym, subst, arith, inl, None, false, nat_eq}
 use Rattle.std.specs.Prelude.{◌≢◌, nat_le}
 use Rattle.std.specs.List.{All}
 use Rattle.std.proofs.lemmas.List.{take_at, length_push}
-use Rattle.std.proofs.lemmas.List.Elements.{All-nil, All-push, All-weaker, All-take, All-head, All-tail}
+use Rattle.std.proofs.lemmas.List.Elements.{All-nil, All-push, All-weaker, All-take}
 use Rattle.std.proofs.lemmas.Bool.Decides.{nat_tests}
 use Rattle.index_entry.specs.Valid.{IsValidEntry}
 use Rattle.mount_model.specs.declared.row.Row.{Row}
-use Rattle.mount_model.specs.State.{State, id_of}
+use Rattle.mount_model.specs.State.{State}
 use Rattle.mount_model.specs.Entering.{entered, enter_check, next_id}
 use Rattle.mount_model.specs.Regular.{IsCounted, IsDrawn, AreAscending}
 use Rattle.mount_core.specs.Roll.{Roll, IsRegularRoll, bare}

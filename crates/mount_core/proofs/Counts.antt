@@ -1,9 +1,7 @@
 -- A writer's numbers stay in their ranges.
-use Rattle.std.proofs.Common.{◌≡◌, ℕ, ◌+◌, ◌-◌, ◌^◌, ◌<◌, ◌≤◌, List, [], ◌∷◌, ◌++◌, length, max, refl, arith, inl, inr}
-use Rattle.std.specs.List.{All}
+use Rattle.std.proofs.Common.{ℕ, ◌^◌, ◌<◌, arith, inr}
 use Rattle.std.proofs.lemmas.List.{length_push}
 use Rattle.std.proofs.lemmas.List.Elements.{All-nil, All-push}
-use Rattle.plfs_types.specs.declared.entries.Entry.{Entry}
 use Rattle.index_entry.specs.Valid.{IsValidEntry}
 use Rattle.mount_model.specs.declared.row.Row.{Row}
 use Rattle.mount_model.specs.declared.row.Stage.{Stage}

@@ -1,5 +1,5 @@
 -- What is left of names where the logical ones are kept.
-use Rattle.std.proofs.Common.{◌≡◌, List, [], ◌∷◌, length, Bool, true, false, refl, arith, inl, inr, IsTrue, ◌↔◌}
+use Rattle.std.proofs.Common.{◌≡◌, List, [], ◌∷◌, length, Bool, true, false, refl, inl, inr, IsTrue, ◌↔◌}
 use Rattle.std.specs.List.{items_where_true}
 use Rattle.std.specs.List.Retain.{IsFiltered, ReturnsInTurn}
 use Rattle.plfs_types.specs.Names.{IsLogicalName}
@@ -12,7 +12,7 @@ kept_in_turn R says [] (name ∷ names) f g same turns = absurd (cc)
 kept_in_turn R says (b ∷ bs) [] f g same turns = absurd turns
 kept_in_turn R says (true ∷ bs) (name ∷ names) f g same turns =
     let rest : length bs ≡ length names = cc in
-    inl ((says f name true turns.0 turns.1).0 refl, items_where_true bs names, refl, kept_in_turn R says bs names turns.0 g rest turns.2)
+    inl ((says f name true turns.0 turns.1).0 refl, (items_where_true bs names, refl, kept_in_turn R says bs names turns.0 g rest turns.2))
 kept_in_turn R says (false ∷ bs) (name ∷ names) f g same turns =
     let rest : length bs ≡ length names = cc in
     let isnt : IsLogicalName name → ⊥ = λ is. let b : false ≡ true = (says f name false turns.0 turns.1).1 is in absurd (cc) in

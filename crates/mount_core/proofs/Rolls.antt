@@ -1,15 +1,14 @@
 -- A roll stays regular where one of its rows changes.
-use Rattle.std.proofs.Common.{◌≡◌, ℕ, ◌+◌, ◌*◌, ◌^◌, ◌<◌, ◌≤◌, List, [], ◌∷◌, ◌++◌, length, get_or, Option, Some, None, refl, ap, sym, ◌∙◌, subst, arith}
+use Rattle.std.proofs.Common.{◌≡◌, ℕ, ◌<◌, List, length, get_or, Option, Some, None, refl, ap, sym, subst}
 use Rattle.std.specs.Prelude.{slice_get, slice_set, remove, ◌≢◌, IfSome}
-use Rattle.std.specs.List.{All}
 use Rattle.std.proofs.lemmas.Option.{slice_get_read}
-use Rattle.std.proofs.lemmas.List.Elements.{All-set, All-push}
+use Rattle.std.proofs.lemmas.List.Elements.{All-set}
 use Rattle.store_api.specs.Acts.{Stored}
 use Rattle.mount_model.specs.declared.row.Row.{Row}
-use Rattle.mount_model.specs.State.{State, put, take_out, id_of}
+use Rattle.mount_model.specs.State.{put, take_out}
 use Rattle.mount_model.specs.Regular.{IsRegular, IsCounted, IsDrawn}
 use Rattle.mount_core.specs.Roll.{Roll, IsRegularRoll, with_table, AtPlace, state_of, unknown}
-use Rattle.mount_core.proofs.Rows.{All-at, All-remove, with_row_at, without_row_at, ascending_set, ascending_remove, ascending_push}
+use Rattle.mount_core.proofs.Rows.{All-at, All-remove, with_row_at, without_row_at, ascending_set, ascending_remove}
 
 pub read : (rows : List Row) (place : ℕ) (row : Row) → place < length rows → row ≡ get_or rows place row → slice_get rows place ≡ Some row
 read rows place row lt is = slice_get_read rows (length rows) place row refl lt is

@@ -1,5 +1,5 @@
 -- Rows by ascending id: where a writer's row stands, and what stays ascending.
-use Rattle.std.proofs.Common.{◌≡◌, ◌≢◌, ℕ, zero, suc, ◌+◌, ◌<◌, ◌≤◌, List, [], ◌∷◌, ◌++◌, length, get_or, Option, Some, None, Bool, true, false, refl, ap, sym, ◌∙◌, subst, arith, nat_lt, nat_eq}
+use Rattle.std.proofs.Common.{◌≡◌, ℕ, zero, suc, ◌<◌, ◌≤◌, List, [], ◌∷◌, ◌++◌, length, get_or, Some, None, true, false, refl, ap, sym, ◌∙◌, subst, arith, nat_lt, nat_eq}
 use Rattle.std.specs.Prelude.{slice_get, slice_set, remove}
 use Rattle.std.specs.List.{All, AllWithin}
 use Rattle.std.specs.List.Sorted.{IsPartitionedBy}
@@ -47,11 +47,12 @@ pub passed : (writer i : ℕ) (rows : List Row) → i ≤ length rows → AllWit
 passed writer zero [] le lesser others = tt
 passed writer zero (r ∷ rows) le lesser others = ltb-false r.id writer (others 0 r (omega arith) (omega arith))
 passed writer (suc i) [] le lesser others = tt
-passed writer (suc i) (r ∷ rows) le lesser others =
-    (ltb-true r.id writer (lesser 0 r (omega arith) (omega arith)),
-    passed writer i rows (omega arith)
-    (λ k d low high. lesser (suc k) d (omega arith) (omega arith))
-    (λ k d low high. others (suc k) d (omega arith) (omega arith)))
+passed writer (suc i) (r ∷ rows) le lesser others = (
+  ltb-true r.id writer (lesser 0 r (omega arith) (omega arith)),
+  passed writer i rows (omega arith)
+      (λ k d low high. lesser (suc k) d (omega arith) (omega arith))
+      (λ k d low high. others (suc k) d (omega arith) (omega arith)),
+)
 
 -- ---- a writer's row
 
@@ -132,6 +133,7 @@ ascending_remove (r ∷ rows) (suc i) rises = (All-remove (λ (x : Row). r.id < 
 
 pub ascending_push : (rows : List Row) (new : Row) → AreAscending rows → All (λ (r : Row). r.id < new.id) rows → AreAscending (rows ++ new ∷ [])
 ascending_push [] new rises all = (All-nil (λ (x : Row). new.id < x.id), tt)
-ascending_push (r ∷ rows) new rises all =
-    (All-push (λ (x : Row). r.id < x.id) rows new rises.0 (All-head (λ (x : Row). x.id < new.id) r rows all),
-    ascending_push rows new rises.1 (All-tail (λ (x : Row). x.id < new.id) r rows all))
+ascending_push (r ∷ rows) new rises all = (
+  All-push (λ (x : Row). r.id < x.id) rows new rises.0 (All-head (λ (x : Row). x.id < new.id) r rows all),
+  ascending_push rows new rises.1 (All-tail (λ (x : Row). x.id < new.id) r rows all),
+)

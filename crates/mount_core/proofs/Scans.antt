@@ -1,6 +1,6 @@
 -- One more name of a listing.
 use Rattle.std.proofs.Common.{◌≡◌, ◌≢◌, ℕ, ◌+◌, ◌<◌, ◌≤◌, ◌^◌, max, List, [], ◌∷◌, ◌++◌, length, take, get_or, Option, Some, None, refl, ap, sym, ◌∙◌, subst, arith, inl, inr, ◌⊎◌}
-use Rattle.std.specs.List.{All, Any}
+use Rattle.std.specs.List.{Any}
 use Rattle.std.specs.Ordering.{nat_cmp, ordering_reverse}
 use Rattle.std.specs.Cmp.Lexicographic.{slice_cmp}
 use Rattle.std.specs.declared.cmp.Ordering.{Ordering}
@@ -12,7 +12,7 @@ use Rattle.std.proofs.lemmas.List.Elements.{All-nil, All-push, All-weaker}
 use Rattle.std.proofs.lemmas.List.Quantifiers.{Any-push}
 use Rattle.std.proofs.lemmas.Option.{none-some}
 use Rattle.container_layout.specs.declared.items.Item.{Item}
-use Rattle.container_layout.specs.declared.items.Item.TheVariants.{Access, OpenHost, Meta, Trunc, Flat, TmpFlat, Index, Log}
+use Rattle.container_layout.specs.declared.items.Item.TheVariants.{Trunc}
 use Rattle.container_layout.specs.Paths.{IsAt, IsIn}
 use Rattle.container_layout.proofs.Places.{elsewhere, first_of_folder}
 use Rattle.mount_model.specs.Paths.{Name, truncs, mark_name}
@@ -67,8 +67,8 @@ reach listing names greatest number name known has (inr le) =
 grown : (listing : Listing) (names : List Name) (greatest number : ℕ) (name : Name) → IsGreatest listing names greatest → HasNumber listing name number → number < 2 ^ 63 → IsGreatest listing (names ++ name ∷ []) (max number greatest)
 grown listing names greatest number name known has fits = record {
   numbers = All-push (λ n. (k : ℕ) × HasNumber listing n k × (k ≤ max number greatest)) names name
-    (All-weaker (λ n. (k : ℕ) × HasNumber listing n k × (k ≤ greatest)) (λ n. (k : ℕ) × HasNumber listing n k × (k ≤ max number greatest)) (λ n h. (h.0, h.1, omega (arith, h.2))) names known.numbers)
-    (number, has, omega arith);
+      (All-weaker (λ n. (k : ℕ) × HasNumber listing n k × (k ≤ greatest)) (λ n. (k : ℕ) × HasNumber listing n k × (k ≤ max number greatest)) (λ n h. (h.0, h.1, omega (arith, h.2))) names known.numbers)
+      (number, has, omega arith);
   reached = inr (reach listing names greatest number name known has (cases_lt number greatest));
   fits = omega (arith, known.fits);
 }
@@ -87,8 +87,8 @@ first_other listing names greatest name known none = record {
   there = Any-push (λ n. n ≡ name) names name refl;
   foreign = none;
   least = All-push (λ n. HasNone listing n → slice_cmp nat_cmp name n ≢ Greater) names name
-    (All-weaker (λ n. (k : ℕ) × HasNumber listing n k × (k ≤ greatest)) (λ n. HasNone listing n → slice_cmp nat_cmp name n ≢ Greater) (λ n h isnt. absurd (isnt h.0 h.1)) names known.numbers)
-    (λ _. alike name);
+      (All-weaker (λ n. (k : ℕ) × HasNumber listing n k × (k ≤ greatest)) (λ n. HasNone listing n → slice_cmp nat_cmp name n ≢ Greater) (λ n h isnt. absurd (isnt h.0 h.1)) names known.numbers)
+      (λ _. alike name);
 }
 
 -- the least other name stays where it is not above the next one
@@ -104,8 +104,8 @@ replaced listing names name other known none above = record {
   there = Any-push (λ n. n ≡ name) names name refl;
   foreign = none;
   least = All-push (λ n. HasNone listing n → slice_cmp nat_cmp name n ≢ Greater) names name
-    (All-weaker (λ n. HasNone listing n → slice_cmp nat_cmp other n ≢ Greater) (λ n. HasNone listing n → slice_cmp nat_cmp name n ≢ Greater) (λ n h isnt. below other name n above (h isnt)) names known.least)
-    (λ _. alike name);
+      (All-weaker (λ n. HasNone listing n → slice_cmp nat_cmp other n ≢ Greater) (λ n. HasNone listing n → slice_cmp nat_cmp name n ≢ Greater) (λ n h isnt. below other name n above (h isnt)) names known.least)
+      (λ _. alike name);
 }
 
 pub scanned_number : (listing : Listing) (names : List Name) (greatest : ℕ) (other : Option Name) (number : ℕ) (name : Name) → IsScanned listing names greatest other → HasNumber listing name number → number < 2 ^ 63 → IsScanned listing (names ++ name ∷ []) (max number greatest) other

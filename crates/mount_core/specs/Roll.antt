@@ -1,5 +1,5 @@
 -- What contracts see of a mount beside its store and clock: its marks, the serials that it drew, and its table.
-use Rattle.std.specs.Prelude.{ℕ, List, [], Option, Some, None, refl, slice_get, IfSome}
+use Rattle.std.specs.Prelude.{ℕ, List, [], Option, None, refl, slice_get, IfSome}
 use Rattle.std.specs.Coded.{Coded, code_by, coded×, coded_ℕ}
 use Rattle.store_api.specs.Acts.{Stored}
 use Rattle.mount_model.specs.declared.row.Row.{Row}

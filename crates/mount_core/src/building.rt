@@ -47,7 +47,10 @@ impl<S: Store + Drop, C: Clock + Drop> Mount<S, C> {
     pub(crate) fn make_hostdir(&mut self, caller: u64, writer: u64) -> Reply
         ensures { MakesHostdir caller writer self.old result self.new }
     {
-        match self.roster.find(caller, Stages::Only(Stage::Floored), writer) {
+        match self
+            .roster
+            .find(caller, Stages::Only(Stage::Floored), writer)
+        {
             Some(place) => self.make_hostdir_at(place),
             None => Reply::Refused(Refusal::NotOpen),
         }
@@ -71,7 +74,10 @@ impl<S: Store + Drop, C: Clock + Drop> Mount<S, C> {
     pub(crate) fn make_index(&mut self, caller: u64, writer: u64) -> Reply
         ensures { MakesIndex caller writer self.old result self.new }
     {
-        match self.roster.find(caller, Stages::Only(Stage::Housed), writer) {
+        match self
+            .roster
+            .find(caller, Stages::Only(Stage::Housed), writer)
+        {
             Some(place) => self.make_index_at(place),
             None => Reply::Refused(Refusal::NotOpen),
         }
@@ -96,7 +102,10 @@ impl<S: Store + Drop, C: Clock + Drop> Mount<S, C> {
     pub(crate) fn make_log(&mut self, caller: u64, writer: u64) -> Reply
         ensures { MakesLog caller writer self.old result self.new }
     {
-        match self.roster.find(caller, Stages::Only(Stage::Indexed), writer) {
+        match self
+            .roster
+            .find(caller, Stages::Only(Stage::Indexed), writer)
+        {
             Some(place) => self.make_log_at(place),
             None => Reply::Refused(Refusal::NotOpen),
         }

@@ -61,7 +61,10 @@ impl<S: Store + Drop, C: Clock + Drop> Mount<S, C> {
     pub(crate) fn floor(&mut self, caller: u64, writer: u64) -> Reply
         ensures { Floors caller writer self.old result self.new }
     {
-        match self.roster.find(caller, Stages::Only(Stage::Entered), writer) {
+        match self
+            .roster
+            .find(caller, Stages::Only(Stage::Entered), writer)
+        {
             Some(place) => self.floor_at(place),
             None => Reply::Refused(Refusal::NotOpen),
         }

@@ -49,7 +49,6 @@ impl<S: Store + Drop, C: Clock + Drop> Mount<S, C> {
     }
 
     /// What holds of the table after every call, whatever the store did.
-    #[tactic(auto, using(crate::proofs::Rolls::regular_as))]
     pub fn regular(&self)
         ensures { IsRegular self.now }
     {

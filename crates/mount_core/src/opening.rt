@@ -1,5 +1,6 @@
 //! How a store is mounted: the room of marks is made where there is none, the marks are listed, and the next is put.
 ghost use Rattle.std.specs.Prelude.{◌≡◌, [], None, Ok, false, IfOk, IfErr, OnOk};
+ghost use Rattle.plfs_types.specs.Counts.{HasRisen};
 ghost use Rattle.store_api.specs.declared.step.Answer.TheVariants.{Made, Names};
 ghost use Rattle.store_api.specs.Acts.{Acts};
 ghost use Rattle.mount_model.specs.Mounting.{IsMounted};
@@ -142,6 +143,7 @@ impl<S: Store + Drop, C: Clock + Drop> Mount<S, C> {
     pub fn open(alloc: Global, store: S, clock: C) -> Result<Mount<S, C>, (S, MountTrouble)>
         ensures ok { IfOk result (λ mount. IsMounted 0 (C.times clock) (S.stored store) mount) }
         ensures err { IfErr result (λ failed. FailsToMount (S.stored store) failed.1 (S.stored failed.0)) }
+        ensures fault { IfErr result (λ failed. failed.1 ≡ MountTrouble.Fault → HasRisen (S.stored store).faults (S.stored failed.0).faults) }
     {
         Self::open_at(alloc, store, clock, 0)
     }
@@ -155,15 +157,16 @@ impl<S: Store + Drop, C: Clock + Drop> Mount<S, C> {
     ) -> Result<Mount<S, C>, (S, MountTrouble)>
         ensures ok { IfOk result (λ mount. IsMounted serial (C.times clock) (S.stored store) mount) }
         ensures err { IfErr result (λ failed. FailsToMount (S.stored store) failed.1 (S.stored failed.0)) }
+        ensures fault { IfErr result (λ failed. failed.1 ≡ MountTrouble.Fault → HasRisen (S.stored store).faults (S.stored failed.0).faults) }
     {
         let mut store = store;
         let opened = Snapshot::of(&store);
         match draw_mark(&mut store) {
-            Ok(Mark { room, mount }) => Ok(Mount {
+            Ok(mark) => Ok(Mount {
                 store,
                 clock,
                 opened,
-                roster: Roster::new(alloc, room, mount, serial),
+                roster: Roster::new(alloc, mark.room, mark.mount, serial),
                 alloc,
             }),
             Err(trouble) => Err((store, trouble)),
