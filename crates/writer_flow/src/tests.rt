@@ -1,21 +1,22 @@
-ghost use Rattle.flow.specs.Standing.{IsFresh};
+ghost use Rattle.std.specs.Prelude.{IfOk, IsTrue};
+ghost use Rattle.flow.specs.Standing.{IsFresh, IsOver, rest_of};
 
 use super::*;
 use flow::{Flow, Stuck};
-use mount_model::{Call, Refusal, Reply};
+use mount_model::{Call, Reply};
 use plfs_types::{Block, Bytes, LogicalName, Name, NoMemory};
 use std::test::Fail;
 
 const WRITER: u64 = 4294967297;
 
-// A handle with so many entries in a buffer for two.
-fn handle(pending: u64) -> WriterHandle {
+// The handle of a writer with so many entries in its buffer for two.
+fn handle_of(pending: u64, closing: bool, landed: u64) -> WriterHandle {
     WriterHandle {
         writer: WRITER,
         cap: 2,
         pending,
-        closing: false,
-        landed: 5,
+        closing,
+        landed,
     }
 }
 
@@ -38,14 +39,15 @@ fn letter(call: &Call) -> u8 {
     }
 }
 
-// Takes the machine through these replies, and gives what it ends with, or None where it asks for fewer or more. The
-// letters of its calls are put behind `calls`.
-fn played<F: Flow + Drop>(
-    mut flow: F,
+// Takes the machine through these replies, and says whether it then has an outcome: not where it asks for fewer or
+// more. The letters of its calls are put behind `calls`.
+fn is_played<F: Flow>(
+    flow: &mut F,
     replies: Vec<Reply>,
     calls: &mut Vec<u8>,
-) -> Result<Option<F::Out>, NoMemory>
-    requires { IsFresh (F.standing flow) }
+) -> Result<bool, NoMemory>
+    requires { IsFresh (F.standing flow.old) }
+    ensures { IfOk result (λ over. IsTrue over → IsOver (rest_of (F.standing flow.new))) }
 {
     for reply in replies {
         match flow.next()? {
@@ -53,12 +55,12 @@ fn played<F: Flow + Drop>(
                 calls.push(letter(&call))?;
                 flow.take(reply)?;
             }
-            None => return Ok(None),
+            None => return Ok(false),
         }
     }
     match flow.next()? {
-        Some(_) => Ok(None),
-        None => Ok(Some(flow.out())),
+        Some(_) => Ok(false),
+        None => Ok(true),
     }
 }
 
@@ -67,10 +69,6 @@ fn foreign() -> Reply {
         folder: Name::empty(),
         file: Name::empty(),
     }
-}
-
-fn opening() -> Option<OpenWrite> {
-    Some(OpenWrite::new(LogicalName::read(b"ckpt")?, 7, 64))
 }
 
 #[test]
@@ -84,16 +82,11 @@ fn an_opening_makes_its_six_calls(rt: HostRuntime) -> Result<(), Fail> {
         Reply::Done,
         Reply::Done,
     ]?;
-    let opened = played(opening().ok_or("a name")?, replies, &mut calls)?;
+    let mut open = OpenWrite::new(LogicalName::read(b"ckpt").ok_or("a name")?, 7, 2);
+    assert!(rt; is_played(&mut open, replies, &mut calls)?);
     assert_eq!(rt; calls.as_slice(), b"CEFHIL".as_slice());
-    let want = WriterHandle {
-        writer: WRITER,
-        cap: 64,
-        pending: 0,
-        closing: false,
-        landed: 0,
-    };
-    assert!(rt; opened == Some(Ok(want)));
+    let handle = open.out().ok().ok_or("a handle")?;
+    assert_eq!(rt; handle, handle_of(0, false, 0));
     Ok(())
 }
 
@@ -106,18 +99,10 @@ fn after_a_trouble_an_opening_leaves_and_tells_the_first(rt: HostRuntime) -> Res
         foreign(),
         Reply::Fault,
     ]?;
-    let opened = played(opening().ok_or("a name")?, replies, &mut calls)?;
+    let mut open = OpenWrite::new(LogicalName::read(b"ckpt").ok_or("a name")?, 7, 2);
+    assert!(rt; is_played(&mut open, replies, &mut calls)?);
     assert_eq!(rt; calls.as_slice(), b"CEFX".as_slice());
-    let (folder, file) = (Name::empty(), Name::empty());
-    let place = 0;
-    assert!(rt;
-        opened
-            == Some(Err(Stuck::Damaged {
-                folder,
-                file,
-                place
-            }))
-    );
+    assert!(rt; matches!(open.out(), Err(Stuck::Damaged { .. })));
     Ok(())
 }
 
@@ -128,28 +113,12 @@ fn a_write_flushes_a_full_buffer(rt: HostRuntime) -> Result<(), Fail> {
         .ok()
         .ok_or("a block")?;
     let replies = vec![in rt.alloc(); Reply::Flushed { landed: 7 }, Reply::Wrote { stamp: 10 }]?;
-    let out = played(WriteFlow::new(handle(2), 3, block), replies, &mut calls)?;
+    let mut write = WriteFlow::new(handle_of(2, false, 5), 3, block);
+    assert!(rt; is_played(&mut write, replies, &mut calls)?);
     assert_eq!(rt; calls.as_slice(), b"fW".as_slice());
-    assert!(rt;
-        out == Some(WriterOut {
-            handle: Some(handle(1)),
-            result: Ok(10)
-        })
-    );
-
-    let block = Block::new(Bytes::copy(rt.alloc(), b"x")?)
-        .ok()
-        .ok_or("a block")?;
-    let replies = vec![in rt.alloc(); Reply::Refused(Refusal::TooFar)]?;
-    let out = played(WriteFlow::new(handle(1), 3, block), replies, &mut calls)?;
-    assert_eq!(rt; calls.as_slice(), b"fWW".as_slice());
-    let result = Err(Stuck::Refused(Refusal::TooFar));
-    assert!(rt;
-        out == Some(WriterOut {
-            handle: Some(handle(1)),
-            result
-        })
-    );
+    let out = write.out();
+    assert_eq!(rt; out.handle, Some(handle_of(1, false, 5)));
+    assert!(rt; matches!(out.result, Ok(10)));
     Ok(())
 }
 
@@ -161,74 +130,40 @@ fn a_sync_tells_what_has_landed(rt: HostRuntime) -> Result<(), Fail> {
         Reply::Flushed { landed: 6 },
         Reply::Synced { landed: 6 },
     ]?;
-    let out = played(SyncFlow::new(handle(1)), replies, &mut calls)?;
+    let mut sync = SyncFlow::new(handle_of(1, false, 5));
+    assert!(rt; is_played(&mut sync, replies, &mut calls)?);
     assert_eq!(rt; calls.as_slice(), b"lfi".as_slice());
-    let mut want = handle(0);
-    want.landed = 6;
-    assert!(rt;
-        out == Some(WriterOut {
-            handle: Some(want),
-            result: Ok(6)
-        })
-    );
-
-    let replies = vec![in rt.alloc(); Reply::Done, Reply::Fault]?;
-    let out = played(SyncFlow::new(handle(0)), replies, &mut calls)?;
-    assert_eq!(rt; calls.as_slice(), b"lfili".as_slice());
-    assert!(rt;
-        out == Some(WriterOut {
-            handle: Some(handle(0)),
-            result: Err(Stuck::Fault)
-        })
-    );
+    let out = sync.out();
+    assert_eq!(rt; out.handle, Some(handle_of(0, false, 6)));
+    assert!(rt; matches!(out.result, Ok(6)));
     Ok(())
 }
 
 #[test]
 fn a_close_syncs_and_leaves(rt: HostRuntime) -> Result<(), Fail> {
     let mut calls = Vec::new(rt.alloc());
-    let replies = vec![in rt.alloc();
-        Reply::Done,
-        Reply::Flushed { landed: 6 },
-        Reply::Synced { landed: 6 },
-        Reply::Fault,
-    ]?;
-    let out = played(CloseFlow::new(handle(1)), replies, &mut calls)?;
-    assert_eq!(rt; calls.as_slice(), b"lfiP".as_slice());
-    let mut left = handle(0);
-    left.landed = 6;
-    left.closing = true;
-    assert!(rt;
-        out == Some(WriterOut {
-            handle: Some(left),
-            result: Err(Stuck::Fault)
-        })
-    );
+    let replies = vec![in rt.alloc(); Reply::Done, Reply::Synced { landed: 6 }, Reply::Fault]?;
+    let mut close = CloseFlow::new(handle_of(0, false, 5));
+    assert!(rt; is_played(&mut close, replies, &mut calls)?);
+    assert_eq!(rt; calls.as_slice(), b"liP".as_slice());
+    let out = close.out();
+    assert!(rt; matches!(out.result, Err(Stuck::Fault)));
+    let handle = out.handle.ok_or("a handle")?;
+    assert_eq!(rt; handle, handle_of(0, true, 6));
 
     let replies = vec![in rt.alloc(); Reply::Done, Reply::Done]?;
-    let out = played(CloseFlow::new(left), replies, &mut calls)?;
-    assert_eq!(rt; calls.as_slice(), b"lfiPPX".as_slice());
-    assert!(rt;
-        out == Some(WriterOut {
-            handle: None,
-            result: Ok(6)
-        })
-    );
-
-    let replies = vec![in rt.alloc(); Reply::Done, Reply::Fault]?;
-    let out = played(CloseFlow::new(left), replies, &mut calls)?;
-    assert!(rt;
-        out == Some(WriterOut {
-            handle: None,
-            result: Err(Stuck::Fault)
-        })
-    );
+    let mut close = CloseFlow::new(handle);
+    assert!(rt; is_played(&mut close, replies, &mut calls)?);
+    assert_eq!(rt; calls.as_slice(), b"liPPX".as_slice());
+    let out = close.out();
+    assert!(rt; matches!(out.result, Ok(6)));
+    assert_eq!(rt; out.handle, None);
     Ok(())
 }
 
 #[test]
 fn want_of_memory_ends_a_machine(rt: HostRuntime) -> Result<(), Fail> {
-    let mut sync = SyncFlow::new(handle(0));
+    let mut sync = SyncFlow::new(handle_of(0, false, 5));
     assert!(rt; matches!(sync.next()?, Some(Call::SyncLog { writer: WRITER })));
     assert!(rt; sync.take(Reply::NoMemory).is_err());
     Ok(())
