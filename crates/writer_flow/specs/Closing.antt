@@ -1,5 +1,5 @@
 -- The calls of a close: those of a sync, PutMeta, Exit; where PutMeta was asked before: PutMeta, Exit.
-use Rattle.std.specs.Prelude.{ℕ, Bool, true, false, Option, Some, None, Result, Ok, Err}
+use Rattle.std.specs.Prelude.{ℕ, Bool, true, false, Option, Some, Result, Ok, Err}
 use Rattle.flow.specs.declared.trouble.Stuck.{Stuck}
 use Rattle.flow.specs.declared.trouble.Stuck.TheVariants as stuck
 use Rattle.flow.specs.Program.{Program, done, ask, then}

@@ -1,5 +1,5 @@
 -- The calls of a sync: SyncLog, Flush where something is pending, SyncIndex.
-use Rattle.std.specs.Prelude.{ℕ, Ok, ◌==◌, if◌then◌else◌}
+use Rattle.std.specs.Prelude.{Ok, ◌==◌, if◌then◌else◌}
 use Rattle.flow.specs.Program.{Program, done, ask}
 use Rattle.mount_model.specs.declared.call.Call.{Call}
 use Rattle.mount_model.specs.declared.call.Call.TheVariants.{SyncLog, SyncIndex}

@@ -142,10 +142,7 @@ impl Flow for CloseFlow {
     fn out(self) -> WriterOut {
         match self.stage {
             Closing::Ended(out) => out,
-            _ => WriterOut {
-                handle: None,
-                result: Err(Stuck::Fault),
-            },
+            _ => unreachable!(),
         }
     }
 }

@@ -143,7 +143,7 @@ impl Flow for OpenWrite {
     fn out(self) -> Result<WriterHandle, Stuck> {
         match self.stage {
             Stage::Opened(result) => result,
-            _ => Err(Stuck::Fault),
+            _ => unreachable!(),
         }
     }
 }

@@ -5,7 +5,7 @@ ghost use Rattle.writer_flow.specs.Syncing.{sync_program, flushes_and_syncs};
 ghost use Rattle.writer_flow.specs.SyncingStages.{syncing, syncs_left, sync_stage, stage_left, sync_standing, sync_left};
 
 use crate::handle::{WriterHandle, WriterOut, failed};
-use flow::{Flow, Stuck};
+use flow::Flow;
 use mount_model::{Call, Reply};
 use plfs_types::NoMemory;
 
@@ -123,10 +123,7 @@ impl Flow for SyncFlow {
     fn out(self) -> WriterOut {
         match self.stage {
             Stage::Ended(out) => out,
-            Stage::Underway(_) => WriterOut {
-                handle: None,
-                result: Err(Stuck::Fault),
-            },
+            Stage::Underway(_) => unreachable!(),
         }
     }
 }

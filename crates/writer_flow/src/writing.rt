@@ -156,10 +156,7 @@ impl Flow for WriteFlow {
     fn out(self) -> WriterOut {
         match self.stage {
             Stage::Ended(out) => out,
-            _ => WriterOut {
-                handle: None,
-                result: Err(Stuck::Fault),
-            },
+            _ => unreachable!(),
         }
     }
 }
