@@ -1,0 +1,6 @@
+mod Rows
+mod Steps
+mod Own
+mod Histories
+mod Machines
+mod Counts
