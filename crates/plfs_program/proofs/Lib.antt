@@ -7,3 +7,4 @@ mod MarkLemmas
 mod OutputLemmas
 mod Played
 mod StepLemmas
+mod Unmounted
