@@ -1,5 +1,5 @@
 -- What is read step by step is answered by the grammar.
-use Rattle.std.proofs.Common.{◌≡◌, ℕ, false, List, [], ◌∷◌, Some, Result, Ok, Err, refl, sym, inl, inr, ap, ◌∙◌}
+use Rattle.std.proofs.Common.{◌≡◌, ℕ, false, List, [], ◌∷◌, Some, Result, Ok, Err, refl, inl, inr, ap}
 use Rattle.std.specs.Prelude.{All, ◌≢◌, ◌+◌, ◌≤◌, ◌^◌, IfOk, IfErr}
 use Rattle.std.proofs.lemmas.List.Elements.{recursion_from_All}
 use Rattle.script_lang.specs.declared.meaning.Meaning.TheVariants.{Says}
@@ -11,13 +11,13 @@ use Rattle.script_lang.specs.declared.trouble.ScriptTrouble.TheVariants as troub
 use Rattle.script_lang.specs.ActorNames.{IsKeyword, place_of}
 use Rattle.script_lang.specs.Faults.{Fault, HasFault}
 use Rattle.script_lang.specs.Grammar.{IsScript, read_length}
-use Rattle.script_lang.specs.Lines.{saying, within_reads}
-use Rattle.script_lang.specs.Scripts.{Answers, FailsWith, script_of}
+use Rattle.script_lang.specs.Lines.{saying}
+use Rattle.script_lang.specs.Scripts.{Answers, script_of}
 use Rattle.script_lang.specs.Spelling.{Spells}
 use Rattle.script_lang.specs.Spoken.{spoken}
 use Rattle.script_lang.specs.Told.{IsTroubleOf, IsAnswer}
 use Rattle.script_lang.proofs.ExactLemmas.{script_so, script_is, fault_so, fault_is}
-use Rattle.script_lang.proofs.MeaningLemmas.{saying_again, other_at}
+use Rattle.script_lang.proofs.MeaningLemmas.{other_at}
 
 pub told_script : (bytes : List ℕ) (answer : Result Script ScriptTrouble) → Answers answer (script_of bytes) → IfOk answer (IsScript bytes)
 told_script bytes (Ok script) is = script_so bytes script is

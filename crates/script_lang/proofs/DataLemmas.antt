@@ -75,7 +75,6 @@ data_again (data_of.Text bytes) fits = rw fits refl
 data_again (data_of.Fill len byte) fits = pair_again data_of.Fill len byte fits.0 fits.1
 data_again (data_of.Ramp len first) fits = pair_again data_of.Ramp len first fits.0 fits.1
 
-
 -- ---- what is read is so written
 
 low_digit : (k : ℕ) → k < 10 → get_or lower_digits k 0 ≡ 48 + k
@@ -205,9 +204,11 @@ counted_found word content is = by_fill (starts_with nat_eq word (codes "fill:")
         let found = pair_found made pair content read in
         let each = fits found.0 found.1 found.2 found.3 in
         rw (← found.5) (each.0, split ∙ ap (λ (xs : List ℕ). front ++ xs) found.4 ∙ each.1)
+
     by_ramp : (b : Bool) → starts_with nat_eq word (codes "ramp:") ≡ b → cond b (pair_data data_of.Ramp (drop 5 word)) (Err kinds.Data) ≡ Ok content → IsData content × (word ≡ data_word content)
     by_ramp true begins read = of_pair data_of.Ramp (codes "ramp:") (λ len byte short small. ((short, small), refl)) (drop 5 word) (begins_so word (codes "ramp:") begins) read
     by_ramp false begins read = cc
+
     by_fill : (b : Bool) → starts_with nat_eq word (codes "fill:") ≡ b → cond b (pair_data data_of.Fill (drop 5 word)) (cond (starts_with nat_eq word (codes "ramp:")) (pair_data data_of.Ramp (drop 5 word)) (Err kinds.Data)) ≡ Ok content → IsData content × (word ≡ data_word content)
     by_fill true begins read = of_pair data_of.Fill (codes "fill:") (λ len byte short small. ((short, small), refl)) (drop 5 word) (begins_so word (codes "fill:") begins) read
     by_fill false begins read = by_ramp (starts_with nat_eq word (codes "ramp:")) refl read
@@ -219,6 +220,7 @@ data_found word content is = by_hex (starts_with nat_eq word (codes "hex:")) ref
     by_text : (b : Bool) → starts_with nat_eq word (codes "text:") ≡ b → cond b (text_data (drop 5 word)) (counted_data word) ≡ Ok content → IsData content × (word ≡ data_word content)
     by_text true begins read = let found = text_found (drop 5 word) content read in (found.0, begins_so word (codes "text:") begins ∙ found.1)
     by_text false begins read = counted_found word content read
+
     by_hex : (b : Bool) → starts_with nat_eq word (codes "hex:") ≡ b → cond b (hex_data (drop 4 word)) (cond (starts_with nat_eq word (codes "text:")) (text_data (drop 5 word)) (counted_data word)) ≡ Ok content → IsData content × (word ≡ data_word content)
     by_hex true begins read = let found = hex_found (drop 4 word) content read in (found.0, begins_so word (codes "hex:") begins ∙ found.1)
     by_hex false begins read = by_text (starts_with nat_eq word (codes "text:")) refl read

@@ -1,5 +1,5 @@
 -- Lines that declare actors.
-use Rattle.std.proofs.Common.{◌≡◌, ◌≢◌, ℕ, suc, ◌+◌, ◌-◌, ◌^◌, ◌<◌, ◌≤◌, ◌==◌, ◌||◌, nat_le, nat_lt, not, Bool, true, false, cond, List, [], ◌∷◌, length, Option, Some, None, Result, Ok, Err, refl, sym, ap, ◌∙◌, inl, inr, arith}
+use Rattle.std.proofs.Common.{◌≡◌, ◌≢◌, ℕ, suc, ◌-◌, ◌^◌, ◌<◌, ◌≤◌, ◌==◌, ◌||◌, nat_le, nat_lt, not, Bool, true, false, cond, List, [], ◌∷◌, length, Option, Some, None, Result, Ok, Err, refl, sym, ap, ◌∙◌, inl, inr, arith}
 use Rattle.std.specs.Prelude.{codes, is_some, ◌⊎◌}
 use Rattle.std.specs.Fmt.{decimal}
 use Rattle.std.specs.List.{AllByRecursion}
@@ -13,8 +13,9 @@ use Rattle.script_lang.specs.declared.trouble.Kind.{Kind}
 use Rattle.script_lang.specs.declared.trouble.Kind.TheVariants as kinds
 use Rattle.script_lang.specs.ActorNames.{IsActorName, place_of}
 use Rattle.script_lang.specs.Forms.{Rule, number}
-use Rattle.script_lang.specs.Grammar.{IsDeclaredBy, Declares, empty_phase}
-use Rattle.script_lang.specs.Kinds.{IsRefused, malformed, doubled, late, too_many}
+use Rattle.script_lang.specs.Declarations.{IsDeclaredBy, Declares}
+use Rattle.script_lang.specs.Phases.{empty_phase}
+use Rattle.script_lang.specs.Conditions.{IsRefused, malformed, doubled, late, too_many}
 use Rattle.script_lang.specs.Lines.{is_refused, declared, declaration}
 use Rattle.script_lang.specs.Names.{is_actor_name}
 use Rattle.script_lang.specs.Numbers.{number_in, number_or}
@@ -165,7 +166,7 @@ declared_so name (a ∷ []) said few full is =
     (record { host = read.0; cap = 64; name = name }, read.2, refl, omega (arith, host.2), omega arith, omega arith, inr (inl (ap (λ w. codes "actor" ∷ name ∷ w ∷ []) host.0, refl)))
 declared_so name (a ∷ b ∷ []) said few full is =
     let as_read = sym (ap (λ (s : Result ℕ Kind). number_in 0 (2 ^ 32 - 1) a >>= (λ host. s >>= (λ cap. Ok (actor_of host cap name)))) (number_there 64 1 4096 b full.1.0))
-        ∙ (sym (ap (λ (r : Result ℕ Kind). r >>= (λ host. number_or 64 1 4096 b >>= (λ cap. Ok (actor_of host cap name)))) (number_there 0 0 (2 ^ 32 - 1) a full.0)) ∙ is) in
+    ∙ (sym (ap (λ (r : Result ℕ Kind). r >>= (λ host. number_or 64 1 4096 b >>= (λ cap. Ok (actor_of host cap name)))) (number_there 0 0 (2 ^ 32 - 1) a full.0)) ∙ is) in
     let read = both_read (number_in 0 (2 ^ 32 - 1) a) (number_in 1 4096 b) (λ host cap. actor_of host cap name) said as_read in
     let host = number_found 0 (2 ^ 32 - 1) read.0 a read.2 in
     let cap = number_found 1 4096 read.1 b read.3 in

@@ -1,8 +1,7 @@
 -- Drafts of scripts, line after line.
-use Rattle.std.proofs.Common.{◌≡◌, ◌≢◌, ℕ, zero, suc, ◌+◌, ◌^◌, ◌<◌, ◌≤◌, nat_lt, Bool, true, false, cond, List, [], ◌∷◌, ◌++◌, length, get_or, Option, Some, None, Result, Ok, Err, refl, sym, ap, subst, ◌∙◌, inl, inr, arith, append_assoc, length-append}
-use Rattle.std.specs.Prelude.{AllPairs, sum_by, ◌⊎◌}
-use Rattle.std.specs.List.{position_or_len, position}
-use Rattle.std.specs.Cmp.Lexicographic.{other_text}
+use Rattle.std.proofs.Common.{◌≡◌, ◌≢◌, ℕ, suc, ◌+◌, ◌^◌, ◌<◌, ◌≤◌, nat_lt, Bool, true, false, List, [], ◌∷◌, ◌++◌, length, get_or, None, refl, sym, ap, ◌∙◌, arith, append_assoc, length-append}
+use Rattle.std.specs.Prelude.{AllPairs, sum_by}
+use Rattle.std.specs.List.{position_or_len}
 use Rattle.std.proofs.lemmas.List.{append-nil}
 use Rattle.std.proofs.lemmas.List.Quantifiers.{all_pairs_push}
 use Rattle.std.proofs.lemmas.List.Sums.{sum_by-cons, sum_by-append, fails_before_first}
@@ -12,13 +11,11 @@ use Rattle.script_lang.specs.declared.meaning.Meaning.TheVariants as meaning
 use Rattle.script_lang.specs.declared.script.ActorDecl.{ActorDecl}
 use Rattle.script_lang.specs.declared.script.Numbered.{Numbered}
 use Rattle.script_lang.specs.declared.script.Phase.{Phase}
-use Rattle.script_lang.specs.declared.script.Script.{Script}
-use Rattle.script_lang.specs.declared.script.Statement.{Statement}
 use Rattle.script_lang.specs.declared.script.Turned.{Turned}
-use Rattle.script_lang.specs.declared.trouble.Kind.{Kind}
 use Rattle.script_lang.specs.ActorNames.{is_word, place_of}
 use Rattle.script_lang.specs.Drafts.{empty_draft, draft_with, script_in}
-use Rattle.script_lang.specs.Grammar.{empty_phase, with_turn, with_statement, read_length, asked}
+use Rattle.script_lang.specs.Grammar.{read_length, asked}
+use Rattle.script_lang.specs.Phases.{empty_phase, with_turn, with_statement}
 use Rattle.script_lang.proofs.Cuts.{unguarded}
 use Rattle.script_lang.proofs.KindLemmas.{IsPlace}
 use Rattle.script_lang.proofs.LineLemmas.{LineSays, is_passed_over, has_words}
@@ -118,9 +115,9 @@ holds_on number line (meaning.Turns turned) d holds (has_words words has says) =
   waits = λ early. absurd cc;
   works = λ late is. no_turn d.phase.turns turned (ap (λ (p : Phase). p.turns) (lone d.phases (record { turns = d.phase.turns ++ turned ∷ []; statements = d.phase.statements }) empty_phase is));
   sum =
-    let before = asked_last d.phases d.phase in
-    let after = asked_last d.phases (record { turns = d.phase.turns ++ turned ∷ []; statements = d.phase.statements }) in
-    let is = holds.sum in omega arith;
+      let before = asked_last d.phases d.phase in
+      let after = asked_last d.phases (record { turns = d.phase.turns ++ turned ∷ []; statements = d.phase.statements }) in
+      let is = holds.sum in omega arith;
   limit = holds.limit;
 }
 holds_on number line (meaning.Says actor made reads) d holds (has_words words has says) = record {
@@ -129,12 +126,12 @@ holds_on number line (meaning.Says actor made reads) d holds (has_words words ha
   waits = λ early. absurd cc;
   works = λ late is. no_statement d.phase.statements (record { line = number; actor = actor; statement = made }) (ap (λ (p : Phase). p.statements) (lone d.phases (record { turns = d.phase.turns; statements = d.phase.statements ++ record { line = number; actor = actor; statement = made } ∷ [] }) empty_phase is));
   sum =
-    let before = asked_last d.phases d.phase in
-    let after = asked_last d.phases (record { turns = d.phase.turns; statements = d.phase.statements ++ record { line = number; actor = actor; statement = made } ∷ [] }) in
-    let more = asked_more d.phase (record { line = number; actor = actor; statement = made }) in
-    let is = holds.sum in
-    let sum_is = says.1 in
-    omega arith;
+      let before = asked_last d.phases d.phase in
+      let after = asked_last d.phases (record { turns = d.phase.turns; statements = d.phase.statements ++ record { line = number; actor = actor; statement = made } ∷ [] }) in
+      let more = asked_more d.phase (record { line = number; actor = actor; statement = made }) in
+      let is = holds.sum in
+      let sum_is = says.1 in
+      omega arith;
   limit = says.2;
 }
 

@@ -1,5 +1,5 @@
 -- Bytes are read as the script that they are, and else for their first fault.
-use Rattle.std.proofs.Common.{◌≡◌, ◌≢◌, ℕ, ◌+◌, ◌^◌, ◌<◌, ◌≤◌, nat_lt, Bool, true, false, cond, List, [], ◌∷◌, ◌++◌, length, Result, Ok, Err, refl, sym, ap, subst, ◌∙◌, inl, inr, arith, append_assoc}
+use Rattle.std.proofs.Common.{◌≡◌, ℕ, ◌+◌, ◌^◌, ◌≤◌, nat_lt, Bool, true, false, cond, List, [], ◌∷◌, ◌++◌, length, Result, Ok, Err, refl, sym, ap, subst, ◌∙◌, inl, inr, arith, append_assoc}
 use Rattle.std.specs.Prelude.{◌⊎◌}
 use Rattle.std.proofs.lemmas.Bool.Decides.{nat_tests}
 use Rattle.script_lang.specs.declared.draft.Draft.{Draft}
@@ -11,10 +11,9 @@ use Rattle.script_lang.specs.Faults.{Fault, HasFaultyLine, HasFault, long, fault
 use Rattle.script_lang.specs.Grammar.{AreScript, IsScript}
 use Rattle.script_lang.specs.Kinds.{IsFirst}
 use Rattle.script_lang.specs.Layout.{AreLines}
-use Rattle.script_lang.specs.Lines.{line_meaning}
 use Rattle.script_lang.specs.Scripts.{lines_draft, finished, script_of}
 use Rattle.script_lang.specs.Words.{lines_of, words_of}
-use Rattle.script_lang.proofs.DraftLemmas.{Holds, holds_first, place_in}
+use Rattle.script_lang.proofs.DraftLemmas.{holds_first, place_in}
 use Rattle.script_lang.proofs.LayoutLemmas.{are_lines, lines_are, are_words}
 use Rattle.script_lang.proofs.LineLemmas.{line_fault, line_first}
 use Rattle.script_lang.proofs.ScriptLemmas.{holds_all, is_script}

@@ -1,12 +1,9 @@
 -- Words that have a fault are refused, by that fault or by one that comes before it.
-use Rattle.std.proofs.Common.{◌≡◌, ◌≢◌, ℕ, suc, ◌+◌, ◌-◌, ◌^◌, ◌<◌, ◌≤◌, ◌==◌, nat_le, nat_lt, Bool, true, false, cond, List, [], ◌∷◌, length, Option, Some, None, Result, Ok, Err, refl, sym, ap, subst, ◌∙◌, inl, inr, arith}
+use Rattle.std.proofs.Common.{◌≡◌, ◌≢◌, ℕ, suc, ◌+◌, ◌-◌, ◌^◌, ◌<◌, ◌≤◌, ◌==◌, nat_le, Bool, true, false, cond, List, [], ◌∷◌, length, Option, Some, None, Result, Err, refl, sym, ap, subst, ◌∙◌, inl, inr, arith}
 use Rattle.std.specs.Prelude.{codes, ◌⊎◌}
-use Rattle.std.specs.List.{AllByRecursion}
 use Rattle.std.proofs.lemmas.Bool.Decides.{nat_tests}
 use Rattle.std.proofs.lemmas.List.Elements.{All-contains, All-from_recursion}
 use Rattle.script_lang.specs.declared.meaning.Meaning.{Meaning}
-use Rattle.script_lang.specs.declared.meaning.Meaning.TheVariants as meaning
-use Rattle.script_lang.specs.declared.script.ActorDecl.{ActorDecl}
 use Rattle.script_lang.specs.declared.script.Script.{Script}
 use Rattle.script_lang.specs.declared.script.Statement.{Statement}
 use Rattle.script_lang.specs.declared.script.Statement.TheVariants as statement
@@ -14,21 +11,21 @@ use Rattle.script_lang.specs.declared.trouble.Kind.{Kind}
 use Rattle.script_lang.specs.declared.trouble.Kind.TheVariants as kinds
 use Rattle.script_lang.specs.declared.verb.Verb.{Verb}
 use Rattle.script_lang.specs.ActorNames.{IsKeyword, place_of}
-use Rattle.script_lang.specs.Forms.{Rule, number, file, content, kind_of, Form}
-use Rattle.script_lang.specs.Grammar.{read_length, asked, empty_phase}
-use Rattle.script_lang.specs.Kinds.{IsRefused, HasNoActor, unknown, refused, undeclared, IsLineOf, IsNoStatement, IsMiscounted, actor_words, phase_words, turn_words, lone_name, statement_words, HasArguments, of_actor, of_turn, of_statement, Breaks, HasBreach, AsksTooMuch, HasKind, order, IsFirst}
-use Rattle.script_lang.specs.Lines.{is_refused, declared, declaration, beginning, turns_at, turning, within_reads, says_by, says_at, saying, meaning_of}
+use Rattle.script_lang.specs.Forms.{Rule, Form}
+use Rattle.script_lang.specs.Grammar.{read_length, asked}
+use Rattle.script_lang.specs.Conditions.{HasNoActor, unknown, refused, undeclared, IsNoStatement, IsMiscounted, actor_words, phase_words, turn_words, lone_name, statement_words, HasArguments, of_actor, of_turn, of_statement, Breaks}
+use Rattle.script_lang.specs.Kinds.{HasKind, order, IsFirst}
+use Rattle.script_lang.specs.Lines.{is_refused, declared, declaration, within_reads, says_by, meaning_of}
 use Rattle.script_lang.specs.Numbers.{number_in}
 use Rattle.script_lang.specs.Reading.{◌>>=◌}
 use Rattle.script_lang.specs.Spelling.{Spells}
 use Rattle.script_lang.specs.Spoken.{spoken}
 use Rattle.script_lang.specs.Verbs.{verb_of, has_words}
-use Rattle.script_lang.proofs.DeclarationLemmas.{refused_so, refused_is, line_of, short_line, long_line, host_and_cap, declared_fault}
+use Rattle.script_lang.proofs.DeclarationLemmas.{refused_is, line_of, short_line, long_line, host_and_cap, declared_fault}
 use Rattle.script_lang.proofs.KindLemmas.{of_arguments, IsPlace, small_host_and_cap, turn_rules, small_turns, same_kind, fault_so}
-use Rattle.script_lang.proofs.MeaningLemmas.{Full, First, is_actor, is_phase, is_turn, is_other, first_is, of_other, two_up}
-use Rattle.script_lang.proofs.RuleLemmas.{fault_of, or_then, first_broken, IsSmall, faulty, breaks, breach_is_first}
-use Rattle.script_lang.proofs.StatementLemmas.{word_of, rules_of, least_of, small_rules, form_of, form_verb, verb_known, verb_word, no_verb, counted, miscounted, wrong_count, reading, first_fault, spells, read_of}
-
+use Rattle.script_lang.proofs.MeaningLemmas.{Full, of_other, two_up}
+use Rattle.script_lang.proofs.RuleLemmas.{fault_of, or_then, faulty, breach_is_first}
+use Rattle.script_lang.proofs.StatementLemmas.{word_of, rules_of, least_of, small_rules, form_of, form_verb, verb_known, verb_word, counted, wrong_count, reading, first_fault, read_of}
 
 -- the reading has a fault: of this kind, or of one before it
 abbrev pub Falls : Result Meaning Kind → Kind → Type 0
@@ -102,6 +99,7 @@ module _ (before : Script) (begun : Bool) (reads : ℕ) (stands : IsPlace before
     where
       fifth : order kind ≡ 5
       fifth = of_arguments rules arguments kind has
+
       taken : (place : ℕ) (v : Verb) → place_of before.actors whose ≡ Some place → word ≡ word_of v → Breaks (rules_of v) arguments kind → (b : Bool) → has_words v (suc (suc (length arguments))) ≡ b → Falls (read_of_words (whose ∷ word ∷ arguments)) kind
       taken place v there word_is breaks_it false counts = early (read_of_words (whose ∷ word ∷ arguments)) kinds.Count kind (known_verb whose word arguments place v false free there word_is counts) (omega (arith, fifth))
       taken place v there word_is breaks_it true counts =
@@ -109,6 +107,7 @@ module _ (before : Script) (begun : Bool) (reads : ℕ) (stands : IsPlace before
           let first = breach_is_first (rules_of v) arguments kind (small_rules v) breaks_it in
           let failed = faulty (reading v arguments) kind (first_fault v arguments limits.0 limits.1 full ∙ first) in
           hits (read_of_words (whose ∷ word ∷ arguments)) kind (known_verb whose word arguments place v true free there word_is counts ∙ ap (λ (r : Result Statement Kind). r >>= (λ made. within_reads place made (reads + read_length made))) failed)
+
       by : (found : Option ℕ) → place_of before.actors whose ≡ found → (v : Verb) × (word ≡ word_of v) × (rules ≡ rules_of v) × (least ≡ least_of v) → Falls (read_of_words (whose ∷ word ∷ arguments)) kind
       by None there v = early (read_of_words (whose ∷ word ∷ arguments)) kinds.Actor kind (not_there whose (word ∷ arguments) free there) (omega (arith, fifth))
       by (Some place) there (v, word_is, rules_are, least_is) = taken place v there word_is (rw rules_are at has) (has_words v (suc (suc (length arguments)))) refl
@@ -145,6 +144,7 @@ module _ (before : Script) (begun : Bool) (reads : ℕ) (stands : IsPlace before
       fourth : (order kind ≡ 4) ⊎ (4 < order kind) → declaration before.actors begun (line_of (name ∷ arguments)) ≡ Err kinds.Count → Falls (declaration before.actors begun (line_of (name ∷ arguments))) kind
       fourth (inl is) failed = (kinds.Count, failed, inr (sym (counts is)))
       fourth (inr past) failed = (kinds.Count, failed, inl past)
+
       by : (b : Bool) → is_refused before.actors begun name ≡ b → Falls (declaration before.actors begun (line_of (name ∷ arguments))) kind
       by true bad = early (declaration before.actors begun (line_of (name ∷ arguments))) kinds.Actor kind (falls_refused name arguments bad) (omega arith)
       by false fine = fourth (fourth_or_later (order kind) late) (long_line before.actors begun name arguments many ∙ rw fine refl)
@@ -163,6 +163,7 @@ module _ (before : Script) (begun : Bool) (reads : ℕ) (stands : IsPlace before
     where
       fifth : order kind ≡ 5
       fifth = of_arguments host_and_cap arguments kind has
+
       by : length arguments ≤ 2 → (b : Bool) → is_refused before.actors begun name ≡ b → Falls (read_of_words (codes "actor" ∷ name ∷ arguments)) kind
       by few true bad = early (read_of_words (codes "actor" ∷ name ∷ arguments)) kinds.Actor kind (falls_refused name arguments bad) (omega (arith, fifth))
       by few false fine =
@@ -199,6 +200,7 @@ module _ (before : Script) (begun : Bool) (reads : ℕ) (stands : IsPlace before
     where
       fifth : order kind ≡ 5
       fifth = of_arguments turn_rules arguments kind has
+
       by : (found : Option ℕ) (args : List (List ℕ)) → place_of before.actors whose ≡ found → Breaks turn_rules args kind → Falls (read_of_words (codes "turn" ∷ whose ∷ args)) kind
       by None args there bad = early (read_of_words (codes "turn" ∷ whose ∷ args)) kinds.Actor kind (not_declared whose args there) (omega (arith, fifth))
       by (Some place) [] there bad = absurd bad

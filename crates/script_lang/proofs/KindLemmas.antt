@@ -1,11 +1,10 @@
 -- The first of the faults of a line's words.
-use Rattle.std.proofs.Common.{◌≡◌, ◌≢◌, ℕ, suc, ◌+◌, ◌-◌, ◌^◌, ◌<◌, ◌≤◌, ◌==◌, nat_le, nat_lt, Bool, true, false, cond, List, [], ◌∷◌, length, Option, Some, None, Result, Ok, Err, refl, sym, ap, ◌∙◌, inl, inr, arith}
+use Rattle.std.proofs.Common.{◌≡◌, ◌≢◌, ℕ, suc, ◌+◌, ◌-◌, ◌^◌, ◌<◌, ◌≤◌, ◌==◌, nat_le, Bool, true, false, cond, List, [], ◌∷◌, length, Option, Some, None, Result, Ok, Err, refl, sym, ap, ◌∙◌, inl, inr, arith}
 use Rattle.std.specs.Prelude.{codes, ◌⊎◌}
 use Rattle.std.specs.List.{AllByRecursion}
 use Rattle.std.proofs.lemmas.Bool.Decides.{nat_tests}
 use Rattle.script_lang.specs.declared.meaning.Meaning.{Meaning}
 use Rattle.script_lang.specs.declared.meaning.Meaning.TheVariants as meaning
-use Rattle.script_lang.specs.declared.script.ActorDecl.{ActorDecl}
 use Rattle.script_lang.specs.declared.script.Script.{Script}
 use Rattle.script_lang.specs.declared.script.Statement.{Statement}
 use Rattle.script_lang.specs.declared.script.Statement.TheVariants as statement
@@ -13,19 +12,21 @@ use Rattle.script_lang.specs.declared.trouble.Kind.{Kind}
 use Rattle.script_lang.specs.declared.trouble.Kind.TheVariants as kinds
 use Rattle.script_lang.specs.declared.verb.Verb.{Verb}
 use Rattle.script_lang.specs.ActorNames.{IsKeyword, place_of}
-use Rattle.script_lang.specs.Forms.{Rule, number, file, content, kind_of, Form}
-use Rattle.script_lang.specs.Grammar.{read_length, asked, empty_phase}
-use Rattle.script_lang.specs.Kinds.{IsRefused, HasNoActor, unknown, refused, undeclared, IsLineOf, IsNoStatement, IsMiscounted, actor_words, phase_words, turn_words, lone_name, statement_words, HasArguments, of_actor, of_turn, of_statement, Breaks, HasBreach, AsksTooMuch, HasKind, order, IsFirst}
-use Rattle.script_lang.specs.Lines.{is_refused, declared, declaration, beginning, turns_at, turning, within_reads, says_by, says_at, saying, meaning_of}
+use Rattle.script_lang.specs.Forms.{Rule, number, file, content, Form}
+use Rattle.script_lang.specs.Grammar.{read_length, asked}
+use Rattle.script_lang.specs.Phases.{empty_phase}
+use Rattle.script_lang.specs.Conditions.{unknown, refused, undeclared, actor_words, phase_words, turn_words, lone_name, statement_words, of_actor, of_turn, of_statement, Breaks, HasBreach, AsksTooMuch}
+use Rattle.script_lang.specs.Kinds.{HasKind, order}
+use Rattle.script_lang.specs.Lines.{is_refused, declared, declaration, beginning, turns_at, turning, within_reads, says_by, says_at, meaning_of}
 use Rattle.script_lang.specs.Numbers.{number_in}
 use Rattle.script_lang.specs.Reading.{◌>>=◌}
 use Rattle.script_lang.specs.Spelling.{Spells}
 use Rattle.script_lang.specs.Spoken.{spoken}
 use Rattle.script_lang.specs.Verbs.{verb_of, has_words}
-use Rattle.script_lang.proofs.DeclarationLemmas.{refused_so, refused_is, line_of, short_line, long_line, host_and_cap, declared_fault}
-use Rattle.script_lang.proofs.MeaningLemmas.{Full, First, is_actor, is_phase, is_turn, is_other, first_is, of_other, two_up}
-use Rattle.script_lang.proofs.RuleLemmas.{fault_of, or_then, first_broken, IsSmall, faulty, breaks, breach_is_first}
-use Rattle.script_lang.proofs.StatementLemmas.{word_of, rules_of, least_of, small_rules, form_of, form_verb, verb_known, verb_word, no_verb, counted, miscounted, wrong_count, reading, first_fault, spells, read_of}
+use Rattle.script_lang.proofs.DeclarationLemmas.{refused_so, line_of, short_line, long_line, host_and_cap, declared_fault}
+use Rattle.script_lang.proofs.MeaningLemmas.{Full, is_actor, is_phase, is_turn, is_other, first_is, of_other, two_up}
+use Rattle.script_lang.proofs.RuleLemmas.{fault_of, first_broken, IsSmall, breaks}
+use Rattle.script_lang.proofs.StatementLemmas.{rules_of, least_of, small_rules, form_of, verb_word, no_verb, counted, miscounted, reading, first_fault, spells}
 
 -- ---- the kinds of arguments
 
@@ -158,6 +159,7 @@ module _ (before : Script) (begun : Bool) (reads : ℕ) (stands : IsPlace before
     where
       form : Form word (rules_of v) (least_of v)
       form = rw (verb_word word v known) (form_of v)
+
       asks_more : (made : Statement) → reading v arguments ≡ Ok made → Spells made (word ∷ arguments) → 2 ^ 28 < reads + read_length made → AsksTooMuch before (whose ∷ word ∷ arguments)
       asks_more made read spelled much =
           let some : 0 < read_length made = let h = stands.few in omega arith in
@@ -165,6 +167,7 @@ module _ (before : Script) (begun : Bool) (reads : ℕ) (stands : IsPlace before
           let more : 2 ^ 28 < reads + is.1 = rw (is.2) at much in
           let sum = stands.sum in
           record { whose = whose; behind = word ∷ arguments; free = free; at = is.0; len = is.1; split = refl; spelled = rw is.2 at spelled; much = rw (← sum) more }
+
       by : (b : Bool) → has_words v (suc (suc (length arguments))) ≡ b → cond b (reading v arguments >>= (λ made. within_reads place made (reads + read_length made))) (Err kinds.Count) ≡ Err kind → HasKind before (whose ∷ word ∷ arguments) kind
       by false counts read = let same = same_kind kinds.Count kind read in rw (← same) (statement_words word arguments (rules_of v) (least_of v) (record { whose = whose; free = free; split = refl }) form (miscounted v (length arguments) counts))
       by true counts read =

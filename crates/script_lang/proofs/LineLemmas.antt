@@ -1,7 +1,7 @@
 -- What a line says, and its first fault.
-use Rattle.std.proofs.Common.{◌≡◌, ◌≢◌, ℕ, ◌+◌, ◌<◌, ◌≤◌, Bool, true, false, cond, List, [], ◌∷◌, length, Result, Ok, Err, refl, sym, ap, ◌∙◌, inl, inr, arith}
-use Rattle.std.specs.Prelude.{Contains, ◌⊎◌}
-use Rattle.std.specs.List.{AllByRecursion, list_any}
+use Rattle.std.proofs.Common.{◌≡◌, ◌≢◌, ℕ, ◌<◌, Bool, true, false, cond, List, [], ◌∷◌, Ok, Err, refl, sym, ap, ◌∙◌, arith}
+use Rattle.std.specs.Prelude.{Contains}
+use Rattle.std.specs.List.{list_any}
 use Rattle.std.proofs.lemmas.List.Elements.{recursion_from_All}
 use Rattle.script_lang.specs.declared.meaning.Meaning.{Meaning}
 use Rattle.script_lang.specs.declared.meaning.Meaning.TheVariants as meaning
@@ -106,6 +106,7 @@ module _ (before : Script) (begun : Bool) (reads : ℕ) (stands : IsPlace before
     where
       spaced : list_any is_empty words ≡ true → line_meaning before.actors begun reads line ≡ Err kinds.Spaces
       spaced is = let over = is_said line said in let same = words_are line words are in rw (over, same, is) refl
+
       by : (b : Bool) → list_any is_empty words ≡ b → line_meaning before.actors begun reads line ≡ Err kind
       by true is = spaced is ∙ ap (λ k. Err k) (sym (only_spaces before words kind (empty_word words is) first))
       by false is = as_words before.actors begun reads line words said are is ∙ words_first words kind are.some (recursion_from_All (λ word. word ≢ []) words (full_words words is)) first

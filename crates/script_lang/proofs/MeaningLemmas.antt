@@ -1,32 +1,29 @@
 -- What the words of a line say, and the first of their faults.
-use Rattle.std.proofs.Common.{◌≡◌, ◌≢◌, ℕ, suc, ◌+◌, ◌-◌, ◌^◌, ◌<◌, ◌≤◌, ◌==◌, ◌||◌, nat_le, nat_lt, not, Bool, true, false, cond, List, [], ◌∷◌, length, Option, Some, None, Result, Ok, Err, refl, sym, ap, ◌∙◌, inl, inr, arith}
-use Rattle.std.specs.Prelude.{codes, ◌⊎◌}
+use Rattle.std.proofs.Common.{◌≡◌, ◌≢◌, ℕ, suc, ◌+◌, ◌-◌, ◌^◌, ◌<◌, ◌≤◌, ◌==◌, nat_le, Bool, true, false, cond, List, [], ◌∷◌, length, Option, Some, None, Result, Ok, Err, refl, sym, ap, ◌∙◌, inl, inr, arith}
+use Rattle.std.specs.Prelude.{codes}
 use Rattle.std.specs.Fmt.{decimal}
 use Rattle.std.specs.List.{AllByRecursion}
 use Rattle.std.proofs.lemmas.Bool.Decides.{nat_tests}
 use Rattle.script_lang.specs.declared.meaning.Meaning.{Meaning}
 use Rattle.script_lang.specs.declared.meaning.Meaning.TheVariants as meaning
 use Rattle.script_lang.specs.declared.script.ActorDecl.{ActorDecl}
-use Rattle.script_lang.specs.declared.script.Script.{Script}
 use Rattle.script_lang.specs.declared.script.Statement.{Statement}
-use Rattle.script_lang.specs.declared.script.Statement.TheVariants as statement
 use Rattle.script_lang.specs.declared.trouble.Kind.{Kind}
 use Rattle.script_lang.specs.declared.trouble.Kind.TheVariants as kinds
 use Rattle.script_lang.specs.declared.verb.Verb.{Verb}
 use Rattle.script_lang.specs.ActorNames.{IsKeyword, is_word, place_of}
-use Rattle.script_lang.specs.Forms.{Rule, number, kind_of, file, content}
-use Rattle.script_lang.specs.Grammar.{Declares, Turns, States, read_length, asked, empty_phase}
+use Rattle.script_lang.specs.Declarations.{Declares}
+use Rattle.script_lang.specs.Grammar.{read_length}
+use Rattle.script_lang.specs.Phases.{Turns, States}
 use Rattle.script_lang.specs.Lines.{is_refused, declared, declaration, beginning, turns_at, turning, within_reads, says_by, says_at, saying, meaning_of}
 use Rattle.script_lang.specs.Numbers.{number_in}
 use Rattle.script_lang.specs.Reading.{◌>>=◌}
 use Rattle.script_lang.specs.Spelling.{Spells}
 use Rattle.script_lang.specs.Spoken.{spoken}
-use Rattle.script_lang.specs.Statements.{statement_of}
 use Rattle.script_lang.specs.Verbs.{verb_of, has_words}
-use Rattle.script_lang.proofs.DeclarationLemmas.{refused_so, refused_is, accepted, line_of, short_line, long_line, host_and_cap, declared_fault, declared_so, declared_again}
+use Rattle.script_lang.proofs.DeclarationLemmas.{accepted, line_of, short_line, long_line, declared_so, declared_again}
 use Rattle.script_lang.proofs.NumberLemmas.{number_found, number_again}
-use Rattle.script_lang.proofs.RuleLemmas.{fault_of, broken, or_then, first_broken, IsSmall, breaks, breach_is_first}
-use Rattle.script_lang.proofs.StatementLemmas.{word_of, rules_of, least_of, small_rules, form_of, form_verb, verb_known, verb_word, no_verb, counted, miscounted, wrong_count, reading, first_fault, spells, IsReadOf, read_of}
+use Rattle.script_lang.proofs.StatementLemmas.{word_of, verb_known, verb_word, counted, reading, spells, read_of}
 use Rattle.script_lang.proofs.WordTests.{same_word, other_word, word_differs}
 
 -- ---- the kinds of lines
@@ -172,6 +169,7 @@ module _ (actors : List ActorDecl) (begun : Bool) (reads : ℕ) where
     where
       onto : {w : List ℕ} → whose ≡ w → meaning_of actors begun reads (spoken (whose ∷ behind)) ≡ Ok said → meaning_of actors begun reads (spoken (w ∷ behind)) ≡ Ok said
       onto same read = ap (λ w. meaning_of actors begun reads (spoken (w ∷ behind))) (sym same) ∙ read
+
       back : {w : List ℕ} → whose ≡ w → Says actors begun reads (w ∷ behind) said → Says actors begun reads (whose ∷ behind) said
       back same says = rw same says
 

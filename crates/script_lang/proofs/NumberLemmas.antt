@@ -1,10 +1,10 @@
 -- Numbers within limits.
-use Rattle.std.proofs.Common.{◌≡◌, ℕ, ◌+◌, ◌-◌, ◌^◌, ◌<◌, ◌≤◌, ◌&&◌, nat_le, Bool, true, false, cond, List, [], ◌∷◌, length, Option, Some, None, Result, Ok, Err, refl, sym, ap, ◌∙◌, arith}
+use Rattle.std.proofs.Common.{◌≡◌, ℕ, ◌^◌, ◌<◌, ◌≤◌, ◌&&◌, nat_le, Bool, true, false, cond, List, Option, Some, None, Ok, Err, refl, ap, ◌∙◌, arith}
 use Rattle.std.specs.Fmt.{decimal}
 use Rattle.std.proofs.lemmas.Bool.Decides.{nat_tests}
 use Rattle.script_lang.specs.declared.trouble.Kind.{Kind}
 use Rattle.script_lang.specs.declared.trouble.Kind.TheVariants.{Number}
-use Rattle.script_lang.specs.Numbers.{number_of, within, number_in, number_or}
+use Rattle.script_lang.specs.Numbers.{number_of, within, number_in}
 use Rattle.script_lang.proofs.Decimals.{number_written, number_read}
 
 tested : (least most m n : ℕ) (low high : Bool) → nat_le least m ≡ low → nat_le m most ≡ high → cond (low && high) (Ok m) (Err Number) ≡ Ok n → (least ≤ n) × (n ≤ most) × (m ≡ n)

@@ -1,11 +1,10 @@
 -- Arguments and their rules.
 use Rattle.std.proofs.Common.{◌≡◌, ℕ, ◌^◌, ◌<◌, List, [], ◌∷◌, Option, Some, None, Result, Ok, Err, refl, sym, ap, ◌∙◌, inl, inr, arith}
 use Rattle.std.specs.List.{AllByRecursion}
-use Rattle.script_lang.specs.declared.script.Data.{Data}
 use Rattle.script_lang.specs.declared.trouble.Kind.{Kind}
 use Rattle.script_lang.specs.Data.{data_in}
 use Rattle.script_lang.specs.Forms.{Rule, number, file, content, Keeps, kind_of}
-use Rattle.script_lang.specs.Kinds.{Breaks}
+use Rattle.script_lang.specs.Conditions.{Breaks}
 use Rattle.script_lang.specs.Names.{file_name}
 use Rattle.script_lang.specs.Numbers.{number_in}
 use Rattle.script_lang.proofs.DataLemmas.{data_again, data_found, data_refused}

@@ -1,30 +1,23 @@
 -- Scripts, line after line: what is read is a script, and what is a script is read.
-use Rattle.std.proofs.Common.{◌≡◌, ◌≢◌, ℕ, zero, suc, ◌+◌, ◌^◌, ◌<◌, ◌≤◌, nat_lt, Bool, true, false, cond, List, [], ◌∷◌, ◌++◌, length, get_or, Option, Some, None, Result, Ok, Err, refl, sym, ap, subst, ◌∙◌, inl, inr, arith, append_assoc, length-append}
-use Rattle.std.specs.Prelude.{AllPairs, ◌⊎◌}
-use Rattle.std.specs.List.{position_or_len}
-use Rattle.std.proofs.lemmas.Bool.Decides.{nat_tests}
+use Rattle.std.proofs.Common.{◌≡◌, ℕ, ◌+◌, true, false, List, [], ◌∷◌, ◌++◌, length, Result, Ok, Err, refl, sym, ap, subst, ◌∙◌, inl, inr, arith, append_assoc}
 use Rattle.std.proofs.lemmas.List.{append-nil}
-use Rattle.std.proofs.lemmas.List.Sums.{passes_at_first}
 use Rattle.script_lang.specs.declared.draft.Draft.{Draft}
 use Rattle.script_lang.specs.declared.meaning.Meaning.{Meaning}
 use Rattle.script_lang.specs.declared.meaning.Meaning.TheVariants as meaning
 use Rattle.script_lang.specs.declared.script.ActorDecl.{ActorDecl}
 use Rattle.script_lang.specs.declared.script.Phase.{Phase}
-use Rattle.script_lang.specs.declared.script.Script.{Script}
-use Rattle.script_lang.specs.declared.script.Statement.{Statement}
-use Rattle.script_lang.specs.declared.script.Turned.{Turned}
 use Rattle.script_lang.specs.declared.trouble.Kind.{Kind}
-use Rattle.script_lang.specs.ActorNames.{is_word, place_of}
-use Rattle.script_lang.specs.Drafts.{empty_draft, draft_with, script_in, line_draft, after_meaning}
+use Rattle.script_lang.specs.Drafts.{empty_draft, draft_with, script_in, after_meaning}
 use Rattle.script_lang.specs.Faults.{Fault}
-use Rattle.script_lang.specs.Grammar.{DeclareAll, empty_phase, with_turn, with_statement, Makes, passes, begins, turns, states, MakeAll, read_length, asked, AreScript}
-use Rattle.script_lang.specs.Layout.{IsPassed, HasWords}
+use Rattle.script_lang.specs.Declarations.{DeclareAll}
+use Rattle.script_lang.specs.Grammar.{AreScript}
+use Rattle.script_lang.specs.Phases.{empty_phase, with_turn, with_statement, passes, begins, turns, states, MakeAll}
+use Rattle.script_lang.specs.Layout.{HasWords}
 use Rattle.script_lang.specs.Lines.{line_meaning}
 use Rattle.script_lang.specs.Scripts.{go_on, lines_draft}
-use Rattle.script_lang.proofs.DraftLemmas.{Differ, Holds, holds_first, holds_on, asked_cons, asked_first, joined, onto, onto_nothing, onto_begins, onto_turn, onto_statement}
-use Rattle.script_lang.proofs.LineLemmas.{LineSays, is_passed_over, has_words, line_said, line_passed, line_says}
+use Rattle.script_lang.proofs.DraftLemmas.{Holds, holds_first, holds_on, onto, onto_nothing, onto_begins, onto_turn, onto_statement}
+use Rattle.script_lang.proofs.LineLemmas.{LineSays, is_passed_over, has_words, line_said}
 use Rattle.script_lang.proofs.MeaningLemmas.{Says}
-use Rattle.script_lang.proofs.WordTests.{same_word}
 
 -- ---- one line
 
@@ -147,8 +140,8 @@ from_works cast reads number lines end works = record {
   declared = refl;
   cast_is = works.cast_is ∙ sym (append-nil cast);
   made =
-    let same : number ≡ number + 0 = omega arith in
-    subst (λ (n : ℕ). MakeAll end.cast n lines (works.first ∷ works.others)) same (subst (λ actors. MakeAll actors number lines (works.first ∷ works.others)) (sym works.cast_is) works.made);
+      let same : number ≡ number + 0 = omega arith in
+      subst (λ (n : ℕ). MakeAll end.cast n lines (works.first ∷ works.others)) same (subst (λ actors. MakeAll actors number lines (works.first ∷ works.others)) (sym works.cast_is) works.made);
   phases_are = works.phases_are;
 }
 

@@ -1,6 +1,6 @@
 -- Lines that are a script are read as it, and the first faulty line is found.
-use Rattle.std.proofs.Common.{◌≡◌, ◌≢◌, ℕ, zero, suc, ◌+◌, ◌^◌, ◌<◌, ◌≤◌, nat_lt, Bool, true, false, cond, List, [], ◌∷◌, ◌++◌, length, get_or, Option, Some, None, Result, Ok, Err, refl, sym, ap, subst, ◌∙◌, inl, inr, arith, append_assoc, length-append}
-use Rattle.std.specs.Prelude.{AllPairs, ◌⊎◌}
+use Rattle.std.proofs.Common.{◌≡◌, ℕ, ◌+◌, ◌^◌, ◌<◌, ◌≤◌, nat_lt, Bool, true, false, cond, List, [], ◌∷◌, ◌++◌, length, get_or, Some, None, Result, Ok, Err, refl, sym, ap, subst, ◌∙◌, inl, inr, arith, append_assoc, length-append}
+use Rattle.std.specs.Prelude.{AllPairs}
 use Rattle.std.specs.List.{position_or_len}
 use Rattle.std.proofs.lemmas.Bool.Decides.{nat_tests}
 use Rattle.std.proofs.Math.ListN.{get_or-append}
@@ -13,22 +13,19 @@ use Rattle.script_lang.specs.declared.meaning.Meaning.TheVariants as meaning
 use Rattle.script_lang.specs.declared.script.ActorDecl.{ActorDecl}
 use Rattle.script_lang.specs.declared.script.Phase.{Phase}
 use Rattle.script_lang.specs.declared.script.Script.{Script}
-use Rattle.script_lang.specs.declared.script.Statement.{Statement}
-use Rattle.script_lang.specs.declared.script.Turned.{Turned}
 use Rattle.script_lang.specs.declared.trouble.Kind.{Kind}
 use Rattle.script_lang.specs.ActorNames.{is_word, place_of}
-use Rattle.script_lang.specs.Drafts.{empty_draft, draft_with, script_in, line_draft, after_meaning}
+use Rattle.script_lang.specs.Drafts.{empty_draft, draft_with, script_in, after_meaning}
 use Rattle.script_lang.specs.Faults.{Fault}
-use Rattle.script_lang.specs.Grammar.{DeclareAll, empty_phase, with_turn, with_statement, Makes, passes, begins, turns, states, MakeAll, read_length, asked, AreScript}
-use Rattle.script_lang.specs.Layout.{IsPassed, HasWords}
+use Rattle.script_lang.specs.Declarations.{DeclareAll}
+use Rattle.script_lang.specs.Grammar.{read_length, asked, AreScript}
+use Rattle.script_lang.specs.Phases.{empty_phase, with_turn, with_statement, Makes, passes, begins, turns, states, MakeAll}
 use Rattle.script_lang.specs.Lines.{line_meaning}
 use Rattle.script_lang.specs.Scripts.{go_on, lines_draft}
-use Rattle.script_lang.proofs.DraftLemmas.{Differ, Holds, holds_first, holds_on, asked_cons, asked_first, joined, onto, onto_nothing, onto_begins, onto_turn, onto_statement}
-use Rattle.script_lang.proofs.LineLemmas.{LineSays, is_passed_over, has_words, line_said, line_passed, line_says}
-use Rattle.script_lang.proofs.MeaningLemmas.{Says}
-use Rattle.script_lang.proofs.ScriptLemmas.{step_read, step_again, same_draft, holds_all, early, one_further}
+use Rattle.script_lang.proofs.DraftLemmas.{Differ, asked_cons, asked_first, onto, onto_nothing, onto_begins, onto_turn, onto_statement}
+use Rattle.script_lang.proofs.LineLemmas.{line_passed, line_says}
+use Rattle.script_lang.proofs.ScriptLemmas.{step_read, step_again, same_draft, early, one_further}
 use Rattle.script_lang.proofs.WordTests.{same_word}
-
 
 -- ---- what is a script is read
 
@@ -71,11 +68,11 @@ work_on number line lines d later phases rest some few (turns words turned first
     reached_on number line lines d (meaning.Turns turned) later phases (line_says d.cast d.begun d.reads line words (meaning.Turns turned) has says) refl
     (ap (λ (ps : List Phase). d.phases ++ onto (draft_with number (meaning.Turns turned) d).phase ps) later_is ∙ onto_turn d.phases d.phase first others turned ∙ ap (λ (ps : List Phase). d.phases ++ onto d.phase ps) (sym is))
     (rest (draft_with number (meaning.Turns turned) d) refl (
-      let same : asked phases ≡ asked (with_turn turned first ∷ others) = ap asked is in
-      let one : asked later ≡ asked (first ∷ others) = ap asked later_is in
-      let more = asked_cons first others in
-      let less = asked_cons (with_turn turned first) others in
-      omega arith))
+    let same : asked phases ≡ asked (with_turn turned first ∷ others) = ap asked is in
+    let one : asked later ≡ asked (first ∷ others) = ap asked later_is in
+    let more = asked_cons first others in
+    let less = asked_cons (with_turn turned first) others in
+    omega arith))
 work_on number line lines d later phases rest some few (states words actor stated first others has says later_is is) =
     let same : asked phases ≡ asked (with_statement (record { line = number; actor = actor; statement = stated }) first ∷ others) = ap asked is in
     let one : asked later ≡ asked (first ∷ others) = ap asked later_is in
@@ -147,12 +144,11 @@ script_read lines script are =
     let same : length are.declaring + 1 ≡ 1 + length are.declaring = omega arith in
     let made = subst (λ (n : ℕ). MakeAll script.actors n are.working script.phases) same are.made in
     let some = some_phases script.actors (1 + length are.declaring) are.working script.phases made in
-    let reached = work_again are.working (1 + length are.declaring) (early script.actors 0) script.phases made (let limit = are.limited in omega arith) in
-    (
+    let reached = work_again are.working (1 + length are.declaring) (early script.actors 0) script.phases made (let limit = are.limited in omega arith) in (
       reached.end,
       ap (λ ls. lines_draft 1 ls empty_draft) are.parted ∙ declare_again are.declaring are.working 1 [] 0 script.actors are.declared are.distinct are.few ∙ reached.reads_so,
       same_script reached.end.cast script.actors (reached.end.phases ++ reached.end.phase ∷ []) script.phases reached.cast_is
-      (reached.phases_are ∙ ap (λ (ps : List Phase). onto empty_phase ps) some.2 ∙ sym some.2)
+          (reached.phases_are ∙ ap (λ (ps : List Phase). onto empty_phase ps) some.2 ∙ sym some.2),
     )
 
 -- ---- the first faulty line

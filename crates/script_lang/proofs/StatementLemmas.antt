@@ -1,12 +1,11 @@
 -- Statements: what is read of their words, and how they are written.
-use Rattle.std.proofs.Common.{◌≡◌, ◌≢◌, ℕ, suc, ◌+◌, ◌-◌, ◌^◌, ◌<◌, ◌≤◌, ◌&&◌, nat_le, Bool, true, false, cond, List, [], ◌∷◌, ◌++◌, length, Option, Some, None, Result, Ok, Err, refl, sym, ap, ◌∙◌, inl, inr, arith}
-use Rattle.std.specs.Prelude.{All, codes, ◌⊎◌}
+use Rattle.std.proofs.Common.{◌≡◌, ◌≢◌, ℕ, suc, ◌-◌, ◌^◌, ◌<◌, ◌≤◌, ◌&&◌, nat_le, Bool, true, false, cond, List, [], ◌∷◌, length, Option, Some, None, Result, Ok, Err, refl, sym, ap, ◌∙◌, inl, inr, arith}
+use Rattle.std.specs.Prelude.{codes, ◌⊎◌}
 use Rattle.std.specs.Fmt.{decimal}
 use Rattle.std.specs.List.{AllByRecursion}
 use Rattle.std.proofs.lemmas.Bool.Decides.{nat_tests}
 use Rattle.std.proofs.lemmas.Fmt.{decimal_nonempty}
 use Rattle.plfs_types.specs.Names.{IsLogicalName}
-use Rattle.script_lang.specs.declared.script.Data.{Data}
 use Rattle.script_lang.specs.declared.script.Statement.{Statement}
 use Rattle.script_lang.specs.declared.script.Statement.TheVariants as statement
 use Rattle.script_lang.specs.declared.trouble.Kind.{Kind}
@@ -17,14 +16,14 @@ use Rattle.script_lang.specs.Forms.{Rule, number, file, content, place, Form, op
 use Rattle.script_lang.specs.Names.{is_word, file_name}
 use Rattle.script_lang.specs.Numbers.{number_in, number_or}
 use Rattle.script_lang.specs.Reading.{◌>>=◌}
-use Rattle.script_lang.specs.Spelling.{data_word, IsData, Spells}
+use Rattle.script_lang.specs.Spelling.{data_word, Spells}
 use Rattle.script_lang.specs.Statements.{statement_of}
-use Rattle.script_lang.specs.Verbs.{writer_verb, reader_verb, asking_verb, changing_verb, or_else, verb_of, most_words, least_words, has_words}
+use Rattle.script_lang.specs.Verbs.{writer_verb, reader_verb, asking_verb, or_else, verb_of, most_words, least_words, has_words}
 use Rattle.script_lang.specs.Words.{first_word, later_words}
 use Rattle.script_lang.proofs.DataLemmas.{data_again, data_found}
 use Rattle.script_lang.proofs.FileNames.{name_found, name_again}
 use Rattle.script_lang.proofs.NumberLemmas.{number_found, number_again}
-use Rattle.script_lang.proofs.RuleLemmas.{fault_of, broken, or_then, first_broken, IsSmall}
+use Rattle.script_lang.proofs.RuleLemmas.{fault_of, or_then, first_broken, IsSmall}
 use Rattle.script_lang.proofs.WordTests.{same_word}
 
 -- ---- the words of statements

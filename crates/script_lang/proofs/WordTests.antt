@@ -1,6 +1,6 @@
 -- Tests of words, and what they tell.
-use Rattle.std.proofs.Common.{◌≡◌, ◌≢◌, ℕ, ◌≤◌, ◌<◌, ◌==◌, ◌&&◌, ◌||◌, nat_le, not, Bool, true, false, List, [], ◌∷◌, length, get_or, refl, sym, inl, inr, arith}
-use Rattle.std.specs.Prelude.{All, IsTrue, codes, ◌⊎◌}
+use Rattle.std.proofs.Common.{◌≡◌, ◌≢◌, ℕ, ◌≤◌, ◌&&◌, ◌||◌, nat_le, not, Bool, true, false, List, [], ◌∷◌, length, get_or, refl, sym, inl, inr, arith}
+use Rattle.std.specs.Prelude.{codes, ◌⊎◌}
 use Rattle.std.specs.List.{list_all}
 use Rattle.std.specs.Cmp.Lexicographic.{same_text, other_text}
 use Rattle.std.proofs.lemmas.Bool.Decides.{nat_tests}

@@ -4,10 +4,9 @@ use Rattle.script_lang.specs.declared.draft.Draft.{Draft}
 use Rattle.script_lang.specs.declared.flaw.Flaw.{Flaw}
 use Rattle.script_lang.specs.declared.meaning.Meaning.{Meaning}
 use Rattle.script_lang.specs.declared.meaning.Meaning.TheVariants as meaning
-use Rattle.script_lang.specs.declared.script.Phase.{Phase}
 use Rattle.script_lang.specs.declared.script.Script.{Script}
 use Rattle.script_lang.specs.declared.trouble.Kind.{Kind}
-use Rattle.script_lang.specs.Grammar.{empty_phase}
+use Rattle.script_lang.specs.Phases.{empty_phase}
 use Rattle.script_lang.specs.Lines.{line_meaning}
 use Rattle.script_lang.specs.Ranges.{FitsActor, FitsPhase}
 use Rattle.script_lang.specs.Reading.{Fails}

@@ -1,17 +1,18 @@
 -- The grammar: what is a script, and which fault is the first.
 pub mod ActorNames
+pub mod Conditions
+pub mod Declarations
 pub mod Faults
 pub mod Forms
 pub mod Grammar
 pub mod Kinds
 pub mod Layout
+pub mod Phases
 pub mod Ranges
 pub mod Spelling
 pub mod Told
-
 -- Laws of it.
 pub mod Laws
-
 -- How scripts are read, step by step.
 pub mod Cuts
 pub mod Data
