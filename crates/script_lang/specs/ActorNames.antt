@@ -3,9 +3,11 @@ use Rattle.std.specs.Prelude.{◌≡◌, ◌⊎◌, ℕ, ◌≤◌, ◌&&◌, �
 use Rattle.std.specs.Cmp.Lexicographic.{pointwise}
 use Rattle.script_lang.specs.declared.script.ActorDecl.{ActorDecl}
 
+-- a to z
 abbrev pub is_lower_letter : ℕ → Bool
 is_lower_letter b = nat_le 97 b && nat_le b 122
 
+-- a to z, or 0 to 9
 abbrev pub is_actor_byte : ℕ → Bool
 is_actor_byte b = is_lower_letter b || (nat_le 48 b && nat_le b 57)
 

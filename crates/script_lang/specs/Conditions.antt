@@ -54,6 +54,7 @@ Breaks [] arguments kind = ⊥
 Breaks (rule ∷ rules) [] kind = ⊥
 Breaks (rule ∷ rules) (argument ∷ arguments) kind = ((Keeps rule argument → ⊥) × (kind ≡ kind_of rule)) ⊎ (Keeps rule argument × Breaks rules arguments kind)
 
+-- an argument of the words is outside its rule, and the first such one is of this kind
 abbrev pub HasBreach : List (List ℕ) → Kind → Type 0
 HasBreach words kind = (arguments : List (List ℕ)) × (rules : List Rule) × HasArguments words arguments rules × Breaks rules arguments kind
 

@@ -18,7 +18,8 @@ read_length other = 0
 abbrev pub asked : List Phase → ℕ
 asked phases = sum_by (λ (phase : Phase). sum_by (λ (numbered : Numbered). read_length numbered.statement) phase.statements) phases
 
--- the lines are this script: declarations come before any other line
+-- the lines are this script: at most 256 declarations, of differing names, before any other line, and the lines of phases behind
+-- them, which ask for at most 2^28 bytes
 pub record AreScript (lines : List (List ℕ)) (script : Script) : Type 0 where
   pub declaring : List (List ℕ)
   pub working : List (List ℕ)
@@ -29,7 +30,7 @@ pub record AreScript (lines : List (List ℕ)) (script : Script) : Type 0 where
   pub made : MakeAll script.actors (length declaring + 1) working script.phases
   pub limited : asked script.phases ≤ 2 ^ 28
 
--- the bytes are this script
+-- the bytes are this script, cut into its lines
 pub record IsScript (bytes : List ℕ) (script : Script) : Type 0 where
   pub lines : List (List ℕ)
   pub short : length bytes ≤ 2 ^ 20

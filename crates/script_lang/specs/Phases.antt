@@ -18,7 +18,7 @@ pub record Turns (actors : List ActorDecl) (words : List (List ℕ)) (turned : T
   pub most : turned.count < 2 ^ 32
   pub spelled : words ≡ codes "turn" ∷ whose ∷ decimal turned.count ∷ []
 
--- `A STATEMENT`, of these actors
+-- `A STATEMENT`, of these actors; a keyword begins a line of its own kind
 pub record States (actors : List ActorDecl) (words : List (List ℕ)) (actor : ℕ) (made : Statement) : Type 0 where
   pub whose : List ℕ
   pub behind : List (List ℕ)
@@ -27,13 +27,15 @@ pub record States (actors : List ActorDecl) (words : List (List ℕ)) (actor : �
   pub split : words ≡ whose ∷ behind
   pub spelled : Spells made behind
 
+-- a phase without lines
 abbrev pub empty_phase : Phase
 empty_phase = record { turns = []; statements = [] }
 
--- phases, with a turn line or a statement more at their very front
+-- the phase with one turn line more, in front of its others
 abbrev pub with_turn : Turned → Phase → Phase
 with_turn turned phase = record { turns = turned ∷ phase.turns; statements = phase.statements }
 
+-- and with one statement more
 abbrev pub with_statement : Numbered → Phase → Phase
 with_statement numbered phase = record { turns = phase.turns; statements = numbered ∷ phase.statements }
 
