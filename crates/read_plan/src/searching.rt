@@ -15,7 +15,7 @@ use plain_file::Piece;
 /// How often a place is expected before the search goes on by halves.
 const ROUNDS: usize = 4;
 
-/// The places from `low` up to `high`, and `high` itself.
+/// Where the first piece past a byte may stand: at a place from `low` up to `high`, both counted.
 #[derive(Clone, Copy)]
 struct Bracket {
     low: usize,
