@@ -48,18 +48,23 @@ pub fn plan(
     Ok(parts)
 }
 
+/// For how many parts room is made at first.
+const FEW_PARTS: usize = 4;
+
 /// The parts from byte `at` up to byte `until`.
 fn parts_between(alloc: Global, pieces: &Pieces, at: u64, until: u64) -> Result<PartList, NoMemory>
     requires { at ≤ until }
     ensures runs { AreRuns pieces.now }
     ensures exact { IfOk result (λ parts. parts ≡ filled at until (pieces_in at until pieces.now)) }
 {
-    let mut parts = PartList::new(alloc);
     let pieces = pieces.as_slice();
-    if at < until {
-        let first = first_past(pieces, at);
-        push_parts(&mut parts, &pieces[first..], at, until)?;
+    if at >= until {
+        return Ok(PartList::new(alloc));
     }
+    // A range with bytes has parts, so this asks for no memory without need.
+    let mut parts = PartList::from_vec(Vec::with_capacity(alloc, FEW_PARTS)?);
+    let first = first_past(pieces, at);
+    push_parts(&mut parts, &pieces[first..], at, until)?;
     Ok(parts)
 }
 
