@@ -5,7 +5,7 @@
 //! of a strided file is found at the first look, and each look counts where the pieces take more memory
 //! than the processor's caches.
 
-ghost use Rattle.std.specs.Prelude.{◌≡◌, ℕ, ◌-◌, ◌<◌, ◌≤◌, length, drop};
+ghost use Rattle.std.specs.Prelude.{◌≡◌, ℕ, ◌+◌, ◌-◌, ◌<◌, ◌≤◌, ◌↔◌, IsTrue, length, drop};
 ghost use Rattle.plain_file.specs.Runs.{AreRuns};
 ghost use Rattle.read_plan.specs.Ranges.{pieces_in, EndsPast};
 ghost use Rattle.read_plan.specs.Brackets.{IsBracket};
@@ -38,20 +38,32 @@ pub(crate) fn first_past(pieces: &[Piece], at: u64) -> usize
         if bracket.high - bracket.low < 8 {
             break;
         }
-        bracket = approached(pieces, bracket, at);
+        let expected = expected_place(pieces, bracket, at);
+        // By this branch the processor goes on at the place before the piece has come from memory.
+        if has_byte(&pieces[expected], at) {
+            return expected;
+        }
+        bracket = approached(pieces, bracket, at, expected);
     }
     by_halves(pieces, bracket, at)
 }
 
-/// The bracket after a look at the expected place and, if that was no hit, one as far from it as the
-/// root of the bracket's size, about as far as the place is missed where lengths look like chance.
-fn approached(pieces: &[Piece], bracket: Bracket, at: u64) -> Bracket
+/// Whether the piece has this byte of the file.
+fn has_byte(piece: &Piece, at: u64) -> bool
+    ensures { IsTrue result ↔ ((piece.now.at ≤ at) × (at < piece.now.at + piece.now.len)) }
+{
+    piece.at <= at && at - piece.at < piece.len
+}
+
+/// The bracket after a look at the expected place, and one as far from it as the root of the bracket's
+/// size, about as far as the place is missed where lengths look like chance.
+fn approached(pieces: &[Piece], bracket: Bracket, at: u64, expected: usize) -> Bracket
     requires runs { AreRuns pieces.now }
     requires holds { IsBracket pieces.now at bracket }
-    requires some { bracket.low < bracket.high }
+    requires from { bracket.low ≤ expected }
+    requires until { expected < bracket.high }
     ensures { IsBracket pieces.now at result }
 {
-    let expected = expected_place(pieces, bracket, at);
     let half = narrowed(pieces, bracket, at, expected);
     if half.low == half.high {
         return half;
