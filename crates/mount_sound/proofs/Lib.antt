@@ -23,3 +23,5 @@ pub mod Landing
 pub mod Trees
 pub mod Mounting
 pub mod Fine
+pub mod Growing
+pub mod HasLanded

@@ -5,3 +5,5 @@ pub mod Dropping
 pub mod Kept
 pub mod Sound
 pub mod Issued
+pub mod Growing
+pub mod Landed
