@@ -1,14 +1,11 @@
 -- Droppings stay and only grow, and so does what is issued.
-use Rattle.std.proofs.Common.{◌≡◌, ◌≤◌, ℕ, List, [], ◌∷◌, ◌++◌, length, Option, Some, None, Bool, true, false, nat_eq, refl, ap, sym, ◌∙◌, ◌⊎◌, inl, inr, subst, arith, append_assoc}
-use Rattle.std.specs.Prelude.{slice_get, if◌then◌else◌, ◌&&◌}
+use Rattle.std.proofs.Common.{◌≡◌, ℕ, List, [], ◌∷◌, ◌++◌, Option, Some, None, Bool, true, false, nat_eq, refl, ap, sym, ◌∙◌, ◌⊎◌, inl, inr, subst, arith, append_assoc}
+use Rattle.std.specs.Prelude.{if◌then◌else◌, ◌&&◌}
 use Rattle.std.proofs.lemmas.List.{append-nil}
 use Rattle.plfs_types.specs.declared.entries.Entry.{Entry}
-use Rattle.plfs_types.specs.declared.names.Path.{Path}
 use Rattle.store_api.specs.Acts.{Stored, Acts}
-use Rattle.store_api.specs.declared.tree.Room.{Room}
 use Rattle.store_api.specs.declared.tree.Tree.{Tree}
-use Rattle.store_api.specs.Step.{Step, rooms as all_rooms, list_folder}
-use Rattle.store_laws.specs.Files.{file_at}
+use Rattle.store_api.specs.Step.{Step, rooms as all_rooms}
 use Rattle.store_laws.specs.Naming.{KeepsRooms, Lengthens, OnlyAdds}
 use Rattle.store_laws.specs.Tells.{Tells}
 use Rattle.store_laws.proofs.Lengthening.{lengthens_told}
@@ -31,7 +28,6 @@ use Rattle.mount_model.specs.History.{Event, IsLegal, tree_after}
 use Rattle.mount_model.specs.Leaving.{exit_step}
 use Rattle.mount_model.specs.Looking.{look_step}
 use Rattle.mount_model.specs.Making.{Told, Outcome, Makes, OnWriter, UnlessRefused}
-use Rattle.mount_model.specs.Paths.{openhosts}
 use Rattle.mount_model.specs.State.{State, drawn, timed}
 use Rattle.mount_model.specs.Step.{Answers, IsStep}
 use Rattle.mount_model.specs.Table.{row_of}

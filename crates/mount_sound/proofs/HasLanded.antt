@@ -1,5 +1,5 @@
 -- What has landed in a sound mount was issued.
-use Rattle.std.proofs.Common.{◌≡◌, ◌≤◌, ◌<◌, ◌+◌, ◌*◌, ◌/◌, ◌^◌, ℕ, List, ◌++◌, length, take, Some, refl, ap, sym, ◌∙◌, inl, subst, arith, length-append}
+use Rattle.std.proofs.Common.{◌≡◌, ◌≤◌, ◌<◌, ◌+◌, ◌*◌, ◌/◌, ℕ, List, ◌++◌, length, take, Some, ap, sym, ◌∙◌, inl, subst, arith, length-append}
 use Rattle.std.specs.Prelude.{slice_get, MatchOption}
 use Rattle.std.proofs.lemmas.List.{length-take-le, length-map}
 use Rattle.container_layout.specs.declared.items.Item.TheVariants.{Index}
