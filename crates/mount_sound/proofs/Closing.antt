@@ -195,7 +195,7 @@ meta_told last issued table tree row is counted holders flattenings w told after
 
 -- ---- the checks
 
-open_or_closing : (a : ℕ) → (nat_eq a 4 || nat_eq a 5) ≡ true → (4 ≤ a) × (a < 6)
+pub open_or_closing : (a : ℕ) → (nat_eq a 4 || nat_eq a 5) ≡ true → (4 ≤ a) × (a < 6)
 open_or_closing a e = (grind (arith, nat_tests), grind (arith, nat_tests))
 
 positive : (n : ℕ) → nat_lt 0 (suc n) ≡ false → ⊥

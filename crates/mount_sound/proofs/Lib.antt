@@ -25,3 +25,7 @@ pub mod Mounting
 pub mod Fine
 pub mod Growing
 pub mod HasLanded
+pub mod Undamaged
+pub mod UndamagedLooks
+pub mod UndamagedWriters
+pub mod UndamagedSteps

@@ -30,7 +30,7 @@ pub record IsAccounted (issued : Ledger) (state : State) : Type 0 where
   pub told : state.store.tree ≡ Some tree
   pub right : AreRight (last_id state) issued state.table tree
 
-pub accounted : (issued : Ledger) (state : State) → IsSoundFor issued state → IsAccounted issued state
+abbrev pub accounted : (issued : Ledger) (state : State) → IsSoundFor issued state → IsAccounted issued state
 accounted issued state s = record { tree = s.shape.tree; told = s.shape.told; right = record { sound = s.sound; no_holders = s.no_holders; no_flattenings = s.no_flattenings } }
 
 pub one_tree : (a b : Tree) (o : Option Tree) → o ≡ Some a → o ≡ Some b → a ≡ b

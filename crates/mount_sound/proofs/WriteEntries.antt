@@ -48,7 +48,7 @@ content_push : (issued : List Written) (w : Written) → content (issued ++ w �
 content_push [] w = append-nil w.bytes
 content_push (v ∷ issued) w = ap (λ c. v.bytes ++ c) (content_push issued w) ∙ sym (append_assoc v.bytes (content issued) w.bytes)
 
-length-content : (issued : List Written) → AreFull issued → length (content issued) ≡ logged (entries_in issued)
+pub length-content : (issued : List Written) → AreFull issued → length (content issued) ≡ logged (entries_in issued)
 length-content [] f = refl
 length-content (w ∷ issued) f = omega (arith, length-append w.bytes (content issued), f.0, length-content issued f.1)
 

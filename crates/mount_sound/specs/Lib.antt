@@ -7,3 +7,4 @@ pub mod Sound
 pub mod Issued
 pub mod Growing
 pub mod Landed
+pub mod Damage

@@ -14,6 +14,7 @@ ghost use Rattle.mount_sound.specs.Ledger.{Ledger};
 ghost use Rattle.mount_sound.specs.Items.{HasItem};
 ghost use Rattle.mount_sound.specs.Sound.{IsSoundFor, IsSoundTree, IsFine};
 ghost use Rattle.mount_sound.specs.Landed.{HasLanded};
+ghost use Rattle.mount_sound.specs.Damage.{ShowsNoDamage};
 ghost use Rattle.mount_sound.specs.Growing.{Grows, IssuesMore};
 ghost use Rattle.mount_sound.specs.Issued.{issued, issued_after};
 
@@ -50,6 +51,11 @@ pub fn mounting_is_fine()
 /// A step of the mount whose caller owed no more than it met keeps a fine state fine.
 pub fn fineness_lasts()
     ensures { (old new : State) (caller : ℕ) (ask : Ask) (reply : Reply) → IsOwed ask → IsStep old caller ask reply new → IsFine old → IsFine new }
+{}
+
+/// No step of a sound mount shows damage, whatever fault the store answers.
+pub fn a_sound_mount_shows_no_damage()
+    ensures { (issued : Ledger) (old new : State) (caller : ℕ) (ask : Ask) (reply : Reply) → IsStep old caller ask reply new → IsSoundFor issued old → ShowsNoDamage reply }
 {}
 
 /// The whole entries of each index dropping of a sound mount are the first that its writer issued, and its log begins
