@@ -1,14 +1,14 @@
 -- Calls on containers show no damage in a sound mount.
-use Rattle.std.proofs.Common.{◌≡◌, ◌≤◌, ℕ, List, [], length, take, drop, Option, Some, None, true, false, nat_le, refl, ap, sym, ◌∙◌, inl, inr, subst, arith}
-use Rattle.std.specs.Prelude.{slice_get, Ok, Err, if◌then◌else◌}
+use Rattle.std.proofs.Common.{◌≡◌, ◌≤◌, ℕ, List, [], length, take, drop, Some, true, nat_le, refl, ap, sym, subst, arith}
+use Rattle.std.specs.Prelude.{Ok, Err}
 use Rattle.std.proofs.lemmas.Bool.Decides.{nat_tests}
 use Rattle.std.proofs.lemmas.List.{length-take}
 use Rattle.plfs_types.specs.declared.names.Path.{Path}
 use Rattle.store_api.specs.declared.step.Answer.{Answer}
-use Rattle.store_api.specs.declared.step.Answer.TheVariants.{Made, Old, Absent, NoRoom, NoFolder, NotEmpty, TargetThere, Names, Number, Bytes, Beyond}
+use Rattle.store_api.specs.declared.step.Answer.TheVariants.{Old, Absent, NoRoom, NoFolder, Names, Number, Bytes}
 use Rattle.store_api.specs.declared.store.Trouble.TheVariants.{Fault, NoMemory}
 use Rattle.store_api.specs.declared.tree.Tree.{Tree}
-use Rattle.store_api.specs.Step.{Step, find_room, make_room, rooms as all_rooms, list_folder, length_of, read_at}
+use Rattle.store_api.specs.Step.{find_room, make_room, rooms as all_rooms, list_folder, length_of, read_at}
 use Rattle.store_laws.specs.Says.{WhyNoRoomMade, RoomsTell, FindTells, ListTells, LengthTells, ReadTells}
 use Rattle.store_laws.specs.Tells.{Tells}
 use Rattle.store_laws.proofs.Answering.{rooms_tell, find_tells, list_tells, length_tells, read_tells, look_answered}
@@ -16,7 +16,6 @@ use Rattle.store_laws.proofs.Telling.{acts_told, make_room_told}
 use Rattle.mount_model.specs.declared.call.Look.{Look}
 use Rattle.mount_model.specs.declared.call.Look.TheVariants.{Top, List as ListFolder, Length, Read}
 use Rattle.mount_model.specs.declared.reply.Reply.{Reply}
-use Rattle.mount_model.specs.declared.reply.Reply.TheVariants.{Looked, Damaged}
 use Rattle.mount_model.specs.Finding.{find_outcome, Finds, make_outcome, MakesContainer, RoomsReply, NamesRooms}
 use Rattle.mount_model.specs.Looking.{room_check, look_step, listing_reply, length_reply, read_reply, look_reply, look_outcome, Looks}
 use Rattle.mount_model.specs.Making.{Told, Makes}

@@ -1,6 +1,6 @@
 -- Calls on writers show no damage in a sound mount.
-use Rattle.std.proofs.Common.{◌≡◌, ◌≢◌, ◌≤◌, ◌<◌, ◌*◌, ◌+◌, ◌^◌, ℕ, List, [], ◌∷◌, length, Option, Some, None, Bool, true, false, refl, ap, sym, ◌∙◌, ◌⊎◌, inl, inr, subst, arith}
-use Rattle.std.specs.Prelude.{slice_get, MatchOption, Ok, Err, is_some, ◌||◌, ◌&&◌}
+use Rattle.std.proofs.Common.{◌≡◌, ◌≢◌, ◌≤◌, ◌<◌, ◌*◌, ◌+◌, ◌^◌, ℕ, List, [], ◌∷◌, length, Option, Some, None, Bool, true, false, refl, ap, sym, ◌∙◌, inl, inr, subst, arith}
+use Rattle.std.specs.Prelude.{slice_get, MatchOption, Ok, Err, is_some, ◌||◌}
 use Rattle.std.specs.List.{Any}
 use Rattle.std.proofs.lemmas.List.Folds.{list_any-from_Any}
 use Rattle.plfs_types.specs.declared.entries.Entry.{Entry}
@@ -9,7 +9,7 @@ use Rattle.index_entry.specs.Spelling.{spelling_all}
 use Rattle.container_layout.specs.declared.items.Item.TheVariants.{OpenHost}
 use Rattle.container_layout.specs.Paths.{hostdir_of}
 use Rattle.store_api.specs.declared.step.Answer.{Answer}
-use Rattle.store_api.specs.declared.step.Answer.TheVariants.{Made, Old, Absent, NoRoom, NoFolder, NotEmpty, TargetThere, Names, Number, Bytes, Beyond}
+use Rattle.store_api.specs.declared.step.Answer.TheVariants.{Made, Old, NoRoom, NoFolder, Names}
 use Rattle.store_api.specs.declared.store.Trouble.TheVariants.{Fault, NoMemory}
 use Rattle.store_api.specs.declared.tree.Room.{Room}
 use Rattle.store_api.specs.declared.tree.Tree.{Tree}
@@ -19,9 +19,9 @@ use Rattle.store_api.specs.Step.{list_folder, sync}
 use Rattle.store_laws.specs.Files.{file_at}
 use Rattle.store_laws.specs.Differ.{is_listed}
 use Rattle.store_laws.specs.Prefix.{IsPrefix}
-use Rattle.store_laws.specs.Says.{WhyNoFolderMade, WhyNotCreated, WhyNoFile, WhyNotWritten, ListTells, SyncTells}
-use Rattle.store_laws.specs.Tells.{Tells, made}
-use Rattle.store_laws.specs.There.{LacksFolder, LacksFile, HoldsFile, EndsBefore, ListsFolder}
+use Rattle.store_laws.specs.Says.{WhyNoFolderMade, WhyNotCreated, WhyNoFile, ListTells, SyncTells}
+use Rattle.store_laws.specs.Tells.{Tells}
+use Rattle.store_laws.specs.There.{LacksFolder, HoldsFile, EndsBefore, ListsFolder}
 use Rattle.store_laws.proofs.Answering.{list_tells, sync_tells, look_answered}
 use Rattle.store_laws.proofs.Naming.{name_refl}
 use Rattle.store_laws.proofs.Overwriting.{prefix_length}
@@ -38,7 +38,7 @@ use Rattle.mount_model.specs.Leaving.{put_meta_check, put_meta_step, put_meta_ou
 use Rattle.mount_model.specs.Making.{Told, otherwise, Makes, UnlessRefused}
 use Rattle.mount_model.specs.Paths.{Name, openhosts, metadata, truncs, open_path, index_path, log_path, meta_path}
 use Rattle.mount_model.specs.State.{State, Table, last_id, drawn, timed}
-use Rattle.mount_model.specs.Table.{row_of, rank, only, may_close, is_live}
+use Rattle.mount_model.specs.Table.{rank, only, may_close, is_live}
 use Rattle.mount_model.specs.Writing.{write_check, stamp_at, write_step, write_outcome, WritesAt, Writes}
 use Rattle.mount_model.proofs.Deciding.{IsHeld, at_only, may_enter}
 use Rattle.mount_model.proofs.Tables.{row_of_all}
@@ -49,11 +49,11 @@ use Rattle.mount_shape.proofs.Items.{id_fits}
 use Rattle.mount_shape.proofs.Trees.{container_at, shape_of}
 use Rattle.mount_sound.specs.Damage.{ShowsNoDamage}
 use Rattle.mount_sound.specs.Kept.{Begins, IsAtStage, IsKept}
-use Rattle.mount_sound.specs.Ledger.{Written, entries_in, content, Ledger}
-use Rattle.mount_sound.specs.Dropping.{bytes_of, log_bytes}
+use Rattle.mount_sound.specs.Ledger.{entries_in, content, Ledger}
+use Rattle.mount_sound.specs.Dropping.{bytes_of}
 use Rattle.mount_sound.specs.Sound.{IsSoundFor}
 use Rattle.mount_sound.proofs.Closing.{open_or_closing}
-use Rattle.mount_sound.proofs.Entering.{IsNew, new_id}
+use Rattle.mount_sound.proofs.Entering.{new_id}
 use Rattle.mount_sound.proofs.Items.{is_open}
 use Rattle.mount_sound.proofs.Live.{Own}
 use Rattle.mount_sound.proofs.Making.{accounted}
