@@ -72,14 +72,7 @@ fn left(rt: &impl Abort, mount: &mut Tried, writer: u64, dead: bool) {
     }
 }
 
-fn measures(
-    rt: &impl Abort,
-    mount: &mut Tried,
-    room: u64,
-    folder: &str,
-    file: &str,
-    want: u64,
-) {
+fn measures(rt: &impl Abort, mount: &mut Tried, room: u64, folder: &str, file: &str, want: u64) {
     let path = Path {
         folder: name(rt, folder),
         file: name(rt, file),

@@ -107,7 +107,12 @@ fn the_last_serial_ends_the_ids(rt: HostRuntime) -> Result<(), Fail> {
                 host: 0,
                 cap: 64,
             });
-            assert!(rt; matches!(answer(&mut mount, &enter), Reply::Refused(Refusal::IdsSpent)));
+            assert!(rt;
+                matches!(
+                    answer(&mut mount, &enter),
+                    Reply::Refused(Refusal::IdsSpent)
+                )
+            );
         }
         Err(_) => assert!(rt; false, "the store is mounted"),
     }
