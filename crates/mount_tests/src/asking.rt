@@ -41,7 +41,7 @@ pub fn clock(alloc: Global) -> Result<ListClock, NoMemory> {
 pub fn block(rt: &impl Abort, alloc: Global) -> Result<Block, Fail> {
     match Block::new(Bytes::copy(alloc, b"ABCD".as_slice())?) {
         Ok(block) => Ok(block),
-        Err(_) => {
+        Err(_failed) => {
             assert!(rt; false, "four bytes are a block");
             Err(Fail::from(NoMemory))
         }
@@ -77,7 +77,7 @@ pub fn mounted(
             assert!(rt; matches!(trouble, MountTrouble::Fault));
             match Mount::open(alloc, store, clock(alloc)?) {
                 Ok(mount) => Ok(mount),
-                Err(_) => {
+                Err(_failed) => {
                     assert!(rt; false, "the second try succeeds");
                     Err(Fail::from(NoMemory))
                 }

@@ -31,11 +31,11 @@ fn marked(rt: &impl Abort, alloc: Global, marks: &[&str]) -> Result<MemoryStore,
 
 fn trouble(rt: &impl Abort, alloc: Global, store: MemoryStore) -> Result<MountTrouble, Fail> {
     match Mount::open(alloc, store, clock(alloc)?) {
-        Ok(_) => {
+        Ok(_mount) => {
             assert!(rt; false, "the store is not mounted");
             Ok(MountTrouble::NoMemory)
         }
-        Err((_, trouble)) => Ok(trouble),
+        Err((_store, trouble)) => Ok(trouble),
     }
 }
 
@@ -43,7 +43,7 @@ fn trouble(rt: &impl Abort, alloc: Global, store: MemoryStore) -> Result<MountTr
 fn draws(rt: &impl Abort, alloc: Global, marks: &[&str], want: u32) -> Result<(), Fail> {
     match Mount::open(alloc, marked(rt, alloc, marks)?, clock(alloc)?) {
         Ok(mount) => assert_eq!(rt; mount.number(), want),
-        Err(_) => assert!(rt; false, "the store is mounted"),
+        Err(_failed) => assert!(rt; false, "the store is mounted"),
     }
     Ok(())
 }
@@ -114,7 +114,7 @@ fn the_last_serial_ends_the_ids(rt: HostRuntime) -> Result<(), Fail> {
                 )
             );
         }
-        Err(_) => assert!(rt; false, "the store is mounted"),
+        Err(_failed) => assert!(rt; false, "the store is mounted"),
     }
     Ok(())
 }
@@ -126,7 +126,7 @@ fn a_mount_crosses_threads(rt: HostRuntime) -> Result<(), Fail> {
     let alloc = rt.alloc();
     match Mount::open(alloc, sound(alloc)?, clock(alloc)?) {
         Ok(mount) => crosses(mount),
-        Err(_) => assert!(rt; false, "the store is mounted"),
+        Err(_failed) => assert!(rt; false, "the store is mounted"),
     }
     Ok(())
 }
