@@ -1,8 +1,9 @@
 //! The whole of a run: words, input, script, mount, work, output, status.
-ghost use Rattle.std.specs.Prelude.{◌≡◌, ◌≢◌, ◌⊎◌, ◌∷◌, ℕ, List, [], true, Some, All, Ok, Err, IfOk, option_map};
+ghost use Rattle.std.specs.Prelude.{◌≡◌, ◌≢◌, ◌⊎◌, ◌∷◌, ℕ, List, [], true, Some, All, IfOk, option_map};
 ghost use Rattle.std.specs.Bool.{OnTrue, OnFalse};
 ghost use Rattle.plfs_types.specs.Counts.{HasRisen};
-ghost use Rattle.script_lang.specs.Scripts.{script_of};
+ghost use Rattle.script_lang.specs.Faults.{HasFault};
+ghost use Rattle.script_lang.specs.Grammar.{IsScript};
 ghost use Rattle.report_text.specs.Text.{text_of, HaveText};
 ghost use Rattle.plfs_program.specs.Built.{IsBuiltScript};
 ghost use Rattle.plfs_program.specs.Course.{Course, InputCourse, ends_of, play_words};
@@ -216,7 +217,7 @@ fn end_faulty<S: Store, O: Sink>(
     out: &mut O,
     store: S,
 ) -> Ended<S>
-    ensures { (bytes : List ℕ) → script_of bytes ≡ Err (record { line = line; kind = kind }) → InputCourse bytes (ends_of (O.taking out.old) (O.taking out.new) (S.stored store) (option_map S.stored result.store)) result.status }
+    ensures { (bytes : List ℕ) → HasFault bytes (record { line = line; kind = kind }) → InputCourse bytes (ends_of (O.taking out.old) (O.taking out.new) (S.stored store) (option_map S.stored result.store)) result.status }
 {
     let Ok(text) = fault_line(alloc, line, kind) else {
         return starved(store);
@@ -236,7 +237,7 @@ fn play_script<S: Store, C: Clock, O: Sink>(
     store: S,
     clock: &mut C,
 ) -> Ended<S>
-    ensures { (bytes : List ℕ) → script_of bytes ≡ Ok script.now → InputCourse bytes (ends_of (O.taking out.old) (O.taking out.new) (S.stored store) (option_map S.stored result.store)) result.status }
+    ensures { (bytes : List ℕ) → IsScript bytes script.now → InputCourse bytes (ends_of (O.taking out.old) (O.taking out.new) (S.stored store) (option_map S.stored result.store)) result.status }
 {
     let Some(statements) = built(script) else {
         say(out, UNBUILT);
