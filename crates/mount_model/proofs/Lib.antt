@@ -6,4 +6,5 @@ pub mod Rows
 pub mod Outcomes
 pub mod Lasting
 pub mod Holding
+pub mod Replying
 pub mod Beginning

@@ -13,6 +13,7 @@ pub mod Leaving
 pub mod Step
 pub mod Regular
 pub mod Places
+pub mod Replies
 pub mod History
 pub mod Mounting
 pub mod Codes

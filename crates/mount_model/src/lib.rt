@@ -11,6 +11,9 @@ mod reply;
 mod row;
 
 pub use call::{Ask, Call, Look};
-pub use laws::{mounting_is_regular, place_lasts, regular_lasts};
+pub use laws::{
+    faults_have_causes, mounting_is_regular, mounting_lowers_no_count, place_lasts, regular_lasts,
+    replies_fit,
+};
 pub use reply::{Refusal, Reply};
 pub use row::{FlatStage, Flattening, Holder, Row, Stage};
