@@ -9,7 +9,11 @@ pub enum Stuck {
     Fault,
     /// This file has, at this byte, what no sound container has there. A missing file, a foreign name and a reply that
     /// tells of damage have place 0.
-    Damaged { folder: Name, file: Name, place: u64 },
+    Damaged {
+        folder: Name,
+        file: Name,
+        place: u64,
+    },
     /// The mount refused a call.
     Refused(Refusal),
 }

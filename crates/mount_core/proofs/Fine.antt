@@ -22,16 +22,16 @@ not_at_most a b e = grind (arith, nat_tests)
 
 pub fine : (row : Row) (at len : ℕ) → 1 ≤ len → write_check row at len ≡ None → IsFine row at len
 fine row at len some e =
-    let a = if_none (nat_lt (2 ^ 40) (at + len) || nat_lt (2 ^ 56) (row.stored + len)) _ _ e in
-    let b = neither (nat_lt (2 ^ 40) (at + len)) (nat_lt (2 ^ 56) (row.stored + len)) a.0 in
-    let c = if_none (nat_le (2 ^ 63 - 1) row.last || nat_le (2 ^ 63 - 1) row.floor) _ _ a.1 in
-    let d = neither (nat_le (2 ^ 63 - 1) row.last) (nat_le (2 ^ 63 - 1) row.floor) c.0 in
-    let f = if_none (nat_le row.pending.capacity (length row.pending.entries)) _ _ c.1 in
+    let by_size = if_none (nat_lt (2 ^ 40) (at + len) || nat_lt (2 ^ 56) (row.stored + len)) _ _ e in
+    let sizes = neither (nat_lt (2 ^ 40) (at + len)) (nat_lt (2 ^ 56) (row.stored + len)) by_size.0 in
+    let by_stamp = if_none (nat_le (2 ^ 63 - 1) row.last || nat_le (2 ^ 63 - 1) row.floor) _ _ by_size.1 in
+    let stamps = neither (nat_le (2 ^ 63 - 1) row.last) (nat_le (2 ^ 63 - 1) row.floor) by_stamp.0 in
+    let by_room = if_none (nat_le row.pending.capacity (length row.pending.entries)) _ _ by_stamp.1 in
     record {
       some = some;
-      near = not_below (2 ^ 40) (at + len) b.0;
-      small = not_below (2 ^ 56) (row.stored + len) b.1;
-      last = not_at_most (2 ^ 63 - 1) row.last d.0;
-      floor = not_at_most (2 ^ 63 - 1) row.floor d.1;
-      room = not_at_most row.pending.capacity (length row.pending.entries) f.0;
+      near = not_below (2 ^ 40) (at + len) sizes.0;
+      small = not_below (2 ^ 56) (row.stored + len) sizes.1;
+      last = not_at_most (2 ^ 63 - 1) row.last stamps.0;
+      floor = not_at_most (2 ^ 63 - 1) row.floor stamps.1;
+      room = not_at_most row.pending.capacity (length row.pending.entries) by_room.0;
     }

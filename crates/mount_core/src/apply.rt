@@ -7,7 +7,8 @@ use mount_model::{Ask, Call, Reply};
 use store_api::Store;
 
 impl<S: Store + Drop, C: Clock + Drop> Mount<S, C> {
-    /// Makes the caller's call, which is a check and at most one act.
+    /// Makes the caller's call, which is a check and at most one act. A caller owes a capacity of 1 to 4096 where it
+    /// enters a writer, and stops no call.
     pub fn apply(&mut self, caller: u64, ask: &Ask) -> Reply
         requires { IsOwed ask.now }
         ensures { IsStep self.old caller ask.now result self.new }

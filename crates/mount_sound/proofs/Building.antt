@@ -24,6 +24,7 @@ use Rattle.mount_model.specs.Paths.{Name, index_path, log_path}
 use Rattle.mount_model.specs.Regular.{IsRegular}
 use Rattle.mount_model.specs.State.{State, Table, last_id}
 use Rattle.mount_model.specs.Table.{with_row, rank, only, at_stage}
+use Rattle.mount_model.proofs.Deciding.{at_only}
 use Rattle.mount_sound.specs.Ledger.{Written, entries_in, Ledger}
 use Rattle.mount_sound.specs.Kept.{Begins, IsAtStage, IsKept}
 use Rattle.mount_sound.specs.Sound.{AreSound}
@@ -31,7 +32,7 @@ use Rattle.mount_sound.proofs.Frames.{Fits}
 use Rattle.mount_sound.proofs.Items.{SameButItem, same_but_item, is_index, is_open}
 use Rattle.mount_sound.proofs.Live.{Own, own_kept, had_meta_but, has_meta_but, had_trunc_but}
 use Rattle.mount_sound.proofs.Making.{AreRight, IsAccounted, makes_accounted}
-use Rattle.mount_sound.proofs.Stages.{on_writer, working, only_rank, live_stage, kept_at, own_at}
+use Rattle.mount_sound.proofs.Stages.{on_writer, working, live_stage, kept_at, own_at}
 use Rattle.mount_sound.proofs.Working.{Working, Holds, Turned, turned_same, turned_put, spares, works_on, turns, its_fit, its_kept, its_stage, its_own}
 
 -- what the table becomes
@@ -147,6 +148,6 @@ pub index_keeps : (issued : Ledger) (old : State) (caller writer : ℕ) (reply :
 index_keeps issued old caller writer reply new r f a =
     on_writer issued old caller (only stage.Housed) writer reply new (λ row. Makes (index_step row) (build_outcome stage.Indexed (hostdir_of row.host) (index_path row.host row.id).file row old.table) old reply new) f a
     (λ row stands at makes.
-    let is : rank row.stage ≡ 2 = only_rank stage.Housed row.stage at in
+    let is : rank row.stage ≡ 2 = at_only stage.Housed row.stage at in
     makes_accounted (index_step row) (build_outcome stage.Indexed (hostdir_of row.host) (index_path row.host row.id).file row old.table) (λ x. issued) old reply new a.tree a.told
     (index_told (last_id old) issued old.table a.tree row is a.right.no_holders a.right.no_flattenings (working issued old writer row r a stands (omega arith))) makes)

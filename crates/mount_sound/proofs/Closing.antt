@@ -26,6 +26,7 @@ use Rattle.mount_model.specs.Paths.{meta_path}
 use Rattle.mount_model.specs.Regular.{IsRegular, IsCounted}
 use Rattle.mount_model.specs.State.{State, Table, last_id, put}
 use Rattle.mount_model.specs.Table.{with_row, rank, may_close}
+use Rattle.mount_model.proofs.Tables.{row_of_all}
 use Rattle.mount_sound.specs.Items.{HasItem, HasMeta}
 use Rattle.mount_sound.specs.Ledger.{Written, entries_in, content, Ledger}
 use Rattle.mount_sound.specs.Dropping.{IsToldOf}
@@ -36,7 +37,6 @@ use Rattle.mount_sound.proofs.Items.{SameButItem, same_but_item, is_index, is_lo
 use Rattle.mount_sound.proofs.Live.{Own, one_host_kept, log_kept, had_trunc_but}
 use Rattle.mount_sound.proofs.Making.{AreRight, IsAccounted, makes_accounted}
 use Rattle.mount_sound.proofs.Stages.{on_writer, unless_refused, working}
-use Rattle.mount_sound.proofs.Tables.{of_row}
 use Rattle.mount_sound.proofs.Working.{Working, Holds, Turned, turned_put, spares, works_on, turns, its_fit, its_kept, its_stage, its_own}
 
 -- the metadata dropping of the row
@@ -195,7 +195,7 @@ meta_told last issued table tree row is counted holders flattenings w told after
 
 -- ---- the checks
 
-open_or_closing : (a : ℕ) → (nat_eq a 4 || nat_eq a 5) ≡ true → (4 ≤ a) × (a < 6)
+pub open_or_closing : (a : ℕ) → (nat_eq a 4 || nat_eq a 5) ≡ true → (4 ≤ a) × (a < 6)
 open_or_closing a e = (grind (arith, nat_tests), grind (arith, nat_tests))
 
 positive : (n : ℕ) → nat_lt 0 (suc n) ≡ false → ⊥
@@ -219,4 +219,4 @@ meta_keeps issued old caller writer reply new r f a =
     (λ none makes.
     let is : IsClosing row = record { far = far.0; live = far.1; flushed = nothing row.pending.entries none } in
     makes_accounted (put_meta_step row) (put_meta_outcome row old.table) (λ x. issued) old reply new a.tree a.told
-    (meta_told (last_id old) issued old.table a.tree row is (of_row IsCounted writer old.table.writers row r.counted stands) a.right.no_holders a.right.no_flattenings w) makes))
+    (meta_told (last_id old) issued old.table a.tree row is (row_of_all IsCounted writer old.table.writers row r.counted stands) a.right.no_holders a.right.no_flattenings w) makes))

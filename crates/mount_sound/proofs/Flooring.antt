@@ -30,6 +30,7 @@ use Rattle.mount_model.specs.Paths.{Name, truncs}
 use Rattle.mount_model.specs.Regular.{IsRegular}
 use Rattle.mount_model.specs.State.{State, Table, last_id, put}
 use Rattle.mount_model.specs.Table.{with_row, rank, only}
+use Rattle.mount_model.proofs.Deciding.{at_only}
 use Rattle.mount_sound.specs.Entries.{AreInOrder}
 use Rattle.mount_sound.specs.Items.{HasItem}
 use Rattle.mount_sound.specs.Ledger.{Written, entries_in, Ledger}
@@ -38,7 +39,7 @@ use Rattle.mount_sound.specs.Sound.{AreSound}
 use Rattle.mount_sound.proofs.Building.{not_closing}
 use Rattle.mount_sound.proofs.Live.{Own}
 use Rattle.mount_sound.proofs.Making.{AreRight, IsAccounted}
-use Rattle.mount_sound.proofs.Stages.{on_writer, working, only_rank}
+use Rattle.mount_sound.proofs.Stages.{on_writer, working}
 use Rattle.mount_sound.proofs.Working.{Working, Holds, turned_put, turns, its_kept, its_stage, its_own}
 
 -- a name that is listed has what all of them have
@@ -122,5 +123,5 @@ pub floor_keeps : (issued : Ledger) (old : State) (caller writer : ℕ) (reply :
 floor_keeps issued old caller writer reply new r f a =
     on_writer issued old caller (only stage.Entered) writer reply new (λ row. FloorsRow row old reply new) f a
     (λ row stands at does.
-    let is : rank row.stage ≡ 0 = only_rank stage.Entered row.stage at in
+    let is : rank row.stage ≡ 0 = at_only stage.Entered row.stage at in
     floors_row issued old row reply new a is (working issued old writer row r a stands (omega arith)) does)

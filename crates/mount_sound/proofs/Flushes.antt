@@ -25,6 +25,7 @@ use Rattle.mount_model.specs.Paths.{index_path}
 use Rattle.mount_model.specs.Regular.{IsRegular}
 use Rattle.mount_model.specs.State.{State, Table, last_id}
 use Rattle.mount_model.specs.Table.{with_row, rank, only}
+use Rattle.mount_model.proofs.Deciding.{at_only}
 use Rattle.mount_sound.specs.Ledger.{Written, entries_in, Ledger}
 use Rattle.mount_sound.specs.Kept.{Begins, IsAtStage, IsKept}
 use Rattle.mount_sound.specs.Sound.{AreSound}
@@ -34,7 +35,7 @@ use Rattle.mount_sound.proofs.Items.{SameButItem, same_but_item, is_index, is_lo
 use Rattle.mount_sound.proofs.Live.{Own, own_kept, had_meta_but, has_meta_but, had_trunc_but}
 use Rattle.mount_sound.proofs.Making.{AreRight, IsAccounted, makes_accounted, accounted_as}
 use Rattle.mount_sound.proofs.Orders.{take_all, drop_past}
-use Rattle.mount_sound.proofs.Stages.{on_writer, working, only_rank, live_stage}
+use Rattle.mount_sound.proofs.Stages.{on_writer, working, live_stage}
 use Rattle.mount_sound.proofs.Working.{Working, Holds, Turned, turned_same, turned_put, spares, works_on, its_fit, its_kept, its_stage, its_own}
 
 -- any first bytes of the pending entries leave a beginning of the issued ones
@@ -144,5 +145,5 @@ pub flush_keeps : (issued : Ledger) (old : State) (caller writer : ℕ) (reply :
 flush_keeps issued old caller writer reply new r f a =
     on_writer issued old caller (only stage.Open) writer reply new (λ row. FlushesRow row row.pending.entries old reply new) f a
     (λ row stands at does.
-    let is : rank row.stage ≡ 4 = only_rank stage.Open row.stage at in
+    let is : rank row.stage ≡ 4 = at_only stage.Open row.stage at in
     flush_row issued old row row.pending.entries reply new a is (working issued old writer row r a stands (omega arith)) does)

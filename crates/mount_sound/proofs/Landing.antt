@@ -35,7 +35,7 @@ prefix_same : (a b c : List ℕ) → IsPrefix b c → IsPrefix (a ++ b) (a ++ c)
 prefix_same [] b c p = p
 prefix_same (x ∷ a) b c p = (refl, prefix_same a b c p)
 
-content_take : (n : ℕ) (issued : List Written) → IsPrefix (content (take n issued)) (content issued)
+pub content_take : (n : ℕ) (issued : List Written) → IsPrefix (content (take n issued)) (content issued)
 content_take zero [] = tt
 content_take zero (w ∷ issued) = tt
 content_take (suc n) [] = tt
@@ -105,16 +105,16 @@ landed_in issued (Some room) writers writer = elim (cases_lt writer (2 ^ 64)) as
 ]
 
 -- it is what has landed of them
-pub record HasLanded (room : Room) (writer : ℕ) (issued landed : List Written) : Type 0 where
+pub record IsLandedPart (room : Room) (writer : ℕ) (issued landed : List Written) : Type 0 where
   pub of : IsWriter room writer issued
   pub is : landed ≡ take of.landed issued
 
-has_landed : (issued : ℕ → List Written) (found : Option Room) (writers : (room : Room) → found ≡ Some room → (writer : ℕ) → writer < 2 ^ 64 → IsWriter room writer (issued writer)) (room : Room) → found ≡ Some room → (writer : ℕ) → writer < 2 ^ 64 → HasLanded room writer (issued writer) (landed_in issued found writers writer)
+has_landed : (issued : ℕ → List Written) (found : Option Room) (writers : (room : Room) → found ≡ Some room → (writer : ℕ) → writer < 2 ^ 64 → IsWriter room writer (issued writer)) (room : Room) → found ≡ Some room → (writer : ℕ) → writer < 2 ^ 64 → IsLandedPart room writer (issued writer) (landed_in issued found writers writer)
 has_landed issued None writers room e writer fits = absurd (cc)
 has_landed issued (Some r) writers room e writer fits =
     let same : r ≡ room = cc in
-    subst (λ x. HasLanded x writer (issued writer) (landed_in issued (Some r) writers writer)) same
-    (elim (cases_lt writer (2 ^ 64)) as (λ c. HasLanded r writer (issued writer) (elim c as (λ _. List Written) [ inl small ↦ take (writers r refl writer small).landed (issued writer) | inr past ↦ [] ])) [
+    subst (λ x. IsLandedPart x writer (issued writer) (landed_in issued (Some r) writers writer)) same
+    (elim (cases_lt writer (2 ^ 64)) as (λ c. IsLandedPart r writer (issued writer) (elim c as (λ _. List Written) [ inl small ↦ take (writers r refl writer small).landed (issued writer) | inr past ↦ [] ])) [
       | inl small ↦ record { of = writers r refl writer small; is = refl }
       | inr past ↦ absurd (omega (arith, past, fits))
     ])

@@ -23,3 +23,9 @@ pub mod Landing
 pub mod Trees
 pub mod Mounting
 pub mod Fine
+pub mod Growing
+pub mod HasLanded
+pub mod Undamaged
+pub mod UndamagedLooks
+pub mod UndamagedWriters
+pub mod UndamagedSteps

@@ -18,7 +18,7 @@ use Rattle.mount_sound.specs.Kept.{IsKept}
 use Rattle.mount_sound.specs.Sound.{IsSoundRoom, AreSoundRooms, AreSound}
 use Rattle.mount_sound.proofs.Items.{SameFor}
 use Rattle.mount_sound.proofs.Frames.{Fits, writer_frame, kept_frame, truncates_frame}
-use Rattle.mount_sound.proofs.Tables.{row_of_id}
+use Rattle.mount_model.proofs.Tables.{row_of_id}
 
 -- every row's numbers are those of items
 abbrev pub AllFit : List Row → Type 0

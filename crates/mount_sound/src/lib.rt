@@ -8,6 +8,7 @@
 mod laws;
 
 pub use laws::{
-    a_left_tree_is_sound, an_empty_tree_is_sound, fineness_lasts, mounting_is_fine,
-    mounting_is_sound, soundness_lasts, steps_keep_soundness,
+    a_left_tree_is_sound, a_sound_mount_shows_no_damage, an_empty_tree_is_sound, files_only_grow,
+    fineness_lasts, issues_only_grow, mounting_is_fine, mounting_is_sound, soundness_lasts,
+    steps_keep_soundness, what_landed_was_issued,
 };

@@ -25,7 +25,8 @@ use Rattle.script_lang.proofs.DeclarationLemmas.{refused_is, line_of, short_line
 use Rattle.script_lang.proofs.KindLemmas.{of_arguments, IsPlace, small_host_and_cap, turn_rules, small_turns, same_kind, fault_so}
 use Rattle.script_lang.proofs.MeaningLemmas.{Full, of_other, two_up}
 use Rattle.script_lang.proofs.RuleLemmas.{fault_of, or_then, faulty, breach_is_first}
-use Rattle.script_lang.proofs.StatementLemmas.{word_of, rules_of, least_of, small_rules, form_of, form_verb, verb_known, verb_word, counted, wrong_count, reading, first_fault, read_of}
+use Rattle.script_lang.proofs.StatementLemmas.{reading, first_fault, read_of}
+use Rattle.script_lang.proofs.VerbLemmas.{word_of, rules_of, least_of, small_rules, form_of, form_verb, verb_known, verb_word, counted, wrong_count}
 
 -- the reading has a fault: of this kind, or of one before it
 abbrev pub Falls : Result Meaning Kind → Kind → Type 0

@@ -26,7 +26,8 @@ use Rattle.script_lang.specs.Verbs.{verb_of, has_words}
 use Rattle.script_lang.proofs.DeclarationLemmas.{refused_so, line_of, short_line, long_line, host_and_cap, declared_fault}
 use Rattle.script_lang.proofs.MeaningLemmas.{Full, is_actor, is_phase, is_turn, is_other, first_is, of_other, two_up}
 use Rattle.script_lang.proofs.RuleLemmas.{fault_of, first_broken, IsSmall, breaks}
-use Rattle.script_lang.proofs.StatementLemmas.{rules_of, least_of, small_rules, form_of, verb_word, no_verb, counted, miscounted, reading, first_fault, spells}
+use Rattle.script_lang.proofs.StatementLemmas.{reading, first_fault, spells}
+use Rattle.script_lang.proofs.VerbLemmas.{rules_of, least_of, small_rules, form_of, verb_word, no_verb, counted, miscounted}
 
 -- ---- the kinds of arguments
 

@@ -23,7 +23,8 @@ use Rattle.script_lang.specs.Spoken.{spoken}
 use Rattle.script_lang.specs.Verbs.{verb_of, has_words}
 use Rattle.script_lang.proofs.DeclarationLemmas.{accepted, line_of, short_line, long_line, declared_so, declared_again}
 use Rattle.script_lang.proofs.NumberLemmas.{number_found, number_again}
-use Rattle.script_lang.proofs.StatementLemmas.{word_of, verb_known, verb_word, counted, reading, spells, read_of}
+use Rattle.script_lang.proofs.StatementLemmas.{reading, spells, read_of}
+use Rattle.script_lang.proofs.VerbLemmas.{word_of, verb_known, verb_word, counted}
 use Rattle.script_lang.proofs.WordTests.{same_word, other_word, word_differs}
 
 -- ---- the kinds of lines

@@ -168,3 +168,18 @@ fn want_of_memory_ends_a_machine(rt: HostRuntime) -> Result<(), Fail> {
     assert!(rt; sync.take(Reply::NoMemory).is_err());
     Ok(())
 }
+
+fn crosses<T: Send>(_value: &T) {}
+
+#[test]
+fn machines_cross_threads(rt: HostRuntime) -> Result<(), Fail> {
+    let block = Block::new(Bytes::copy(rt.alloc(), b"x")?)
+        .ok()
+        .ok_or("a block")?;
+    let name = LogicalName::read(b"ckpt").ok_or("a name")?;
+    crosses(&OpenWrite::new(name, 7, 2));
+    crosses(&WriteFlow::new(handle_of(2, false, 5), 3, block));
+    crosses(&SyncFlow::new(handle_of(2, false, 5)));
+    crosses(&CloseFlow::new(handle_of(2, false, 5)));
+    Ok(())
+}

@@ -3,4 +3,6 @@ mod Steps
 mod Own
 mod Histories
 mod Machines
+mod Closes
+mod Opens
 mod Counts

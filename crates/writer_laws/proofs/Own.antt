@@ -7,18 +7,18 @@ use Rattle.mount_model.specs.declared.reply.Reply.TheVariants as reply
 use Rattle.mount_model.specs.declared.row.Row.{Row}
 use Rattle.mount_model.specs.declared.row.Stage.{Stage}
 use Rattle.mount_model.specs.declared.row.Stage.TheVariants as stage
-use Rattle.mount_model.specs.Table.{row_of, with_row, writer_of, only, is_live}
+use Rattle.mount_model.specs.Table.{row_of, with_row, writer_of, only, may_close, is_live}
 use Rattle.mount_model.specs.State.{State, Table, put}
 use Rattle.mount_model.specs.Making.{Makes, UnlessRefused}
 use Rattle.mount_model.specs.Writing.{write_check, write_outcome, stamp_at, wrote as with_write, WritesAt}
 use Rattle.mount_model.specs.Flushing.{flushed, FlushesRow, sync_log_step, sync_log_outcome, sync_index_step, sync_index_outcome}
-use Rattle.mount_model.specs.Leaving.{exit_check, exit_step, exit_outcome}
+use Rattle.mount_model.specs.Leaving.{closing, closed, put_meta_check, put_meta_step, put_meta_outcome, exit_check, exit_step, exit_outcome}
 use Rattle.mount_model.specs.Step.{Answers}
 use Rattle.plfs_types.specs.declared.entries.Entry.{Entry}
 use Rattle.writer_laws.specs.Counting.{wrote, entries_of, StaysAt}
 use Rattle.writer_laws.specs.Knowing.{HasRow}
 use Rattle.writer_laws.proofs.Rows.{row_of_id, row_of-put, held_row, some_eq}
-use Rattle.writer_laws.proofs.Steps.{on_writer, unless_refused, flush_table, sync_log_table, sync_index_table, write_table}
+use Rattle.writer_laws.proofs.Steps.{on_writer, unless_refused, flush_table, sync_log_table, sync_index_table, write_table, meta_table, exit_table}
 
 has_same : (me w : ℕ) (row : Row) (old new : State) → HasRow me w row old → new.table ≡ old.table → HasRow me w row new
 has_same me w row old new h t = record { there = subst (λ (s : Table). row_of w s.writers ≡ Some row) (sym t) h.there; owned = h.owned }
@@ -149,6 +149,60 @@ write_own me w row at block old rep new h a = elim (on_writer me (only stage.Ope
   | inr (r, e, u) ↦ elim (unless_refused (write_check r at (length block)) old rep new (WritesAt r at block old rep new) u) as (λ _. WroteOwn me w row rep new) [
     | inl (why, refused) ↦ unwritten me w row rep old new h (ap (λ (s : State). s.table) refused.1) (subst (λ x. wrote x ≡ 0) (sym refused.0) refl)
     | inr f ↦ write_found me w row at block old rep new r h e (found me w row old (only stage.Open) r h e) f
+  ]
+]
+
+-- the caller asked for the metadata dropping
+pub record MetaOwn (me w : ℕ) (row : Row) (new : State) : Type 0 where
+  pub after : Row
+  pub has : HasRow me w after new
+  pub total : entries_of after ≡ entries_of row
+  pub pending : length after.pending.entries ≡ length row.pending.entries
+
+meta_same : (me w : ℕ) (row : Row) (old new : State) → HasRow me w row old → new.table ≡ old.table → MetaOwn me w row new
+meta_same me w row old new h t = record { after = row; has = has_same me w row old new h t; total = refl; pending = refl }
+
+meta_put : (me w : ℕ) (row : Row) (old new : State) (r x : Row) → writer_of me may_close w old.table.writers ≡ Some r → r ≡ row → x.id ≡ r.id → x.owner ≡ r.owner → entries_of x ≡ entries_of r → length x.pending.entries ≡ length r.pending.entries → new.table ≡ put x old.table → MetaOwn me w row new
+meta_put me w row old new r x e is same_id same_owner same_total same_pending t = record {
+  after = x;
+  has = has_put me w old new may_close r x e same_id same_owner t;
+  total = same_total ∙ ap (λ (y : Row). entries_of y) is;
+  pending = same_pending ∙ ap (λ (y : Row). length y.pending.entries) is;
+}
+
+pub put_meta_own : (me w : ℕ) (row : Row) (old : State) (rep : Reply) (new : State) → HasRow me w row old → Answers old me (call.PutMeta w) rep new → MetaOwn me w row new
+put_meta_own me w row old rep new h a = elim (on_writer me may_close w old rep new (λ r. UnlessRefused (put_meta_check r) old rep new (Makes (put_meta_step r) (put_meta_outcome r old.table) old rep new)) a) as (λ _. MetaOwn me w row new) [
+  | inl refused ↦ meta_same me w row old new h (ap (λ (s : State). s.table) refused.1)
+  | inr (r, e, u) ↦ elim (unless_refused (put_meta_check r) old rep new (Makes (put_meta_step r) (put_meta_outcome r old.table) old rep new) u) as (λ _. MetaOwn me w row new) [
+    | inl (why, refused) ↦ meta_same me w row old new h (ap (λ (s : State). s.table) refused.1)
+    | inr m ↦
+        let t : new.table ≡ (put_meta_outcome r old.table m.told).table = ap (λ (s : State). s.table) m.after in
+        let is : r ≡ row = found me w row old may_close r h e in
+        elim (meta_table r old.table m.told) as (λ _. MetaOwn me w row new) [
+          | inl put_is ↦ meta_put me w row old new r (closed r) e is refl refl refl refl (t ∙ put_is)
+          | inr rest ↦ elim rest as (λ _. MetaOwn me w row new) [
+            | inl put_is ↦ meta_put me w row old new r (closing r) e is refl refl refl refl (t ∙ put_is)
+            | inr same ↦ meta_same me w row old new h (t ∙ same)
+          ]
+        ]
+  ]
+]
+
+-- a caller whose leaving neither was made nor failed has its writer as before
+pub exit_own : (me w : ℕ) (row : Row) (old : State) (rep : Reply) (new : State) → HasRow me w row old → Answers old me (call.Exit w) rep new → rep ≢ reply.Done → rep ≢ reply.Fault → HasRow me w row new
+exit_own me w row old rep new h a not_done not_fault = elim (on_writer me is_live w old rep new (λ r. UnlessRefused (exit_check r) old rep new (Makes (exit_step r) (exit_outcome r old.table) old rep new)) a) as (λ _. HasRow me w row new) [
+  | inl refused ↦ has_same me w row old new h (ap (λ (s : State). s.table) refused.1)
+  | inr (r, e, u) ↦ elim (unless_refused (exit_check r) old rep new (Makes (exit_step r) (exit_outcome r old.table) old rep new) u) as (λ _. HasRow me w row new) [
+    | inl (why, refused) ↦ has_same me w row old new h (ap (λ (s : State). s.table) refused.1)
+    | inr m ↦
+        let t : new.table ≡ (exit_outcome r old.table m.told).table = ap (λ (s : State). s.table) m.after in
+        elim (exit_table r old.table m.told) as (λ _. HasRow me w row new) [
+          | inl (said, is) ↦ absurd (not_done (m.answered ∙ said))
+          | inr rest ↦ elim rest as (λ _. HasRow me w row new) [
+            | inl (said, is) ↦ absurd (not_fault (m.answered ∙ said))
+            | inr same ↦ has_same me w row old new h (t ∙ same)
+          ]
+        ]
   ]
 ]
 

@@ -107,9 +107,11 @@ make_table table (Ok (Number room)) = refl
 make_table table (Ok (Old room)) = refl
 make_table table told = refl
 
-enter_table : (row : Row) (table : Table) (told : Told) → ((enter_outcome row table told).table.writers ≡ table.writers ++ row ∷ []) ⊎ ((enter_outcome row table told).table ≡ table)
-enter_table row table (Ok Made) = inl refl
-enter_table row table told = inr refl
+pub enter_table : (row : Row) (table : Table) (told : Told) → (((enter_outcome row table told).reply ≡ reply.Entered row.id) × ((enter_outcome row table told).table.writers ≡ table.writers ++ row ∷ [])) ⊎ (((n : ℕ) → (enter_outcome row table told).reply ≡ reply.Entered n → ⊥) × ((enter_outcome row table told).table ≡ table))
+enter_table row table (Ok Made) = inl (refl, refl)
+enter_table row table (Err Fault) = inr (λ n e. cc, refl)
+enter_table row table (Err NoMemory) = inr (λ n e. cc, refl)
+enter_table row table told = inr (λ n e. cc, refl)
 
 build_table : (s : Stage) (folder file : Name) (row : Row) (table : Table) (told : Told) → ((build_outcome s folder file row table told).table ≡ put (at_stage s row) table) ⊎ ((build_outcome s folder file row table told).table ≡ table)
 build_table s folder file row table (Ok Made) = inl refl
@@ -138,15 +140,15 @@ write_table stamp row at len table (Err Fault) = inr (refl, refl)
 write_table stamp row at len table (Err NoMemory) = inr (refl, refl)
 write_table stamp row at len table told = inr (refl, refl)
 
-meta_table : (row : Row) (table : Table) (told : Told) → ((put_meta_outcome row table told).table ≡ put (closed row) table) ⊎ (((put_meta_outcome row table told).table ≡ put (closing row) table) ⊎ ((put_meta_outcome row table told).table ≡ table))
+pub meta_table : (row : Row) (table : Table) (told : Told) → ((put_meta_outcome row table told).table ≡ put (closed row) table) ⊎ (((put_meta_outcome row table told).table ≡ put (closing row) table) ⊎ ((put_meta_outcome row table told).table ≡ table))
 meta_table row table (Ok Made) = inl refl
 meta_table row table (Ok (Old room)) = inl refl
 meta_table row table (Err NoMemory) = inr (inr refl)
 meta_table row table told = inr (inl refl)
 
-exit_table : (row : Row) (table : Table) (told : Told) → (((exit_outcome row table told).reply ≡ reply.Done) × ((exit_outcome row table told).table ≡ take_out row.id table)) ⊎ (((exit_outcome row table told).table ≡ put (at_stage stage.Dead row) table) ⊎ ((exit_outcome row table told).table ≡ table))
+pub exit_table : (row : Row) (table : Table) (told : Told) → (((exit_outcome row table told).reply ≡ reply.Done) × ((exit_outcome row table told).table ≡ take_out row.id table)) ⊎ ((((exit_outcome row table told).reply ≡ reply.Fault) × ((exit_outcome row table told).table ≡ put (at_stage stage.Dead row) table)) ⊎ ((exit_outcome row table told).table ≡ table))
 exit_table row table (Ok Made) = inl (refl, refl)
-exit_table row table (Err Fault) = inr (inl refl)
+exit_table row table (Err Fault) = inr (inl (refl, refl))
 exit_table row table told = inr (inr refl)
 
 -- ---- calls
@@ -247,7 +249,7 @@ exits_row_kept me w row caller id old rep new r step h e m stays =
             others = λ o. refl;
           }
       | inr rest ↦ elim rest as (λ _. Kept me w row caller 0 new) [
-        | inl is ↦ kept_plain me w row caller old new is_live id r (at_stage stage.Dead r) h e refl refl refl (inl (t ∙ is))
+        | inl (failed, is) ↦ kept_plain me w row caller old new is_live id r (at_stage stage.Dead r) h e refl refl refl (inl (t ∙ is))
         | inr is ↦ kept_same me w row caller 0 old new h (t ∙ is) refl
       ]
     ]
@@ -258,7 +260,7 @@ enters_kept me w row caller room host most old rep new h f = elim f.does as (λ 
       let mine : Row = entered old caller room host most in
       let t : new.table ≡ (enter_outcome mine old.table m.told).table = ap (λ (s : State). s.table) m.after in
       elim (enter_table mine old.table m.told) as (λ _. Kept me w row caller 0 new) [
-        | inl is ↦
+        | inl (said, is) ↦
             let rows : new.table.writers ≡ old.table.writers ++ mine ∷ [] = ap (λ (s : Table). s.writers) t ∙ is in
             record {
               after = row;
@@ -266,7 +268,7 @@ enters_kept me w row caller room host most old rep new h f = elim f.does as (λ 
               total = omega arith;
               others = λ o. refl;
             }
-        | inr is ↦ kept_same me w row caller 0 old new h (t ∙ is) refl
+        | inr (said, is) ↦ kept_same me w row caller 0 old new h (t ∙ is) refl
       ]
   | inr (said, same) ↦ kept_same me w row caller 0 old new h (ap (λ (s : State). s.table) same) refl
 ]
