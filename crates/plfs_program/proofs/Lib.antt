@@ -1,12 +1,12 @@
 mod CourseLemmas
+mod Driving
+mod Machines
+mod ListingLemmas
+mod MarkLaws
+mod MountLemmas
 mod EntryLemmas
 mod InputLemmas
 mod LineLemmas
-mod ListingLemmas
 mod LogLemmas
-mod MarkLaws
-mod MarkLemmas
 mod OutputLemmas
 mod Played
-mod StepLemmas
-mod Unmounted

@@ -1,58 +1,76 @@
 -- Listed marks decide what a mounting says.
-use Rattle.std.proofs.Common.{ℕ, zero, suc, ◌≡◌, ◌-◌, ◌<◌, ◌^◌, List, [], ◌∷◌, take, slice_get, Option, Some, None, refl, sym, ap, subst, ◌∙◌, inl, inr, arith}
+use Rattle.std.proofs.Common.{ℕ, ◌≡◌, ◌≢◌, ◌-◌, ◌≤◌, ◌<◌, ◌^◌, List, Option, Some, None, refl, sym, ap, subst, ◌∙◌, inl, inr, arith}
 use Rattle.std.specs.Fmt.{decimal}
-use Rattle.std.specs.List.{AllByRecursion}
-use Rattle.std.proofs.lemmas.Bool.{cases_lt}
-use Rattle.std.proofs.lemmas.List.Elements.{All-from_recursion, All-contains}
+use Rattle.std.specs.List.{All, Any}
+use Rattle.std.specs.Ordering.{nat_cmp, ordering_reverse}
+use Rattle.std.specs.Str.Parse.{AllDigits, digits_value}
+use Rattle.std.specs.Cmp.Lexicographic.{slice_cmp, nat_list_cmp_total, texts_ties, same_text}
+use Rattle.std.specs.declared.cmp.Ordering.{Ordering}
+use Rattle.std.specs.declared.cmp.Ordering.TheVariants.{Less, Equal, Greater}
+use Rattle.std.specs.Ordering.{is_eq}
+use Rattle.std.proofs.lemmas.Fmt.{digits_value-decimal}
+use Rattle.std.proofs.lemmas.List.Elements.{All-contains}
+use Rattle.std.proofs.lemmas.Str.Parse.{IsNumeralModel, numerals_by_value, tells_digits}
 use Rattle.store_api.specs.Step.{Name}
-use Rattle.plfs_program.specs.Mounting.{IsAnyMark, IsMarkUpTo, IsForeign, IsGreatest, IsFirstForeign, AreSpent, AreDamagedAt, HaveNext}
-use Rattle.plfs_program.proofs.MarkLemmas.{any_marks, above_greatest}
+use Rattle.mount_model.specs.Paths.{mark_name}
+use Rattle.mount_model.specs.Mounting.{IsGreatestMark}
+use Rattle.plfs_program.specs.Mounting.{IsForeign, IsLeastForeign, AreSpent, AreDamagedAt, HaveNext}
 
-at_place : {X : Type 0} (P : X → Type 0) (xs : List X) (i : ℕ) (x : X) → AllByRecursion P xs → slice_get xs i ≡ Some x → P x
-at_place P [] i x all is = cc
-at_place P (y ∷ ys) zero x (one, rest) is = let same : y ≡ x = cc in subst P same one
-at_place P (y ∷ ys) (suc i) x (one, rest) is = at_place P ys i x rest is
+own : IsNumeralModel (AllDigits 10) (digits_value 10)
+own = numerals_by_value (AllDigits 10) tells_digits
 
-in_front : {X : Type 0} (xs : List X) (n i : ℕ) (x : X) → slice_get xs i ≡ Some x → i < n → slice_get (take n xs) i ≡ Some x
-in_front [] n i x is less = cc
-in_front (y ∷ ys) zero i x is less = absurd (omega arith)
-in_front (y ∷ ys) (suc n) zero x is less = is
-in_front (y ∷ ys) (suc n) (suc i) x is less = in_front ys n i x is (omega arith)
+decimal_same : (a b : ℕ) → a < 2 ^ 64 → b < 2 ^ 64 → decimal a ≡ decimal b → a ≡ b
+decimal_same a b a_fits b_fits same = sym (digits_value-decimal own a a_fits) ∙ ap (digits_value 10) same ∙ digits_value-decimal own b b_fits
 
-no_mark : (name : Name) → IsForeign name → IsAnyMark name → ⊥
-no_mark name foreign (number, mark) = foreign number mark
+-- the name is a mark of at most this number
+abbrev pub IsUpTo : ℕ → Name → Type 0
+IsUpTo greatest name = (n : ℕ) × (1 ≤ n) × (n ≤ greatest) × (name ≡ mark_name n)
 
-none_foreign : (names : List Name) (greatest : ℕ) (name : Name) → IsGreatest names greatest → IsFirstForeign names name → ⊥
-none_foreign names greatest name all first = no_mark name first.foreign (at_place IsAnyMark names first.count name (any_marks greatest names all.marks) first.behind)
+-- no mark up to the greatest has a greater number
+pub above_greatest : (name : Name) (greatest number : ℕ) → IsUpTo greatest name → name ≡ decimal number → greatest < number → number < 2 ^ 32 → ⊥
+above_greatest name greatest number (other, some, below, named) is above fits =
+    let same : other ≡ number = decimal_same other number (omega arith) (omega arith) (sym named ∙ is) in
+    omega arith
+
+-- what holds of all names holds of the one that was found
+of_found : (P Q : Name → Type 0) (names : List Name) → All P names → Any Q names → (name : Name) × P name × Q name
+of_found P Q names all any = (any.1, All-contains P names any.1 all (any.0, any.2, any.3), any.4)
+
+none_foreign : (names : List Name) (greatest : ℕ) (name : Name) → greatest < 2 ^ 32 → IsGreatestMark names greatest → IsLeastForeign names name → ⊥
+none_foreign names greatest name fits all least =
+    let (other, (n, some, below, named), is) = of_found (IsUpTo greatest) (λ x. x ≡ name) names all.marks least.there in
+    least.foreign n (record { named = sym is ∙ named; positive = some; fits = omega arith })
 
 pub spent_or_next : (marks : Option (List Name)) → AreSpent marks → HaveNext marks → ⊥
 spent_or_next None spent next = spent
-spent_or_next (Some names) spent (greatest, all, less) = elim spent.listed [
-  | inl none ↦ omega (arith, none)
-  | inr there ↦ above_greatest (decimal (2 ^ 32 - 1)) greatest (2 ^ 32 - 1) (All-contains (IsMarkUpTo greatest) names (decimal (2 ^ 32 - 1)) (All-from_recursion (IsMarkUpTo greatest) names all.marks) there) refl less (omega arith)
+spent_or_next (Some names) spent (greatest, all, less) = elim spent.reached [
+  | inl none ↦ omega (arith, none.1)
+  | inr there ↦ (let (name, up, is) = of_found (IsUpTo greatest) (λ x. x ≡ mark_name (2 ^ 32 - 1)) names all.marks there in above_greatest name greatest (2 ^ 32 - 1) up is less (omega arith))
 ]
 
 pub spent_or_damaged : (marks : Option (List Name)) (name : Name) → AreSpent marks → AreDamagedAt name marks → ⊥
 spent_or_damaged None name spent damaged = spent
-spent_or_damaged (Some names) name spent damaged = none_foreign names (2 ^ 32 - 1) name spent damaged
+spent_or_damaged (Some names) name spent damaged = none_foreign names (2 ^ 32 - 1) name (omega arith) spent damaged
 
 pub next_or_damaged : (marks : Option (List Name)) (name : Name) → HaveNext marks → AreDamagedAt name marks → ⊥
 next_or_damaged None name next damaged = next
-next_or_damaged (Some names) name (greatest, all, less) damaged = none_foreign names greatest name all damaged
+next_or_damaged (Some names) name (greatest, all, less) damaged = none_foreign names greatest name (omega arith) all damaged
 
-not_before : (names : List Name) (a b : Name) → (first : IsFirstForeign names a) → (second : IsFirstForeign names b) → first.count < second.count → ⊥
-not_before names a b first second less =
-    no_mark a first.foreign (at_place IsAnyMark (take second.count names) first.count a second.marks (in_front names second.count first.count a first.behind less))
+-- neither of two names is before the other, so they are one
+tied : (a b : Name) (r s : Ordering) → slice_cmp nat_cmp a b ≡ r → slice_cmp nat_cmp b a ≡ s → r ≡ ordering_reverse s → r ≢ Greater → s ≢ Greater → a ≡ b
+tied a b Equal s ab ba reverse r_not s_not = same_text a b (sym (texts_ties a b ∙ ap is_eq ab))
+tied a b Greater s ab ba reverse r_not s_not = absurd (r_not refl)
+tied a b Less Less ab ba reverse r_not s_not = absurd (cc)
+tied a b Less Equal ab ba reverse r_not s_not = absurd (cc)
+tied a b Less Greater ab ba reverse r_not s_not = absurd (s_not refl)
 
-one_place : (names : List Name) (a b : Name) (i j : ℕ) → i ≡ j → slice_get names i ≡ Some a → slice_get names j ≡ Some b → a ≡ b
-one_place names a b i j same first second = let both : slice_get names i ≡ slice_get names j = ap (λ n. slice_get names n) same in cc
+not_after : (names : List Name) (a b : Name) → IsLeastForeign names a → IsLeastForeign names b → slice_cmp nat_cmp a b ≢ Greater
+not_after names a b first second =
+    let (name, least, is) = of_found (λ other. IsForeign other → slice_cmp nat_cmp a other ≢ Greater) (λ x. x ≡ b) names first.least second.there in
+    let P : Name → Type 0 = λ x. IsForeign x → slice_cmp nat_cmp a x ≢ Greater in
+    subst P is least second.foreign
 
 pub one_name : (marks : Option (List Name)) (a b : Name) → AreDamagedAt a marks → AreDamagedAt b marks → a ≡ b
 one_name None a b first second = first ∙ sym second
-one_name (Some names) a b first second = elim (cases_lt first.count second.count) [
-  | inl less ↦ absurd (not_before names a b first second less)
-  | inr most ↦ elim (cases_lt second.count first.count) [
-    | inl less ↦ absurd (not_before names b a second first less)
-    | inr least ↦ one_place names a b first.count second.count (omega arith) first.behind second.behind
-  ]
-]
+one_name (Some names) a b first second =
+    tied a b (slice_cmp nat_cmp a b) (slice_cmp nat_cmp b a) refl refl (nat_list_cmp_total.antisymm a b) (not_after names a b first second) (not_after names b a second first)

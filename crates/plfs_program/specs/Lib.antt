@@ -1,6 +1,6 @@
 pub mod Built
 pub mod Course
-pub mod Drawing
+pub mod Ending
 pub mod Entries
 pub mod Faults
 pub mod Input

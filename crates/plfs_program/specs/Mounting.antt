@@ -1,15 +1,22 @@
 -- The marks of the mounts before, and what a mounting says of them.
-use Rattle.std.specs.Prelude.{ℕ, ◌≡◌, ◌-◌, ◌≤◌, ◌<◌, ◌^◌, ◌⊎◌, List, [], take, find, slice_get, Contains, Option, Some, None, IfSome, option_and_then, if◌then◌else◌, codes}
+use Rattle.std.specs.Prelude.{ℕ, ◌≡◌, ◌≢◌, ◌-◌, ◌≤◌, ◌<◌, ◌^◌, List, [], ◌∷◌, find, slice_get, Option, Some, None, IfSome, option_and_then, if◌then◌else◌, codes}
 use Rattle.std.specs.Fmt.{decimal}
-use Rattle.std.specs.List.{AllByRecursion}
+use Rattle.std.specs.List.{All, Any}
+use Rattle.std.specs.Ordering.{nat_cmp}
+use Rattle.std.specs.Cmp.Lexicographic.{slice_cmp}
+use Rattle.std.specs.declared.cmp.Ordering.TheVariants.{Greater}
 use Rattle.store_api.specs.declared.tree.Room.{Room}
 use Rattle.store_api.specs.declared.tree.Tree.{Tree}
 use Rattle.store_api.specs.Names.{same_name}
 use Rattle.store_api.specs.Room.{has_folder, listing}
 use Rattle.store_api.specs.Step.{Name}
+use Rattle.script_lang.specs.declared.line.Line.{Line}
 use Rattle.script_lang.specs.declared.line.Outcome.{Outcome}
 use Rattle.script_lang.specs.declared.line.Outcome.TheVariants.{Refused, Fault, Damaged}
 use Rattle.script_lang.specs.declared.line.Why.TheVariants.{MountsSpent}
+use Rattle.mount_model.specs.Mounting.{IsGreatestMark}
+use Rattle.mount_core.specs.declared.trouble.MountTrouble.{MountTrouble}
+use Rattle.mount_core.specs.declared.trouble.MountTrouble.TheVariants as trouble
 
 -- the room of the marks
 abbrev pub marks_room : Name
@@ -47,39 +54,41 @@ IsForeign name = (number : ℕ) → ¬ (IsMark name number)
 abbrev pub IsAnyMark : Name → Type 0
 IsAnyMark name = (number : ℕ) × IsMark name number
 
--- a mark of at most this number
-abbrev pub IsMarkUpTo : ℕ → Name → Type 0
-IsMarkUpTo greatest name = (number : ℕ) × IsMark name number × (number ≤ greatest)
-
--- each name is a mark, and this is the greatest number, or 0 where there is no name
-pub record IsGreatest (names : List Name) (greatest : ℕ) : Type 0 where
-  pub marks : AllByRecursion (IsMarkUpTo greatest) names
-  pub listed : (greatest ≡ 0) ⊎ Contains names (decimal greatest)
-
--- the first name that is no mark, behind so many marks
-pub record IsFirstForeign (names : List Name) (name : Name) : Type 0 where
-  pub count : ℕ
-  pub behind : slice_get names count ≡ Some name
-  pub marks : AllByRecursion IsAnyMark (take count names)
+-- of these names the least one in byte order that is no mark
+pub record IsLeastForeign (names : List Name) (name : Name) : Type 0 where
+  pub there : Any (λ other. other ≡ name) names
   pub foreign : IsForeign name
+  pub least : All (λ other. IsForeign other → slice_cmp nat_cmp name other ≢ Greater) names
 
 -- a mounting finds all marks, the greatest of them the last number
 abbrev pub AreSpent : Option (List Name) → Type 0
 AreSpent None = ⊥
-AreSpent (Some names) = IsGreatest names (2 ^ 32 - 1)
+AreSpent (Some names) = IsGreatestMark names (2 ^ 32 - 1)
 
 -- it finds a name that is no mark, or finds no folder, which is told by the empty name
 abbrev pub AreDamagedAt : Name → Option (List Name) → Type 0
 AreDamagedAt name None = name ≡ []
-AreDamagedAt name (Some names) = IsFirstForeign names name
+AreDamagedAt name (Some names) = IsLeastForeign names name
 
 -- it finds all marks, and a number is left
 abbrev pub HaveNext : Option (List Name) → Type 0
 HaveNext None = ⊥
-HaveNext (Some names) = (greatest : ℕ) × IsGreatest names greatest × (greatest < 2 ^ 32 - 1)
+HaveNext (Some names) = (greatest : ℕ) × IsGreatestMark names greatest × (greatest < 2 ^ 32 - 1)
 
 -- What a mounting says where it breaks off. Where the store told its tree before, its marks are the reason.
 pub data BreaksOff (told : Option Tree) (outcome : Outcome) : Type 0 where
   fault : outcome ≡ Fault → BreaksOff told outcome
   spent : outcome ≡ Refused MountsSpent → IfSome told (λ tree. AreSpent (listed_marks tree)) → BreaksOff told outcome
   damaged : (name : Name) → outcome ≡ Damaged mounts name 0 → IfSome told (λ tree. AreDamagedAt name (listed_marks tree)) → BreaksOff told outcome
+
+-- what line 0 says of a mounting that broke off: nothing of want of memory
+abbrev pub unmounted_of : MountTrouble → Option Outcome
+unmounted_of (trouble.Damaged file) = Some (Damaged mounts file 0)
+unmounted_of trouble.NoMarks = Some (Damaged mounts [] 0)
+unmounted_of trouble.Spent = Some (Refused MountsSpent)
+unmounted_of trouble.Fault = Some Fault
+unmounted_of trouble.NoMemory = None
+
+-- the one line of a mounting that broke off
+abbrev pub IsUnmounted : MountTrouble → List Line → Type 0
+IsUnmounted trouble lines = (outcome : Outcome) × (unmounted_of trouble ≡ Some outcome) × (lines ≡ (record { number = 0; outcome = outcome }) ∷ [])

@@ -1,12 +1,17 @@
--- What it means for a mounting that it ended early.
-use Rattle.std.specs.Prelude.{◌≡◌, List, [], Option, Some, None}
-use Rattle.store_api.specs.Step.{Name}
+-- Why work ends early.
+use Rattle.std.specs.Prelude.{Option, Some, None}
 use Rattle.script_lang.specs.declared.line.Outcome.{Outcome}
 use Rattle.script_lang.specs.declared.line.Outcome.TheVariants as outcomes
-use Rattle.script_lang.specs.declared.line.Why.TheVariants.{MountsSpent}
+use Rattle.script_lang.specs.declared.line.Why.{Why}
+use Rattle.script_lang.specs.declared.line.Why.TheVariants as why
+use Rattle.mount_model.specs.declared.reply.Refusal.{Refusal}
+use Rattle.mount_model.specs.declared.reply.Refusal.TheVariants as refusal
+use Rattle.mount_model.specs.declared.reply.Reply.{Reply}
+use Rattle.mount_model.specs.declared.reply.Reply.TheVariants as reply
+use Rattle.flow.specs.declared.trouble.Stuck as machine
+use Rattle.flow.specs.declared.trouble.Stuck.TheVariants as of_machine
 use Rattle.plfs_program.specs.declared.stuck.Stuck.{Stuck}
 use Rattle.plfs_program.specs.declared.stuck.Stuck.TheVariants.{Refused, Damaged, Fault, NoMemory}
-use Rattle.plfs_program.specs.Mounting.{mounts, AreSpent, AreDamagedAt}
 
 -- what a line says of it: nothing of want of memory
 abbrev pub outcome_of : Stuck → Option Outcome
@@ -15,27 +20,27 @@ outcome_of (Damaged folder file place) = Some (outcomes.Damaged folder file plac
 outcome_of Fault = Some outcomes.Fault
 outcome_of NoMemory = None
 
--- what alone a mounting is refused for, and what alone is damaged in it
-abbrev pub IsOfMounting : Stuck → Type 0
-IsOfMounting (Refused why) = why ≡ MountsSpent
-IsOfMounting (Damaged folder file place) = (folder ≡ mounts) × (place ≡ 0)
-IsOfMounting Fault = Unit {0}
-IsOfMounting NoMemory = Unit {0}
+-- what a line says of a refusal; the last three come of no call that an actor makes
+abbrev pub why_of : Refusal → Why
+why_of refusal.NoRoom = why.NoFile
+why_of refusal.Held = why.Held
+why_of refusal.TooFar = why.TooFar
+why_of refusal.StampsSpent = why.StampsSpent
+why_of refusal.IdsSpent = why.IdsSpent
+why_of refusal.NotOpen = why.NotOpen
+why_of refusal.Full = why.NotOpen
+why_of refusal.NotFlushed = why.NotOpen
+why_of refusal.NoMeta = why.NotOpen
 
--- there is no folder of the marks
-abbrev pub no_marks : Stuck
-no_marks = Damaged mounts [] 0
+-- the trouble that a reply is
+abbrev pub stuck_of : Reply → Stuck
+stuck_of (reply.Refused because) = Refused (why_of because)
+stuck_of (reply.Damaged folder file) = Damaged folder file 0
+stuck_of reply.NoMemory = NoMemory
+stuck_of other = Fault
 
--- the store failed, or memory was refused
-abbrev pub IsOfStore : Stuck → Type 0
-IsOfStore (Refused why) = ⊥
-IsOfStore (Damaged folder file place) = ⊥
-IsOfStore Fault = Unit {0}
-IsOfStore NoMemory = Unit {0}
-
--- these marks are why
-abbrev pub IsFor : Option (List Name) → Stuck → Type 0
-IsFor marks (Refused why) = AreSpent marks
-IsFor marks (Damaged folder file place) = AreDamagedAt file marks
-IsFor marks Fault = Unit {0}
-IsFor marks NoMemory = Unit {0}
+-- the trouble of a machine
+abbrev pub machine_stuck : machine.Stuck → Stuck
+machine_stuck (of_machine.Refused because) = Refused (why_of because)
+machine_stuck (of_machine.Damaged folder file place) = Damaged folder file place
+machine_stuck of_machine.Fault = Fault

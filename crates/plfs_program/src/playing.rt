@@ -1,5 +1,6 @@
 //! The statements of a script, one after the other.
-ghost use Rattle.std.specs.Prelude.{◌≡◌, ◌||◌, true, All, Some, IfOk, IsErrOf};
+ghost use Rattle.std.specs.Prelude.{◌≡◌, ◌||◌, true, false, All, Some, IfOk, IsErrOf};
+ghost use Rattle.plfs_program.specs.Ending.{ends_well};
 ghost use Rattle.report_text.specs.Text.{ListsLogicalNames, HaveText};
 ghost use Rattle.plfs_program.specs.Lines.{IsPlayed, IsAnswer, AreInTurn, is_fault, is_damage, has_line};
 ghost use Rattle.plfs_program.specs.Stuck.{outcome_of};

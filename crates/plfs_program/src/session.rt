@@ -3,7 +3,9 @@ ghost use Rattle.std.specs.Prelude.{◌≡◌, ◌≤◌, ◌⊎◌, true, Bool,
 ghost use Rattle.plfs_types.specs.Counts.{next_count};
 ghost use Rattle.mount_model.specs.declared.reply.Reply.TheVariants.{Fault as Faulted};
 ghost use Rattle.mount_model.specs.Step.{OwedBy};
-ghost use Rattle.mount_model.specs.Replies.{Fits};
+ghost use Rattle.mount_model.specs.Replies.{Fits, HasItsCause};
+ghost use Rattle.flow.specs.Standing.{IsFresh};
+ghost use Rattle.plfs_program.specs.Ending.{EndsFrom};
 
 use crate::stuck::Stuck;
 use edge_io::Clock;
@@ -23,6 +25,24 @@ pub(crate) struct Session<S: Store + Drop, C: Clock + Drop> {
     faulted: bool,
     ghost never_falls: { mount.opened.faults ≤ mount.store.faults },
     ghost cause: { faulted ≡ true → next_count mount.opened.faults ≤ mount.store.faults },
+}
+
+// Makes the one actor's call.
+fn apply<S: Store + Drop, C: Clock + Drop>(mount: &mut Mount<S, C>, call: Call) -> Reply
+    requires { OwedBy call }
+    ensures fits { Fits call result }
+    ensures opened { mount.new.opened ≡ mount.old.opened }
+    ensures faults { HasItsCause mount.old mount.new result }
+{
+    let ask = Ask { call, stop: None };
+    mount.apply(CALLER, &ask)
+}
+
+fn is_fault(reply: &Reply) -> bool
+    ensures is { reply.now ≡ Faulted → result ≡ true }
+    ensures only { result ≡ true → reply.now ≡ Faulted }
+{
+    matches!(reply, Reply::Fault)
 }
 
 impl<S: Store + Drop, C: Clock + Drop> Session<S, C> {
@@ -45,11 +65,8 @@ impl<S: Store + Drop, C: Clock + Drop> Session<S, C> {
         ensures cause { result ≡ Faulted → self.new.faulted ≡ true }
         ensures kept { self.old.faulted ≡ true → self.new.faulted ≡ true }
     {
-        let ask = Ask { call, stop: None };
-        let reply = self.mount.apply(CALLER, &ask);
-        if let Reply::Fault = reply {
-            self.faulted = true;
-        }
+        let reply = apply(&mut self.mount, call);
+        self.faulted = self.faulted || is_fault(&reply);
         reply
     }
 

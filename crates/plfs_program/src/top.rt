@@ -8,6 +8,7 @@ ghost use Rattle.report_text.specs.Text.{text_of, HaveText};
 ghost use Rattle.plfs_program.specs.Built.{IsBuiltScript};
 ghost use Rattle.plfs_program.specs.Course.{Course, InputCourse, ends_of, play_words};
 ghost use Rattle.plfs_program.specs.Lines.{AreLinesOf, IsPlayed, has_line, is_fault, is_damage, is_refusal, status_of};
+ghost use Rattle.plfs_program.specs.Mounting.{mounts, unmounted_of, IsUnmounted};
 ghost use Rattle.plfs_program.specs.Output.{IsPrinted, IsCutOff};
 
 use crate::built::built;
