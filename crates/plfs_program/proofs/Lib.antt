@@ -1,6 +1,10 @@
 mod CourseLemmas
 mod EntryLemmas
 mod InputLemmas
+mod ListingLemmas
 mod LogLemmas
+mod MarkLemmas
 mod OutputLemmas
 mod Played
+mod StepLemmas
+mod Unmounted

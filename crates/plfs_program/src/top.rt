@@ -117,7 +117,7 @@ fn mount_and_play<S: Store, C: Clock>(
     statements: &[Numbered],
 ) -> Result<Lines, NoMemory>
     requires { All (λ s. IsPlayed s.statement) statements.now }
-    ensures in_turn { IfOk result (AreLinesOf statements.now) }
+    ensures in_turn { IfOk result (AreLinesOf (S.stored store.old.store).tree statements.now) }
     ensures text { IfOk result HaveText }
     ensures cause { IfOk result (λ lines. has_line is_fault lines ≡ true → store.new.faulted ≡ true) }
     ensures opened { store.new.opened ≡ store.old.opened }
@@ -143,7 +143,7 @@ fn work<S: Store, C: Clock>(
     statements: &[Numbered],
 ) -> Worked<S>
     requires { All (λ s. IsPlayed s.statement) statements.now }
-    ensures in_turn { IfOk result.lines (AreLinesOf statements.now) }
+    ensures in_turn { IfOk result.lines (AreLinesOf (S.stored store).tree statements.now) }
     ensures text { IfOk result.lines HaveText }
     ensures cause { IfOk result.lines (λ lines. has_line is_fault lines ≡ true → HasRisen (S.stored store).faults (S.stored result.store).faults) }
 {
