@@ -1,8 +1,10 @@
 mod CourseLemmas
 mod EntryLemmas
 mod InputLemmas
+mod LineLemmas
 mod ListingLemmas
 mod LogLemmas
+mod MarkLaws
 mod MarkLemmas
 mod OutputLemmas
 mod Played

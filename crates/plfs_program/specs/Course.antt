@@ -54,7 +54,8 @@ pub record IsPlayedAs (bytes : List ℕ) (lines : List Line) (e : Ends) : Type 0
   pub in_turn : AreLinesOf e.stored.tree statements lines
   pub cause : HasCause lines e
 
--- what becomes of an input of these bytes, one way for each kind of end, with its status
+-- What becomes of an input of these bytes, one way for each kind of end, with its status. Memory was refused before the
+-- mounting where it is starved, and from the mounting on where it is exhausted.
 pub data InputCourse (bytes : List ℕ) (e : Ends) (status : ℕ) : Type 0 where
   faulty : (fault : Fault) → script_of bytes ≡ Err fault → IsUntouched e → IsSaid (fault_line fault.line fault.kind) e → status ≡ 2
       → InputCourse bytes e status

@@ -1,5 +1,5 @@
 -- The lines of a run, and its status.
-use Rattle.std.specs.Prelude.{ℕ, ◌≡◌, Bool, true, false, if◌then◌else◌, List, [], ◌∷◌, length, take, map, Option, IfSome}
+use Rattle.std.specs.Prelude.{ℕ, ◌≡◌, ◌-◌, Bool, true, false, if◌then◌else◌, List, [], ◌∷◌, length, take, map, Option, IfSome}
 use Rattle.std.specs.List.{list_any}
 use Rattle.script_lang.specs.declared.line.Line.{Line}
 use Rattle.script_lang.specs.declared.line.Outcome.{Outcome}
@@ -47,10 +47,15 @@ IsPlayed (Ropen name workers) = Unit {0}
 IsPlayed (Read at len) = Unit {0}
 IsPlayed _ = ⊥
 
+abbrev pub all_but_last : List Line → List Line
+all_but_last lines = take (length lines - 1) lines
+
 -- a line for each statement, in order, but that a fault or damage is the last
 pub record AreInTurn (statements : List Numbered) (lines : List Line) : Type 0 where
   pub numbers : map (λ (l : Line). l.number) lines ≡ map (λ (s : Numbered). s.line) (take (length lines) statements)
   pub whole : has_line is_fault lines ≡ false → has_line is_damage lines ≡ false → length lines ≡ length statements
+  pub no_earlier_fault : has_line is_fault (all_but_last lines) ≡ false
+  pub no_earlier_damage : has_line is_damage (all_but_last lines) ≡ false
 
 -- The mounting broke off, which line 0 says alone; or it drew a number, and these are the lines of the statements.
 -- The tree is what the store held before, where it told.

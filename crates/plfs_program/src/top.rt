@@ -274,6 +274,11 @@ fn play_input<S: Store, C: Clock, O: Sink>(
 /// 2^23. Every other valid script prints `script 0 unbuilt`, a script with a fault prints `script`, the fault's line
 /// and its kind, and all other words print the usage line. A fault or damage is the last line. What the lines say of
 /// the file is not in the contract.
+///
+/// A mounting that breaks off is line 0 alone: a fault, `refused mounts-spent`, or damage in `mounts`. Over a store that
+/// told its tree before, refused says that all names listed in `mounts` are marks and the greatest is 2^32 - 1; damaged
+/// names the first that is no mark, or nothing where the room of the marks lacks that folder; and the statements are
+/// played only where all are marks and a number is left. `marks_decide` says that these exclude each other.
 pub fn single<S: Store, C: Clock + Drop, I: Source, O: Sink>(
     alloc: Global,
     words: &[Word],
