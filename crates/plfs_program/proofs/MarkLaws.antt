@@ -1,5 +1,5 @@
 -- Listed marks decide what a mounting says.
-use Rattle.std.proofs.Common.{ℕ, zero, suc, ◌≡◌, ◌-◌, ◌≤◌, ◌<◌, ◌^◌, List, [], ◌∷◌, take, slice_get, Option, Some, None, refl, sym, ap, subst, ◌∙◌, inl, inr, arith}
+use Rattle.std.proofs.Common.{ℕ, zero, suc, ◌≡◌, ◌-◌, ◌<◌, ◌^◌, List, [], ◌∷◌, take, slice_get, Option, Some, None, refl, sym, ap, subst, ◌∙◌, inl, inr, arith}
 use Rattle.std.specs.Fmt.{decimal}
 use Rattle.std.specs.List.{AllByRecursion}
 use Rattle.std.proofs.lemmas.Bool.{cases_lt}
@@ -28,9 +28,9 @@ none_foreign names greatest name all first = no_mark name first.foreign (at_plac
 pub spent_or_next : (marks : Option (List Name)) → AreSpent marks → HaveNext marks → ⊥
 spent_or_next None spent next = spent
 spent_or_next (Some names) spent (greatest, all, less) = elim spent.listed [
-    | inl none ↦ omega (arith, none)
-    | inr there ↦ above_greatest (decimal (2 ^ 32 - 1)) greatest (2 ^ 32 - 1) (All-contains (IsMarkUpTo greatest) names (decimal (2 ^ 32 - 1)) (All-from_recursion (IsMarkUpTo greatest) names all.marks) there) refl less (omega arith)
-  ]
+  | inl none ↦ omega (arith, none)
+  | inr there ↦ above_greatest (decimal (2 ^ 32 - 1)) greatest (2 ^ 32 - 1) (All-contains (IsMarkUpTo greatest) names (decimal (2 ^ 32 - 1)) (All-from_recursion (IsMarkUpTo greatest) names all.marks) there) refl less (omega arith)
+]
 
 pub spent_or_damaged : (marks : Option (List Name)) (name : Name) → AreSpent marks → AreDamagedAt name marks → ⊥
 spent_or_damaged None name spent damaged = spent
@@ -50,9 +50,9 @@ one_place names a b i j same first second = let both : slice_get names i ≡ sli
 pub one_name : (marks : Option (List Name)) (a b : Name) → AreDamagedAt a marks → AreDamagedAt b marks → a ≡ b
 one_name None a b first second = first ∙ sym second
 one_name (Some names) a b first second = elim (cases_lt first.count second.count) [
-    | inl less ↦ absurd (not_before names a b first second less)
-    | inr most ↦ elim (cases_lt second.count first.count) [
-        | inl less ↦ absurd (not_before names b a second first less)
-        | inr least ↦ one_place names a b first.count second.count (omega arith) first.behind second.behind
-      ]
+  | inl less ↦ absurd (not_before names a b first second less)
+  | inr most ↦ elim (cases_lt second.count first.count) [
+    | inl less ↦ absurd (not_before names b a second first less)
+    | inr least ↦ one_place names a b first.count second.count (omega arith) first.behind second.behind
   ]
+]

@@ -1,5 +1,5 @@
 -- Marks that are read one after the other.
-use Rattle.std.proofs.Common.{ℕ, ◌≡◌, ◌+◌, ◌-◌, ◌≤◌, ◌<◌, ◌^◌, ◌⊎◌, List, [], ◌∷◌, ◌++◌, length, take, max, get_or, refl, sym, ap, subst, ◌∙◌, inl, inr, arith}
+use Rattle.std.proofs.Common.{ℕ, ◌≡◌, ◌+◌, ◌≤◌, ◌<◌, ◌^◌, ◌⊎◌, List, [], ◌∷◌, ◌++◌, length, take, max, get_or, refl, sym, ap, subst, ◌∙◌, inl, inr, arith}
 use Rattle.std.specs.Fmt.{decimal}
 use Rattle.std.specs.List.{AllByRecursion, Contains}
 use Rattle.std.specs.Str.Parse.{AllDigits, digits_value}
@@ -42,9 +42,9 @@ listed_more names greatest name number so_far mark =
     elim (cases_lt greatest number) [
       | inl less ↦ (let is : number ≡ max number greatest = omega arith in inr (subst P is (Contains-append_right names (name ∷ []) (decimal number) (alone name number mark))))
       | inr most ↦ elim so_far.listed [
-          | inl zero ↦ absurd (omega (arith, mark.positive, zero, most))
-          | inr there ↦ (let is : greatest ≡ max number greatest = omega arith in inr (subst P is (Contains-append_left names (name ∷ []) (decimal greatest) there)))
-        ]
+        | inl zero ↦ absurd (omega (arith, mark.positive, zero, most))
+        | inr there ↦ (let is : greatest ≡ max number greatest = omega arith in inr (subst P is (Contains-append_left names (name ∷ []) (decimal greatest) there)))
+      ]
     ]
 
 -- one more mark

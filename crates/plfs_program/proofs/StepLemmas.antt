@@ -1,5 +1,5 @@
 -- The steps of a mounting over a told tree.
-use Rattle.std.proofs.Common.{ℕ, zero, suc, ◌≡◌, ◌≢◌, ◌+◌, ◌≤◌, ◌<◌, ◌^◌, Bool, true, false, ◌&&◌, cond, if◌then◌else◌, nat_lt, List, [], ◌∷◌, ◌++◌, length, slice_get, slice_set, Option, Some, None, IfSome, IfErr, Result, Ok, Err, refl, sym, ap, subst, ◌∙◌, arith}
+use Rattle.std.proofs.Common.{ℕ, zero, suc, ◌≡◌, ◌≢◌, ◌<◌, ◌^◌, Bool, true, false, ◌&&◌, cond, if◌then◌else◌, nat_lt, List, [], ◌∷◌, ◌++◌, length, slice_get, slice_set, Option, Some, None, IfSome, IfErr, Result, Ok, Err, refl, sym, ap, subst, ◌∙◌, arith}
 use Rattle.std.specs.List.{position, position_or_len, find, AllByRecursion}
 use Rattle.std.specs.Option.{option_and_then, ok_or}
 use Rattle.std.specs.Fmt.{decimal}
@@ -18,7 +18,7 @@ use Rattle.store_api.specs.Effect.{Effect, effect, number_of, new_room, room_mad
 use Rattle.store_api.specs.Names.{same_name}
 use Rattle.store_api.specs.Room as rooms
 use Rattle.store_api.specs.Step.{Name, Step, make_room, list_folder, create}
-use Rattle.plfs_program.specs.Mounting.{marks_room, mounts, listed_in, listed_or_none, listed_marks, listed_at, IsMarkUpTo, IsGreatest}
+use Rattle.plfs_program.specs.Mounting.{marks_room, mounts, listed_in, listed_or_none, listed_at, IsMarkUpTo, IsGreatest}
 use Rattle.plfs_program.specs.Drawing.{FindsRoom, ListsMarks, IsNextOf, room_in, names_in}
 use Rattle.plfs_program.specs.declared.stuck.Stuck.{Stuck}
 use Rattle.plfs_program.specs.Stuck.{IsFor, IsOfStore, no_marks}
@@ -104,9 +104,10 @@ set_found (y ∷ ys) (suc i) x is = ap (λ l. y ∷ l) (set_found ys i x is)
 
 listed_where : (tree : Tree) (n : ℕ) (room : Room) (has : Bool) → rooms.has_folder room mounts ≡ has → slice_get tree.rooms n ≡ Some room
     → after_listing tree n (room_after tree n (if has then rooms.stays room (Names (rooms.listing room mounts)) else rooms.stays room NoFolder))
-listed_where tree n room true has is =
-    (ap (λ rs. Some (record { rooms = rs })) (set_found tree.rooms n room is),
-    ap (λ r. option_and_then listed_in r) is ∙ ap (λ h. if h then Some (rooms.listing room mounts) else None) has)
+listed_where tree n room true has is = (
+  ap (λ rs. Some (record { rooms = rs })) (set_found tree.rooms n room is),
+  ap (λ r. option_and_then listed_in r) is ∙ ap (λ h. if h then Some (rooms.listing room mounts) else None) has,
+)
 listed_where tree n room false has is =
     let none : listed_at tree n ≡ None = ap (λ r. option_and_then listed_in r) is ∙ ap (λ h. if h then Some (rooms.listing room mounts) else None) has in
     let P : Option (List Name) → Type 0 = λ marks. IsFor marks no_marks in

@@ -10,5 +10,4 @@ pub fn marks_decide()
     ensures spent_or_damaged { (marks : Option (List Name)) (name : Name) → AreSpent marks → AreDamagedAt name marks → ⊥ }
     ensures next_or_damaged { (marks : Option (List Name)) (name : Name) → HaveNext marks → AreDamagedAt name marks → ⊥ }
     ensures one_name { (marks : Option (List Name)) (a b : Name) → AreDamagedAt a marks → AreDamagedAt b marks → a ≡ b }
-{
-}
+{}
