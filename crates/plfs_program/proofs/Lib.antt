@@ -1,6 +1,12 @@
 mod CourseLemmas
 mod EntryLemmas
 mod InputLemmas
+mod LineLemmas
+mod ListingLemmas
 mod LogLemmas
+mod MarkLaws
+mod MarkLemmas
 mod OutputLemmas
 mod Played
+mod StepLemmas
+mod Unmounted

@@ -52,10 +52,11 @@ HasCause lines e = (after : Stored) × (e.stored_after ≡ Some after) × (has_l
 pub record IsPlayedAs (bytes : List ℕ) (lines : List Line) (e : Ends) : Type 0 where
   pub statements : List Numbered
   pub built : IsBuiltScript bytes statements
-  pub in_turn : AreLinesOf statements lines
+  pub in_turn : AreLinesOf e.stored.tree statements lines
   pub cause : HasCause lines e
 
--- what becomes of an input of these bytes, one way for each kind of end, with its status
+-- What becomes of an input of these bytes, one way for each kind of end, with its status. Memory was refused before the
+-- mounting where it is starved, and from the mounting on where it is exhausted.
 pub data InputCourse (bytes : List ℕ) (e : Ends) (status : ℕ) : Type 0 where
   faulty : (fault : Fault) → HasFault bytes fault → IsUntouched e → IsSaid (fault_line fault.line fault.kind) e → status ≡ 2
       → InputCourse bytes e status
@@ -63,7 +64,8 @@ pub data InputCourse (bytes : List ℕ) (e : Ends) (status : ℕ) : Type 0 where
       → InputCourse bytes e status
   played : (lines : List Line) → IsPlayedAs bytes lines e → IsPrinted (text_of lines) e.taking e.taking_after → status ≡ status_of lines → InputCourse bytes e status
   cut_off : (lines : List Line) → IsPlayedAs bytes lines e → IsCutOff (text_of lines) e.taking e.taking_after → status ≡ 6 → InputCourse bytes e status
-  starved : e.taking_after ≡ e.taking → status ≡ 3 → InputCourse bytes e status
+  starved : IsUntouched e → e.taking_after ≡ e.taking → status ≡ 3 → InputCourse bytes e status
+  exhausted : (statements : List Numbered) → IsBuiltScript bytes statements → e.taking_after ≡ e.taking → status ≡ 3 → InputCourse bytes e status
 
 -- the input was read to its end, or to one byte past the limit of a script, and these are its bytes
 abbrev pub IsInput : List ℕ → Given → Given → Type 0

@@ -1,7 +1,9 @@
 //! The store at work.
-ghost use Rattle.std.specs.Prelude.{◌≡◌, ◌≤◌, true, false, IsTrue, IsErrOf};
+ghost use Rattle.std.specs.Prelude.{◌≡◌, ◌≤◌, true, false, IsTrue, IsErrOf, IfOk, IfErr};
 ghost use Rattle.plfs_types.specs.Counts.{next_count};
-ghost use Rattle.store_api.specs.Acts.{Stored};
+ghost use Rattle.store_api.specs.Acts.{Stored, IsMade};
+ghost use Rattle.store_api.specs.Step.{step_of};
+ghost use Rattle.plfs_program.specs.Stuck.{IsOfStore};
 
 use crate::stuck::Stuck;
 use std::snapshot::Snapshot;
@@ -20,7 +22,8 @@ pub(crate) struct Backing<S: Store> {
 impl<S: Store> Backing<S> {
     /// A store that has not failed yet.
     pub(crate) fn new(store: S) -> Backing<S>
-        ensures { result.opened.value ≡ store }
+        ensures opened { result.opened.value ≡ store }
+        ensures store { result.store ≡ store }
     {
         Backing {
             opened: Snapshot::of(&store),
@@ -34,6 +37,8 @@ impl<S: Store> Backing<S> {
         ensures opened { self.new.opened ≡ self.old.opened }
         ensures cause { IsErrOf result Stuck.Fault → self.new.faulted ≡ true }
         ensures kept { self.old.faulted ≡ true → self.new.faulted ≡ true }
+        ensures made { IfOk result (λ answer. IsMade (step_of step.now) answer (S.stored self.old.store) (S.stored self.new.store)) }
+        ensures stuck { IfErr result IsOfStore }
     {
         match self.store.act(step) {
             Ok(answer) => Ok(answer),

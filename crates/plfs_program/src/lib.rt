@@ -8,6 +8,7 @@ mod faults;
 mod finding;
 mod indices;
 mod input;
+mod laws;
 mod logs;
 mod mounting;
 mod naming;
@@ -18,4 +19,5 @@ mod stuck;
 mod top;
 mod writing;
 
+pub use laws::marks_decide;
 pub use top::{Ended, USAGE, plfs, single};

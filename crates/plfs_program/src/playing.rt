@@ -1,7 +1,8 @@
 //! The statements of a script, one after the other.
-ghost use Rattle.std.specs.Prelude.{◌≡◌, ◌||◌, true, All, IfOk, IsErrOf};
+ghost use Rattle.std.specs.Prelude.{◌≡◌, ◌||◌, true, All, Some, IfOk, IsErrOf};
 ghost use Rattle.report_text.specs.Text.{ListsLogicalNames, HaveText};
 ghost use Rattle.plfs_program.specs.Lines.{IsPlayed, IsAnswer, AreInTurn, is_fault, is_damage, has_line};
+ghost use Rattle.plfs_program.specs.Stuck.{outcome_of};
 
 use crate::backing::Backing;
 use crate::mounting::Mount;
@@ -168,6 +169,7 @@ fn make<S: Store, C: Clock>(
 pub(crate) fn trouble_of(stuck: Stuck) -> Result<Outcome, NoMemory>
     ensures text { IfOk result ListsLogicalNames }
     ensures fault { IfOk result (λ outcome. is_fault outcome ≡ true → stuck ≡ Stuck.Fault) }
+    ensures exact { IfOk result (λ outcome. outcome_of stuck ≡ Some outcome) }
 {
     match stuck {
         Stuck::Refused(why) => Ok(Outcome::Refused { why }),

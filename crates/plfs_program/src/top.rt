@@ -118,7 +118,7 @@ fn mount_and_play<S: Store, C: Clock>(
     statements: &[Numbered],
 ) -> Result<Lines, NoMemory>
     requires { All (λ s. IsPlayed s.statement) statements.now }
-    ensures in_turn { IfOk result (AreLinesOf statements.now) }
+    ensures in_turn { IfOk result (AreLinesOf (S.stored store.old.store).tree statements.now) }
     ensures text { IfOk result HaveText }
     ensures cause { IfOk result (λ lines. has_line is_fault lines ≡ true → store.new.faulted ≡ true) }
     ensures opened { store.new.opened ≡ store.old.opened }
@@ -144,7 +144,7 @@ fn work<S: Store, C: Clock>(
     statements: &[Numbered],
 ) -> Worked<S>
     requires { All (λ s. IsPlayed s.statement) statements.now }
-    ensures in_turn { IfOk result.lines (AreLinesOf statements.now) }
+    ensures in_turn { IfOk result.lines (AreLinesOf (S.stored store).tree statements.now) }
     ensures text { IfOk result.lines HaveText }
     ensures cause { IfOk result.lines (λ lines. has_line is_fault lines ≡ true → HasRisen (S.stored store).faults (S.stored result.store).faults) }
 {
@@ -275,6 +275,11 @@ fn play_input<S: Store, C: Clock, O: Sink>(
 /// 2^23. Every other valid script prints `script 0 unbuilt`, a script with a fault prints `script`, the fault's line
 /// and its kind, and all other words print the usage line. A fault or damage is the last line. What the lines say of
 /// the file is not in the contract.
+///
+/// A mounting that breaks off is line 0 alone: a fault, `refused mounts-spent`, or damage in `mounts`. Over a store that
+/// told its tree before, refused says that all names listed in `mounts` are marks and the greatest is 2^32 - 1; damaged
+/// names the first that is no mark, or nothing where the room of the marks lacks that folder; and the statements are
+/// played only where all are marks and a number is left. `marks_decide` says that these exclude each other.
 pub fn single<S: Store, C: Clock + Drop, I: Source, O: Sink>(
     alloc: Global,
     words: &[Word],
