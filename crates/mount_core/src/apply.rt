@@ -1,5 +1,6 @@
 //! Any call.
 ghost use Rattle.mount_model.specs.Step.{Answers, IsOwed, IsStep, OwedBy};
+ghost use Rattle.mount_sound.specs.Sound.{IsFine};
 
 use crate::mount::Mount;
 use edge_io::Clock;
@@ -8,10 +9,13 @@ use store_api::Store;
 
 impl<S: Store + Drop, C: Clock + Drop> Mount<S, C> {
     /// Makes the caller's call, which is a check and at most one act. A caller owes a capacity of 1 to 4096 where it
-    /// enters a writer, and stops no call.
+    /// enters a writer, and stops no call. What was fine stays so: the table is regular, and where the store told a
+    /// sound tree as it was mounted, the state is sound.
+    #[tactic(auto, using(mount_sound::proofs::Fine::step_fine))]
     pub fn apply(&mut self, caller: u64, ask: &Ask) -> Reply
         requires { IsOwed ask.now }
-        ensures { IsStep self.old caller ask.now result self.new }
+        ensures step { IsStep self.old caller ask.now result self.new }
+        ensures fine { IsFine self.old → IsFine self.new }
     {
         self.answer(caller, &ask.call)
     }

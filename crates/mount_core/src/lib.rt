@@ -19,6 +19,7 @@ mod paths;
 mod places;
 mod roster;
 mod scanning;
+mod shared;
 mod stages;
 mod telling;
 mod trouble;

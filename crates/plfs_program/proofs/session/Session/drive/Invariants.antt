@@ -8,7 +8,7 @@ invariant-loop-flow g l = record {
   fresh : IsFresh (g.F.Flow.standing l.flow);
   opened : l.self.mount.opened ≡ l.fn.self.mount.opened;
   kept : l.fn.self.faulted ≡ true → l.self.faulted ≡ true;
-  ends : (fine : g.F.Out → Bool) → EndsFrom fine (g.F.Flow.standing l.fn.flow) → (l.self.faulted ≡ true) ⊎ EndsFrom fine (g.F.Flow.standing l.flow);
+  ends : (fine : g.row.F-Out.Denot → Bool) → EndsFrom fine (g.F.Flow.standing l.fn.flow) → (l.self.faulted ≡ true) ⊎ EndsFrom fine (g.F.Flow.standing l.flow);
 }
 
 abbrev pub decreases-loop-flow : goal.decreases-loop-flow
