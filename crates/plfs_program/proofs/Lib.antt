@@ -7,14 +7,6 @@ mod MountLemmas
 mod EntryLemmas
 mod InputLemmas
 mod LineLemmas
-<<<<<<< HEAD
-=======
-mod ListingLemmas
->>>>>>> 28146a6541f84adfd5835115d9fa79f79854a281
 mod LogLemmas
-mod MarkLaws
-mod MarkLemmas
 mod OutputLemmas
 mod Played
-mod StepLemmas
-mod Unmounted

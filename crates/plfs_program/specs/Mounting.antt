@@ -1,22 +1,15 @@
 -- The marks of the mounts before, and what a mounting says of them.
-<<<<<<< HEAD
 use Rattle.std.specs.Prelude.{ℕ, ◌≡◌, ◌≢◌, ◌-◌, ◌≤◌, ◌<◌, ◌^◌, List, [], ◌∷◌, find, slice_get, Option, Some, None, IfSome, option_and_then, if◌then◌else◌, codes}
 use Rattle.std.specs.Fmt.{decimal}
 use Rattle.std.specs.List.{All, Any}
 use Rattle.std.specs.Ordering.{nat_cmp}
 use Rattle.std.specs.Cmp.Lexicographic.{slice_cmp}
 use Rattle.std.specs.declared.cmp.Ordering.TheVariants.{Greater}
-=======
-use Rattle.std.specs.Prelude.{ℕ, ◌≡◌, ◌-◌, ◌≤◌, ◌<◌, ◌^◌, ◌⊎◌, List, [], take, find, slice_get, Contains, Option, Some, None, IfSome, option_and_then, if◌then◌else◌, codes}
-use Rattle.std.specs.Fmt.{decimal}
-use Rattle.std.specs.List.{AllByRecursion}
->>>>>>> 28146a6541f84adfd5835115d9fa79f79854a281
 use Rattle.store_api.specs.declared.tree.Room.{Room}
 use Rattle.store_api.specs.declared.tree.Tree.{Tree}
 use Rattle.store_api.specs.Names.{same_name}
 use Rattle.store_api.specs.Room.{has_folder, listing}
 use Rattle.store_api.specs.Step.{Name}
-<<<<<<< HEAD
 use Rattle.script_lang.specs.declared.line.Line.{Line}
 use Rattle.script_lang.specs.declared.line.Outcome.{Outcome}
 use Rattle.script_lang.specs.declared.line.Outcome.TheVariants.{Refused, Fault, Damaged}
@@ -24,11 +17,6 @@ use Rattle.script_lang.specs.declared.line.Why.TheVariants.{MountsSpent}
 use Rattle.mount_model.specs.Mounting.{IsGreatestMark}
 use Rattle.mount_core.specs.declared.trouble.MountTrouble.{MountTrouble}
 use Rattle.mount_core.specs.declared.trouble.MountTrouble.TheVariants as trouble
-=======
-use Rattle.script_lang.specs.declared.line.Outcome.{Outcome}
-use Rattle.script_lang.specs.declared.line.Outcome.TheVariants.{Refused, Fault, Damaged}
-use Rattle.script_lang.specs.declared.line.Why.TheVariants.{MountsSpent}
->>>>>>> 28146a6541f84adfd5835115d9fa79f79854a281
 
 -- the room of the marks
 abbrev pub marks_room : Name
@@ -66,63 +54,32 @@ IsForeign name = (number : ℕ) → ¬ (IsMark name number)
 abbrev pub IsAnyMark : Name → Type 0
 IsAnyMark name = (number : ℕ) × IsMark name number
 
-<<<<<<< HEAD
 -- of these names the least one in byte order that is no mark
 pub record IsLeastForeign (names : List Name) (name : Name) : Type 0 where
   pub there : Any (λ other. other ≡ name) names
   pub foreign : IsForeign name
   pub least : All (λ other. IsForeign other → slice_cmp nat_cmp name other ≢ Greater) names
-=======
--- a mark of at most this number
-abbrev pub IsMarkUpTo : ℕ → Name → Type 0
-IsMarkUpTo greatest name = (number : ℕ) × IsMark name number × (number ≤ greatest)
-
--- each name is a mark, and this is the greatest number, or 0 where there is no name
-pub record IsGreatest (names : List Name) (greatest : ℕ) : Type 0 where
-  pub marks : AllByRecursion (IsMarkUpTo greatest) names
-  pub listed : (greatest ≡ 0) ⊎ Contains names (decimal greatest)
-
--- the first name that is no mark, behind so many marks
-pub record IsFirstForeign (names : List Name) (name : Name) : Type 0 where
-  pub count : ℕ
-  pub behind : slice_get names count ≡ Some name
-  pub marks : AllByRecursion IsAnyMark (take count names)
-  pub foreign : IsForeign name
->>>>>>> 28146a6541f84adfd5835115d9fa79f79854a281
 
 -- a mounting finds all marks, the greatest of them the last number
 abbrev pub AreSpent : Option (List Name) → Type 0
 AreSpent None = ⊥
-<<<<<<< HEAD
 AreSpent (Some names) = IsGreatestMark names (2 ^ 32 - 1)
-=======
-AreSpent (Some names) = IsGreatest names (2 ^ 32 - 1)
->>>>>>> 28146a6541f84adfd5835115d9fa79f79854a281
 
 -- it finds a name that is no mark, or finds no folder, which is told by the empty name
 abbrev pub AreDamagedAt : Name → Option (List Name) → Type 0
 AreDamagedAt name None = name ≡ []
-<<<<<<< HEAD
 AreDamagedAt name (Some names) = IsLeastForeign names name
-=======
-AreDamagedAt name (Some names) = IsFirstForeign names name
->>>>>>> 28146a6541f84adfd5835115d9fa79f79854a281
 
 -- it finds all marks, and a number is left
 abbrev pub HaveNext : Option (List Name) → Type 0
 HaveNext None = ⊥
-<<<<<<< HEAD
 HaveNext (Some names) = (greatest : ℕ) × IsGreatestMark names greatest × (greatest < 2 ^ 32 - 1)
-=======
-HaveNext (Some names) = (greatest : ℕ) × IsGreatest names greatest × (greatest < 2 ^ 32 - 1)
->>>>>>> 28146a6541f84adfd5835115d9fa79f79854a281
 
 -- What a mounting says where it breaks off. Where the store told its tree before, its marks are the reason.
 pub data BreaksOff (told : Option Tree) (outcome : Outcome) : Type 0 where
   fault : outcome ≡ Fault → BreaksOff told outcome
   spent : outcome ≡ Refused MountsSpent → IfSome told (λ tree. AreSpent (listed_marks tree)) → BreaksOff told outcome
   damaged : (name : Name) → outcome ≡ Damaged mounts name 0 → IfSome told (λ tree. AreDamagedAt name (listed_marks tree)) → BreaksOff told outcome
-<<<<<<< HEAD
 
 -- what line 0 says of a mounting that broke off: nothing of want of memory
 abbrev pub unmounted_of : MountTrouble → Option Outcome
@@ -135,5 +92,3 @@ unmounted_of trouble.NoMemory = None
 -- the one line of a mounting that broke off
 abbrev pub IsUnmounted : MountTrouble → List Line → Type 0
 IsUnmounted trouble lines = (outcome : Outcome) × (unmounted_of trouble ≡ Some outcome) × (lines ≡ (record { number = 0; outcome = outcome }) ∷ [])
-=======
->>>>>>> 28146a6541f84adfd5835115d9fa79f79854a281

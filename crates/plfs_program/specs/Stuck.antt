@@ -1,4 +1,3 @@
-<<<<<<< HEAD
 -- Why work ends early.
 use Rattle.std.specs.Prelude.{Option, Some, None}
 use Rattle.script_lang.specs.declared.line.Outcome.{Outcome}
@@ -13,17 +12,6 @@ use Rattle.flow.specs.declared.trouble.Stuck as machine
 use Rattle.flow.specs.declared.trouble.Stuck.TheVariants as of_machine
 use Rattle.plfs_program.specs.declared.stuck.Stuck.{Stuck}
 use Rattle.plfs_program.specs.declared.stuck.Stuck.TheVariants.{Refused, Damaged, Fault, NoMemory}
-=======
--- What it means for a mounting that it ended early.
-use Rattle.std.specs.Prelude.{◌≡◌, List, [], Option, Some, None}
-use Rattle.store_api.specs.Step.{Name}
-use Rattle.script_lang.specs.declared.line.Outcome.{Outcome}
-use Rattle.script_lang.specs.declared.line.Outcome.TheVariants as outcomes
-use Rattle.script_lang.specs.declared.line.Why.TheVariants.{MountsSpent}
-use Rattle.plfs_program.specs.declared.stuck.Stuck.{Stuck}
-use Rattle.plfs_program.specs.declared.stuck.Stuck.TheVariants.{Refused, Damaged, Fault, NoMemory}
-use Rattle.plfs_program.specs.Mounting.{mounts, AreSpent, AreDamagedAt}
->>>>>>> 28146a6541f84adfd5835115d9fa79f79854a281
 
 -- what a line says of it: nothing of want of memory
 abbrev pub outcome_of : Stuck → Option Outcome
@@ -32,7 +20,6 @@ outcome_of (Damaged folder file place) = Some (outcomes.Damaged folder file plac
 outcome_of Fault = Some outcomes.Fault
 outcome_of NoMemory = None
 
-<<<<<<< HEAD
 -- what a line says of a refusal; the last three come of no call that an actor makes
 abbrev pub why_of : Refusal → Why
 why_of refusal.NoRoom = why.NoFile
@@ -57,29 +44,3 @@ abbrev pub machine_stuck : machine.Stuck → Stuck
 machine_stuck (of_machine.Refused because) = Refused (why_of because)
 machine_stuck (of_machine.Damaged folder file place) = Damaged folder file place
 machine_stuck of_machine.Fault = Fault
-=======
--- what alone a mounting is refused for, and what alone is damaged in it
-abbrev pub IsOfMounting : Stuck → Type 0
-IsOfMounting (Refused why) = why ≡ MountsSpent
-IsOfMounting (Damaged folder file place) = (folder ≡ mounts) × (place ≡ 0)
-IsOfMounting Fault = Unit {0}
-IsOfMounting NoMemory = Unit {0}
-
--- there is no folder of the marks
-abbrev pub no_marks : Stuck
-no_marks = Damaged mounts [] 0
-
--- the store failed, or memory was refused
-abbrev pub IsOfStore : Stuck → Type 0
-IsOfStore (Refused why) = ⊥
-IsOfStore (Damaged folder file place) = ⊥
-IsOfStore Fault = Unit {0}
-IsOfStore NoMemory = Unit {0}
-
--- these marks are why
-abbrev pub IsFor : Option (List Name) → Stuck → Type 0
-IsFor marks (Refused why) = AreSpent marks
-IsFor marks (Damaged folder file place) = AreDamagedAt file marks
-IsFor marks Fault = Unit {0}
-IsFor marks NoMemory = Unit {0}
->>>>>>> 28146a6541f84adfd5835115d9fa79f79854a281

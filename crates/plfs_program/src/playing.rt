@@ -1,10 +1,6 @@
 //! The statements of a script, one after the other.
-<<<<<<< HEAD
 ghost use Rattle.std.specs.Prelude.{◌≡◌, ◌||◌, true, false, All, Some, IfOk, IsErrOf};
 ghost use Rattle.plfs_program.specs.Ending.{ends_well};
-=======
-ghost use Rattle.std.specs.Prelude.{◌≡◌, ◌||◌, true, All, Some, IfOk, IsErrOf};
->>>>>>> 28146a6541f84adfd5835115d9fa79f79854a281
 ghost use Rattle.report_text.specs.Text.{ListsLogicalNames, HaveText};
 ghost use Rattle.plfs_program.specs.Lines.{IsPlayed, IsAnswer, AreInTurn, is_fault, is_damage, has_line};
 ghost use Rattle.plfs_program.specs.Stuck.{outcome_of};

@@ -117,24 +117,9 @@ fn unmounted(trouble: MountTrouble) -> Result<Outcome, NoMemory>
     }
 }
 
-<<<<<<< HEAD
 // A file among the marks is damaged.
 fn damaged_marks(file: Name) -> Outcome
     ensures { result ≡ Outcome.Damaged mounts file 0 }
-=======
-// Mounts, and plays the statements.
-fn mount_and_play<S: Store, C: Clock>(
-    alloc: Global,
-    store: &mut Backing<S>,
-    clock: &mut C,
-    statements: &[Numbered],
-) -> Result<Lines, NoMemory>
-    requires { All (λ s. IsPlayed s.statement) statements.now }
-    ensures in_turn { IfOk result (AreLinesOf (S.stored store.old.store).tree statements.now) }
-    ensures text { IfOk result HaveText }
-    ensures cause { IfOk result (λ lines. has_line is_fault lines ≡ true → store.new.faulted ≡ true) }
-    ensures opened { store.new.opened ≡ store.old.opened }
->>>>>>> 28146a6541f84adfd5835115d9fa79f79854a281
 {
     Outcome::Damaged {
         folder: Name::from_bytes(b"mounts").unwrap(),
@@ -312,11 +297,7 @@ fn play_input<S: Store + Drop, C: Clock + Drop, O: Sink>(
 /// told its tree before, refused says that all names listed in `mounts` are marks and the greatest is 2^32 - 1; damaged
 /// names the first that is no mark, or nothing where the room of the marks lacks that folder; and the statements are
 /// played only where all are marks and a number is left. `marks_decide` says that these exclude each other.
-<<<<<<< HEAD
 pub fn single<S: Store + Drop, C: Clock + Drop, I: Source, O: Sink>(
-=======
-pub fn single<S: Store, C: Clock + Drop, I: Source, O: Sink>(
->>>>>>> 28146a6541f84adfd5835115d9fa79f79854a281
     alloc: Global,
     words: &[Word],
     input: &mut I,
