@@ -1,13 +1,14 @@
 -- Lists in which nothing stands twice stay so.
-use Rattle.std.proofs.Common.{◌≡◌, ℕ, zero, suc, Bool, true, false, cond, not, ◌||◌, List, [], ◌∷◌, ◌++◌, map, slice_get, slice_set, Some, None, refl, ap, sym, ◌∙◌, subst}
-use Rattle.std.specs.List.{find, list_any, filter, remove}
+use Rattle.std.proofs.Common.{◌≡◌, ℕ, zero, suc, Bool, true, false, cond, List, [], ◌∷◌, ◌++◌, slice_get, slice_set, Some, refl, ap, sym, ◌∙◌, subst}
+use Rattle.std.specs.List.{list_any, filter, remove}
+use Rattle.plfs_types.specs.declared.names.Path.{Path}
 use Rattle.store_api.specs.declared.tree.File.{File}
 use Rattle.store_api.specs.Step.{Name}
 use Rattle.store_api.specs.Names.{same_name}
-use Rattle.store_api.specs.Room.{is_at, empty_file}
+use Rattle.store_api.specs.Room.{is_at}
 use Rattle.store_laws.specs.Differ.{is_listed, NamesDiffer, is_there, FilesDiffer}
-use Rattle.store_laws.proofs.Naming.{name_eq, name_apart, name_other, at_path, path_at, not_at, apart_at}
-use Rattle.store_laws.proofs.Searches.{find_none, none_at, none_more, none_set, none_removed}
+use Rattle.store_laws.proofs.Naming.{name_apart, name_other, not_at, apart_at}
+use Rattle.store_laws.proofs.Searches.{none_at, none_more, none_set, none_removed}
 
 -- a file whose path a later one doesn't have, doesn't have that one's
 turned : (a b : File) → is_at a.path.folder a.path.file b ≡ false → is_at b.path.folder b.path.file a ≡ false
@@ -46,6 +47,18 @@ gone_removed (file ∷ files) zero old at d = let is : file ≡ old = cc in subs
 gone_removed (file ∷ files) (suc i) old at d =
     let first : is_at old.path.folder old.path.file file ≡ false = turned file old (none_at (is_at file.path.folder file.path.file) files i old d.0 at) in
     rw first (gone_removed files i old at d.1)
+
+-- nor that of a file that another one takes the place of
+pub gone_set : (files : List File) (i : ℕ) (old new : File) (path : Path) → slice_get files i ≡ Some old → old.path ≡ path → is_at path.folder path.file new ≡ false → FilesDiffer files → is_there path.folder path.file (slice_set files i new) ≡ false
+gone_set [] i old new path at was other d = absurd (cc)
+gone_set (file ∷ files) zero old new path at was other d =
+    let is : file ≡ old = cc in
+    let same : file.path ≡ path = ap (λ (f : File). f.path) is ∙ was in
+    rw other (subst (λ p. is_there p.folder p.file files ≡ false) same d.0)
+gone_set (file ∷ files) (suc i) old new path at was other d =
+    let differs : is_at old.path.folder old.path.file file ≡ false = turned file old (none_at (is_at file.path.folder file.path.file) files i old d.0 at) in
+    let first : is_at path.folder path.file file ≡ false = subst (λ p. is_at p.folder p.file file ≡ false) was differs in
+    rw first (gone_set files i old new path at was other d.1)
 
 -- a file takes a path that none has
 pub files_renamed : (files : List File) (i : ℕ) (new : File) → is_there new.path.folder new.path.file files ≡ false → FilesDiffer files → FilesDiffer (slice_set files i new)

@@ -1,8 +1,7 @@
 -- A step that removes a folder.
-use Rattle.std.proofs.Common.{◌≡◌, ℕ, Bool, true, false, cond, not, ◌||◌, ◌&&◌, List, [], ◌∷◌, slice_get, Option, Some, None, refl, ap, sym, ◌∙◌, ◌⊎◌, inl, inr, subst}
+use Rattle.std.proofs.Common.{◌≡◌, ℕ, Bool, true, false, cond, not, ◌||◌, ◌&&◌, List, [], ◌∷◌, slice_get, Option, Some, None, refl, ap, sym, ◌∙◌, inl, inr, subst}
 use Rattle.std.specs.Prelude.{is_some}
-use Rattle.std.specs.List.{list_any, filter}
-use Rattle.plfs_types.specs.declared.names.Path.{Path}
+use Rattle.std.specs.List.{filter}
 use Rattle.store_api.specs.declared.tree.Room.{Room}
 use Rattle.store_api.specs.declared.tree.Tree.{Tree}
 use Rattle.store_api.specs.declared.step.Answer.TheVariants.{Made, NoFolder, NotEmpty}
@@ -15,7 +14,7 @@ use Rattle.store_laws.specs.Differ.{is_listed}
 use Rattle.store_laws.specs.There.{has_entry, AreNamesOf}
 use Rattle.store_laws.specs.Changes.{FolderRemoved}
 use Rattle.store_laws.specs.Says.{WhyNoFolderRemoved}
-use Rattle.store_laws.specs.Outcomes.{Stays, ChangesOrStays}
+use Rattle.store_laws.specs.Outcomes.{ChangesOrStays}
 use Rattle.store_laws.proofs.Naming.{name_eq, name_other}
 use Rattle.store_laws.proofs.Differing.{names_kept}
 use Rattle.store_laws.proofs.Entering.{room_cases, folder_cases, stays_in}
@@ -61,17 +60,20 @@ Removes tree n folder out = ChangesOrStays tree Made (FolderRemoved tree n folde
 
 by_listing : (tree : Tree) (n : ℕ) (folder : Name) (room : Room) → slice_get tree.rooms n ≡ Some room → has_folder room folder ≡ true → (names : List Name) → listing room folder ≡ names
     → Removes tree n folder (room_after tree n (removed_if_empty room folder names))
-by_listing tree n folder room e there [] is = inl (refl, record {
-  room = room;
-  new = without_folder room folder;
-  has_room = e;
-  there = there;
-  empty = λ name. no_files room folder name is;
-  gone = or_none (is_top folder) (is_listed folder (filter (λ name. not (same_name name folder)) room.folders)) (taken_out folder room.folders);
-  others = record { name = refl; folders = λ other apart. ap (λ b. is_top other || b) (left_in folder other room.folders apart); files = refl };
-  differ = λ d. names_kept (λ name. not (same_name name folder)) room.folders d;
-  gives = refl;
-})
+by_listing tree n folder room e there [] is = inl (
+  refl,
+  record {
+    room = room;
+    new = without_folder room folder;
+    has_room = e;
+    there = there;
+    empty = λ name. no_files room folder name is;
+    gone = or_none (is_top folder) (is_listed folder (filter (λ name. not (same_name name folder)) room.folders)) (taken_out folder room.folders);
+    others = record { name = refl; folders = λ other apart. ap (λ b. is_top other || b) (left_in folder other room.folders apart); files = refl };
+    differ = λ d. names_kept (λ name. not (same_name name folder)) room.folders d;
+    gives = refl;
+  },
+)
 by_listing tree n folder room e there (least ∷ more) is =
     inr (stays_in tree n room (NotEmpty least) Made (WhyNoFolderRemoved tree n folder) e (λ m. cc)
     (more, record { room = room; has_room = e; there = there; entries = subst (AreNamesOf room folder) is (listing_names room folder) }))

@@ -1,5 +1,5 @@
 -- The cases of a step within a room, and on a file of it.
-use Rattle.std.proofs.Common.{◌≡◌, ℕ, Bool, true, false, List, slice_get, slice_set, Option, Some, None, refl, ap, sym, ◌∙◌, subst}
+use Rattle.std.proofs.Common.{◌≡◌, ℕ, Bool, true, false, List, slice_get, Option, Some, None, refl, ap, sym, ◌∙◌}
 use Rattle.plfs_types.specs.declared.names.Path.{Path}
 use Rattle.store_api.specs.declared.tree.File.{File}
 use Rattle.store_api.specs.declared.tree.Room.{Room}
@@ -10,12 +10,11 @@ use Rattle.store_api.specs.Step.{Name}
 use Rattle.store_api.specs.Room.{Outcome, stays, has_folder, place_of, file_in, in_folder, or_absent, at_place, in_file, is_at}
 use Rattle.store_api.specs.Effect.{Effect, stays as tree_stays, room_after, or_no_room, in_room}
 use Rattle.store_api.proofs.Files.{position_is, found_at_place}
-use Rattle.store_laws.specs.Files.{file_at}
 use Rattle.store_laws.specs.Changes.{with_room}
 use Rattle.store_laws.specs.Outcomes.{Stays}
 use Rattle.store_laws.proofs.Places.{slice_set_same, item}
 use Rattle.store_laws.proofs.Searches.{find_unplaced}
-use Rattle.store_laws.proofs.Rooms.{file_at_none, found_has_path}
+use Rattle.store_laws.proofs.Rooms.{found_has_path}
 
 by_room : (tree : Tree) (n : ℕ) (outcome : Room → Outcome) (P : Effect → Type 0) (found : Option Room) → slice_get tree.rooms n ≡ found
     → (slice_get tree.rooms n ≡ None → P (tree_stays tree NoRoom))

@@ -1,19 +1,17 @@
 -- Steps that make or remove a folder.
-use Rattle.std.proofs.Common.{◌≡◌, ℕ, Bool, true, false, cond, not, ◌||◌, List, [], ◌∷◌, ◌++◌, slice_get, slice_set, Option, Some, None, refl, ap, sym, ◌∙◌, ◌⊎◌, inl, inr, subst, if◌then◌else◌}
-use Rattle.std.specs.List.{list_any, filter}
+use Rattle.std.proofs.Common.{◌≡◌, ℕ, Bool, true, false, ◌||◌, [], ◌∷◌, ◌++◌, slice_get, Some, refl, sym, inl, inr, if◌then◌else◌}
 use Rattle.std.proofs.lemmas.List.Folds.{list_any-append}
-use Rattle.plfs_types.specs.declared.names.Path.{Path}
 use Rattle.store_api.specs.declared.tree.Room.{Room}
 use Rattle.store_api.specs.declared.tree.Tree.{Tree}
-use Rattle.store_api.specs.declared.step.Answer.TheVariants.{Made, Old, NoFolder}
+use Rattle.store_api.specs.declared.step.Answer.TheVariants.{Made, Old}
 use Rattle.store_api.specs.Step.{Name, make_folder}
 use Rattle.store_api.specs.Names.{same_name}
-use Rattle.store_api.specs.Room.{Outcome, stays, becomes, is_top, has_folder, folder_made}
+use Rattle.store_api.specs.Room.{stays, becomes, is_top, has_folder, folder_made}
 use Rattle.store_api.specs.Effect.{Effect, effect, room_after}
 use Rattle.store_laws.specs.Differ.{is_listed}
 use Rattle.store_laws.specs.Changes.{FolderMade}
 use Rattle.store_laws.specs.Says.{WhyNoFolderMade}
-use Rattle.store_laws.specs.Outcomes.{Stays, ChangesOrStays}
+use Rattle.store_laws.specs.Outcomes.{ChangesOrStays}
 use Rattle.store_laws.proofs.Naming.{name_refl, name_other}
 use Rattle.store_laws.proofs.Differing.{names_more}
 use Rattle.store_laws.proofs.Entering.{room_cases, stays_in}
@@ -52,16 +50,19 @@ by_folder : (tree : Tree) (n : ℕ) (folder : Name) (room : Room) → slice_get 
     → Makes tree n folder (room_after tree n (if b then stays room (Old 0) else becomes (with_folder room folder)))
 by_folder tree n folder room e true there =
     inr (stays_in tree n room (Old 0) Made (WhyNoFolderMade tree n folder) e (λ m. cc) (refl, record { room = room; has_room = e; there = there }))
-by_folder tree n folder room e false none = inl (refl, record {
-  room = room;
-  new = with_folder room folder;
-  has_room = e;
-  none = none;
-  now = with_folder_now room folder;
-  others = record { name = refl; folders = with_folder_other room folder; files = refl };
-  differ = λ d. names_more room.folders folder d (unlisted (is_top folder) (is_listed folder room.folders) none);
-  gives = refl;
-})
+by_folder tree n folder room e false none = inl (
+  refl,
+  record {
+    room = room;
+    new = with_folder room folder;
+    has_room = e;
+    none = none;
+    now = with_folder_now room folder;
+    others = record { name = refl; folders = with_folder_other room folder; files = refl };
+    differ = λ d. names_more room.folders folder d (unlisted (is_top folder) (is_listed folder room.folders) none);
+    gives = refl;
+  },
+)
 
 -- a folder is made, or the tree stays
 pub make_folder_cases : (tree : Tree) (n : ℕ) (folder : Name) → ChangesOrStays tree Made (FolderMade tree n folder) (WhyNoFolderMade tree n folder) (effect tree (make_folder n folder))

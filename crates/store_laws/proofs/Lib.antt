@@ -12,3 +12,12 @@ pub mod ByteOrder
 pub mod Listings
 pub mod Emptied
 pub mod NewRooms
+pub mod Moving
+pub mod Telling
+pub mod Answering
+pub mod Overwriting
+pub mod Keeping
+pub mod Touching
+pub mod Lengthening
+pub mod OrderKept
+pub mod Listed

@@ -1,14 +1,13 @@
 -- What a listing of a folder has.
-use Rattle.std.proofs.Common.{◌≡◌, ℕ, zero, suc, Bool, true, false, cond, ◌||◌, ◌&&◌, List, [], ◌∷◌, ◌++◌, length, map, ◌==◌, Option, Some, None, refl, ap, sym, ◌∙◌, subst, if◌then◌else◌}
+use Rattle.std.proofs.Common.{◌≡◌, Bool, true, false, cond, ◌||◌, ◌&&◌, List, [], ◌∷◌, ◌++◌, map, Some, refl, ap, ◌∙◌, if◌then◌else◌}
 use Rattle.std.specs.Prelude.{option_map, is_some}
-use Rattle.std.specs.List.{find, list_any, filter}
+use Rattle.std.specs.List.{find, filter}
 use Rattle.std.proofs.lemmas.List.Folds.{list_any-append}
-use Rattle.plfs_types.specs.declared.names.Path.{Path}
 use Rattle.store_api.specs.declared.tree.File.{File}
 use Rattle.store_api.specs.declared.tree.Room.{Room}
 use Rattle.store_api.specs.Step.{Name}
-use Rattle.store_api.specs.Names.{same_name, in_byte_order}
-use Rattle.store_api.specs.Room.{is_top, is_in, is_at, file_in, folders_in, listing}
+use Rattle.store_api.specs.Names.{same_name}
+use Rattle.store_api.specs.Room.{is_top, is_in, is_at, folders_in, listing}
 use Rattle.store_laws.specs.Files.{file_at}
 use Rattle.store_laws.specs.Differ.{is_listed}
 use Rattle.store_laws.specs.There.{has_entry, AreNamesOf}

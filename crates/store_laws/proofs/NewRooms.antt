@@ -1,7 +1,7 @@
 -- Steps that make a room, or give one another name.
-use Rattle.std.proofs.Common.{◌≡◌, ◌<◌, ℕ, zero, suc, Bool, true, false, cond, nat_eq, ◌||◌, ◌&&◌, ◌==◌, List, [], ◌∷◌, ◌++◌, length, map, slice_get, Option, Some, None, refl, ap, sym, ◌∙◌, ◌⊎◌, inl, inr, subst, arith, if◌then◌else◌, get_or}
+use Rattle.std.proofs.Common.{◌≡◌, ◌<◌, ℕ, Bool, true, false, cond, ◌||◌, ◌&&◌, List, [], ◌∷◌, length, map, slice_get, Option, Some, None, refl, ap, ◌∙◌, inl, inr, subst, arith, if◌then◌else◌}
 use Rattle.std.specs.Prelude.{option_map}
-use Rattle.std.specs.List.{find, list_any, position}
+use Rattle.std.specs.List.{find, list_any}
 use Rattle.std.proofs.lemmas.Bool.Decides.{nat_tests}
 use Rattle.std.proofs.lemmas.List.Quantifiers.{position-Some}
 use Rattle.std.proofs.lemmas.Option.{get_or_from_slice_get}
@@ -9,19 +9,19 @@ use Rattle.plfs_types.specs.declared.names.Path.{Path}
 use Rattle.store_api.specs.declared.tree.File.{File}
 use Rattle.store_api.specs.declared.tree.Room.{Room}
 use Rattle.store_api.specs.declared.tree.Tree.{Tree}
-use Rattle.store_api.specs.declared.step.Answer.TheVariants.{Made, Old, NoRoom, TargetThere, Number, Absent}
-use Rattle.store_api.specs.Step.{Name, make_room, rename_room, find_room}
+use Rattle.store_api.specs.declared.step.Answer.TheVariants.{Made, TargetThere, Number}
+use Rattle.store_api.specs.Step.{Name, make_room, rename_room}
 use Rattle.store_api.specs.Names.{same_name}
 use Rattle.store_api.specs.Room.{is_top, is_at, empty_file}
-use Rattle.store_api.specs.Effect.{Effect, effect, new_room, number_of, number_or_absent, room_made, renamed, room_after, stays}
+use Rattle.store_api.specs.Effect.{Effect, effect, new_room, number_of, room_made, renamed, room_after}
 use Rattle.store_laws.specs.Files.{file_at}
 use Rattle.store_laws.specs.Differ.{is_listed, NamesDiffer, is_there, FilesDiffer}
 use Rattle.store_laws.specs.There.{IsRoomOf, IsFree}
 use Rattle.store_laws.specs.Changes.{RoomMade, RoomRenamed}
-use Rattle.store_laws.specs.Says.{WhyNoRoomMade, WhyNotRenamed, FindTells}
-use Rattle.store_laws.specs.Outcomes.{Stays, ChangesOrStays}
+use Rattle.store_laws.specs.Says.{WhyNoRoomMade, WhyNotRenamed}
+use Rattle.store_laws.specs.Outcomes.{ChangesOrStays}
 use Rattle.store_laws.proofs.Places.{item}
-use Rattle.store_laws.proofs.Naming.{name_eq, name_same, name_apart}
+use Rattle.store_laws.proofs.Naming.{name_eq, name_apart}
 use Rattle.store_laws.proofs.Searches.{find_unplaced, none_found, none_at}
 use Rattle.store_laws.proofs.Entering.{room_cases, stays_in}
 
@@ -38,9 +38,9 @@ numbered tree name n e =
       has_room = room.1;
       named = name_eq room.0.name name (subst (λ (r : Room). same_name r.name name ≡ true) (get_or_from_slice_get tree.rooms n room.0 room.0 room.1) facts.1);
       first = λ k other less at same.
-        let was = (position-Some p tree.rooms n other e).2 k less in
-        let not_named : same_name other.name name ≡ false = subst (λ (r : Room). same_name r.name name ≡ false) (get_or_from_slice_get tree.rooms k other other at) was in
-        name_apart other.name name not_named same;
+          let was = (position-Some p tree.rooms n other e).2 k less in
+          let not_named : same_name other.name name ≡ false = subst (λ (r : Room). same_name r.name name ≡ false) (get_or_from_slice_get tree.rooms k other other at) was in
+          name_apart other.name name not_named same;
     }
 
 pub unnumbered : (tree : Tree) (name : Name) → number_of tree name ≡ None → IsFree tree name
@@ -88,15 +88,18 @@ new_differ (name ∷ names) d = (none_there name names ∙ d.0, new_differ names
 
 by_number : (tree : Tree) (name : Name) (folders files : List Name) (number : Option ℕ) → number_of tree name ≡ number
     → ChangesOrStays tree (Number (length tree.rooms)) (RoomMade tree name folders files) (WhyNoRoomMade tree name) (room_made tree (new_room name folders files) number)
-by_number tree name folders files None e = inl (refl, record {
-  new = new_room name folders files;
-  free = unnumbered tree name e;
-  named = refl;
-  has_folders = refl;
-  has_files = has_files name folders files;
-  differ = λ d. new_differ files d;
-  gives = refl;
-})
+by_number tree name folders files None e = inl (
+  refl,
+  record {
+    new = new_room name folders files;
+    free = unnumbered tree name e;
+    named = refl;
+    has_folders = refl;
+    has_files = has_files name folders files;
+    differ = λ d. new_differ files d;
+    gives = refl;
+  },
+)
 by_number tree name folders files (Some n) e = inr record { same = refl; unmade = λ m. cc; why = numbered tree name n e }
 
 -- a room is made, or the tree stays
@@ -108,16 +111,19 @@ abbrev Renames : Tree → ℕ → Name → Effect → Type 0
 Renames tree n to out = ChangesOrStays tree Made (RoomRenamed tree n to) (WhyNotRenamed tree n to) out
 
 by_target : (tree : Tree) (n : ℕ) (to : Name) (room : Room) → slice_get tree.rooms n ≡ Some room → (number : Option ℕ) → number_of tree to ≡ number → Renames tree n to (room_after tree n (renamed room to number))
-by_target tree n to room e None free = inl (refl, record {
-  room = room;
-  new = record room { name = to };
-  has_room = e;
-  free = unnumbered tree to free;
-  named = refl;
-  same_folders = refl;
-  same_files = refl;
-  gives = refl;
-})
+by_target tree n to room e None free = inl (
+  refl,
+  record {
+    room = room;
+    new = record room { name = to };
+    has_room = e;
+    free = unnumbered tree to free;
+    named = refl;
+    same_folders = refl;
+    same_files = refl;
+    gives = refl;
+  },
+)
 by_target tree n to room e (Some k) is = inr (stays_in tree n room TargetThere Made (WhyNotRenamed tree n to) e (λ m. cc) (k, numbered tree to k is))
 
 -- a room is renamed, or the tree stays

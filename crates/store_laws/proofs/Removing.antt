@@ -1,20 +1,17 @@
 -- Steps that remove a file, or give it another name.
-use Rattle.std.proofs.Common.{◌≡◌, ℕ, Bool, true, false, List, [], slice_get, slice_set, Option, Some, None, refl, ap, sym, ◌∙◌, ◌⊎◌, inl, inr, subst}
-use Rattle.std.specs.List.{remove}
+use Rattle.std.proofs.Common.{ℕ, refl, inl, inr}
 use Rattle.plfs_types.specs.declared.names.Path.{Path}
-use Rattle.store_api.specs.declared.tree.File.{File}
-use Rattle.store_api.specs.declared.tree.Room.{Room}
 use Rattle.store_api.specs.declared.tree.Tree.{Tree}
 use Rattle.store_api.specs.declared.step.Answer.TheVariants.{Made, Absent, NoFolder}
-use Rattle.store_api.specs.Step.{Name, remove as remove_file}
-use Rattle.store_api.specs.Room.{Outcome, stays, becomes, has_folder, file_removed}
+use Rattle.store_api.specs.Step.{remove as remove_file}
+use Rattle.store_api.specs.Room.{becomes, file_removed}
 use Rattle.store_api.specs.Effect.{Effect, effect, room_after}
 use Rattle.store_laws.specs.Changes.{Removed}
 use Rattle.store_laws.specs.Says.{WhyNoFile}
-use Rattle.store_laws.specs.Outcomes.{Stays, ChangesOrStays}
+use Rattle.store_laws.specs.Outcomes.{ChangesOrStays}
 use Rattle.store_laws.proofs.Rooms.{file_at_found, file_at_none, without, without_others, without_gone}
 use Rattle.store_laws.proofs.Differing.{files_removed}
-use Rattle.store_laws.proofs.Entering.{FoundAt, room_cases, file_cases, stays_in}
+use Rattle.store_laws.proofs.Entering.{room_cases, file_cases, stays_in}
 
 -- how the step ends
 abbrev Removes : Tree → ℕ → Path → Effect → Type 0
@@ -28,15 +25,18 @@ remove_cases tree n path =
     (λ room e. file_cases room path (λ place file. becomes (without room place)) (λ out. Removes tree n path (room_after tree n out))
     (λ none. inr (stays_in tree n room NoFolder Made (WhyNoFile tree n path) e (λ m. cc) record { room = room; has_room = e; none = none }))
     (λ there none. inr (stays_in tree n room Absent Made (WhyNoFile tree n path) e (λ m. cc) record { room = room; has_room = e; folder = there; none = file_at_none room path none }))
-    (λ place file there f. inl (refl, record {
-      room = room;
-      old = file.bytes;
-      new = without room place;
-      has_room = e;
-      folder = there;
-      there = file_at_found room path file f.found;
-      gone = λ d. file_at_none (without room place) path (without_gone room path place file f.stands f.has_path d);
-      others = without_others room path place file f.stands f.has_path;
-      differ = λ d. files_removed room.files place d;
-      gives = refl;
-    })))
+    (λ place file there f. inl (
+      refl,
+      record {
+        room = room;
+        old = file.bytes;
+        new = without room place;
+        has_room = e;
+        folder = there;
+        there = file_at_found room path file f.found;
+        gone = λ d. file_at_none (without room place) path (without_gone room path place file f.stands f.has_path d);
+        others = without_others room path place file f.stands f.has_path;
+        differ = λ d. files_removed room.files place d;
+        gives = refl;
+      },
+    )))

@@ -1,5 +1,5 @@
 -- The files of a room once one of them has changed.
-use Rattle.std.proofs.Common.{◌≡◌, ℕ, Bool, true, false, ◌||◌, List, [], ◌∷◌, ◌++◌, slice_get, slice_set, Option, Some, None, refl, ap, sym, ◌∙◌, subst}
+use Rattle.std.proofs.Common.{◌≡◌, ℕ, false, ◌||◌, List, slice_get, Option, Some, None, refl, ap, sym, ◌∙◌, subst}
 use Rattle.std.specs.Prelude.{option_map}
 use Rattle.std.specs.List.{find, list_any, remove}
 use Rattle.plfs_types.specs.declared.names.Path.{Path}
@@ -7,13 +7,13 @@ use Rattle.store_api.specs.declared.tree.File.{File}
 use Rattle.store_api.specs.declared.tree.Room.{Room}
 use Rattle.store_api.specs.Step.{Name}
 use Rattle.store_api.specs.Names.{same_name}
-use Rattle.store_api.specs.Room.{is_at, is_top, has_folder, place_of, file_in, with_file, with_new_file, empty_file}
-use Rattle.store_api.proofs.Files.{found_at_place, file_in-with_file, find-set_other}
-use Rattle.store_laws.specs.Files.{file_at, AreTwo, SameButFile, SameButFolder}
-use Rattle.store_laws.specs.Differ.{is_there, is_listed, FilesDiffer, PathsDiffer}
-use Rattle.store_laws.proofs.Naming.{name_eq, name_refl, name_other, at_path, path_at, not_at, two_apart}
-use Rattle.store_laws.proofs.Searches.{find_none, none_found, find_removed, find_more, find_new, find_unplaced, find_passes}
-use Rattle.store_laws.proofs.Differing.{files_more, files_set, files_removed, gone_removed}
+use Rattle.store_api.specs.Room.{is_at, is_top, has_folder, place_of, file_in, with_file, with_new_file}
+use Rattle.store_api.proofs.Files.{file_in-with_file, find-set_other}
+use Rattle.store_laws.specs.Files.{file_at, AreTwo, SameButFile}
+use Rattle.store_laws.specs.Differ.{is_there, PathsDiffer}
+use Rattle.store_laws.proofs.Naming.{at_path, path_at, not_at, two_apart}
+use Rattle.store_laws.proofs.Searches.{find_none, none_found, find_removed, find_more, find_new, find_passes}
+use Rattle.store_laws.proofs.Differing.{files_more, gone_removed}
 
 -- ---- what is found at a path
 
@@ -30,7 +30,7 @@ pub file_at_same : (room new : Room) (path : Path) → new.files ≡ room.files 
 unfolding file_at
 file_at_same room new path e = ap (λ files. option_map (λ (f : File). f.bytes) (find (is_at path.folder path.file) files)) e
 
-file_at_alike : (room new : Room) (path : Path) → file_in new path.folder path.file ≡ file_in room path.folder path.file → file_at new path ≡ file_at room path
+pub file_at_alike : (room new : Room) (path : Path) → file_in new path.folder path.file ≡ file_in room path.folder path.file → file_at new path ≡ file_at room path
 unfolding file_at
 file_at_alike room new path e = ap (λ found. option_map (λ (f : File). f.bytes) found) e
 
@@ -69,7 +69,7 @@ with_file_others room path place old file at was is = record {
   name = refl;
   folders = refl;
   files = λ other two. file_at_alike room (with_file room place file) other
-    (find-set_other (is_at other.folder other.file) room.files place old file at (other_than other path old two was) (other_than other path file two is));
+      (find-set_other (is_at other.folder other.file) room.files place old file at (other_than other path old two was) (other_than other path file two is));
 }
 
 pub with_file_now : (room : Room) (path : Path) (place : ℕ) (file : File) → place_of room path.folder path.file ≡ Some place → file.path ≡ path → file_at (with_file room place file) path ≡ Some file.bytes

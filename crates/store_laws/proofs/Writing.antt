@@ -1,12 +1,11 @@
 -- Steps that write a file, or cut it.
-use Rattle.std.proofs.Common.{◌≡◌, ◌≤◌, ◌<◌, ℕ, Bool, true, false, List, [], length, take, nat_le, slice_get, Option, Some, None, refl, ap, sym, ◌∙◌, ◌⊎◌, inl, inr, subst, arith, if◌then◌else◌}
+use Rattle.std.proofs.Common.{◌≡◌, ◌≤◌, ◌<◌, ℕ, Bool, true, false, List, length, take, nat_le, slice_get, Some, refl, inl, inr, arith, if◌then◌else◌}
 use Rattle.std.proofs.lemmas.Bool.Decides.{nat_tests}
 use Rattle.plfs_types.specs.Bytes.{overwritten}
 use Rattle.plfs_types.specs.declared.names.Path.{Path}
 use Rattle.store_api.specs.declared.tree.File.{File}
 use Rattle.store_api.specs.declared.tree.Room.{Room}
 use Rattle.store_api.specs.declared.tree.Tree.{Tree}
-use Rattle.store_api.specs.declared.step.Answer.{Answer}
 use Rattle.store_api.specs.declared.step.Answer.TheVariants.{Made, Absent, NoFolder, Beyond}
 use Rattle.store_api.specs.Step.{write_at, cut}
 use Rattle.store_api.specs.Room.{Outcome, stays, becomes, has_folder, in_file, with_file}
@@ -15,7 +14,7 @@ use Rattle.store_laws.specs.Files.{file_at, SameButFile}
 use Rattle.store_laws.specs.Differ.{PathsDiffer}
 use Rattle.store_laws.specs.Changes.{with_room, Wrote, WasCut}
 use Rattle.store_laws.specs.Says.{WhyNotWritten}
-use Rattle.store_laws.specs.Outcomes.{Stays, ChangesOrStays}
+use Rattle.store_laws.specs.Outcomes.{ChangesOrStays}
 use Rattle.store_laws.proofs.Rooms.{file_at_found, file_at_none, with_file_now, with_file_others}
 use Rattle.store_laws.proofs.Differing.{files_set}
 use Rattle.store_laws.proofs.Entering.{FoundAt, room_cases, file_cases, stays_in}
@@ -59,19 +58,22 @@ module _ (tree : Tree) (n : ℕ) (path : Path) (at : ℕ) (change : List ℕ →
   by_length : (room : Room) (place : ℕ) (file : File) → slice_get tree.rooms n ≡ Some room → has_folder room path.folder ≡ true → FoundAt room path place file → (b : Bool) → nat_le at (length file.bytes) ≡ b
       → Rewrites tree n path at change (room_after tree n (if b then becomes (with_file room place (changed file change)) else stays room Beyond))
   by_length room place file e there f true fits =
-      inl (refl, record {
-        room = room;
-        old = file.bytes;
-        new = with_file room place (changed file change);
-        has_room = e;
-        folder = there;
-        there = file_at_found room path file f.found;
-        within = longer at (length file.bytes) fits;
-        now = with_file_now room path place (changed file change) f.placed f.has_path;
-        others = with_file_others room path place file (changed file change) f.stands f.has_path f.has_path;
-        differ = files_set room.files place file (changed file change) f.stands refl;
-        gives = refl;
-      })
+      inl (
+        refl,
+        record {
+          room = room;
+          old = file.bytes;
+          new = with_file room place (changed file change);
+          has_room = e;
+          folder = there;
+          there = file_at_found room path file f.found;
+          within = longer at (length file.bytes) fits;
+          now = with_file_now room path place (changed file change) f.placed f.has_path;
+          others = with_file_others room path place file (changed file change) f.stands f.has_path f.has_path;
+          differ = files_set room.files place file (changed file change) f.stands refl;
+          gives = refl;
+        },
+      )
   by_length room place file e there f false past =
       inr (stays_in tree n room Beyond Made (WhyNotWritten tree n path at) e (λ m. cc)
       (record { room = room; bytes = file.bytes; has_room = e; folder = there; there = file_at_found room path file f.found }, shorter at (length file.bytes) past))

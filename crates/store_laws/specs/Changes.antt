@@ -1,5 +1,5 @@
 -- What each step that changes a tree has changed in it.
-use Rattle.std.specs.Prelude.{◌≡◌, ◌⊎◌, ◌≤◌, ℕ, List, [], ◌∷◌, ◌++◌, length, take, Bool, true, false, Option, Some, None, slice_get, slice_set, if◌then◌else◌, ◌&&◌}
+use Rattle.std.specs.Prelude.{◌≡◌, ◌⊎◌, ◌≤◌, ℕ, List, [], ◌∷◌, ◌++◌, length, take, true, false, Some, None, slice_get, slice_set, if◌then◌else◌, ◌&&◌}
 use Rattle.plfs_types.specs.Bytes.{overwritten}
 use Rattle.plfs_types.specs.declared.names.Path.{Path}
 use Rattle.store_api.specs.declared.tree.Room.{Room}
@@ -13,6 +13,16 @@ use Rattle.store_laws.specs.There.{IsFree, HoldsFile}
 -- the tree with another room of this number
 abbrev pub with_room : Tree → ℕ → Room → Tree
 with_room tree n room = record { rooms = slice_set tree.rooms n room }
+
+-- one file of one room has come, gone or changed
+pub record FileChanged (tree : Tree) (n : ℕ) (path : Path) (after : Tree) : Type 0 where
+  pub room : Room
+  pub new : Room
+  pub has_room : slice_get tree.rooms n ≡ Some room
+  pub folder : has_folder room path.folder ≡ true
+  pub others : SameButFile path room new
+  pub differ : PathsDiffer room → PathsDiffer new
+  pub gives : after ≡ with_room tree n new
 
 -- an empty file was made in a folder that is there
 pub record Created (tree : Tree) (n : ℕ) (path : Path) (after : Tree) : Type 0 where

@@ -1,8 +1,9 @@
 -- Rooms in which nothing stands twice.
-use Rattle.std.specs.Prelude.{◌≡◌, List, [], ◌∷◌, false, Bool}
+use Rattle.std.specs.Prelude.{◌≡◌, ℕ, List, [], ◌∷◌, false, Bool, Some, slice_get}
 use Rattle.std.specs.List.{list_any}
 use Rattle.store_api.specs.declared.tree.File.{File}
 use Rattle.store_api.specs.declared.tree.Room.{Room}
+use Rattle.store_api.specs.declared.tree.Tree.{Tree}
 use Rattle.store_api.specs.Step.{Name}
 use Rattle.store_api.specs.Names.{same_name}
 use Rattle.store_api.specs.Room.{is_at}
@@ -32,3 +33,7 @@ FoldersDiffer room = NamesDiffer room.folders
 -- no two files of the room have one path
 abbrev pub PathsDiffer : Room → Type 0
 PathsDiffer room = FilesDiffer room.files
+
+-- no two rooms of the tree have one name
+abbrev pub RoomsDiffer : Tree → Type 0
+RoomsDiffer tree = (m n : ℕ) (a b : Room) → slice_get tree.rooms m ≡ Some a → slice_get tree.rooms n ≡ Some b → a.name ≡ b.name → m ≡ n

@@ -6,3 +6,5 @@ pub mod Says
 pub mod Tells
 pub mod Changes
 pub mod Outcomes
+pub mod Naming
+pub mod Orderly

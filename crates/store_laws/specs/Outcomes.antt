@@ -3,7 +3,6 @@ use Rattle.std.specs.Prelude.{◌≡◌, ◌⊎◌, ◌≤◌, ℕ, List, take, 
 use Rattle.plfs_types.specs.declared.names.Path.{Path}
 use Rattle.store_api.specs.declared.tree.Tree.{Tree}
 use Rattle.store_api.specs.declared.step.Answer.{Answer}
-use Rattle.store_api.specs.declared.step.Answer.TheVariants.{Made}
 use Rattle.store_api.specs.declared.store.Trouble.{Trouble}
 use Rattle.store_api.specs.Step.{Step, rooms, find_room, list_folder, length_of, read_at, sync}
 use Rattle.store_api.specs.Effect.{Effect}
@@ -34,6 +33,11 @@ WroteInPart n path at bytes tree after = (after ≡ tree) ⊎ ((k : ℕ) × (k �
 abbrev pub WriteTold : ℕ → Path → ℕ → List ℕ → Tree → Result Answer Trouble → Tree → Type 0
 WriteTold n path at bytes tree told after =
     ((told ≡ made) × Wrote tree n path at bytes after) ⊎ ((told ≡ made → ⊥) × WroteInPart n path at bytes tree after)
+
+-- the tree stays, and the answer tells of it
+pub record Looks (tree : Tree) (says : Answer → Type 0) (out : Effect) : Type 0 where
+  pub same : out.tree ≡ tree
+  pub says_so : says out.answer
 
 -- a step that changes nothing
 abbrev pub IsLook : Step → Type 0
