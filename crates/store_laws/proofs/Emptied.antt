@@ -49,10 +49,13 @@ neither : (file : Option (List ℕ)) (b : Bool) → false ≡ (is_some file || b
 neither None b e = refl
 neither (Some bytes) b e = absurd (cc)
 
-no_files : (room : Room) (folder name : Name) → listing room folder ≡ [] → file_at room (record { folder = folder; file = name }) ≡ None
-no_files room folder name e =
+no_entries : (room : Room) (folder name : Name) → listing room folder ≡ [] → has_entry room folder name ≡ false
+no_entries room folder name e =
     let exact : is_listed name (listing room folder) ≡ has_entry room folder name = (listing_names room folder).exactly name in
-    neither (file_at room (record { folder = folder; file = name })) (is_top folder && is_listed name room.folders) (subst (λ names. is_listed name names ≡ has_entry room folder name) e exact)
+    sym (subst (λ names. is_listed name names ≡ has_entry room folder name) e exact)
+
+no_files : (room : Room) (folder name : Name) → listing room folder ≡ [] → file_at room (record { folder = folder; file = name }) ≡ None
+no_files room folder name e = neither (file_at room (record { folder = folder; file = name })) (is_top folder && is_listed name room.folders) (sym (no_entries room folder name e))
 
 -- how the step ends
 abbrev Removes : Tree → ℕ → Name → Effect → Type 0
@@ -67,6 +70,7 @@ by_listing tree n folder room e there [] is = inl (
     new = without_folder room folder;
     has_room = e;
     there = there;
+    bare = λ name. no_entries room folder name is;
     empty = λ name. no_files room folder name is;
     gone = or_none (is_top folder) (is_listed folder (filter (λ name. not (same_name name folder)) room.folders)) (taken_out folder room.folders);
     others = record { name = refl; folders = λ other apart. ap (λ b. is_top other || b) (left_in folder other room.folders apart); files = refl };

@@ -21,3 +21,4 @@ pub mod Touching
 pub mod Lengthening
 pub mod OrderKept
 pub mod Listed
+pub mod Exactly

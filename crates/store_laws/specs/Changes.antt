@@ -8,7 +8,7 @@ use Rattle.store_api.specs.Step.{Name}
 use Rattle.store_api.specs.Room.{is_top, has_folder}
 use Rattle.store_laws.specs.Files.{file_at, AreTwo, SameButFile, SameButFolder}
 use Rattle.store_laws.specs.Differ.{is_listed, NamesDiffer, FoldersDiffer, PathsDiffer}
-use Rattle.store_laws.specs.There.{IsFree, HoldsFile}
+use Rattle.store_laws.specs.There.{IsFree, HoldsFile, has_entry}
 
 -- the tree with another room of this number
 abbrev pub with_room : Tree → ℕ → Room → Tree
@@ -119,6 +119,7 @@ pub record FolderRemoved (tree : Tree) (n : ℕ) (folder : Name) (after : Tree) 
   pub new : Room
   pub has_room : slice_get tree.rooms n ≡ Some room
   pub there : has_folder room folder ≡ true
+  pub bare : (name : Name) → has_entry room folder name ≡ false
   pub empty : (name : Name) → file_at room (record { folder = folder; file = name }) ≡ None
   pub gone : has_folder new folder ≡ is_top folder
   pub others : SameButFolder folder room new
