@@ -1,0 +1,13 @@
+pub mod Orders
+pub mod Items
+pub mod Frames
+pub mod Tables
+pub mod Local
+pub mod Live
+pub mod Making
+pub mod Working
+pub mod Stages
+pub mod Building
+pub mod Openings
+pub mod Flushes
+pub mod WriteEntries

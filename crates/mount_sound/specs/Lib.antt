@@ -1,5 +1,6 @@
 pub mod Entries
 pub mod Ledger
+pub mod Items
 pub mod Dropping
 pub mod Kept
 pub mod Sound
