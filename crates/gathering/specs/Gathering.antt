@@ -1,5 +1,5 @@
 -- How a reader gathers the entries of writers.
-use Rattle.std.specs.Prelude.{◌≡◌, ◌≤◌, ◌+◌, ◌*◌, ◌/◌, ◌++◌, ℕ, List, [], ◌∷◌, length, take, drop, Some}
+use Rattle.std.specs.Prelude.{◌≡◌, ◌≤◌, ◌+◌, ◌*◌, ◌/◌, ◌++◌, ℕ, List, [], ◌∷◌, length, take, drop}
 use Rattle.std.specs.List.{AllByRecursion}
 use Rattle.index_entry.specs.Spelling.{spelling_all}
 use Rattle.store_api.specs.declared.step.Answer.TheVariants.{Number, Bytes}
@@ -9,7 +9,7 @@ use Rattle.mount_model.specs.declared.reply.Reply.TheVariants.{Looked}
 use Rattle.mount_model.specs.Paths.{index_path}
 use Rattle.mount_model.specs.History.{Event}
 use Rattle.mount_sound.specs.Ledger.{entries_in}
-use Rattle.gathering.specs.Moments.{Moment, index_then, Dropping, issued_by, landed}
+use Rattle.gathering.specs.Moments.{Moment, Dropping, IsNamed, Stood, issued_by, landed}
 use Rattle.gathering.specs.Seen.{Asked, calls_of}
 
 -- the length of the index dropping was asked and told
@@ -36,6 +36,7 @@ pub record Gathered : Type 0 where
 
 -- The calls that gathered it: the length, then the bytes of the whole entries past the covered ones.
 pub record Gathers (g : Gathered) (asked : List Asked) : Type 0 where
+  pub named : IsNamed g.dropping
   pub first : Asked
   pub reads : List Asked
   pub calls : asked ≡ first ∷ reads
@@ -55,7 +56,7 @@ pub record IsPrefixOf (start end : Moment) (g : Gathered) : Type 0 where
   pub least : landed start g.dropping ≤ g.count
   pub most : g.count ≤ landed end g.dropping
   pub were_issued : g.count ≤ length (issued_by end g.dropping)
-  pub there : (bytes : List ℕ) × (index_then end g.dropping ≡ Some bytes)
+  pub stands : Stood end g.dropping
   pub entries : g.content ≡ spelling_all (drop g.covered (take g.count (entries_in (issued_by end g.dropping))))
 
 -- each count lies between what had landed at the two moments

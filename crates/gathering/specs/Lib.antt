@@ -5,3 +5,4 @@ pub mod Listing
 pub mod View
 pub mod Opening
 pub mod Bounds
+pub mod Failing

@@ -1,5 +1,5 @@
 -- What listings of a container's folders tell of its droppings and truncates.
-use Rattle.std.specs.Prelude.{◌≡◌, ◌⊎◌, ◌<◌, ◌%◌, ℕ, List, [], ◌∷◌, ◌++◌, Some}
+use Rattle.std.specs.Prelude.{◌≡◌, ◌≢◌, ◌⊎◌, ◌<◌, ◌%◌, ℕ, List, [], ◌∷◌, ◌++◌}
 use Rattle.std.specs.List.{All, Any, AllByRecursion, range_with_len}
 use Rattle.plfs_types.specs.declared.entries.Trunc.{Trunc}
 use Rattle.container_layout.specs.declared.items.Item.TheVariants as item
@@ -9,8 +9,8 @@ use Rattle.mount_model.specs.declared.call.Call.TheVariants.{Look}
 use Rattle.mount_model.specs.declared.call.Look.{Look as Sight}
 use Rattle.mount_model.specs.declared.call.Look.TheVariants.{Top, List as ListFolder}
 use Rattle.mount_model.specs.declared.reply.Reply.TheVariants.{Looked}
-use Rattle.mount_model.specs.Paths.{Name, truncs, trunc_path}
-use Rattle.gathering.specs.Moments.{Moment, file_then, Dropping, index_then}
+use Rattle.mount_model.specs.Paths.{Name, truncs}
+use Rattle.gathering.specs.Moments.{Moment, Dropping, HadTrunc}
 use Rattle.gathering.specs.Seen.{Asked}
 
 -- names were asked and told
@@ -41,8 +41,8 @@ pub record AreTruncsOf (names : List Name) (ts : List Trunc) : Type 0 where
 -- all truncates that stood in the room at that moment, by rising stamp
 pub record AreTruncsAt (moment : Moment) (room : ℕ) (ts : List Trunc) : Type 0 where
   pub rise : StampsRise ts
-  pub there : All (λ (t : Trunc). (bytes : List ℕ) × (file_then moment room (trunc_path t.stamp t.size) ≡ Some bytes)) ts
-  pub all : (t : Trunc) (bytes : List ℕ) → file_then moment room (trunc_path t.stamp t.size) ≡ Some bytes → IsAmong t ts
+  pub there : All (λ (t : Trunc). HadTrunc moment room t.stamp t.size) ts
+  pub all : (t : Trunc) → HadTrunc moment room t.stamp t.size → IsAmong t ts
 
 -- ---- droppings
 
@@ -52,10 +52,12 @@ pub record IsIndexName (room k : ℕ) (name : Name) (d : Dropping) : Type 0 wher
   pub folder : d.host % 32 ≡ k
   pub named : IsIn (hostdir_of k) name (item.Index d.host d.writer)
 
--- the index droppings that these names in that folder are of
-pub record AreDroppingsOf (room k : ℕ) (names : List Name) (ds : List Dropping) : Type 0 where
-  pub named : All (λ (d : Dropping). Any (λ name. IsIndexName room k name d) names) ds
-  pub all : (d : Dropping) → Any (λ name. IsIndexName room k name d) names → IsAmong d ds
+-- the index droppings that these names in that folder are of, in the order of the names
+abbrev pub AreDroppingsOf : ℕ → ℕ → List Name → List Dropping → Type 0
+AreDroppingsOf room k [] ds = ds ≡ []
+AreDroppingsOf room k (name ∷ names) ds =
+    ((d : Dropping) × (rest : List Dropping) × IsIndexName room k name d × (ds ≡ d ∷ rest) × AreDroppingsOf room k names rest)
+    ⊎ (((d : Dropping) → IsIndexName room k name d → ⊥) × AreDroppingsOf room k names ds)
 
 -- One folder of droppings is listed, and these of its droppings are found before the others.
 pub record ListsHostdir (room k : ℕ) (mine : List Dropping) (asked : Asked) : Type 0 where
@@ -82,3 +84,8 @@ pub record IsScan (room : ℕ) (ds : List Dropping) (asked : List Asked) : Type 
   pub top : List Name
   pub lists : IsListing room Top top first
   pub hostdirs : ListsHostdirs room top hostdirs rest ds
+
+-- no two of the droppings are one
+abbrev pub DroppingsDiffer : List Dropping → Type 0
+DroppingsDiffer [] = Unit {0}
+DroppingsDiffer (d ∷ ds) = AllByRecursion (λ (e : Dropping). e ≢ d) ds × DroppingsDiffer ds

@@ -1,10 +1,14 @@
 -- Moments of a history, and how later ones extend earlier ones.
-use Rattle.std.specs.Prelude.{◌≡◌, ◌≤◌, ◌/◌, ◌++◌, ℕ, List, [], ◌∷◌, length, Option, Some, None, slice_get}
+use Rattle.std.specs.Prelude.{◌≡◌, ◌≢◌, ◌≤◌, ◌/◌, ◌++◌, ℕ, List, [], ◌∷◌, length, Option, Some, None, slice_get}
 use Rattle.plfs_types.specs.declared.names.Path.{Path}
+use Rattle.container_layout.specs.declared.items.Item.{Item}
+use Rattle.container_layout.specs.declared.items.Item.TheVariants.{Index, Trunc}
+use Rattle.container_layout.specs.Items.{IsItem}
+use Rattle.container_layout.specs.Paths.{path_of}
 use Rattle.store_api.specs.declared.tree.Room.{Room}
 use Rattle.store_api.specs.declared.tree.Tree.{Tree}
 use Rattle.store_laws.specs.Files.{file_at}
-use Rattle.mount_model.specs.Paths.{index_path, log_path, trunc_path}
+use Rattle.mount_model.specs.Paths.{openhosts, index_path, log_path}
 use Rattle.mount_model.specs.State.{State}
 use Rattle.mount_model.specs.History.{Event}
 use Rattle.mount_sound.specs.Ledger.{Written, Ledger}
@@ -43,11 +47,29 @@ file_told (Some tree) number path = file_in_tree tree number path
 abbrev pub file_then : Moment → ℕ → Path → Option (List ℕ)
 file_then moment number path = file_told moment.state.store.tree number path
 
+-- the item stood in the room
+pub record HadItem (moment : Moment) (room : ℕ) (item : Item) : Type 0 where
+  pub is_item : IsItem item
+  pub bytes : List ℕ
+  pub there : file_then moment room (path_of item) ≡ Some bytes
+
 -- a writer in its room
 pub record Dropping : Type 0 where
   pub room : ℕ
   pub host : ℕ
   pub writer : ℕ
+
+-- its host and its writer have the widths that they have in names
+abbrev pub IsNamed : Dropping → Type 0
+IsNamed d = IsItem (Index d.host d.writer)
+
+-- its index dropping stood in its room
+abbrev pub Stood : Moment → Dropping → Type 0
+Stood moment d = HadItem moment d.room (Index d.host d.writer)
+
+-- a truncate of this stamp and size stood in the room
+abbrev pub HadTrunc : Moment → ℕ → ℕ → ℕ → Type 0
+HadTrunc moment room stamp size = HadItem moment room (Trunc stamp size)
 
 -- the writes that the writer had issued
 abbrev pub issued_by : Moment → Dropping → List Written
@@ -68,9 +90,8 @@ whole bytes = length bytes / 40
 abbrev pub landed : Moment → Dropping → ℕ
 landed moment d = whole (bytes_of (index_then moment d))
 
--- A later moment: writers issued no less, and no dropping went away, no whole entry, and no truncate.
+-- A later moment: writers issued no less, and each file is still there and no shorter, but for those that say who is
+-- open.
 pub record Grows (old new : Moment) : Type 0 where
   pub issued : (d : Dropping) → (more : List Written) × (issued_by new d ≡ issued_by old d ++ more)
-  pub indexes : (d : Dropping) (bytes : List ℕ) → index_then old d ≡ Some bytes → (later : List ℕ) × (index_then new d ≡ Some later) × (whole bytes ≤ whole later)
-  pub logs : (d : Dropping) (bytes : List ℕ) → log_then old d ≡ Some bytes → (later : List ℕ) × (log_then new d ≡ Some later)
-  pub truncs : (room stamp size : ℕ) (bytes : List ℕ) → file_then old room (trunc_path stamp size) ≡ Some bytes → (later : List ℕ) × (file_then new room (trunc_path stamp size) ≡ Some later)
+  pub files : (room : ℕ) (path : Path) (bytes : List ℕ) → path.folder ≢ openhosts → file_then old room path ≡ Some bytes → (later : List ℕ) × (file_then new room path ≡ Some later) × (length bytes ≤ length later)

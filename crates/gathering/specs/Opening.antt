@@ -1,5 +1,5 @@
 -- The opening of a reader, and what it sees from then on.
-use Rattle.std.specs.Prelude.{◌≡◌, ℕ, List, ◌∷◌, ◌++◌, Some}
+use Rattle.std.specs.Prelude.{◌≡◌, ℕ, List, ◌∷◌, ◌++◌}
 use Rattle.std.specs.List.{All, Any}
 use Rattle.plfs_types.specs.declared.entries.Trunc.{Trunc}
 use Rattle.index_entry.specs.Spelling.{spelling_all}
@@ -11,7 +11,7 @@ use Rattle.mount_model.specs.declared.call.Look.TheVariants.{List as ListFolder}
 use Rattle.mount_model.specs.Paths.{Name, truncs as truncs_folder}
 use Rattle.mount_model.specs.History.{Event}
 use Rattle.mount_sound.specs.Ledger.{entries_in}
-use Rattle.gathering.specs.Moments.{Moment, moment_after, Dropping, index_then}
+use Rattle.gathering.specs.Moments.{Moment, moment_after, Dropping, Stood}
 use Rattle.gathering.specs.Seen.{Asked, calls_of}
 use Rattle.gathering.specs.Gathering.{Gathered, GathersAll, IsAdmissible}
 use Rattle.gathering.specs.Listing.{IsAmong, IsListing, IsScan, AreTruncsOf, AreTruncsAt}
@@ -54,7 +54,7 @@ pub record Answers (end : Moment) (cut : List Gathered) (truncs : List Trunc) (a
 -- at the first call, the truncates of then, and entries that are the cut's.
 pub record HasView (start end : Moment) (room : ℕ) (cut : List Gathered) (truncs : List Trunc) : Type 0 where
   pub admissible : IsAdmissible start end cut
-  pub complete : (d : Dropping) (bytes : List ℕ) → d.room ≡ room → index_then start d ≡ Some bytes → Any (λ (g : Gathered). g.dropping ≡ d) cut
+  pub complete : (d : Dropping) → d.room ≡ room → Stood start d → Any (λ (g : Gathered). g.dropping ≡ d) cut
   pub all_truncs : AreTruncsAt end room truncs
   pub entries : content_of cut ≡ spelling_all (tails_in end cut)
 
