@@ -1,0 +1,4 @@
+pub mod Members
+pub mod Acting
+pub mod Growing
+pub mod Seeing
