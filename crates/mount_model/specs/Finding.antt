@@ -1,5 +1,5 @@
 -- Calls that find, make and name containers.
-use Rattle.std.specs.Prelude.{◌≡◌, ◌⊎◌, ℕ, List, [], ◌∷◌, Ok}
+use Rattle.std.specs.Prelude.{◌≡◌, ◌⊎◌, List, [], ◌∷◌, Ok}
 use Rattle.plfs_types.specs.Names.{IsLogicalName}
 use Rattle.store_api.specs.declared.step.Answer.TheVariants.{Number, Old, Absent, Names}
 use Rattle.store_api.specs.Step.{find_room, make_room, rooms as all_rooms}

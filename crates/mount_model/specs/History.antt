@@ -1,5 +1,5 @@
 -- Histories of calls.
-use Rattle.std.specs.Prelude.{ℕ, List, [], ◌∷◌, Option}
+use Rattle.std.specs.Prelude.{List, [], ◌∷◌, Option}
 use Rattle.store_api.specs.declared.tree.Tree.{Tree}
 use Rattle.turn_object.specs.declared.history.Entry as turn
 use Rattle.turn_object.specs.History as history

@@ -1,5 +1,5 @@
 -- A writer leaves: its metadata dropping is made, and its entry in the folder of who has the container open goes.
-use Rattle.std.specs.Prelude.{◌≡◌, ℕ, length, nat_lt, ◌&&◌, not, true, Option, Some, None, Ok, Err, if◌then◌else◌}
+use Rattle.std.specs.Prelude.{ℕ, length, nat_lt, ◌&&◌, not, true, Option, Some, None, Ok, Err, if◌then◌else◌}
 use Rattle.store_api.specs.declared.step.Answer.TheVariants.{Made, Old}
 use Rattle.store_api.specs.declared.store.Trouble.TheVariants as trouble
 use Rattle.store_api.specs.Step.{Step, create, remove}

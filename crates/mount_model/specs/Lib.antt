@@ -12,6 +12,7 @@ pub mod Flushing
 pub mod Leaving
 pub mod Step
 pub mod Regular
+pub mod Places
 pub mod History
 pub mod Mounting
 pub mod Codes

@@ -1,5 +1,5 @@
 -- A look at a container: the reply is what the store answered, where that is an answer to such a step.
-use Rattle.std.specs.Prelude.{ℕ, List, [], length, nat_le, ◌==◌, Option, Some, None, Ok, if◌then◌else◌}
+use Rattle.std.specs.Prelude.{ℕ, [], length, nat_le, ◌==◌, Option, Some, None, Ok, if◌then◌else◌}
 use Rattle.plfs_types.specs.declared.names.Path.{Path}
 use Rattle.store_api.specs.declared.step.Answer.TheVariants.{Names, NoFolder, Absent, Number, Bytes}
 use Rattle.store_api.specs.Step as store

@@ -1,5 +1,5 @@
 -- A call that is refused, or makes one act.
-use Rattle.std.specs.Prelude.{◌≡◌, ℕ, Bool, List, [], Option, Result, Ok, Err, MatchOption}
+use Rattle.std.specs.Prelude.{◌≡◌, ℕ, Bool, [], Option, Result, Ok, Err, MatchOption}
 use Rattle.store_api.specs.declared.step.Answer.{Answer}
 use Rattle.store_api.specs.declared.step.Answer.TheVariants as answer
 use Rattle.store_api.specs.declared.store.Trouble.{Trouble}

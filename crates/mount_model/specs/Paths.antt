@@ -3,7 +3,7 @@ use Rattle.std.specs.Prelude.{ℕ, List, [], ◌∷◌, codes}
 use Rattle.std.specs.Fmt.{decimal}
 use Rattle.plfs_types.specs.declared.names.Path.{Path}
 use Rattle.container_layout.specs.declared.items.Item.TheVariants.{Access, OpenHost, Meta, Trunc, Index, Log}
-use Rattle.container_layout.specs.Paths.{path_of, hostdir_of}
+use Rattle.container_layout.specs.Paths.{path_of}
 
 abbrev pub Name : Type 0
 Name = List ℕ

@@ -1,5 +1,5 @@
 -- A writer's bytes go to its log, and their entry to its buffer.
-use Rattle.std.specs.Prelude.{◌≡◌, ℕ, ◌+◌, ◌-◌, ◌^◌, ◌≤◌, ◌<◌, List, [], ◌∷◌, ◌++◌, length, max, ◌||◌, nat_le, nat_lt, Option, Some, None, Ok, if◌then◌else◌}
+use Rattle.std.specs.Prelude.{ℕ, ◌+◌, ◌-◌, ◌^◌, ◌≤◌, ◌<◌, List, [], ◌∷◌, ◌++◌, length, max, ◌||◌, nat_le, nat_lt, Option, Some, None, Ok, if◌then◌else◌}
 use Rattle.plfs_types.specs.declared.entries.Entry.{Entry}
 use Rattle.plfs_types.specs.Stamps.{next_stamp}
 use Rattle.container_layout.specs.Paths.{hostdir_of}

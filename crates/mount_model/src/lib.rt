@@ -6,9 +6,11 @@
 #![tactic(auto)]
 
 mod call;
+mod laws;
 mod reply;
 mod row;
 
 pub use call::{Ask, Call, Look};
+pub use laws::{mounting_is_regular, place_lasts, regular_lasts};
 pub use reply::{Refusal, Reply};
 pub use row::{FlatStage, Flattening, Holder, Row, Stage};

@@ -1,14 +1,14 @@
 -- What stands in a container.
-use Rattle.std.specs.Prelude.{◌≡◌, ◌⊎◌, ℕ, ◌<◌, List, [], true, Some}
+use Rattle.std.specs.Prelude.{◌≡◌, ◌⊎◌, ℕ, ◌<◌, List, [], true, false, Some}
 use Rattle.plfs_types.specs.declared.names.Path.{Path}
 use Rattle.plfs_types.specs.Names.{IsLogicalName}
 use Rattle.container_layout.specs.declared.items.Item.{Item}
-use Rattle.container_layout.specs.declared.items.Item.TheVariants.{Access, OpenHost, Meta, Trunc, Flat, TmpFlat, Index, Log}
+use Rattle.container_layout.specs.declared.items.Item.TheVariants.{OpenHost, Meta, Flat, TmpFlat, Index, Log}
 use Rattle.container_layout.specs.Paths.{IsAt, hostdir_of}
 use Rattle.store_api.specs.declared.tree.Room.{Room}
 use Rattle.store_api.specs.Room.{has_folder}
 use Rattle.store_laws.specs.Files.{file_at}
-use Rattle.store_laws.specs.Differ.{FoldersDiffer, PathsDiffer}
+use Rattle.store_laws.specs.Differ.{is_listed, FoldersDiffer, PathsDiffer}
 use Rattle.mount_model.specs.Paths.{Name, openhosts, metadata, truncs, flats, access_path}
 
 -- the top, or a folder that a container may have
@@ -51,4 +51,6 @@ pub record IsContainer (allowed : ℕ → Type 0) (room : Room) : Type 0 where
   pub has_flats : has_folder room flats ≡ true
   pub has_access : file_at room access_path ≡ Some []
   pub folders : (folder : Name) → has_folder room folder ≡ true → IsContainerFolder folder
+  -- the top has no entry of its own
+  pub top_unlisted : is_listed [] room.folders ≡ false
   pub files : (path : Path) (bytes : List ℕ) → file_at room path ≡ Some bytes → IsItemFile allowed room path bytes

@@ -1,11 +1,11 @@
 -- The room of the mounts' marks, and the ids that the mounts of these marks may have drawn.
-use Rattle.std.specs.Prelude.{◌≡◌, ◌⊎◌, ℕ, ◌+◌, ◌≤◌, ◌<◌, ◌^◌, List, [], true, Some, slice_get}
+use Rattle.std.specs.Prelude.{◌≡◌, ◌⊎◌, ℕ, ◌≤◌, ◌<◌, ◌^◌, List, [], true, false, Some, slice_get}
 use Rattle.plfs_types.specs.declared.names.Path.{Path}
 use Rattle.store_api.specs.declared.tree.Room.{Room}
 use Rattle.store_api.specs.declared.tree.Tree.{Tree}
 use Rattle.store_api.specs.Room.{has_folder}
 use Rattle.store_laws.specs.Files.{file_at}
-use Rattle.store_laws.specs.Differ.{FoldersDiffer, PathsDiffer}
+use Rattle.store_laws.specs.Differ.{is_listed, FoldersDiffer, PathsDiffer}
 use Rattle.mount_model.specs.Paths.{Name, marks_name, marks_folder, mark_path}
 use Rattle.mount_model.specs.State.{id_of}
 
@@ -20,6 +20,7 @@ pub record IsMarksRoom (room : Room) : Type 0 where
   pub paths_differ : PathsDiffer room
   pub has_marks : has_folder room marks_folder ≡ true
   pub folders : (folder : Name) → has_folder room folder ≡ true → (folder ≡ []) ⊎ (folder ≡ marks_folder)
+  pub top_unlisted : is_listed [] room.folders ≡ false
   pub files : (path : Path) (bytes : List ℕ) → file_at room path ≡ Some bytes → IsMarkFile path bytes
 
 -- the mount of this number has put its mark

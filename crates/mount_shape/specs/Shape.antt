@@ -3,14 +3,11 @@ use Rattle.std.specs.Prelude.{◌≡◌, ◌⊎◌, ◌≤◌, ℕ, [], Some, sl
 use Rattle.store_api.specs.declared.tree.Room.{Room}
 use Rattle.store_api.specs.declared.tree.Tree.{Tree}
 use Rattle.store_laws.specs.Files.{file_at}
-use Rattle.mount_model.specs.Paths.{marks_name, mark_path}
+use Rattle.store_laws.specs.Differ.{RoomsDiffer}
+use Rattle.mount_model.specs.Paths.{mark_path}
 use Rattle.mount_model.specs.State.{State, last_id}
 use Rattle.mount_shape.specs.Marks.{IsMarksRoom, IsOfMark}
 use Rattle.mount_shape.specs.Container.{IsContainer}
-
--- no two rooms have one name
-abbrev pub RoomsDiffer : Tree → Type 0
-RoomsDiffer tree = (m n : ℕ) (a b : Room) → slice_get tree.rooms m ≡ Some a → slice_get tree.rooms n ≡ Some b → a.name ≡ b.name → m ≡ n
 
 -- Each room is that of the marks or a container, in which each writer's id is one of these.
 pub record IsShapedTree (allowed : ℕ → Type 0) (tree : Tree) : Type 0 where

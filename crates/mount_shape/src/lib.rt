@@ -6,4 +6,4 @@
 
 mod laws;
 
-pub use laws::shape_lasts;
+pub use laws::{a_left_tree_is_shaped, an_empty_tree_is_shaped, mounting_has_shape, shape_lasts};

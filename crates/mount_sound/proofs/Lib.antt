@@ -11,3 +11,11 @@ pub mod Building
 pub mod Openings
 pub mod Flushes
 pub mod WriteEntries
+pub mod Writes
+pub mod Flooring
+pub mod Entering
+pub mod Closing
+pub mod Leaving
+pub mod NewRooms
+pub mod Looking
+pub mod Steps

@@ -36,7 +36,7 @@ pub record IsAccounted (issued : Ledger) (state : State) : Type 0 where
 pub accounted : (issued : Ledger) (state : State) → IsSoundFor issued state → IsAccounted issued state
 accounted issued state s = record { tree = s.shape.tree; told = s.shape.told; right = record { sound = s.sound; no_holders = s.no_holders; no_flattenings = s.no_flattenings } }
 
-one_tree : (a b : Tree) (o : Option Tree) → o ≡ Some a → o ≡ Some b → a ≡ b
+pub one_tree : (a b : Tree) (o : Option Tree) → o ≡ Some a → o ≡ Some b → a ≡ b
 one_tree a b o p q = cc
 
 pub sound_for : (issued : Ledger) (state : State) → IsRegular state → HasShape state → IsAccounted issued state → IsSoundFor issued state
