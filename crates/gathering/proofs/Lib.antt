@@ -5,3 +5,5 @@ pub mod Seeing
 pub mod Looking
 pub mod Fronts
 pub mod Gathers
+pub mod Entries
+pub mod Listings

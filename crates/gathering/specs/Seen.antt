@@ -2,18 +2,9 @@
 use Rattle.std.specs.Prelude.{◌≡◌, ℕ, List, [], ◌∷◌, ◌++◌, ◌==◌, if◌then◌else◌}
 use Rattle.mount_model.specs.declared.call.Call.{Call}
 use Rattle.mount_model.specs.declared.reply.Reply.{Reply}
-use Rattle.mount_model.specs.declared.call.Ask.{Ask}
-use Rattle.mount_model.specs.State.{State}
-use Rattle.mount_model.specs.Step.{Answers, IsStep, IsOwed}
+use Rattle.mount_model.specs.Step.{Answers}
 use Rattle.mount_model.specs.History.{Event}
-use Rattle.mount_sound.specs.Ledger.{Ledger}
-use Rattle.mount_sound.specs.Issued.{issued_after}
-use Rattle.mount_sound.specs.Sound.{IsSoundFor}
 use Rattle.gathering.specs.Moments.{Moment, IsSoundAt, Grows}
-
--- each step keeps soundness, for what was issued by then
-abbrev pub StepsKeepSoundness : Type 0
-StepsKeepSoundness = (before : Ledger) (old new : State) (caller : ℕ) (ask : Ask) (reply : Reply) → IsOwed ask → IsStep old caller ask reply new → IsSoundFor before old → IsSoundFor (issued_after before old ask.call reply) new
 
 -- a call and its reply
 pub record Asked : Type 0 where
