@@ -7,3 +7,6 @@ pub mod Fronts
 pub mod Gathers
 pub mod Entries
 pub mod Listings
+pub mod Truncates
+pub mod Viewing
+pub mod Answering
