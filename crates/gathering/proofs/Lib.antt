@@ -10,3 +10,7 @@ pub mod Listings
 pub mod Truncates
 pub mod Viewing
 pub mod Answering
+pub mod Histories
+pub mod Opening
+pub mod Actors
+pub mod Shares
