@@ -14,3 +14,4 @@ pub mod Histories
 pub mod Opening
 pub mod Actors
 pub mod Shares
+pub mod Sparing

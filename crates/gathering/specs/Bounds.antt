@@ -1,7 +1,6 @@
--- What flushes and syncs told, what lies above a moment, and which events let a dropping be.
-use Rattle.std.specs.Prelude.{◌≡◌, ◌≢◌, ◌<◌, ◌≤◌, ℕ, List, [], ◌∷◌, take, Some}
-use Rattle.std.specs.List.{AllByRecursion, Any}
-use Rattle.plfs_types.specs.declared.entries.Entry.{Entry}
+-- What flushes and syncs told, and which events let a dropping be.
+use Rattle.std.specs.Prelude.{◌≡◌, ◌≢◌, ◌≤◌, ℕ, List, [], ◌∷◌, Some}
+use Rattle.std.specs.List.{Any}
 use Rattle.mount_model.specs.declared.row.Row.{Row}
 use Rattle.mount_model.specs.declared.call.Call.{Call}
 use Rattle.mount_model.specs.declared.call.Call.TheVariants.{MakeIndex, Flush, SyncIndex}
@@ -9,8 +8,7 @@ use Rattle.mount_model.specs.declared.reply.Reply.TheVariants.{Synced}
 use Rattle.mount_model.specs.Table.{row_of}
 use Rattle.mount_model.specs.State.{State}
 use Rattle.mount_model.specs.History.{Event}
-use Rattle.mount_sound.specs.Ledger.{entries_in}
-use Rattle.gathering.specs.Moments.{Moment, Dropping, HadTrunc, issued_by, landed}
+use Rattle.gathering.specs.Moments.{Moment, Dropping, Stood, landed}
 
 -- the table has the writer, with this room and host
 pub record IsOf (state : State) (d : Dropping) : Type 0 where
@@ -18,6 +16,11 @@ pub record IsOf (state : State) (d : Dropping) : Type 0 where
   pub held : row_of d.writer state.table.writers ≡ Some row
   pub room : row.room ≡ d.room
   pub host : row.host ≡ d.host
+
+-- the index dropping stood, and so many of its entries had landed
+pub record HasLanded (moment : Moment) (d : Dropping) (count : ℕ) : Type 0 where
+  pub stands : Stood moment d
+  pub counted : count ≤ landed moment d
 
 -- in these events the writer was told that so many of its entries are synced
 abbrev pub IsSyncedIn : List Event → Dropping → ℕ → Type 0
