@@ -15,3 +15,6 @@ pub mod Opening
 pub mod Actors
 pub mod Shares
 pub mod Sparing
+pub mod Bounds
+pub mod Failing
+pub mod Flats

@@ -28,7 +28,7 @@ use Rattle.gathering.proofs.Growing.{in_a_room, grows_trans}
 use Rattle.gathering.proofs.Looking.{top_listed, folder_listed}
 use Rattle.gathering.proofs.Fronts.{in_tree, stood_grows}
 use Rattle.gathering.proofs.Gathers.{answers_as}
-use Rattle.gathering.proofs.Members.{is_among}
+use Rattle.gathering.proofs.Members.{is_among, among_left, among_right}
 use Rattle.gathering.proofs.Entries.{file_named, folder_named}
 
 -- ---------- folders of droppings
@@ -113,15 +113,6 @@ index_name room k d named its number = record {
 }
 
 -- ---------- the scan
-
-among_left : (d : Dropping) (xs ys : List Dropping) → Among d xs → Among d (xs ++ ys)
-among_left d [] ys a = absurd a
-among_left d (x ∷ xs) ys (inl e) = inl e
-among_left d (x ∷ xs) ys (inr a) = inr (among_left d xs ys a)
-
-among_right : (d : Dropping) (xs ys : List Dropping) → Among d ys → Among d (xs ++ ys)
-among_right d [] ys a = a
-among_right d (x ∷ xs) ys a = inr (among_right d xs ys a)
 
 hostdirs_found : (caller room : ℕ) (start end : Moment) (top : List Name) (ks : List ℕ) (asked : List Asked) (ds : List Dropping) (d : Dropping) → IsSeen caller start asked end → ListsHostdirs room top ks asked ds
     → d.room ≡ room → Stood start d → Among (hostdir_of d.host) top → Among (d.host % 32) ks → Among d ds
