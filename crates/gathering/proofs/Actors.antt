@@ -11,7 +11,7 @@ use Rattle.gathering.specs.Gathering.{Gathered}
 use Rattle.gathering.specs.View.{change_of, cut_off, writes_in, view}
 use Rattle.gathering.specs.Opening.{IsOpening, Answers, IsOpened}
 use Rattle.gathering.proofs.Seeing.{sound_after, grows_after}
-use Rattle.gathering.proofs.Histories.{legal_first, legal_rest, moment-append, place_of, its_call, parted}
+use Rattle.gathering.proofs.Placing.{legal_first, legal_rest, moment-append, place_of, its_call, parted}
 use Rattle.gathering.proofs.Opening.{opened, answers_last, writes_stay}
 
 -- The reader of an actor's list of calls has a view, from the place of its first call to that of its listing.

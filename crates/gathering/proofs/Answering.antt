@@ -7,9 +7,11 @@ use Rattle.plain_file.specs.declared.pieces.Piece.{Piece}
 use Rattle.plain_file.specs.File.{slice, HasItsBytes, plain_size}
 use Rattle.plain_file.specs.Shows.{truncs_of}
 use Rattle.plain_file.specs.Runs.{ArePieces, ArePiecesOf}
+use Rattle.plain_file.specs.Size.{size_from}
 use Rattle.plain_file.specs.Logs.{IsLogged, ArePlaced}
 use Rattle.plain_file.proofs.OrderLemmas.{Among}
 use Rattle.plain_file.proofs.RunLemmas.{ArePlaced-of}
+use Rattle.plain_file.proofs.SizeLemmas.{size-from_pieces}
 use Rattle.read_plan.specs.declared.part.Part.{Part}
 use Rattle.read_plan.specs.declared.part.Part.TheVariants.{Hole, From}
 use Rattle.read_plan.specs.Parts.{spelled}
@@ -90,6 +92,13 @@ pieces_of end cut truncs pieces are =
     let e = entries_of-changes (writes_in end cut) truncs in
     let t = truncs_of-changes (writes_in end cut) truncs in
     subst (λ es. ArePieces es (truncs_of (changes_in end cut truncs)) pieces) (sym e) (subst (λ ts. ArePieces (entries_in (writes_in end cut)) ts pieces) (sym t) are)
+
+-- the size of the plain file, from the pieces of its entries and its truncates
+pub size_of_pieces : (end : Moment) (room : ℕ) (cut : List Gathered) (truncs : List Trunc) (pieces : List Piece) → IsSoundAt end → WritersRise room cut → ArePieces (entries_in (writes_in end cut)) [] pieces → plain_size (changes_in end cut truncs) ≡ size_from pieces truncs
+size_of_pieces end room cut truncs pieces s rise are =
+    size-from_pieces (changes_in end cut truncs) pieces (keys_differ end s room cut truncs rise) (bytes_all end s room cut truncs rise)
+    (subst (λ es. ArePieces es [] pieces) (sym (entries_of-changes (writes_in end cut) truncs)) are)
+    ∙ ap (size_from pieces) (truncs_of-changes (writes_in end cut) truncs)
 
 -- A reader's answer is a slice of the plain file of its cut and truncates.
 pub answer_is_slice : (caller : ℕ) (start end from later : Moment) (room : ℕ) (cut : List Gathered) (truncs : List Trunc) (pieces : List Piece) (size at len : ℕ) (asked : List Asked) (answer : List ℕ) → IsSoundAt end → IsAdmissible start end cut → WritersRise room cut

@@ -1,9 +1,11 @@
 -- A read of a file that is there fails only where the store did.
-use Rattle.std.proofs.Common.{◌≡◌, ℕ, ◌≤◌, ◌+◌, nat_le, nat_eq, List, length, take, drop, true, false, Option, Some, None, refl, ap, sym, ◌∙◌, inl, inr, subst, arith}
+use Rattle.std.proofs.Common.{◌≡◌, ℕ, ◌≤◌, ◌+◌, nat_le, nat_eq, List, [], ◌∷◌, length, length-append, get_or, take, drop, true, false, Option, Some, None, refl, ap, sym, ◌∙◌, inl, inr, subst, arith}
 use Rattle.std.specs.Prelude.{◌≢◌, slice_get, Result, Ok, Err, if◌then◌else◌}
 use Rattle.std.proofs.lemmas.Bool.Decides.{nat_tests}
 use Rattle.std.proofs.lemmas.List.{length-take}
+use Rattle.plfs_types.specs.declared.entries.Trunc.{Trunc}
 use Rattle.plfs_types.specs.declared.names.Path.{Path}
+use Rattle.container_layout.proofs.Places.{elsewhere}
 use Rattle.store_api.specs.declared.step.Answer.{Answer}
 use Rattle.store_api.specs.declared.step.Answer.TheVariants.{Bytes}
 use Rattle.store_api.specs.declared.store.Trouble.TheVariants.{Fault, NoMemory}
@@ -11,6 +13,8 @@ use Rattle.store_api.specs.declared.tree.Tree.{Tree}
 use Rattle.store_api.specs.Acts.{Acts}
 use Rattle.store_api.specs.Effect.{Effect, effect}
 use Rattle.store_api.specs.Room.{has_folder}
+use Rattle.store_laws.specs.Files.{file_at}
+use Rattle.store_laws.specs.Prefix.{IsPrefix}
 use Rattle.store_laws.specs.There.{HoldsFile}
 use Rattle.store_laws.specs.Tells.{Tells}
 use Rattle.store_laws.proofs.Exactly.{read_there}
@@ -21,16 +25,24 @@ use Rattle.mount_model.specs.declared.reply.Reply.{Reply}
 use Rattle.mount_model.specs.declared.reply.Reply.TheVariants.{Looked, Damaged}
 use Rattle.mount_model.specs.declared.reply.Refusal.{Refusal}
 use Rattle.mount_model.specs.declared.reply.Refusal.TheVariants.{NoRoom}
+use Rattle.mount_model.specs.Paths.{index_path, log_path}
 use Rattle.mount_model.specs.State.{State, last_id}
 use Rattle.mount_model.specs.Making.{Told, Makes, Refuses}
 use Rattle.mount_model.specs.Looking.{room_check, look_step, look_outcome, read_reply}
 use Rattle.mount_model.specs.Step.{Answers}
 use Rattle.mount_shape.proofs.Trees.{shape_of, container_at}
+use Rattle.mount_sound.specs.Ledger.{content}
+use Rattle.mount_sound.specs.Dropping.{bytes_of}
 use Rattle.mount_sound.proofs.Tables.{match_cases}
 use Rattle.gathering.specs.Failing.{BytesOrTrouble}
-use Rattle.gathering.specs.Moments.{Moment, IsSoundAt, file_then}
+use Rattle.gathering.specs.Gathering.{Gathered}
+use Rattle.gathering.specs.Listing.{IsAmong}
+use Rattle.gathering.specs.Moments.{Moment, IsSoundAt, file_in_room, file_told, file_then, Dropping, Stood, issued_by, log_then, Grows}
+use Rattle.gathering.specs.Opening.{HasView}
 use Rattle.gathering.proofs.Growing.{in_a_room}
-use Rattle.gathering.proofs.Fronts.{in_tree}
+use Rattle.gathering.proofs.Fronts.{in_tree, stood_grows, stands, content-append, log_slice}
+use Rattle.gathering.proofs.Members.{among}
+use Rattle.gathering.proofs.Answering.{prefix_of}
 
 -- a file of a container is held, with its folder
 held : (m : Moment) (s : IsSoundAt m) (room : ℕ) (path : Path) (bytes : List ℕ) → room ≢ m.state.marks → file_then m room path ≡ Some bytes → (h : HoldsFile s.shape.tree room path) × (h.bytes ≡ bytes)
@@ -76,3 +88,39 @@ read_ends m s caller room path at len bytes reply new other there f =
           (ends path at len room (take len (drop at bytes)) m.state new l.told tells (no_longer len at bytes) l.made l.after)
       | inr (why, some, refused) ↦ absurd (unchecked m.state room why other some)
     ]
+
+-- ---------- reads of logs
+
+-- a room with an index dropping is that of no marks
+container_room : (m : Moment) (s : IsSoundAt m) (d : Dropping) → Stood m d → d.room ≢ m.state.marks
+container_room m s d stood same =
+    let f = in_a_room (slice_get s.shape.tree.rooms d.room) (index_path d.host d.writer) stood.bytes (in_tree m s d.room (index_path d.host d.writer) stood.bytes stood.there) in
+    let both : Some f.0 ≡ Some s.shape.marks = sym f.1 ∙ ap (λ n. slice_get s.shape.tree.rooms n) same ∙ s.shape.has_marks in
+    let one : f.0 ≡ s.shape.marks = cc in
+    let mark = s.shape.is_marks.files (index_path d.host d.writer) stood.bytes (subst (λ r. file_at r (index_path d.host d.writer) ≡ Some stood.bytes) one f.2) in
+    elsewhere (ap (λ (p : Path). get_or p.folder 0 0) mark.3) refl
+
+some_log : (front : List ℕ) (log : Option (List ℕ)) → IsPrefix front (bytes_of log) → 1 ≤ length front → (bytes : List ℕ) × (log ≡ Some bytes)
+some_log front (Some bytes) prefix long = (bytes, refl)
+some_log [] None prefix long = absurd (omega arith)
+some_log (x ∷ front) None prefix long = absurd prefix
+
+-- the log of a writer that has issued bytes is there
+log_there : (m : Moment) (s : IsSoundAt m) (d : Dropping) → Stood m d → 1 ≤ length (content (issued_by m d)) → (log : List ℕ) × (log_then m d ≡ Some log)
+log_there m s d stood long =
+    let w = stands m s d stood.bytes stood.is_item stood.there in
+    let l = some_log (content (issued_by m d)) (file_at w.room (log_path w.writer.host d.writer)) w.writer.log long in
+    (l.0, ap (λ o. file_told o d.room (log_path d.host d.writer)) s.shape.told ∙ ap (λ o. file_in_room o (log_path d.host d.writer)) w.there ∙ ap (λ h. file_at w.room (log_path h d.writer)) w.host ∙ l.1)
+
+-- Whenever an open reader reads bytes of its cut from a log, it gets them, or the store's count of faults rose, or memory was wanting.
+pub log_ends : (start end m : Moment) (room : ℕ) (cut : List Gathered) (truncs : List Trunc) (g : Gathered) (caller at len : ℕ) (reply : Reply) (new : State) → HasView start end room cut truncs → IsAmong g cut → Grows end m → IsSoundAt m
+    → 1 ≤ len → at + len ≤ length (content (issued_by end g.dropping)) → Answers m.state caller (Look g.dropping.room (Read (log_path g.dropping.host g.dropping.writer) at len)) reply new
+    → BytesOrTrouble (take len (drop at (content (issued_by end g.dropping)))) m.state reply new
+log_ends start end m room cut truncs g caller at len reply new view its goes s some within f =
+    let d : Dropping = g.dropping in
+    let stood : Stood m d = stood_grows end m d goes (prefix_of start end cut g view.admissible (among cut g its)).stands in
+    let more = goes.issued d in
+    let longer : length (content (issued_by m d)) ≡ length (content (issued_by end d)) + length (content more.0) = ap (λ w. length (content w)) more.1 ∙ ap length (content-append (issued_by end d) more.0) ∙ length-append (content (issued_by end d)) (content more.0) in
+    let l = log_there m s d stood (omega (arith, within, some, longer)) in
+    let bytes : take len (drop at l.0) ≡ take len (drop at (content (issued_by end d))) = log_slice end m s d stood.bytes l.0 at len stood.is_item goes stood.there l.1 within in
+    subst (λ b. BytesOrTrouble b m.state reply new) bytes (read_ends m s caller d.room (log_path d.host d.writer) at len l.0 reply new (container_room m s d stood) l.1 f)

@@ -42,6 +42,7 @@ stood_grows a b d g s = let l = index_grows a b d s.bytes g s.there in record { 
 pub record Stands (m : Moment) (tree : Tree) (d : Dropping) (bytes : List ℕ) : Type 0 where
   pub room : Room
   pub there : slice_get tree.rooms d.room ≡ Some room
+  pub at : file_at room (index_path d.host d.writer) ≡ Some bytes
   pub writer : IsWriter room d.writer (issued_by m d)
   pub host : d.host ≡ writer.host
   pub dropping : IsDropping (issued_by m d) writer.landed bytes
@@ -60,6 +61,7 @@ stands m s d bytes named e =
     record {
       room = r.0;
       there = r.1;
+      at = r.2;
       writer = w;
       host = host;
       dropping = dropping_of (w.landed ≡ 0) (IsDropping (issued_by m d) w.landed) (file_at r.0 (index_path w.host d.writer)) bytes there w.index;

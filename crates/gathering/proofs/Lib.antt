@@ -7,13 +7,14 @@ pub mod Fronts
 pub mod Gathers
 pub mod Entries
 pub mod Listings
+pub mod Scans
 pub mod Truncates
 pub mod Viewing
 pub mod Answering
-pub mod Histories
+pub mod Placing
+pub mod Shares
 pub mod Opening
 pub mod Actors
-pub mod Shares
 pub mod Sparing
 pub mod Bounds
 pub mod Failing

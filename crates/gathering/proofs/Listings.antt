@@ -58,7 +58,7 @@ has_hostdir m s number room path host bytes there folder e = elim (s.shape.shape
 
 -- ---------- droppings of the names in a folder
 
-dropping_eq : (d e : Dropping) → d.room ≡ e.room → d.host ≡ e.host → d.writer ≡ e.writer → d ≡ e
+pub dropping_eq : (d e : Dropping) → d.room ≡ e.room → d.host ≡ e.host → d.writer ≡ e.writer → d ≡ e
 dropping_eq d e room host writer = λ i. record { room = room i; host = host i; writer = writer i }
 
 -- a name is of one dropping

@@ -10,17 +10,18 @@ use Rattle.gathering.specs.Moments.{Moment, IsSoundAt, next_moment, moment_after
 use Rattle.gathering.specs.Seen.{Asked, asked_in, calls_of, IsSeen}
 use Rattle.gathering.specs.Gathering.{Gathered, IsAdmissible}
 use Rattle.gathering.specs.View.{change_of, cut_off, writes_in, view}
-use Rattle.gathering.specs.Opening.{IsOpening, Answers, HasView}
+use Rattle.gathering.specs.Opening.{IsOpening, IsSharedOpening, Answers, HasView}
 use Rattle.gathering.proofs.Growing.{grows_trans}
 use Rattle.gathering.proofs.Seeing.{seen, seen_split, seen_grows, seen_waits, sound_after, sound_next, grows_after, grows_next}
 use Rattle.gathering.proofs.Fronts.{stood_grows}
-use Rattle.gathering.proofs.Gathers.{gathers_all}
+use Rattle.gathering.proofs.Gathers.{gathers_all, landed_grows}
 use Rattle.gathering.proofs.Listings.{scan_found}
 use Rattle.gathering.proofs.Truncates.{truncs_listed}
 use Rattle.gathering.proofs.Viewing.{content_is}
 use Rattle.gathering.proofs.Answering.{answer_is_slice}
 use Rattle.gathering.proofs.Members.{all_at}
-use Rattle.gathering.proofs.Histories.{legal_first, legal_rest, moment-append}
+use Rattle.gathering.proofs.Shares.{shares_admissible}
+use Rattle.gathering.proofs.Placing.{legal_first, legal_rest, moment-append}
 
 -- ---------- the cut's writes stay
 
@@ -66,33 +67,26 @@ opened caller room start gathering listing later cut truncs legal sound opening 
     let s : IsSoundAt end = sound_after start gathering first sound in
     let g = gathered_seen caller room start end cut truncs (calls_of caller gathering) (asked_in listing) (seen caller start gathering first sound) opening in
     record {
+      rise = opening.cuts.rise;
       admissible = g.0;
       complete = g.1;
       all_truncs = truncs_listed end s listing.caller room truncs (asked_in listing) listing.after rest.1.answers opening.lists;
       entries = content_is start end cut g.0;
     }
 
-pub answers : (caller room : ℕ) (start : Moment) (gathering : List Event) (listing : Event) (between reading rest : List Event) (cut : List Gathered) (truncs : List Trunc) (at len : ℕ) (answer : List ℕ)
-    → IsLegal start.state (gathering ++ listing ∷ (between ++ (reading ++ rest))) → IsSoundAt start → IsOpening room cut truncs (calls_of caller gathering) (asked_in listing)
-    → Answers (moment_after start gathering) cut truncs at len (calls_of caller reading) answer
-    → answer ≡ slice (view (moment_after start gathering) cut truncs) at len
-answers caller room start gathering listing between reading rest cut truncs at len answer legal sound opening a =
-    let end : Moment = moment_after start gathering in
-    let l1 = legal_first start gathering (listing ∷ (between ++ (reading ++ rest))) legal in
-    let l2 = legal_rest start gathering (listing ∷ (between ++ (reading ++ rest))) legal in
-    let s : IsSoundAt end = sound_after start gathering l1 sound in
-    let next : Moment = next_moment end listing in
-    let s2 : IsSoundAt next = sound_next end listing (between ++ (reading ++ rest)) l2 s in
-    let l3 = legal_first next between (reading ++ rest) l2.2 in
-    let l4 = legal_rest next between (reading ++ rest) l2.2 in
-    let from : Moment = moment_after next between in
-    let s3 : IsSoundAt from = sound_after next between l3 s2 in
-    let goes : Grows end from = grows_trans end next from (grows_next end listing (between ++ (reading ++ rest)) l2 s) (grows_after next between l3 s2) in
-    let v = opened caller room start gathering listing (between ++ (reading ++ rest)) cut truncs legal sound opening in
-    answer_is_slice caller start end from (moment_after from reading) room cut truncs a.pieces a.size at len (calls_of caller reading) answer s v.admissible opening.cuts.rise a.runs a.sized goes
-    (seen caller from reading (legal_first from reading rest l4) s3) a.made
+-- Each answer of who has a view is a slice of its plain file, whatever goes on.
+pub view_answers : (caller room : ℕ) (start end : Moment) (cut : List Gathered) (truncs : List Trunc) (between reading rest : List Event) (at len : ℕ) (answer : List ℕ)
+    → IsLegal end.state (between ++ (reading ++ rest)) → IsSoundAt end → HasView start end room cut truncs
+    → Answers end cut truncs at len (calls_of caller reading) answer → answer ≡ slice (view end cut truncs) at len
+view_answers caller room start end cut truncs between reading rest at len answer legal s v a =
+    let first = legal_first end between (reading ++ rest) legal in
+    let last = legal_rest end between (reading ++ rest) legal in
+    let from : Moment = moment_after end between in
+    let then : IsSoundAt from = sound_after end between first s in
+    answer_is_slice caller start end from (moment_after from reading) room cut truncs a.pieces a.size at len (calls_of caller reading) answer s v.admissible v.rise a.runs a.sized (grows_after end between first s)
+    (seen caller from reading (legal_first from reading rest last) then) a.made
 
--- The same with the file as it is at the history's end.
+-- The same of one who opened a reader, with the file as it is at the history's end.
 pub answers_last : (caller room : ℕ) (start : Moment) (gathering : List Event) (listing : Event) (between reading rest : List Event) (cut : List Gathered) (truncs : List Trunc) (at len : ℕ) (answer : List ℕ)
     → IsLegal start.state (gathering ++ listing ∷ (between ++ (reading ++ rest))) → IsSoundAt start → IsOpening room cut truncs (calls_of caller gathering) (asked_in listing)
     → Answers (moment_after start gathering) cut truncs at len (calls_of caller reading) answer
@@ -102,6 +96,38 @@ answers_last caller room start gathering listing between reading rest cut truncs
     let end : Moment = moment_after start gathering in
     let s : IsSoundAt end = sound_after start gathering (legal_first start gathering (listing ∷ later) legal) sound in
     let v = opened caller room start gathering listing later cut truncs legal sound opening in
-    answers caller room start gathering listing between reading rest cut truncs at len answer legal sound opening a
+    view_answers caller room start end cut truncs (listing ∷ between) reading rest at len answer (legal_rest start gathering (listing ∷ later) legal) s v a
     ∙ ap (λ f. slice f at len) (sym (view_stays start end (listing ∷ later) cut truncs (legal_rest start gathering (listing ∷ later) legal) s v.admissible))
     ∙ ap (λ m. slice (view m cut truncs) at len) (sym (moment-append start gathering (listing ∷ later)))
+
+-- a view that is complete between two moments, from an earlier start
+view_waits : (first start end : Moment) (room : ℕ) (cut : List Gathered) → Grows first start → IsAdmissible start end cut → IsAdmissible first end cut
+view_waits first start end room [] g a = tt
+view_waits first start end room (h ∷ cut) g (p, more) = (
+  record { least = omega (arith, landed_grows first start h.dropping g, p.least); most = p.most; were_issued = p.were_issued; stands = p.stands; entries = p.entries },
+  view_waits first start end room cut g more,
+)
+
+-- The same of a reader whose workers gather.
+pub shared_opened : (caller room : ℕ) (start : Moment) (scanning gathering : List Event) (listing : Event) (later : List Event) (cut : List Gathered) (truncs : List Trunc)
+    → IsLegal start.state (scanning ++ (gathering ++ listing ∷ later)) → IsSoundAt start → IsSharedOpening room cut truncs (calls_of caller scanning) gathering (asked_in listing)
+    → HasView start (moment_after (moment_after start scanning) gathering) room cut truncs
+shared_opened caller room start scanning gathering listing later cut truncs legal sound opening =
+    let middle : Moment = moment_after start scanning in
+    let end : Moment = moment_after middle gathering in
+    let l1 = legal_first start scanning (gathering ++ listing ∷ later) legal in
+    let l2 = legal_rest start scanning (gathering ++ listing ∷ later) legal in
+    let s1 : IsSoundAt middle = sound_after start scanning l1 sound in
+    let l3 = legal_first middle gathering (listing ∷ later) l2 in
+    let l4 = legal_rest middle gathering (listing ∷ later) l2 in
+    let s2 : IsSoundAt end = sound_after middle gathering l3 s1 in
+    let t = seen_split caller start middle opening.earlier opening.scan (subst (λ a. IsSeen caller start a middle) opening.split (seen caller start scanning l1 sound)) in
+    let admissible : IsAdmissible start end cut = view_waits start middle end room cut (grows_after start scanning l1 sound) (shares_admissible middle gathering opening.shares cut l3 s1 opening.gathers opening.shared) in
+    record {
+      rise = opening.cuts.rise;
+      admissible = admissible;
+      complete = λ d its stood. all_at (λ (x : Dropping). Any (λ (g : Gathered). g.dropping ≡ x) cut) opening.droppings d opening.cuts.all
+          (scan_found caller room t.0 middle opening.scan opening.droppings d t.2 opening.scans its (stood_grows start t.0 d (seen_grows caller start t.0 opening.earlier t.1) stood));
+      all_truncs = truncs_listed end s2 listing.caller room truncs (asked_in listing) listing.after l4.1.answers opening.lists;
+      entries = content_is start end cut admissible;
+    }

@@ -1,21 +1,34 @@
 -- A reader that was split over workers has an admissible cut.
-use Rattle.std.proofs.Common.{ℕ, List, [], ◌∷◌, ◌++◌, sym, subst}
+use Rattle.std.proofs.Common.{ℕ, List, [], ◌∷◌, ◌++◌, inl, inr, subst, sym}
+use Rattle.std.specs.List.{Any, AllByRecursion}
+use Rattle.std.proofs.lemmas.List.Elements.{recursion_from_All}
+use Rattle.plain_file.proofs.OrderLemmas.{Among}
 use Rattle.mount_model.specs.History.{Event, IsLegal}
+use Rattle.gathering.specs.Listing.{IsAmong}
 use Rattle.gathering.specs.Moments.{Moment, IsSoundAt, moment_after}
 use Rattle.gathering.specs.Seen.{calls_of}
-use Rattle.gathering.specs.Gathering.{Gathered, GatherShares, IsAdmissible}
+use Rattle.gathering.specs.Gathering.{Gathered, Share, GatherShares, AreShared, IsPrefixOf, IsAdmissible}
 use Rattle.gathering.proofs.Seeing.{seen}
 use Rattle.gathering.proofs.Gathers.{gathers_all}
+use Rattle.gathering.proofs.Members.{any_found, among}
+use Rattle.gathering.proofs.Answering.{prefix_of}
 
-both : (start end : Moment) (mine others : List Gathered) → IsAdmissible start end mine → IsAdmissible start end others → IsAdmissible start end (mine ++ others)
-both start end [] others a b = b
-both start end (g ∷ mine) others a b = (a.0, both start end mine others a.1 b)
+-- each worker's calls lie between the two places
+share_gathered : (start : Moment) (events : List Event) (shares : List Share) (share : Share) → IsLegal start.state events → IsSoundAt start → GatherShares events shares → Among share shares → IsAdmissible start (moment_after start events) share.part
+share_gathered start events [] share legal sound gather a = absurd a
+share_gathered start events (first ∷ others) share legal sound gather (inl same) =
+    subst (λ (x : Share). IsAdmissible start (moment_after start events) x.part) (sym same)
+    (gathers_all first.worker start (moment_after start events) first.part (calls_of first.worker events) (seen first.worker start events legal sound) gather.0)
+share_gathered start events (first ∷ others) share legal sound gather (inr more) = share_gathered start events others share legal sound gather.1 more
 
--- Each worker's calls lie between the two places, so the joined cut is admissible between them.
-pub shares_admissible : (start : Moment) (events : List Event) (shares : List (ℕ × List Gathered)) (cut : List Gathered) → IsLegal start.state events → IsSoundAt start → GatherShares events shares cut → IsAdmissible start (moment_after start events) cut
-shares_admissible start events [] cut legal sound none = subst (IsAdmissible start (moment_after start events)) (sym none) tt
-shares_admissible start events (worker ∷ others) cut legal sound (more, mine, rest, split) =
-    subst (IsAdmissible start (moment_after start events)) (sym split)
-    (both start (moment_after start events) worker.1 more
-    (gathers_all worker.0 start (moment_after start events) worker.1 (calls_of worker.0 events) (seen worker.0 start events legal sound) mine)
-    (shares_admissible start events others more legal sound rest))
+from_shares : (start : Moment) (events : List Event) (shares : List Share) (cut : List Gathered) → IsLegal start.state events → IsSoundAt start → GatherShares events shares
+    → AllByRecursion (λ (g : Gathered). Any (λ (share : Share). IsAmong g share.part) shares) cut → IsAdmissible start (moment_after start events) cut
+from_shares start events shares [] legal sound gather all = tt
+from_shares start events shares (g ∷ cut) legal sound gather all =
+    let (share, a, is) = any_found (λ (x : Share). IsAmong g x.part) shares all.0 in
+    (prefix_of start (moment_after start events) share.part g (share_gathered start events shares share legal sound gather a) (among share.part g is), from_shares start events shares cut legal sound gather all.1)
+
+-- A cut of the shares is admissible between the two places.
+pub shares_admissible : (start : Moment) (events : List Event) (shares : List Share) (cut : List Gathered) → IsLegal start.state events → IsSoundAt start → GatherShares events shares → AreShared shares cut → IsAdmissible start (moment_after start events) cut
+shares_admissible start events shares cut legal sound gather shared =
+    from_shares start events shares cut legal sound gather (recursion_from_All (λ (g : Gathered). Any (λ (share : Share). IsAmong g share.part) shares) cut shared)

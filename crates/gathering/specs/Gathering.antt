@@ -1,6 +1,6 @@
 -- How a reader gathers the entries of writers.
 use Rattle.std.specs.Prelude.{◌≡◌, ◌≤◌, ◌+◌, ◌*◌, ◌/◌, ◌++◌, ℕ, List, [], ◌∷◌, length, take, drop}
-use Rattle.std.specs.List.{AllByRecursion}
+use Rattle.std.specs.List.{All, Any, AllByRecursion}
 use Rattle.index_entry.specs.Spelling.{spelling_all}
 use Rattle.store_api.specs.declared.step.Answer.TheVariants.{Number, Bytes}
 use Rattle.mount_model.specs.declared.call.Call.TheVariants.{Look}
@@ -11,6 +11,7 @@ use Rattle.mount_model.specs.History.{Event}
 use Rattle.mount_sound.specs.Ledger.{entries_in}
 use Rattle.gathering.specs.Moments.{Moment, Dropping, IsNamed, Stood, issued_by, landed}
 use Rattle.gathering.specs.Seen.{Asked, calls_of}
+use Rattle.gathering.specs.Listing.{IsAmong}
 
 -- the length of the index dropping was asked and told
 pub record IsLength (d : Dropping) (length : ℕ) (asked : Asked) : Type 0 where
@@ -63,7 +64,16 @@ pub record IsPrefixOf (start end : Moment) (g : Gathered) : Type 0 where
 abbrev pub IsAdmissible : Moment → Moment → List Gathered → Type 0
 IsAdmissible start end cut = AllByRecursion (IsPrefixOf start end) cut
 
--- Several callers, such as the workers of one reader, each gathered its share in these events.
-abbrev pub GatherShares : List Event → List (ℕ × List Gathered) → List Gathered → Type 0
-GatherShares events [] cut = cut ≡ []
-GatherShares events (worker ∷ others) cut = (more : List Gathered) × GathersAll worker.1 (calls_of worker.0 events) × GatherShares events others more × (cut ≡ worker.1 ++ more)
+-- a caller, such as a worker of a reader, and what it gathered
+pub record Share : Type 0 where
+  pub worker : ℕ
+  pub part : List Gathered
+
+-- Each worker gathered its share in these events.
+abbrev pub GatherShares : List Event → List Share → Type 0
+GatherShares events [] = Unit {0}
+GatherShares events (share ∷ others) = GathersAll share.part (calls_of share.worker events) × GatherShares events others
+
+-- what was gathered of each writer of the cut is in one of the shares
+abbrev pub AreShared : List Share → List Gathered → Type 0
+AreShared shares cut = All (λ (g : Gathered). Any (λ (share : Share). IsAmong g share.part) shares) cut

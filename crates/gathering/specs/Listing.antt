@@ -10,7 +10,7 @@ use Rattle.mount_model.specs.declared.call.Look.{Look as Sight}
 use Rattle.mount_model.specs.declared.call.Look.TheVariants.{Top, List as ListFolder}
 use Rattle.mount_model.specs.declared.reply.Reply.TheVariants.{Looked}
 use Rattle.mount_model.specs.Paths.{Name, truncs}
-use Rattle.gathering.specs.Moments.{Moment, Dropping, HadTrunc}
+use Rattle.gathering.specs.Moments.{Moment, Dropping, Stood, HadTrunc}
 use Rattle.gathering.specs.Seen.{Asked}
 
 -- names were asked and told
@@ -85,7 +85,13 @@ pub record IsScan (room : ℕ) (ds : List Dropping) (asked : List Asked) : Type 
   pub lists : IsListing room Top top first
   pub hostdirs : ListsHostdirs room top hostdirs rest ds
 
--- no two of the droppings are one
-abbrev pub DroppingsDiffer : List Dropping → Type 0
-DroppingsDiffer [] = Unit {0}
-DroppingsDiffer (d ∷ ds) = AllByRecursion (λ (e : Dropping). e ≢ d) ds × DroppingsDiffer ds
+-- no two of the droppings are of one writer
+abbrev pub WritersDiffer : List Dropping → Type 0
+WritersDiffer [] = Unit {0}
+WritersDiffer (d ∷ ds) = AllByRecursion (λ (e : Dropping). e.writer ≢ d.writer) ds × WritersDiffer ds
+
+-- These are index droppings of the room that stood at the later moment, one a writer, and all that stood at the earlier one are among them.
+pub record AreFound (start end : Moment) (room : ℕ) (ds : List Dropping) : Type 0 where
+  pub stood : All (λ (d : Dropping). (d.room ≡ room) × Stood end d) ds
+  pub complete : (d : Dropping) → d.room ≡ room → Stood start d → IsAmong d ds
+  pub differ : WritersDiffer ds

@@ -13,7 +13,7 @@ use Rattle.mount_model.specs.History.{Event}
 use Rattle.mount_sound.specs.Ledger.{entries_in}
 use Rattle.gathering.specs.Moments.{Moment, moment_after, Dropping, Stood}
 use Rattle.gathering.specs.Seen.{Asked, calls_of}
-use Rattle.gathering.specs.Gathering.{Gathered, GathersAll, IsAdmissible}
+use Rattle.gathering.specs.Gathering.{Gathered, GathersAll, Share, GatherShares, AreShared, IsAdmissible}
 use Rattle.gathering.specs.Listing.{IsAmong, IsListing, IsScan, AreTruncsOf, AreTruncsAt}
 use Rattle.gathering.specs.View.{writes_in, tails_in, content_of, changes_in, WritersRise, IsAnswer}
 
@@ -42,6 +42,20 @@ pub record IsOpening (room : ℕ) (cut : List Gathered) (truncs : List Trunc) (c
   pub gathers : GathersAll cut entries
   pub lists : ListsTruncs room truncs listing
 
+-- The calls that open a reader whose workers gather: it scans the room for droppings, each worker gathers its share in these events, and last it
+-- lists the truncates.
+pub record IsSharedOpening (room : ℕ) (cut : List Gathered) (truncs : List Trunc) (calls : List Asked) (gathering : List Event) (listing : Asked) : Type 0 where
+  pub earlier : List Asked
+  pub scan : List Asked
+  pub split : calls ≡ earlier ++ scan
+  pub droppings : List Dropping
+  pub scans : IsScan room droppings scan
+  pub cuts : IsCutOf room droppings cut
+  pub shares : List Share
+  pub gathers : GatherShares gathering shares
+  pub shared : AreShared shares cut
+  pub lists : ListsTruncs room truncs listing
+
 -- The calls of one read of so many bytes from there on, with pieces that are those of the cut and the truncates.
 pub record Answers (end : Moment) (cut : List Gathered) (truncs : List Trunc) (at len : ℕ) (calls : List Asked) (answer : List ℕ) : Type 0 where
   pub pieces : List Piece
@@ -50,9 +64,10 @@ pub record Answers (end : Moment) (cut : List Gathered) (truncs : List Trunc) (a
   pub sized : size ≡ plain_size (changes_in end cut truncs)
   pub made : IsAnswer cut (plan_of pieces size at len) calls answer
 
--- What an opened reader has: a cut that is admissible between its first call and its listing of truncates and misses no dropping that was there
+-- What an opened reader has: a cut of the room's writers that is admissible between its first call and its listing of truncates and misses no dropping that was there
 -- at the first call, the truncates of then, and entries that are the cut's.
 pub record HasView (start end : Moment) (room : ℕ) (cut : List Gathered) (truncs : List Trunc) : Type 0 where
+  pub rise : WritersRise room cut
   pub admissible : IsAdmissible start end cut
   pub complete : (d : Dropping) → d.room ≡ room → Stood start d → Any (λ (g : Gathered). g.dropping ≡ d) cut
   pub all_truncs : AreTruncsAt end room truncs
