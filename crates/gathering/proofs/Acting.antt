@@ -1,5 +1,5 @@
 -- Each step of the mount makes at most one act, and its call says which.
-use Rattle.std.proofs.Common.{◌≡◌, ℕ, List, [], ◌∷◌, Option, None, Some, Bool, refl, ap, ◌⊎◌, inl, inr}
+use Rattle.std.proofs.Common.{◌≡◌, ℕ, List, [], ◌∷◌, Option, Some, Bool, refl, ap, ◌⊎◌, inl, inr}
 use Rattle.plfs_types.specs.declared.entries.Entry.{Entry}
 use Rattle.store_api.specs.Step.{Step, find_room, make_room, rooms as all_rooms, list_folder}
 use Rattle.store_api.specs.Acts.{Acts}

@@ -1,30 +1,26 @@
 -- Bounds on what has landed: what a flush or a sync told, and what was issued at the last flush.
-use Rattle.std.proofs.Common.{◌≡◌, ℕ, ◌+◌, ◌*◌, ◌/◌, ◌≤◌, ◌<◌, ◌^◌, Bool, true, false, nat_eq, List, [], ◌∷◌, length, Option, Some, None, refl, ap, sym, ◌∙◌, ◌⊎◌, inl, inr, subst, arith}
-use Rattle.std.specs.Prelude.{slice_get, Result, Ok, Err, MatchOption, if◌then◌else◌, nat_lt}
+use Rattle.std.proofs.Common.{◌≡◌, ℕ, ◌≤◌, true, false, nat_eq, List, [], ◌∷◌, length, Option, Some, None, refl, ap, sym, ◌∙◌, inl, inr, subst, arith}
+use Rattle.std.specs.Prelude.{Ok, Err, MatchOption, if◌then◌else◌}
 use Rattle.std.specs.List.{Any}
 use Rattle.std.proofs.lemmas.Bool.Decides.{nat_tests}
 use Rattle.plfs_types.specs.declared.entries.Entry.{Entry}
 use Rattle.plfs_types.specs.declared.entries.Trunc.{Trunc}
-use Rattle.store_api.specs.declared.tree.Room.{Room}
 use Rattle.store_api.specs.Room.{is_top}
-use Rattle.store_api.specs.declared.step.Answer.{Answer}
 use Rattle.store_api.specs.declared.step.Answer.TheVariants.{Made, NoRoom, NoFolder}
 use Rattle.store_api.specs.declared.store.Trouble.TheVariants.{Fault, NoMemory}
 use Rattle.store_laws.specs.Files.{file_at}
 use Rattle.plain_file.proofs.OrderLemmas.{Among}
-use Rattle.mount_model.specs.declared.call.Call.{Call}
 use Rattle.mount_model.specs.declared.call.Call.TheVariants.{Flush, SyncIndex}
 use Rattle.mount_model.specs.declared.reply.Reply.{Reply}
 use Rattle.mount_model.specs.declared.reply.Reply.TheVariants.{Flushed, Synced}
 use Rattle.mount_model.specs.declared.reply.Refusal.TheVariants.{NotOpen}
 use Rattle.mount_model.specs.declared.row.Row.{Row}
-use Rattle.mount_model.specs.declared.row.Stage.{Stage}
 use Rattle.mount_model.specs.declared.row.Stage.TheVariants as stage
 use Rattle.mount_model.specs.Paths.{index_path, trunc_path}
 use Rattle.mount_model.specs.State.{State, Table}
-use Rattle.mount_model.specs.Table.{row_of, with_row, held_by, only, rank, is_live}
+use Rattle.mount_model.specs.Table.{row_of, with_row, held_by, only, rank}
 use Rattle.mount_model.specs.Making.{Told, Makes, OnWriter, Refuses}
-use Rattle.mount_model.specs.Flushing.{flushed, flush_step, flush_outcome, FlushesRow, sync_index_step, sync_index_outcome}
+use Rattle.mount_model.specs.Flushing.{flushed, flush_outcome, FlushesRow, sync_index_step, sync_index_outcome}
 use Rattle.mount_model.specs.Step.{Answers, IsStep}
 use Rattle.mount_model.specs.History.{Event, IsLegal}
 use Rattle.mount_sound.specs.Ledger.{entries_in}
@@ -34,13 +30,13 @@ use Rattle.mount_sound.proofs.Frames.{Fits}
 use Rattle.mount_sound.proofs.Making.{all_fit}
 use Rattle.mount_sound.proofs.Stages.{only_rank, live_stage}
 use Rattle.mount_sound.proofs.Tables.{match_cases, held_row, row_of_id, one_row}
-use Rattle.gathering.specs.Moments.{Moment, IsSoundAt, next_moment, moment_after, file_in_room, file_told, Dropping, IsNamed, Stood, issued_by, index_then, whole, landed, HadTrunc, Grows}
+use Rattle.gathering.specs.Moments.{Moment, IsSoundAt, next_moment, moment_after, file_in_room, file_told, Dropping, IsNamed, issued_by, index_then, whole, landed, HadTrunc, Grows}
 use Rattle.gathering.specs.Gathering.{Gathered, IsPrefixOf}
 use Rattle.gathering.specs.Bounds.{IsOf, HasLanded, IsSyncedIn, Spares, AllSpare}
 use Rattle.gathering.specs.Opening.{HasView}
 use Rattle.gathering.proofs.Acting.{at_most_one_act}
 use Rattle.gathering.proofs.Growing.{grows_refl}
-use Rattle.gathering.proofs.Seeing.{sound_next, sound_after, grows_after}
+use Rattle.gathering.proofs.Seeing.{sound_next, grows_after}
 use Rattle.gathering.proofs.Fronts.{stood_grows, landed_issued}
 use Rattle.gathering.proofs.Gathers.{landed_grows}
 use Rattle.gathering.proofs.Members.{any_found, found_any}

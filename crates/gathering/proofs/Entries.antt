@@ -1,5 +1,5 @@
 -- What a listing of a folder names, and what it doesn't.
-use Rattle.std.proofs.Common.{◌≡◌, ℕ, Bool, true, false, ◌||◌, ◌&&◌, List, [], ◌∷◌, Option, Some, None, refl, ap, sym, ◌∙◌, inl, inr, subst}
+use Rattle.std.proofs.Common.{◌≡◌, ℕ, Bool, true, false, ◌||◌, ◌&&◌, List, [], ◌∷◌, Option, Some, None, refl, ap, sym, ◌∙◌, inl, inr}
 use Rattle.std.specs.Prelude.{is_some}
 use Rattle.plfs_types.specs.declared.names.Path.{Path}
 use Rattle.store_api.specs.declared.tree.Room.{Room}
@@ -7,7 +7,7 @@ use Rattle.store_api.specs.Names.{same_name}
 use Rattle.store_api.specs.Room.{is_top, has_folder}
 use Rattle.store_laws.specs.Files.{file_at}
 use Rattle.store_laws.specs.Differ.{is_listed}
-use Rattle.store_laws.specs.There.{has_entry, AreNamesOf}
+use Rattle.store_laws.specs.There.{AreNamesOf}
 use Rattle.store_laws.proofs.Naming.{name_eq, name_same}
 use Rattle.plain_file.proofs.OrderLemmas.{Among}
 use Rattle.mount_model.specs.Paths.{Name}

@@ -1,6 +1,6 @@
 -- A read of a file that is there fails only where the store did.
 use Rattle.std.proofs.Common.{◌≡◌, ℕ, ◌≤◌, ◌+◌, nat_le, nat_eq, List, [], ◌∷◌, length, length-append, get_or, take, drop, true, false, Option, Some, None, refl, ap, sym, ◌∙◌, inl, inr, subst, arith}
-use Rattle.std.specs.Prelude.{◌≢◌, slice_get, Result, Ok, Err, if◌then◌else◌}
+use Rattle.std.specs.Prelude.{◌≢◌, slice_get, Ok, Err, if◌then◌else◌}
 use Rattle.std.proofs.lemmas.Bool.Decides.{nat_tests}
 use Rattle.std.proofs.lemmas.List.{length-take}
 use Rattle.plfs_types.specs.declared.entries.Trunc.{Trunc}
@@ -9,10 +9,8 @@ use Rattle.container_layout.proofs.Places.{elsewhere}
 use Rattle.store_api.specs.declared.step.Answer.{Answer}
 use Rattle.store_api.specs.declared.step.Answer.TheVariants.{Bytes}
 use Rattle.store_api.specs.declared.store.Trouble.TheVariants.{Fault, NoMemory}
-use Rattle.store_api.specs.declared.tree.Tree.{Tree}
 use Rattle.store_api.specs.Acts.{Acts}
-use Rattle.store_api.specs.Effect.{Effect, effect}
-use Rattle.store_api.specs.Room.{has_folder}
+use Rattle.store_api.specs.Effect.{Effect}
 use Rattle.store_laws.specs.Files.{file_at}
 use Rattle.store_laws.specs.Prefix.{IsPrefix}
 use Rattle.store_laws.specs.There.{HoldsFile}
@@ -24,7 +22,6 @@ use Rattle.mount_model.specs.declared.call.Look.TheVariants.{Read}
 use Rattle.mount_model.specs.declared.reply.Reply.{Reply}
 use Rattle.mount_model.specs.declared.reply.Reply.TheVariants.{Looked, Damaged}
 use Rattle.mount_model.specs.declared.reply.Refusal.{Refusal}
-use Rattle.mount_model.specs.declared.reply.Refusal.TheVariants.{NoRoom}
 use Rattle.mount_model.specs.Paths.{index_path, log_path}
 use Rattle.mount_model.specs.State.{State, last_id}
 use Rattle.mount_model.specs.Making.{Told, Makes, Refuses}

@@ -18,7 +18,7 @@ use Rattle.mount_model.specs.Paths.{index_path, log_path}
 use Rattle.mount_sound.specs.Ledger.{Written, entries_in, content}
 use Rattle.mount_sound.specs.Items.{HasItem}
 use Rattle.mount_sound.specs.Dropping.{bytes_of, log_bytes, IsDropping, IsWriter}
-use Rattle.gathering.specs.Moments.{Moment, IsSoundAt, file_in_room, file_in_tree, file_told, file_then, Dropping, IsNamed, Stood, index_then, log_then, issued_by, whole, Grows}
+use Rattle.gathering.specs.Moments.{Moment, IsSoundAt, file_in_tree, file_told, file_then, Dropping, IsNamed, Stood, index_then, log_then, issued_by, whole, Grows}
 use Rattle.gathering.proofs.Growing.{in_a_room, index_grows}
 
 -- bytes within the front of a list

@@ -1,5 +1,5 @@
 -- A reader that asks the lengths and reads whole entries has a prefix of what each writer issued.
-use Rattle.std.proofs.Common.{◌≡◌, ℕ, ◌+◌, ◌-◌, ◌*◌, ◌/◌, ◌≤◌, List, [], ◌∷◌, ◌++◌, length, take, drop, Option, Some, None, refl, ap, sym, ◌∙◌, subst, arith}
+use Rattle.std.proofs.Common.{◌≡◌, ℕ, ◌+◌, ◌-◌, ◌*◌, ◌/◌, ◌≤◌, List, [], ◌∷◌, ◌++◌, take, drop, Option, Some, None, refl, ap, sym, ◌∙◌, subst, arith}
 use Rattle.std.proofs.lemmas.List.{drop-take}
 use Rattle.plfs_types.specs.declared.entries.Entry.{Entry}
 use Rattle.index_entry.specs.Spelling.{spelling_all}
@@ -17,7 +17,7 @@ use Rattle.gathering.specs.Gathering.{IsRead, AreReads, Gathered, Gathers, Gathe
 use Rattle.gathering.proofs.Growing.{grows_trans, index_grows}
 use Rattle.gathering.proofs.Seeing.{seen_grows, seen_split, seen_more, seen_waits}
 use Rattle.gathering.proofs.Looking.{length_told, read_told}
-use Rattle.gathering.proofs.Fronts.{index_slice, landed_issued, length-entries, pieces_join}
+use Rattle.gathering.proofs.Fronts.{index_slice, landed_issued, pieces_join}
 
 more_landed : (old new : Option (List ℕ)) → ((bytes : List ℕ) → old ≡ Some bytes → (later : List ℕ) × (new ≡ Some later) × (whole bytes ≤ whole later)) → whole (bytes_of old) ≤ whole (bytes_of new)
 more_landed None new grows = omega arith

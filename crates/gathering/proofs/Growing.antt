@@ -1,5 +1,5 @@
 -- No act shortens a file but in the folder of who is open, and so each step extends what was before.
-use Rattle.std.proofs.Common.{◌≡◌, ℕ, ◌≤◌, List, [], ◌∷◌, ◌++◌, length, get_or, Option, Some, None, refl, ap, sym, ◌∙◌, ◌⊎◌, inl, inr, subst, arith, append_assoc, Bool, true, false}
+use Rattle.std.proofs.Common.{◌≡◌, ℕ, ◌≤◌, List, [], ◌∷◌, ◌++◌, length, get_or, Option, Some, None, refl, ap, sym, ◌∙◌, ◌⊎◌, inl, inr, subst, arith, append_assoc, true, false}
 use Rattle.std.specs.Prelude.{◌≢◌, slice_get, if◌then◌else◌, ◌&&◌, ◌==◌}
 use Rattle.std.proofs.lemmas.List.{append-nil}
 use Rattle.plfs_types.specs.declared.names.Path.{Path}
@@ -27,7 +27,7 @@ use Rattle.mount_model.specs.Leaving.{exit_step}
 use Rattle.mount_model.specs.Step.{Answers}
 use Rattle.mount_sound.specs.Ledger.{Written, Ledger}
 use Rattle.mount_sound.specs.Issued.{with_write, written_by, noted, noted_by, issued_after}
-use Rattle.gathering.specs.Moments.{Moment, file_in_room, file_in_tree, file_told, file_then, Dropping, index_then, log_then, whole, issued_by, Grows}
+use Rattle.gathering.specs.Moments.{Moment, file_in_room, file_in_tree, file_told, Dropping, index_then, log_then, whole, issued_by, Grows}
 use Rattle.gathering.proofs.Acting.{IsActOf, AtMostOneAct, at_most_one_act}
 
 -- ---------- folders that aren't that of who is open

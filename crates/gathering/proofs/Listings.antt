@@ -1,5 +1,5 @@
 -- The scan of a container misses no dropping that was there before it.
-use Rattle.std.proofs.Common.{◌≡◌, ℕ, zero, suc, ◌+◌, ◌<◌, ◌≤◌, ◌%◌, List, [], ◌∷◌, ◌++◌, get_or, true, false, nat_eq, Some, refl, ap, sym, ◌∙◌, ◌⊎◌, inl, inr, subst, arith}
+use Rattle.std.proofs.Common.{◌≡◌, ℕ, zero, suc, ◌+◌, ◌<◌, ◌≤◌, ◌%◌, List, [], ◌∷◌, ◌++◌, get_or, true, false, nat_eq, Some, refl, ap, sym, ◌∙◌, inl, inr, subst, arith}
 use Rattle.std.specs.Prelude.{slice_get, codes}
 use Rattle.std.specs.Fmt.{decimal}
 use Rattle.std.specs.List.{range_with_len}
@@ -13,17 +13,14 @@ use Rattle.store_api.specs.declared.tree.Room.{Room}
 use Rattle.store_api.specs.declared.step.Answer.TheVariants.{Names}
 use Rattle.store_api.specs.Room.{is_top, has_folder}
 use Rattle.store_laws.specs.Files.{file_at}
-use Rattle.store_laws.proofs.Naming.{name_cases}
 use Rattle.mount_model.specs.declared.call.Call.TheVariants.{Look}
 use Rattle.mount_model.specs.declared.call.Look.TheVariants.{Top, List as ListFolder}
 use Rattle.mount_model.specs.declared.reply.Reply.TheVariants.{Looked}
 use Rattle.mount_model.specs.Paths.{Name, marks_folder, index_path}
-use Rattle.mount_shape.specs.Marks.{IsMarksRoom}
-use Rattle.mount_shape.specs.Container.{IsContainer}
 use Rattle.plain_file.proofs.OrderLemmas.{Among}
 use Rattle.gathering.specs.Moments.{Moment, IsSoundAt, Dropping, IsNamed, Stood, Grows}
 use Rattle.gathering.specs.Seen.{Asked, IsSeenCall, IsSeen}
-use Rattle.gathering.specs.Listing.{IsIndexName, AreDroppingsOf, ListsHostdir, ListsHostdirs, hostdirs, IsScan}
+use Rattle.gathering.specs.Listing.{IsIndexName, AreDroppingsOf, ListsHostdirs, hostdirs, IsScan}
 use Rattle.gathering.proofs.Growing.{in_a_room, grows_trans}
 use Rattle.gathering.proofs.Looking.{top_listed, folder_listed}
 use Rattle.gathering.proofs.Fronts.{in_tree, stood_grows}

@@ -1,10 +1,9 @@
 -- What the reply to a look says of the moment at which it was made.
-use Rattle.std.proofs.Common.{◌≡◌, ℕ, List, [], length, take, drop, Some, refl, ap, sym, ◌∙◌, subst, true, false}
-use Rattle.std.specs.Prelude.{Result, Ok, Err, nat_le, if◌then◌else◌}
+use Rattle.std.proofs.Common.{◌≡◌, ℕ, List, [], length, take, drop, Some, ap, sym, ◌∙◌, subst, true, false}
+use Rattle.std.specs.Prelude.{Ok, Err, nat_le, if◌then◌else◌}
 use Rattle.plfs_types.specs.declared.names.Path.{Path}
 use Rattle.store_api.specs.declared.step.Answer.{Answer}
-use Rattle.store_api.specs.declared.step.Answer.TheVariants.{NoFolder, Absent, Names, Number, Bytes}
-use Rattle.store_api.specs.declared.store.Trouble.{Trouble}
+use Rattle.store_api.specs.declared.step.Answer.TheVariants.{Names, Number, Bytes}
 use Rattle.store_api.specs.declared.store.Trouble.TheVariants.{Fault, NoMemory}
 use Rattle.store_api.specs.Effect.{effect}
 use Rattle.store_laws.specs.There.{HoldsFile, ListsFolder}

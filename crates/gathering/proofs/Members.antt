@@ -1,6 +1,6 @@
 -- Members of lists, by std's `Any` and by cases on the list.
 use Rattle.std.proofs.Common.{List, [], ◌∷◌, ◌++◌, refl, inl, inr, subst, ◌≡◌}
-use Rattle.std.specs.List.{All, Any, AllByRecursion}
+use Rattle.std.specs.List.{All, Any}
 use Rattle.std.proofs.lemmas.List.Elements.{recursion_from_All}
 use Rattle.plain_file.proofs.OrderLemmas.{Among, Among-at, All-Among, Contains-from_Among}
 use Rattle.gathering.specs.Listing.{IsAmong}

@@ -6,13 +6,13 @@ use Rattle.plfs_types.specs.declared.entries.Trunc.{Trunc}
 use Rattle.plain_file.specs.File.{slice, plain}
 use Rattle.mount_model.specs.History.{Event, IsLegal}
 use Rattle.mount_sound.specs.Ledger.{Written}
-use Rattle.gathering.specs.Moments.{Moment, IsSoundAt, next_moment, moment_after, Dropping, Stood, issued_by, Grows}
+use Rattle.gathering.specs.Moments.{Moment, IsSoundAt, moment_after, Dropping, Stood, issued_by, Grows}
 use Rattle.gathering.specs.Seen.{Asked, asked_in, calls_of, IsSeen}
 use Rattle.gathering.specs.Gathering.{Gathered, IsAdmissible}
 use Rattle.gathering.specs.View.{change_of, cut_off, writes_in, view}
 use Rattle.gathering.specs.Opening.{IsOpening, IsSharedOpening, Answers, HasView}
 use Rattle.gathering.proofs.Growing.{grows_trans}
-use Rattle.gathering.proofs.Seeing.{seen, seen_split, seen_grows, seen_waits, sound_after, sound_next, grows_after, grows_next}
+use Rattle.gathering.proofs.Seeing.{seen, seen_split, seen_grows, seen_waits, sound_after, grows_after}
 use Rattle.gathering.proofs.Fronts.{stood_grows}
 use Rattle.gathering.proofs.Gathers.{gathers_all, landed_grows}
 use Rattle.gathering.proofs.Listings.{scan_found}

@@ -1,26 +1,21 @@
 -- What a scan finds stood, one dropping a writer.
-use Rattle.std.proofs.Common.{◌≡◌, ℕ, zero, suc, ◌+◌, ◌<◌, ◌≤◌, ◌%◌, List, [], ◌∷◌, ◌++◌, true, false, Some, refl, ap, sym, ◌∙◌, ◌⊎◌, inl, inr, subst, arith}
+use Rattle.std.proofs.Common.{◌≡◌, ℕ, zero, suc, ◌+◌, ◌<◌, ◌%◌, List, [], ◌∷◌, ◌++◌, false, Some, refl, ap, sym, ◌∙◌, inl, inr, subst, arith}
 use Rattle.std.specs.Prelude.{◌≢◌, slice_get}
 use Rattle.std.specs.List.{AllByRecursion, range_with_len}
 use Rattle.std.proofs.lemmas.List.Elements.{All-from_recursion}
 use Rattle.plfs_types.specs.declared.names.Path.{Path}
-use Rattle.container_layout.specs.declared.items.Item.TheVariants.{Index}
 use Rattle.container_layout.specs.Paths.{hostdir_of}
-use Rattle.store_api.specs.declared.tree.Room.{Room}
-use Rattle.store_api.specs.declared.step.Answer.TheVariants.{Names}
 use Rattle.store_laws.specs.Differ.{is_listed, NamesDiffer}
 use Rattle.store_laws.specs.Files.{file_at}
 use Rattle.store_laws.proofs.Listed.{ordered_differ}
 use Rattle.plain_file.proofs.OrderLemmas.{Among, All-Among}
 use Rattle.mount_model.specs.Paths.{Name, index_path}
-use Rattle.mount_sound.specs.Dropping.{IsWriter}
 use Rattle.gathering.specs.Moments.{Moment, IsSoundAt, file_in_room, file_told, Dropping, Stood, Grows}
 use Rattle.gathering.specs.Seen.{Asked, IsSeenCall, IsSeen}
 use Rattle.gathering.specs.Listing.{IsIndexName, AreDroppingsOf, ListsHostdir, ListsHostdirs, hostdirs, IsScan, WritersDiffer, AreFound}
-use Rattle.gathering.proofs.Growing.{grows_trans}
 use Rattle.gathering.proofs.Seeing.{seen_grows}
 use Rattle.gathering.proofs.Looking.{folder_listed}
-use Rattle.gathering.proofs.Fronts.{stood_grows, Stands, stands}
+use Rattle.gathering.proofs.Fronts.{stood_grows, stands}
 use Rattle.gathering.proofs.Gathers.{answers_as}
 use Rattle.gathering.proofs.Members.{is_among}
 use Rattle.gathering.proofs.Entries.{among_listed, named_file}
@@ -88,13 +83,13 @@ one_folder caller room k start next asked ds call lists =
     let l = folder_listed m call.sound caller room (hostdir_of k) lists.names next.state (answers_as m.state caller asked.call _ asked.reply _ next.state lists.lists.call lists.lists.reply call.answers) in
     record {
       all = All-weaker (IsNamedIn room k lists.names) (IsFoundIn next room k) ds
-      (λ d its.
-      let f = named_file l.room (hostdir_of k) its.0 lists.names (not_top k) l.entries its.1 in
-      let path : Path = index_path d.host d.writer in
-      let here : file_at l.room path ≡ Some f.0 = subst (λ (p : Path). file_at l.room p ≡ Some f.0) its.2.named.printed f.1 in
-      let there = ap (λ o. file_told o d.room path) call.sound.shape.told ∙ ap (λ n. file_in_room (slice_get call.sound.shape.tree.rooms n) path) its.2.room_is ∙ ap (λ o. file_in_room o path) l.has_room ∙ here in
-      record { its_room = its.2.room_is; number = its.2.folder; stood = stood_grows m next d call.goes (record { is_item = its.2.named.is_item; bytes = f.0; there = there }) })
-      (all_named room k lists.names ds lists.found);
+          (λ d its.
+          let f = named_file l.room (hostdir_of k) its.0 lists.names (not_top k) l.entries its.1 in
+          let path : Path = index_path d.host d.writer in
+          let here : file_at l.room path ≡ Some f.0 = subst (λ (p : Path). file_at l.room p ≡ Some f.0) its.2.named.printed f.1 in
+          let there = ap (λ o. file_told o d.room path) call.sound.shape.told ∙ ap (λ n. file_in_room (slice_get call.sound.shape.tree.rooms n) path) its.2.room_is ∙ ap (λ o. file_in_room o path) l.has_room ∙ here in
+          record { its_room = its.2.room_is; number = its.2.folder; stood = stood_grows m next d call.goes (record { is_item = its.2.named.is_item; bytes = f.0; there = there }) })
+          (all_named room k lists.names ds lists.found);
       differ = folder_differs room k lists.names ds (ordered_differ lists.names l.entries.ordered) lists.found;
     }
 
@@ -142,12 +137,12 @@ all_folders caller room start end top (k ∷ ks) asked ds seen rises (inr (there
     let mine_found : AllByRecursion (IsFoundIn end room k) mine = All-weaker (IsFoundIn s.0 room k) (IsFoundIn end room k) mine (λ d i. found_later s.0 end room k d goes i) one.all in
     subst (FoundSome end room (k ∷ ks)) (sym split) (record {
       all = All-append (InSome end room (k ∷ ks)) mine others
-      (All-weaker (IsFoundIn end room k) (InSome end room (k ∷ ks)) mine (λ d i. (k, inl refl, i)) mine_found)
-      (All-weaker (InSome end room ks) (InSome end room (k ∷ ks)) others (λ d i. (i.0, inr i.1, i.2)) f.all);
+          (All-weaker (IsFoundIn end room k) (InSome end room (k ∷ ks)) mine (λ d i. (k, inl refl, i)) mine_found)
+          (All-weaker (InSome end room ks) (InSome end room (k ∷ ks)) others (λ d i. (i.0, inr i.1, i.2)) f.all);
       differ = differ_append mine others one.differ f.differ
-      (All-weaker (IsFoundIn end room k) (λ (d : Dropping). AllByRecursion (λ (e : Dropping). e ≢ d) others) mine
-      (λ d i. All-weaker (InSome end room ks) (λ (e : Dropping). e ≢ d) others (λ e j. apart end room k j.0 d e (All-Among (λ l. k < l) ks j.0 rises.0 j.1) i j.2) f.all)
-      mine_found);
+          (All-weaker (IsFoundIn end room k) (λ (d : Dropping). AllByRecursion (λ (e : Dropping). e ≢ d) others) mine
+          (λ d i. All-weaker (InSome end room ks) (λ (e : Dropping). e ≢ d) others (λ e j. apart end room k j.0 d e (All-Among (λ l. k < l) ks j.0 rises.0 j.1) i j.2) f.all)
+          mine_found);
     })
 
 -- ---------- one dropping a writer

@@ -1,5 +1,5 @@
 -- A reader that was split over workers has an admissible cut.
-use Rattle.std.proofs.Common.{ℕ, List, [], ◌∷◌, ◌++◌, inl, inr, subst, sym}
+use Rattle.std.proofs.Common.{List, [], ◌∷◌, inl, inr, subst, sym}
 use Rattle.std.specs.List.{Any, AllByRecursion}
 use Rattle.std.proofs.lemmas.List.Elements.{recursion_from_All}
 use Rattle.plain_file.proofs.OrderLemmas.{Among}
@@ -7,7 +7,7 @@ use Rattle.mount_model.specs.History.{Event, IsLegal}
 use Rattle.gathering.specs.Listing.{IsAmong}
 use Rattle.gathering.specs.Moments.{Moment, IsSoundAt, moment_after}
 use Rattle.gathering.specs.Seen.{calls_of}
-use Rattle.gathering.specs.Gathering.{Gathered, Share, GatherShares, AreShared, IsPrefixOf, IsAdmissible}
+use Rattle.gathering.specs.Gathering.{Gathered, Share, GatherShares, AreShared, IsAdmissible}
 use Rattle.gathering.proofs.Seeing.{seen}
 use Rattle.gathering.proofs.Gathers.{gathers_all}
 use Rattle.gathering.proofs.Members.{any_found, among}

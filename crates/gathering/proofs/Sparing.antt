@@ -1,5 +1,5 @@
 -- A file below the top is as it was, unless the act names it.
-use Rattle.std.proofs.Common.{◌≡◌, ℕ, List, get_or, Option, Some, None, Bool, false, refl, ap, sym, ◌∙◌, ◌⊎◌, inl, inr, subst}
+use Rattle.std.proofs.Common.{◌≡◌, ℕ, List, get_or, Option, Some, None, Bool, false, refl, ap, sym, ◌∙◌, inl, inr, subst}
 use Rattle.std.specs.Prelude.{◌≢◌, slice_get, if◌then◌else◌, ◌&&◌}
 use Rattle.std.proofs.lemmas.Bool.{cases_eq}
 use Rattle.plfs_types.specs.declared.names.Path.{Path}
@@ -9,12 +9,11 @@ use Rattle.container_layout.proofs.Places.{same_items, elsewhere}
 use Rattle.store_api.specs.declared.tree.Room.{Room}
 use Rattle.store_api.specs.declared.tree.Tree.{Tree}
 use Rattle.store_api.specs.Room.{is_top}
-use Rattle.store_api.specs.Step.{Step, rooms, find_room, make_room, rename_room, make_folder, remove_folder, list_folder, create, remove, replace, length_of, read_at, write_at, cut, sync}
+use Rattle.store_api.specs.Step.{Step, make_room, rename_room, make_folder, remove_folder, create, remove, replace, write_at, cut}
 use Rattle.store_laws.specs.Changes.{with_room, RoomMade}
 use Rattle.store_laws.specs.Differ.{is_listed}
 use Rattle.store_laws.specs.Files.{file_at}
 use Rattle.store_laws.specs.Naming.{NamesFile}
-use Rattle.store_laws.specs.Outcomes.{IsLook}
 use Rattle.store_laws.specs.Tells.{Tells}
 use Rattle.store_laws.proofs.Answering.{look_told}
 use Rattle.store_laws.proofs.Keeping.{other_room, each_with_added}
@@ -39,7 +38,7 @@ use Rattle.mount_sound.proofs.Making.{all_fit}
 use Rattle.mount_sound.proofs.Tables.{row_of_id}
 use Rattle.gathering.specs.Bounds.{Spares}
 use Rattle.gathering.specs.Moments.{Moment, IsSoundAt, file_in_room, file_in_tree, file_told, Dropping, IsNamed}
-use Rattle.gathering.proofs.Acting.{OfRow, IsActOf, AtMostOneAct}
+use Rattle.gathering.proofs.Acting.{IsActOf, AtMostOneAct}
 
 -- ---------- rooms that weren't there
 

@@ -1,13 +1,10 @@
 -- The list of truncates has exactly those that stood at its moment.
 use Rattle.std.proofs.Common.{◌≡◌, ℕ, List, [], ◌∷◌, false, Some, refl, ap, sym, ◌∙◌, subst}
 use Rattle.std.specs.Prelude.{slice_get}
-use Rattle.std.specs.List.{All, Any, AllByRecursion}
+use Rattle.std.specs.List.{Any, AllByRecursion}
 use Rattle.std.proofs.lemmas.List.Elements.{All-from_recursion, recursion_from_All}
 use Rattle.plfs_types.specs.declared.entries.Trunc.{Trunc}
 use Rattle.plfs_types.specs.declared.names.Path.{Path}
-use Rattle.container_layout.specs.declared.items.Item.TheVariants as item
-use Rattle.container_layout.specs.Paths.{path_of}
-use Rattle.store_api.specs.declared.tree.Room.{Room}
 use Rattle.store_api.specs.Room.{is_top}
 use Rattle.store_laws.specs.Files.{file_at}
 use Rattle.store_laws.specs.There.{ListsFolder}
@@ -16,14 +13,14 @@ use Rattle.mount_model.specs.State.{State}
 use Rattle.mount_model.specs.Step.{Answers}
 use Rattle.gathering.specs.Moments.{Moment, IsSoundAt, file_in_room, file_told, HadTrunc}
 use Rattle.gathering.specs.Seen.{Asked}
-use Rattle.gathering.specs.Listing.{IsAmong, IsTruncName, AreTruncsOf, AreTruncsAt}
+use Rattle.gathering.specs.Listing.{IsTruncName, AreTruncsOf, AreTruncsAt}
 use Rattle.gathering.specs.Opening.{ListsTruncs}
 use Rattle.gathering.proofs.Growing.{in_a_room}
 use Rattle.gathering.proofs.Looking.{folder_listed}
 use Rattle.gathering.proofs.Fronts.{in_tree}
 use Rattle.gathering.proofs.Gathers.{answers_as}
 use Rattle.gathering.proofs.Members.{any_found, found_any}
-use Rattle.gathering.proofs.Entries.{file_of, file_named, named_file}
+use Rattle.gathering.proofs.Entries.{file_named, named_file}
 
 below_top : is_top truncs_folder ≡ false
 below_top = refl
