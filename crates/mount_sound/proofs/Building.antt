@@ -1,39 +1,39 @@
 -- Making a writer's folder and droppings keeps soundness.
-use Rattle.std.proofs.Common.{◌≡◌, ◌≤◌, ◌<◌, ◌*◌, ℕ, List, [], Option, Some, None, true, false, refl, ap, sym, ◌∙◌, ◌⊎◌, inl, inr, subst, arith}
-use Rattle.std.specs.Prelude.{slice_get, MatchOption, Ok, Err}
+use Rattle.std.proofs.Common.{◌≡◌, ◌≤◌, ◌<◌, ℕ, List, [], Option, Some, None, true, refl, ap, sym, ◌∙◌, ◌⊎◌, inl, inr, subst, arith}
+use Rattle.std.specs.Prelude.{slice_get, MatchOption, Ok}
 use Rattle.plfs_types.specs.declared.entries.Entry.{Entry}
-use Rattle.container_layout.specs.declared.items.Item.{Item}
-use Rattle.container_layout.specs.declared.items.Item.TheVariants.{OpenHost, Meta, Trunc, Index, Log}
+use Rattle.container_layout.specs.declared.items.Item.TheVariants.{OpenHost, Index}
 use Rattle.container_layout.specs.Paths.{hostdir_of}
 use Rattle.store_api.specs.declared.step.Answer.TheVariants.{Made, Old}
 use Rattle.store_api.specs.declared.tree.Room.{Room}
 use Rattle.store_api.specs.declared.tree.Tree.{Tree}
 use Rattle.store_api.specs.Room.{has_folder}
 use Rattle.store_laws.specs.Files.{file_at}
-use Rattle.store_laws.specs.Changes.{with_room, Created, FolderMade}
+use Rattle.store_laws.specs.Changes.{Created}
 use Rattle.store_laws.specs.Tells.{Tells, made}
-use Rattle.store_laws.specs.There.{HoldsFile, HoldsFolder}
-use Rattle.store_laws.proofs.Telling.{create_told, make_folder_told}
+use Rattle.store_laws.specs.There.{HoldsFile}
+use Rattle.store_laws.proofs.Telling.{create_told}
 use Rattle.mount_model.specs.declared.row.Row.{Row}
 use Rattle.mount_model.specs.declared.row.Stage.{Stage}
 use Rattle.mount_model.specs.declared.row.Stage.TheVariants as stage
 use Rattle.mount_model.specs.declared.row.Stage.TheVariants.{Closing}
 use Rattle.mount_model.specs.declared.reply.Reply.{Reply}
-use Rattle.mount_model.specs.Building.{build_outcome, hostdir_step, MakesHostdir, index_step, MakesIndex, log_step, MakesLog}
+use Rattle.mount_model.specs.Building.{build_outcome, index_step, MakesIndex}
 use Rattle.mount_model.specs.Making.{Told, Makes}
-use Rattle.mount_model.specs.Paths.{Name, open_path, index_path, log_path}
+use Rattle.mount_model.specs.Paths.{Name, index_path, log_path}
 use Rattle.mount_model.specs.Regular.{IsRegular}
-use Rattle.mount_model.specs.State.{State, Table, last_id, put}
+use Rattle.mount_model.specs.State.{State, Table, last_id}
 use Rattle.mount_model.specs.Table.{with_row, rank, only, at_stage}
+use Rattle.mount_model.proofs.Deciding.{at_only}
 use Rattle.mount_sound.specs.Ledger.{Written, entries_in, Ledger}
 use Rattle.mount_sound.specs.Kept.{Begins, IsAtStage, IsKept}
 use Rattle.mount_sound.specs.Sound.{AreSound}
-use Rattle.mount_sound.proofs.Frames.{Fits, kept_frame, writer_frame}
-use Rattle.mount_sound.proofs.Items.{SameFor, SameButItem, same_but_item, same_for_files, is_index, is_log, is_open}
-use Rattle.mount_sound.proofs.Live.{Own, own_of, own_kept, had_meta_but, has_meta_but, had_trunc_but, log_kept}
+use Rattle.mount_sound.proofs.Frames.{Fits}
+use Rattle.mount_sound.proofs.Items.{SameButItem, same_but_item, is_index, is_open}
+use Rattle.mount_sound.proofs.Live.{Own, own_kept, had_meta_but, has_meta_but, had_trunc_but}
 use Rattle.mount_sound.proofs.Making.{AreRight, IsAccounted, makes_accounted}
-use Rattle.mount_sound.proofs.Stages.{on_writer, working, only_rank, live_stage, kept_at, own_at}
-use Rattle.mount_sound.proofs.Working.{Working, Holds, Turned, turned_same, turned_put, spares, spares_all, works_on, turns, its_fit, its_kept, its_stage, its_own, its_writer}
+use Rattle.mount_sound.proofs.Stages.{on_writer, working, live_stage, kept_at, own_at}
+use Rattle.mount_sound.proofs.Working.{Working, Holds, Turned, turned_same, turned_put, spares, works_on, turns, its_fit, its_kept, its_stage, its_own}
 
 -- what the table becomes
 build_cases : (s : Stage) (folder file : Name) (row : Row) (table : Table) (told : Told) → (told ≡ made) ⊎ ((n : ℕ) × (told ≡ Ok (Old n))) ⊎ ((build_outcome s folder file row table told).table ≡ table)
@@ -148,6 +148,6 @@ pub index_keeps : (issued : Ledger) (old : State) (caller writer : ℕ) (reply :
 index_keeps issued old caller writer reply new r f a =
     on_writer issued old caller (only stage.Housed) writer reply new (λ row. Makes (index_step row) (build_outcome stage.Indexed (hostdir_of row.host) (index_path row.host row.id).file row old.table) old reply new) f a
     (λ row stands at makes.
-    let is : rank row.stage ≡ 2 = only_rank stage.Housed row.stage at in
+    let is : rank row.stage ≡ 2 = at_only stage.Housed row.stage at in
     makes_accounted (index_step row) (build_outcome stage.Indexed (hostdir_of row.host) (index_path row.host row.id).file row old.table) (λ x. issued) old reply new a.tree a.told
     (index_told (last_id old) issued old.table a.tree row is a.right.no_holders a.right.no_flattenings (working issued old writer row r a stands (omega arith))) makes)

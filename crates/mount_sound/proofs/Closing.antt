@@ -1,18 +1,17 @@
 -- Making a metadata dropping keeps soundness.
-use Rattle.std.proofs.Common.{◌≡◌, ◌≤◌, ◌<◌, ◌^◌, ℕ, suc, List, [], ◌∷◌, length, Option, Some, None, Bool, true, false, nat_eq, refl, ap, sym, ◌∙◌, ◌⊎◌, inl, inr, subst, arith}
+use Rattle.std.proofs.Common.{◌≡◌, ◌≤◌, ◌<◌, ◌^◌, ℕ, suc, List, [], ◌∷◌, length, Some, None, Bool, true, false, nat_eq, refl, sym, ◌∙◌, ◌⊎◌, inl, inr, subst, arith}
 use Rattle.std.specs.Prelude.{MatchOption, Ok, Err, nat_lt, ◌||◌, if◌then◌else◌}
 use Rattle.std.proofs.lemmas.Bool.{cases_eq}
 use Rattle.std.proofs.lemmas.Bool.Decides.{nat_tests}
 use Rattle.plfs_types.specs.declared.entries.Entry.{Entry}
 use Rattle.container_layout.specs.declared.items.Item.{Item}
-use Rattle.container_layout.specs.declared.items.Item.TheVariants.{OpenHost, Meta, Trunc, Index, Log}
+use Rattle.container_layout.specs.declared.items.Item.TheVariants.{OpenHost, Meta, Index, Log}
 use Rattle.container_layout.specs.Items.{IsItem}
 use Rattle.container_layout.specs.Paths.{hostdir_of}
 use Rattle.store_api.specs.declared.step.Answer.TheVariants.{Made, Old}
 use Rattle.store_api.specs.declared.store.Trouble.TheVariants as trouble
 use Rattle.store_api.specs.declared.tree.Room.{Room}
 use Rattle.store_api.specs.declared.tree.Tree.{Tree}
-use Rattle.store_laws.specs.Files.{file_at}
 use Rattle.store_laws.specs.Changes.{Created}
 use Rattle.store_laws.specs.Tells.{Tells, made}
 use Rattle.store_laws.specs.There.{HoldsFile}
@@ -20,14 +19,14 @@ use Rattle.store_laws.proofs.Telling.{create_told}
 use Rattle.mount_model.specs.declared.row.Row.{Row}
 use Rattle.mount_model.specs.declared.row.Stage.TheVariants as stage
 use Rattle.mount_model.specs.declared.reply.Reply.{Reply}
-use Rattle.mount_model.specs.declared.reply.Refusal.{Refusal}
 use Rattle.mount_model.specs.declared.reply.Refusal.TheVariants.{NotFlushed}
 use Rattle.mount_model.specs.Leaving.{put_meta_check, put_meta_step, put_meta_outcome, closing as closing_row, closed, PutsMeta}
 use Rattle.mount_model.specs.Making.{Told, Makes, UnlessRefused}
-use Rattle.mount_model.specs.Paths.{open_path, index_path, log_path, meta_path}
+use Rattle.mount_model.specs.Paths.{meta_path}
 use Rattle.mount_model.specs.Regular.{IsRegular, IsCounted}
 use Rattle.mount_model.specs.State.{State, Table, last_id, put}
-use Rattle.mount_model.specs.Table.{with_row, rank, only, may_close}
+use Rattle.mount_model.specs.Table.{with_row, rank, may_close}
+use Rattle.mount_model.proofs.Tables.{row_of_all}
 use Rattle.mount_sound.specs.Items.{HasItem, HasMeta}
 use Rattle.mount_sound.specs.Ledger.{Written, entries_in, content, Ledger}
 use Rattle.mount_sound.specs.Dropping.{IsToldOf}
@@ -38,7 +37,6 @@ use Rattle.mount_sound.proofs.Items.{SameButItem, same_but_item, is_index, is_lo
 use Rattle.mount_sound.proofs.Live.{Own, one_host_kept, log_kept, had_trunc_but}
 use Rattle.mount_sound.proofs.Making.{AreRight, IsAccounted, makes_accounted}
 use Rattle.mount_sound.proofs.Stages.{on_writer, unless_refused, working}
-use Rattle.mount_sound.proofs.Tables.{of_row}
 use Rattle.mount_sound.proofs.Working.{Working, Holds, Turned, turned_put, spares, works_on, turns, its_fit, its_kept, its_stage, its_own}
 
 -- the metadata dropping of the row
@@ -197,7 +195,7 @@ meta_told last issued table tree row is counted holders flattenings w told after
 
 -- ---- the checks
 
-open_or_closing : (a : ℕ) → (nat_eq a 4 || nat_eq a 5) ≡ true → (4 ≤ a) × (a < 6)
+pub open_or_closing : (a : ℕ) → (nat_eq a 4 || nat_eq a 5) ≡ true → (4 ≤ a) × (a < 6)
 open_or_closing a e = (grind (arith, nat_tests), grind (arith, nat_tests))
 
 positive : (n : ℕ) → nat_lt 0 (suc n) ≡ false → ⊥
@@ -221,4 +219,4 @@ meta_keeps issued old caller writer reply new r f a =
     (λ none makes.
     let is : IsClosing row = record { far = far.0; live = far.1; flushed = nothing row.pending.entries none } in
     makes_accounted (put_meta_step row) (put_meta_outcome row old.table) (λ x. issued) old reply new a.tree a.told
-    (meta_told (last_id old) issued old.table a.tree row is (of_row IsCounted writer old.table.writers row r.counted stands) a.right.no_holders a.right.no_flattenings w) makes))
+    (meta_told (last_id old) issued old.table a.tree row is (row_of_all IsCounted writer old.table.writers row r.counted stands) a.right.no_holders a.right.no_flattenings w) makes))

@@ -1,43 +1,42 @@
 -- Entering a writer keeps soundness.
-use Rattle.std.proofs.Common.{◌≡◌, ◌≤◌, ◌<◌, ◌+◌, ◌*◌, ◌-◌, ◌^◌, ℕ, List, [], ◌∷◌, ◌++◌, Option, Some, None, true, false, nat_eq, nat_le, refl, ap, sym, ◌∙◌, ◌⊎◌, inl, inr, subst, arith}
-use Rattle.std.specs.Prelude.{slice_get, MatchOption, Ok, if◌then◌else◌}
-use Rattle.std.proofs.lemmas.Bool.Decides.{nat_tests}
+use Rattle.std.proofs.Common.{◌≡◌, ◌<◌, ◌+◌, ◌^◌, ℕ, List, [], ◌∷◌, ◌++◌, Option, Some, None, refl, sym, ◌∙◌, ◌⊎◌, inl, inr, subst, arith}
+use Rattle.std.specs.Prelude.{slice_get, MatchOption, Ok}
 use Rattle.container_layout.specs.declared.items.Item.{Item}
 use Rattle.container_layout.specs.declared.items.Item.TheVariants.{Access, OpenHost, Meta, Trunc, Flat, TmpFlat, Index, Log}
 use Rattle.container_layout.specs.Items.{IsItem}
 use Rattle.container_layout.specs.Paths.{path_of}
-use Rattle.container_layout.proofs.Places.{same_items}
 use Rattle.store_api.specs.declared.step.Answer.TheVariants.{Made, NoFolder}
 use Rattle.store_api.specs.declared.tree.Room.{Room}
 use Rattle.store_api.specs.declared.tree.Tree.{Tree}
 use Rattle.store_laws.specs.Files.{file_at}
-use Rattle.store_laws.specs.Changes.{with_room, Created}
+use Rattle.store_laws.specs.Changes.{Created}
 use Rattle.store_laws.specs.Tells.{Tells, made}
 use Rattle.store_laws.proofs.Telling.{create_told}
 use Rattle.mount_model.specs.declared.row.Row.{Row}
 use Rattle.mount_model.specs.declared.reply.Reply.{Reply}
-use Rattle.mount_model.specs.declared.reply.Refusal.{Refusal}
-use Rattle.mount_model.specs.declared.reply.Refusal.TheVariants.{NoRoom, IdsSpent}
 use Rattle.mount_model.specs.Entering.{enter_check, next_id, entered, enter_step, enter_outcome, EntersAs, Enters}
 use Rattle.mount_model.specs.Making.{Told}
 use Rattle.mount_model.specs.Paths.{open_path, index_path}
 use Rattle.mount_model.specs.Regular.{IsRegular}
-use Rattle.mount_model.specs.State.{State, Table, id_of, last_id, drawn}
+use Rattle.mount_model.specs.State.{State, Table, last_id, drawn}
 use Rattle.mount_model.specs.Table.{row_of}
+use Rattle.mount_model.proofs.Deciding.{may_enter}
+use Rattle.mount_model.proofs.Tables.{row_of_id, row_of_other-push}
 use Rattle.mount_shape.specs.Container.{IsWritersOf, IsContainer}
-use Rattle.mount_shape.specs.Marks.{IsMarksRoom}
-use Rattle.mount_shape.specs.Shape.{IsDrawnBy, IsShapedTree, HasShape}
-use Rattle.mount_sound.specs.Items.{HasItem, HasItemOf}
-use Rattle.mount_sound.specs.Ledger.{Written, entries_in, content, Ledger}
+use Rattle.mount_shape.specs.Shape.{IsDrawnBy, HasShape}
+use Rattle.mount_shape.proofs.Held.{item_held}
+use Rattle.mount_shape.proofs.Items.{id_fits}
+use Rattle.mount_sound.specs.Items.{HasItemOf}
+use Rattle.mount_sound.specs.Ledger.{Ledger}
 use Rattle.mount_sound.specs.Dropping.{IsDropping, IsWriter}
 use Rattle.mount_sound.specs.Kept.{Begins, IsKept}
 use Rattle.mount_sound.specs.Sound.{AreSound}
-use Rattle.mount_sound.proofs.Items.{SameButItem, same_but_item, owner, is_index, is_open, had, same_for, same_truncates}
+use Rattle.mount_sound.proofs.Items.{SameButItem, same_but_item, owner, is_index, is_open, same_for, same_truncates}
 use Rattle.mount_sound.proofs.Live.{one_host_kept, had_meta_but}
-use Rattle.mount_sound.proofs.Local.{AllFit, Changes, local, grown}
-use Rattle.mount_sound.proofs.Making.{AreRight, IsAccounted, one_tree, makes_accounted, accounted_as, all_fit, drawn_by, id_fits}
+use Rattle.mount_sound.proofs.Local.{local, grown}
+use Rattle.mount_sound.proofs.Making.{AreRight, IsAccounted, one_tree, makes_accounted, accounted_as, all_fit, drawn_by}
 use Rattle.mount_sound.proofs.Stages.{unless_refused}
-use Rattle.mount_sound.proofs.Tables.{row_of_id, row_of_other-push, row_of-push}
+use Rattle.mount_sound.proofs.Tables.{added_row}
 
 -- ---- nothing in the tree has an id that is not drawn yet
 
@@ -55,16 +54,13 @@ allowed_owner allowed (TmpFlat n) id o w = absurd (cc)
 allowed_owner allowed (Index host writer) id o w = let same : writer ≡ id = cc in subst allowed same w
 allowed_owner allowed (Log host writer) id o w = let same : writer ≡ id = cc in subst allowed same w
 
-absent : (o : Option (List ℕ)) → ((bytes : List ℕ) → o ≡ Some bytes → ⊥) → o ≡ None
+pub absent : (o : Option (List ℕ)) → ((bytes : List ℕ) → o ≡ Some bytes → ⊥) → o ≡ None
 absent None never = refl
 absent (Some bytes) never = absurd (never bytes refl)
 
-new_here : (allowed : ℕ → Type 0) (room : Room) (id : ℕ) → (allowed id → ⊥) → IsContainer allowed room → IsNew room id
+pub new_here : (allowed : ℕ → Type 0) (room : Room) (id : ℕ) → (allowed id → ⊥) → IsContainer allowed room → IsNew room id
 new_here allowed room id never c = record {
-  none = λ item is o. absent (file_at room (path_of item)) (λ bytes e.
-      let f = c.files (path_of item) bytes e in
-      let same : item ≡ f.item = same_items item f.item is f.is_at.is_item f.is_at.printed in
-      never (allowed_owner allowed item id o (subst (IsWritersOf allowed) (sym same) f.writer)))
+  none = λ item is o. absent (file_at room (path_of item)) (λ bytes e. never (allowed_owner allowed item id o (item_held allowed room item bytes c is e).writer));
 }
 
 -- a container has no item of the next id
@@ -160,7 +156,7 @@ enter_told old issued caller number host most tree r shape is apart h i a told a
     let fresh : (x : Row) → row_of (next_id old) old.table.writers ≡ Some x → ⊥ = λ x e. omega (arith, drawn_by old r (next_id old) x e, row_of_id (next_id old) old.table.writers x e) in
     elim (enter_rows row old.table told) as (λ _. AreRight (next_id old) issued (enter_outcome row old.table told).table after) [
       | inl done ↦ subst (λ x. AreRight (next_id old) issued (enter_outcome row old.table x).table after) (sym done) (record {
-        sound = entry_made old issued caller number host most (old.table.writers ++ row ∷ []) tree after r shape is apart h i a.sound (row_of_other-push old.table.writers row) (λ x e. row_of-push old.table.writers row x fresh e) (c.done done);
+        sound = entry_made old issued caller number host most (old.table.writers ++ row ∷ []) tree after r shape is apart h i a.sound (row_of_other-push old.table.writers row) (λ x e. added_row old.table.writers row x fresh e) (c.done done);
         no_holders = a.no_holders;
         no_flattenings = a.no_flattenings;
       })
@@ -185,27 +181,12 @@ drawn_accounted issued old a = record {
   };
 }
 
-unequal : (a b : ℕ) → nat_eq a b ≡ false → a ≡ b → ⊥
-unequal a b e = grind (arith, nat_tests)
-
-below : (a b : ℕ) → nat_le a b ≡ false → b < a
-below a b e = grind (arith, nat_tests)
-
-checked : (old : State) (room : ℕ) → enter_check old room ≡ None → (room ≡ old.marks → ⊥) × (old.serial < 2 ^ 32 - 1)
-checked old room e = elim (nat_eq room old.marks) as (λ b. nat_eq room old.marks ≡ b → (if b then Some NoRoom else if nat_le (2 ^ 32 - 1) old.serial then Some IdsSpent else None) ≡ None → (room ≡ old.marks → ⊥) × (old.serial < 2 ^ 32 - 1)) [
-  | true ↦ λ t f. absurd (cc)
-  | false ↦ λ t. elim (nat_le (2 ^ 32 - 1) old.serial) as (λ b. nat_le (2 ^ 32 - 1) old.serial ≡ b → (if b then Some IdsSpent else None) ≡ None → (room ≡ old.marks → ⊥) × (old.serial < 2 ^ 32 - 1)) [
-    | true ↦ λ u f. absurd (cc)
-    | false ↦ λ u f. (unequal room old.marks t, below (2 ^ 32 - 1) old.serial u)
-  ] refl
-] refl e
-
 -- Entering keeps soundness.
 pub enter_keeps : (issued : Ledger) (old : State) (caller room host most : ℕ) (reply : Reply) (new : State) → IsRegular old → HasShape old → Enters caller room host most old reply new → IsAccounted issued old → IsAccounted issued new
 enter_keeps issued old caller room host most reply new r shape f a =
     unless_refused issued (enter_check old room) old reply new (EntersAs caller room host most old reply new) f a
     (λ none does.
-    let c = checked old room none in
+    let c = may_enter old room none in
     let fits : next_id old < 2 ^ 64 = id_fits old.mount (old.serial + 1) r.mount_fits (omega (arith, c.1)) in
     elim does.does as (λ _. IsAccounted issued new) [
       | inl makes ↦ makes_accounted (enter_step old room host) (enter_outcome (entered old caller room host most) old.table) (λ x. issued) (drawn old) reply new a.tree a.told

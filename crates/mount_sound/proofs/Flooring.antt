@@ -1,13 +1,12 @@
 -- Finding a writer's floor keeps soundness.
-use Rattle.std.proofs.Common.{◌≡◌, ◌≤◌, ◌<◌, ℕ, List, [], ◌∷◌, Option, Some, None, Bool, true, false, cond, refl, ap, sym, ◌∙◌, ◌⊎◌, inl, inr, subst, arith}
-use Rattle.std.specs.Prelude.{slice_get, Ok, Err, is_some, ◌||◌}
-use Rattle.std.specs.List.{All, AllByRecursion}
+use Rattle.std.proofs.Common.{◌≡◌, ◌≤◌, ℕ, List, [], ◌∷◌, Option, Some, None, Bool, true, false, refl, ap, sym, ◌∙◌, ◌⊎◌, inl, inr, subst, arith}
+use Rattle.std.specs.Prelude.{Ok, is_some, ◌||◌}
+use Rattle.std.specs.List.{AllByRecursion}
 use Rattle.std.proofs.lemmas.List.Elements.{recursion_from_All}
 use Rattle.plfs_types.specs.declared.entries.Entry.{Entry}
 use Rattle.container_layout.specs.declared.items.Item.TheVariants.{Trunc}
 use Rattle.container_layout.specs.Paths.{path_of, IsIn}
 use Rattle.container_layout.proofs.Places.{same_items}
-use Rattle.store_api.specs.declared.step.Answer.{Answer}
 use Rattle.store_api.specs.declared.step.Answer.TheVariants.{Names}
 use Rattle.store_api.specs.declared.tree.Room.{Room}
 use Rattle.store_api.specs.declared.tree.Tree.{Tree}
@@ -17,7 +16,7 @@ use Rattle.store_api.specs.Effect.{Effect}
 use Rattle.store_laws.specs.Files.{file_at}
 use Rattle.store_laws.specs.Differ.{is_listed}
 use Rattle.store_laws.specs.Tells.{Tells}
-use Rattle.store_laws.specs.There.{has_entry, AreNamesOf, ListsFolder}
+use Rattle.store_laws.specs.There.{AreNamesOf, ListsFolder}
 use Rattle.store_laws.specs.Says.{ListTells}
 use Rattle.store_laws.proofs.Naming.{name_eq}
 use Rattle.store_laws.proofs.Answering.{list_tells, look_told}
@@ -31,6 +30,7 @@ use Rattle.mount_model.specs.Paths.{Name, truncs}
 use Rattle.mount_model.specs.Regular.{IsRegular}
 use Rattle.mount_model.specs.State.{State, Table, last_id, put}
 use Rattle.mount_model.specs.Table.{with_row, rank, only}
+use Rattle.mount_model.proofs.Deciding.{at_only}
 use Rattle.mount_sound.specs.Entries.{AreInOrder}
 use Rattle.mount_sound.specs.Items.{HasItem}
 use Rattle.mount_sound.specs.Ledger.{Written, entries_in, Ledger}
@@ -39,7 +39,7 @@ use Rattle.mount_sound.specs.Sound.{AreSound}
 use Rattle.mount_sound.proofs.Building.{not_closing}
 use Rattle.mount_sound.proofs.Live.{Own}
 use Rattle.mount_sound.proofs.Making.{AreRight, IsAccounted}
-use Rattle.mount_sound.proofs.Stages.{on_writer, working, only_rank}
+use Rattle.mount_sound.proofs.Stages.{on_writer, working}
 use Rattle.mount_sound.proofs.Working.{Working, Holds, turned_put, turns, its_kept, its_stage, its_own}
 
 -- a name that is listed has what all of them have
@@ -123,5 +123,5 @@ pub floor_keeps : (issued : Ledger) (old : State) (caller writer : ℕ) (reply :
 floor_keeps issued old caller writer reply new r f a =
     on_writer issued old caller (only stage.Entered) writer reply new (λ row. FloorsRow row old reply new) f a
     (λ row stands at does.
-    let is : rank row.stage ≡ 0 = only_rank stage.Entered row.stage at in
+    let is : rank row.stage ≡ 0 = at_only stage.Entered row.stage at in
     floors_row issued old row reply new a is (working issued old writer row r a stands (omega arith)) does)

@@ -1,11 +1,11 @@
 -- A flush keeps soundness, whatever its act leaves.
-use Rattle.std.proofs.Common.{◌≡◌, ◌≤◌, ◌<◌, ◌+◌, ◌*◌, ℕ, List, [], ◌∷◌, length, take, drop, Option, Some, None, true, refl, ap, sym, ◌∙◌, inl, inr, subst, arith, length-drop}
-use Rattle.std.specs.Prelude.{slice_get, MatchOption, Ok}
+use Rattle.std.proofs.Common.{◌≡◌, ◌≤◌, ◌+◌, ◌*◌, ℕ, List, [], ◌∷◌, length, take, drop, Option, Some, refl, ap, sym, ◌∙◌, inl, inr, subst, arith, length-drop}
+use Rattle.std.specs.Prelude.{MatchOption, Ok}
 use Rattle.plfs_types.specs.Bytes.{overwritten}
 use Rattle.plfs_types.specs.declared.entries.Entry.{Entry}
 use Rattle.index_entry.specs.Spelling.{spelling_all}
 use Rattle.index_entry.proofs.Spelled.{length-spelling_all, drop-spelling_all}
-use Rattle.container_layout.specs.declared.items.Item.TheVariants.{OpenHost, Meta, Trunc, Index, Log}
+use Rattle.container_layout.specs.declared.items.Item.TheVariants.{OpenHost, Index, Log}
 use Rattle.container_layout.specs.Paths.{hostdir_of}
 use Rattle.store_api.specs.declared.step.Answer.TheVariants.{Made}
 use Rattle.store_api.specs.declared.tree.Room.{Room}
@@ -21,10 +21,11 @@ use Rattle.mount_model.specs.declared.row.Stage.TheVariants as stage
 use Rattle.mount_model.specs.declared.reply.Reply.{Reply}
 use Rattle.mount_model.specs.Flushing.{flushed, flush_step, flush_outcome, FlushesRow, Flushes}
 use Rattle.mount_model.specs.Making.{Told}
-use Rattle.mount_model.specs.Paths.{open_path, index_path, log_path}
+use Rattle.mount_model.specs.Paths.{index_path}
 use Rattle.mount_model.specs.Regular.{IsRegular}
 use Rattle.mount_model.specs.State.{State, Table, last_id}
-use Rattle.mount_model.specs.Table.{with_row, row_of, rank, only}
+use Rattle.mount_model.specs.Table.{with_row, rank, only}
+use Rattle.mount_model.proofs.Deciding.{at_only}
 use Rattle.mount_sound.specs.Ledger.{Written, entries_in, Ledger}
 use Rattle.mount_sound.specs.Kept.{Begins, IsAtStage, IsKept}
 use Rattle.mount_sound.specs.Sound.{AreSound}
@@ -34,7 +35,7 @@ use Rattle.mount_sound.proofs.Items.{SameButItem, same_but_item, is_index, is_lo
 use Rattle.mount_sound.proofs.Live.{Own, own_kept, had_meta_but, has_meta_but, had_trunc_but}
 use Rattle.mount_sound.proofs.Making.{AreRight, IsAccounted, makes_accounted, accounted_as}
 use Rattle.mount_sound.proofs.Orders.{take_all, drop_past}
-use Rattle.mount_sound.proofs.Stages.{on_writer, working, only_rank, live_stage}
+use Rattle.mount_sound.proofs.Stages.{on_writer, working, live_stage}
 use Rattle.mount_sound.proofs.Working.{Working, Holds, Turned, turned_same, turned_put, spares, works_on, its_fit, its_kept, its_stage, its_own}
 
 -- any first bytes of the pending entries leave a beginning of the issued ones
@@ -144,5 +145,5 @@ pub flush_keeps : (issued : Ledger) (old : State) (caller writer : ℕ) (reply :
 flush_keeps issued old caller writer reply new r f a =
     on_writer issued old caller (only stage.Open) writer reply new (λ row. FlushesRow row row.pending.entries old reply new) f a
     (λ row stands at does.
-    let is : rank row.stage ≡ 4 = only_rank stage.Open row.stage at in
+    let is : rank row.stage ≡ 4 = at_only stage.Open row.stage at in
     flush_row issued old row row.pending.entries reply new a is (working issued old writer row r a stands (omega arith)) does)

@@ -1,5 +1,5 @@
 -- A call that changes one writer's items leaves what the room holds of the others.
-use Rattle.std.proofs.Common.{◌≡◌, ◌<◌, ◌≤◌, ◌^◌, ℕ, List, Some, refl, ap, sym, ◌∙◌, subst}
+use Rattle.std.proofs.Common.{◌≡◌, ◌<◌, ◌^◌, ℕ, List, refl, ap, sym, ◌∙◌, subst}
 use Rattle.std.specs.Prelude.{MatchOption}
 use Rattle.plfs_types.specs.declared.entries.Entry.{Entry}
 use Rattle.container_layout.specs.declared.items.Item.TheVariants.{OpenHost, Meta, Trunc, Index, Log}
@@ -14,7 +14,7 @@ use Rattle.mount_sound.specs.Ledger.{Written, entries_in, content}
 use Rattle.mount_sound.specs.Dropping.{bytes_of, log_bytes, IsDropping, IsWriter}
 use Rattle.mount_sound.specs.Kept.{Begins, IsAtStage, IsKept}
 use Rattle.mount_sound.specs.Sound.{TruncatesDiffer}
-use Rattle.mount_sound.proofs.Items.{SameFor, is_index, is_log, is_open, had, has_still, had_meta, has_meta_still, had_item_of}
+use Rattle.mount_sound.proofs.Items.{SameFor, is_index, is_log, is_open, had, had_meta, has_meta_still, had_item_of}
 
 -- a row's numbers are those of items
 pub record Fits (row : Row) : Type 0 where

@@ -1,6 +1,5 @@
 -- Items of a room: two of them have two paths, and a change of one leaves the others.
-use Rattle.std.proofs.Common.{◌≡◌, ◌<◌, ◌^◌, ℕ, List, true, Option, Some, None, refl, ap, sym, ◌∙◌, inl, inr, subst}
-use Rattle.std.specs.Prelude.{◌⊎◌}
+use Rattle.std.proofs.Common.{◌≡◌, ◌<◌, ◌^◌, ℕ, List, true, Option, Some, None, refl, ap, sym, ◌∙◌, inl, inr}
 use Rattle.container_layout.specs.declared.items.Item.{Item}
 use Rattle.container_layout.specs.declared.items.Item.TheVariants.{Access, OpenHost, Meta, Trunc, Flat, TmpFlat, Index, Log}
 use Rattle.container_layout.specs.Items.{IsItem}
@@ -8,7 +7,7 @@ use Rattle.container_layout.specs.Paths.{path_of}
 use Rattle.container_layout.proofs.Places.{same_items}
 use Rattle.store_api.specs.declared.tree.Room.{Room}
 use Rattle.store_api.specs.Room.{has_folder}
-use Rattle.store_laws.specs.Files.{file_at, AreTwo, SameButFile, SameButFolder}
+use Rattle.store_laws.specs.Files.{file_at, AreTwo, SameButFile}
 use Rattle.store_laws.proofs.Rooms.{has_folder_same, file_at_same}
 use Rattle.mount_model.specs.Paths.{Name}
 use Rattle.mount_sound.specs.Items.{HasItem, HasMeta, HasItemOf}

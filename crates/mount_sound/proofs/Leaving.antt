@@ -1,11 +1,9 @@
 -- Leaving keeps soundness.
-use Rattle.std.proofs.Common.{◌≡◌, ◌≤◌, ◌<◌, ◌^◌, ℕ, suc, List, [], ◌∷◌, length, Option, Some, None, Bool, true, false, nat_eq, refl, ap, sym, ◌∙◌, ◌⊎◌, inl, inr, subst, arith}
+use Rattle.std.proofs.Common.{◌≡◌, ◌≤◌, ℕ, List, [], length, Some, None, Bool, true, false, refl, ap, sym, ◌⊎◌, inl, inr, subst, arith, Option}
 use Rattle.std.specs.Prelude.{slice_get, MatchOption, Ok, Err, nat_lt, not, ◌&&◌, if◌then◌else◌}
 use Rattle.std.proofs.lemmas.Bool.Decides.{nat_tests}
 use Rattle.std.proofs.lemmas.List.{length-map}
-use Rattle.plfs_types.specs.declared.entries.Entry.{Entry}
-use Rattle.container_layout.specs.declared.items.Item.{Item}
-use Rattle.container_layout.specs.declared.items.Item.TheVariants.{OpenHost, Meta, Trunc, Index, Log}
+use Rattle.container_layout.specs.declared.items.Item.TheVariants.{OpenHost, Meta, Index}
 use Rattle.store_api.specs.declared.step.Answer.{Answer}
 use Rattle.store_api.specs.declared.step.Answer.TheVariants.{Made}
 use Rattle.store_api.specs.declared.store.Trouble.TheVariants as trouble
@@ -21,23 +19,23 @@ use Rattle.mount_model.specs.declared.reply.Reply.{Reply}
 use Rattle.mount_model.specs.declared.reply.Refusal.TheVariants.{NoMeta}
 use Rattle.mount_model.specs.Leaving.{exit_check, exit_step, exit_outcome, Exits}
 use Rattle.mount_model.specs.Making.{Told, Makes, UnlessRefused}
-use Rattle.mount_model.specs.Paths.{open_path, index_path, log_path}
+use Rattle.mount_model.specs.Paths.{open_path, index_path}
 use Rattle.mount_model.specs.Regular.{IsRegular, AreAscending}
-use Rattle.mount_model.specs.State.{State, Table, last_id, put, take_out}
+use Rattle.mount_model.specs.State.{State, Table, last_id}
 use Rattle.mount_model.specs.Table.{row_of, with_row, without_row, is_live, at_stage}
-use Rattle.mount_sound.specs.Items.{HasItem, HasMeta}
+use Rattle.mount_model.proofs.Tables.{row_of_other-without_row, row_of-without_row}
+use Rattle.mount_sound.specs.Items.{HasMeta}
 use Rattle.mount_sound.specs.Ledger.{Written, entries_in, content, Ledger}
 use Rattle.mount_sound.specs.Dropping.{IsDropping, IsWriter}
 use Rattle.mount_sound.specs.Kept.{Begins, IsAtStage, IsKept}
 use Rattle.mount_sound.specs.Sound.{AreSound}
 use Rattle.mount_sound.proofs.Frames.{Fits}
-use Rattle.mount_sound.proofs.Items.{SameFor, SameButItem, same_but_item, is_index, is_open, had, same_refl}
+use Rattle.mount_sound.proofs.Items.{SameButItem, same_but_item, is_index, is_open, had, same_refl}
 use Rattle.mount_sound.proofs.Live.{one_host_kept, log_kept, has_meta_but, had_trunc_but, its_host}
-use Rattle.mount_sound.proofs.Local.{Changes, local, same_tree}
+use Rattle.mount_sound.proofs.Local.{local, same_tree}
 use Rattle.mount_sound.proofs.Making.{AreRight, IsAccounted, makes_accounted}
 use Rattle.mount_sound.proofs.Orders.{some_logged}
 use Rattle.mount_sound.proofs.Stages.{on_writer, unless_refused, working, stage_live}
-use Rattle.mount_sound.proofs.Tables.{row_of_other-without_row, row_of-without_row}
 use Rattle.mount_sound.proofs.Working.{Working, Turned, turned_put, Spares, spares, spares_all, its_fit, its_kept, its_stage, its_writer}
 
 -- a writer that has written has its metadata dropping
@@ -78,8 +76,11 @@ dead_kept room new row issued same k = record {
 abbrev IsLeft : List Row → List Row → Row → Type 0
 IsLeft rows rows' row = ((q : ℕ) → (q ≡ row.id → ⊥) → row_of q rows' ≡ row_of q rows) × ((x : Row) → row_of row.id rows' ≡ Some x → x ≡ at_stage stage.Dead row)
 
+gone : (x : Row) (o : Option Row) → o ≡ None → o ≡ Some x → ⊥
+gone x o p q = cc
+
 left_out : (rows : List Row) (row : Row) → AreAscending rows → IsLeft rows (without_row row.id rows) row
-left_out rows row up = (λ q other. row_of_other-without_row row.id rows q other, λ x e. absurd (row_of-without_row row.id rows x up e))
+left_out rows row up = (λ q other. row_of_other-without_row row.id rows q other, λ x e. absurd (gone x (row_of row.id (without_row row.id rows)) (row_of-without_row row.id rows up) e))
 
 left_dead : (rows : List Row) (row : Row) → IsLeft rows (with_row (at_stage stage.Dead row) rows) row
 left_dead rows row = let t : Turned rows (with_row (at_stage stage.Dead row) rows) row.id (at_stage stage.Dead row) = turned_put rows (at_stage stage.Dead row) in (t.others, t.own)

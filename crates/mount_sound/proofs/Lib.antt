@@ -19,3 +19,13 @@ pub mod Leaving
 pub mod NewRooms
 pub mod Looking
 pub mod Steps
+pub mod Landing
+pub mod Trees
+pub mod Mounting
+pub mod Fine
+pub mod Growing
+pub mod HasLanded
+pub mod Undamaged
+pub mod UndamagedLooks
+pub mod UndamagedWriters
+pub mod UndamagedSteps

@@ -1,5 +1,5 @@
 -- What a room holds of a live writer says what it holds of the writer.
-use Rattle.std.proofs.Common.{◌≡◌, ◌≤◌, ◌<◌, ◌*◌, ◌+◌, ◌^◌, ℕ, List, [], ◌++◌, length, take, drop, Option, Some, None, refl, ap, sym, ◌∙◌, inl, inr, subst, arith, length-drop, length-append}
+use Rattle.std.proofs.Common.{◌≡◌, ◌≤◌, ◌<◌, ◌^◌, ℕ, List, [], ◌++◌, length, take, drop, Option, Some, None, refl, ap, sym, ◌∙◌, inl, inr, subst, arith, length-drop, length-append}
 use Rattle.std.specs.Prelude.{MatchOption}
 use Rattle.std.proofs.lemmas.Bool.{cases_eq, cases_lt}
 use Rattle.std.proofs.lemmas.List.{length-take-le, length-map}
@@ -7,7 +7,7 @@ use Rattle.plfs_types.specs.declared.entries.Entry.{Entry}
 use Rattle.index_entry.specs.Spelling.{spelling, spelling_all}
 use Rattle.index_entry.proofs.Spelled.{length-spelling, length-spelling_all}
 use Rattle.container_layout.specs.declared.items.Item.{Item}
-use Rattle.container_layout.specs.declared.items.Item.TheVariants.{OpenHost, Meta, Trunc, Log}
+use Rattle.container_layout.specs.declared.items.Item.TheVariants.{Meta, Trunc, Log}
 use Rattle.store_api.specs.declared.tree.Room.{Room}
 use Rattle.store_laws.specs.Files.{file_at}
 use Rattle.store_laws.specs.Prefix.{IsPrefix}

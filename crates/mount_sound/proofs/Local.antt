@@ -1,5 +1,5 @@
 -- Soundness is local: a call that changes one room and one row is sound where they are.
-use Rattle.std.proofs.Common.{◌≡◌, ◌≤◌, ◌<◌, ◌^◌, ℕ, List, [], Option, Some, None, refl, ap, sym, ◌∙◌, inl, inr, subst, arith}
+use Rattle.std.proofs.Common.{◌≡◌, ◌≤◌, ◌<◌, ◌^◌, ℕ, List, [], Option, Some, None, ap, sym, ◌∙◌, inl, inr, subst, arith}
 use Rattle.std.specs.Prelude.{slice_get, slice_set}
 use Rattle.std.proofs.lemmas.Bool.{cases_eq}
 use Rattle.container_layout.specs.declared.items.Item.TheVariants.{Trunc}
@@ -12,13 +12,13 @@ use Rattle.store_laws.specs.Changes.{with_room}
 use Rattle.store_laws.proofs.Places.{slice_get-slice_set, slice_get_other-slice_set, slice_set_same}
 use Rattle.mount_model.specs.declared.row.Row.{Row}
 use Rattle.mount_model.specs.Table.{row_of}
-use Rattle.mount_sound.specs.Ledger.{Written, AreWritesOf, Ledger}
+use Rattle.mount_sound.specs.Ledger.{AreWritesOf, Ledger}
 use Rattle.mount_sound.specs.Dropping.{IsWriter}
 use Rattle.mount_sound.specs.Kept.{IsKept}
 use Rattle.mount_sound.specs.Sound.{IsSoundRoom, AreSoundRooms, AreSound}
 use Rattle.mount_sound.proofs.Items.{SameFor}
 use Rattle.mount_sound.proofs.Frames.{Fits, writer_frame, kept_frame, truncates_frame}
-use Rattle.mount_sound.proofs.Tables.{row_of_id}
+use Rattle.mount_model.proofs.Tables.{row_of_id}
 
 -- every row's numbers are those of items
 abbrev pub AllFit : List Row → Type 0

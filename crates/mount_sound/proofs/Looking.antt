@@ -1,11 +1,9 @@
 -- Calls whose acts change nothing keep soundness.
-use Rattle.std.proofs.Common.{◌≡◌, ℕ, List, [], Option, Some, None, refl, ap, sym, ◌∙◌, inl, inr, subst, arith}
-use Rattle.std.specs.Prelude.{Ok, Err}
+use Rattle.std.proofs.Common.{◌≡◌, ℕ, Some, refl, ap, sym, ◌∙◌, subst}
+use Rattle.std.specs.Prelude.{Ok}
 use Rattle.store_api.specs.declared.step.Answer.TheVariants.{Made, Number, Absent}
-use Rattle.store_api.specs.declared.tree.Tree.{Tree}
 use Rattle.store_api.specs.Step.{Step, find_room, rooms as all_rooms}
 use Rattle.store_laws.specs.Outcomes.{IsLook}
-use Rattle.store_laws.specs.Tells.{Tells}
 use Rattle.store_laws.proofs.Answering.{look_told}
 use Rattle.store_laws.proofs.Telling.{acts_told}
 use Rattle.mount_model.specs.declared.call.Look.{Look}

@@ -1,24 +1,21 @@
 -- A call that makes one act keeps soundness, if its outcome does at each thing that the act may tell.
-use Rattle.std.proofs.Common.{◌≡◌, ◌≤◌, ◌<◌, ◌^◌, ◌+◌, ◌*◌, ℕ, List, [], Option, Some, None, refl, ap, sym, ◌∙◌, subst, arith, true}
-use Rattle.std.specs.Prelude.{slice_get}
-use Rattle.store_api.specs.declared.tree.Room.{Room}
+use Rattle.std.proofs.Common.{◌≡◌, ◌≤◌, ◌<◌, ◌^◌, ℕ, [], Option, Some, sym, subst, arith}
 use Rattle.store_api.specs.declared.tree.Tree.{Tree}
 use Rattle.store_api.specs.Step.{Step}
-use Rattle.store_api.specs.Acts.{Acts}
 use Rattle.store_laws.specs.Tells.{Tells}
 use Rattle.store_laws.proofs.Telling.{acts_told}
 use Rattle.mount_model.specs.declared.row.Row.{Row}
 use Rattle.mount_model.specs.declared.reply.Reply.{Reply}
 use Rattle.mount_model.specs.declared.reply.Refusal.{Refusal}
 use Rattle.mount_model.specs.Table.{row_of}
-use Rattle.mount_model.specs.State.{State, Table, last_id, id_of}
+use Rattle.mount_model.specs.State.{State, Table, last_id}
 use Rattle.mount_model.specs.Making.{Told, Outcome, Makes, Refuses}
 use Rattle.mount_model.specs.Regular.{IsRegular, IsCounted, IsDrawn}
+use Rattle.mount_model.proofs.Tables.{row_of_all}
 use Rattle.mount_shape.specs.Shape.{HasShape}
+use Rattle.mount_shape.proofs.Items.{id_fits}
 use Rattle.mount_sound.specs.Ledger.{Ledger}
 use Rattle.mount_sound.specs.Sound.{AreSound, IsSoundFor}
-use Rattle.mount_sound.proofs.Frames.{Fits}
-use Rattle.mount_sound.proofs.Tables.{of_row, row_of_id}
 use Rattle.mount_sound.proofs.Local.{AllFit}
 
 -- the table and the tree are right for what was issued
@@ -33,7 +30,7 @@ pub record IsAccounted (issued : Ledger) (state : State) : Type 0 where
   pub told : state.store.tree ≡ Some tree
   pub right : AreRight (last_id state) issued state.table tree
 
-pub accounted : (issued : Ledger) (state : State) → IsSoundFor issued state → IsAccounted issued state
+abbrev pub accounted : (issued : Ledger) (state : State) → IsSoundFor issued state → IsAccounted issued state
 accounted issued state s = record { tree = s.shape.tree; told = s.shape.told; right = record { sound = s.sound; no_holders = s.no_holders; no_flattenings = s.no_flattenings } }
 
 pub one_tree : (a b : Tree) (o : Option Tree) → o ≡ Some a → o ≡ Some b → a ≡ b
@@ -65,18 +62,14 @@ refused_accounted issued why old reply new r a = accounted_as issued old new r.1
 
 -- ---- what a regular table says of its rows
 
--- a drawn id has 64 bits
-pub id_fits : (mount serial : ℕ) → mount < 2 ^ 32 → serial < 2 ^ 32 → id_of mount serial < 2 ^ 64
-id_fits mount serial m s = omega arith
-
 drawn_of : (state : State) → IsRegular state → (id : ℕ) (row : Row) → row_of id state.table.writers ≡ Some row → IsDrawn state row.id
-drawn_of state r id row e = of_row (λ (x : Row). IsDrawn state x.id) id state.table.writers row r.drawn e
+drawn_of state r id row e = row_of_all (λ (x : Row). IsDrawn state x.id) id state.table.writers row r.drawn e
 
 pub all_fit : (state : State) → IsRegular state → AllFit state.table.writers
 all_fit state r id row e =
     let d = drawn_of state r id row e in
     record {
-      host = (of_row IsCounted id state.table.writers row r.counted e).host_fits;
+      host = (row_of_all IsCounted id state.table.writers row r.counted e).host_fits;
       id = subst (λ i. i < 2 ^ 64) (sym d.3) (id_fits state.mount d.0 r.mount_fits (omega (arith, d.2, r.serial_fits)));
     }
 

@@ -1,11 +1,10 @@
 -- Making a container keeps soundness.
-use Rattle.std.proofs.Common.{◌≡◌, ◌≤◌, ◌<◌, ◌^◌, ℕ, zero, suc, List, [], ◌∷◌, ◌++◌, length, Option, Some, None, Bool, true, false, nat_eq, refl, ap, sym, ◌∙◌, ◌⊎◌, inl, inr, subst, arith}
-use Rattle.std.specs.Prelude.{slice_get, MatchOption, Ok, if◌then◌else◌, ◌&&◌, ◌==◌}
+use Rattle.std.proofs.Common.{◌≡◌, ℕ, zero, suc, List, [], ◌∷◌, ◌++◌, length, Option, Some, None, Bool, false, nat_eq, refl, ap, sym, ◌∙◌, inl, inr, subst, arith}
+use Rattle.std.specs.Prelude.{slice_get, Ok, if◌then◌else◌, ◌&&◌}
 use Rattle.std.proofs.lemmas.Bool.{cases_eq}
 use Rattle.std.proofs.lemmas.Bool.Decides.{nat_tests}
 use Rattle.container_layout.specs.declared.items.Item.{Item}
-use Rattle.container_layout.specs.declared.items.Item.TheVariants.{Access, OpenHost, Meta, Trunc, Flat, TmpFlat, Index, Log}
-use Rattle.container_layout.specs.Items.{IsItem}
+use Rattle.container_layout.specs.declared.items.Item.TheVariants.{OpenHost, Meta, Trunc, Index}
 use Rattle.container_layout.specs.Paths.{path_of, hostdir_of}
 use Rattle.store_api.specs.declared.step.Answer.TheVariants.{Number, Old}
 use Rattle.store_api.specs.declared.tree.Room.{Room}
@@ -15,8 +14,7 @@ use Rattle.store_api.specs.Room.{is_top}
 use Rattle.store_laws.specs.Files.{file_at}
 use Rattle.store_laws.specs.Differ.{is_listed}
 use Rattle.store_laws.specs.Changes.{RoomMade}
-use Rattle.store_laws.specs.Tells.{Tells}
-use Rattle.store_laws.proofs.Places.{slice_get_before, slice_get_last, slice_get_more}
+use Rattle.store_laws.proofs.Places.{slice_get_before, slice_get_more}
 use Rattle.store_laws.proofs.Telling.{make_room_told}
 use Rattle.mount_model.specs.declared.row.Row.{Row}
 use Rattle.mount_model.specs.declared.reply.Reply.{Reply}
@@ -24,11 +22,9 @@ use Rattle.mount_model.specs.Finding.{make_outcome, MakesContainer}
 use Rattle.mount_model.specs.Making.{Told}
 use Rattle.mount_model.specs.Paths.{Name, new_folders, new_files, index_path}
 use Rattle.mount_model.specs.State.{State, Table, last_id}
-use Rattle.mount_model.specs.Table.{row_of}
 use Rattle.mount_sound.specs.Items.{HasItem, HasItemOf}
-use Rattle.mount_sound.specs.Ledger.{Written, content, Ledger}
-use Rattle.mount_sound.specs.Dropping.{log_bytes, IsDropping, IsWriter}
-use Rattle.mount_sound.specs.Kept.{IsKept}
+use Rattle.mount_sound.specs.Ledger.{Ledger}
+use Rattle.mount_sound.specs.Dropping.{IsDropping, IsWriter}
 use Rattle.mount_sound.specs.Sound.{TruncatesDiffer, IsSoundRoom, AreSound}
 use Rattle.mount_sound.proofs.Entering.{no_file_landed}
 use Rattle.mount_sound.proofs.Making.{AreRight, IsAccounted, makes_accounted}
@@ -70,12 +66,12 @@ bare_writer room writer bare = record {
 bare_truncates : (room : Room) → IsBare room → TruncatesDiffer room
 bare_truncates room bare stamp size other a b has_a has_b = absurd (no_item room (Trunc stamp size) a bare refl has_a)
 
-not_top : (b l : Bool) (some none : Option (List ℕ)) → b ≡ false → (if b && l then some else none) ≡ none
-not_top b l some none e = rw e refl
+not_top : (b l : Bool) (inside outside : Option (List ℕ)) → b ≡ false → (if b && l then inside else outside) ≡ outside
+not_top b l inside outside e = rw e refl
 
-made_bare : (tree : Tree) (name : Name) (folders files : List Name) (after : Tree) (m : RoomMade tree name folders files after) → IsBare m.new
+pub made_bare : (tree : Tree) (name : Name) (folders files : List Name) (after : Tree) (m : RoomMade tree name folders files after) → IsBare m.new
 made_bare tree name folders files after m = record {
-  none = λ item below. m.has_files (path_of item) ∙ not_top (is_top (path_of item).folder) (is_listed (path_of item).file files) (Some []) None below
+  none = λ item below. m.has_files (path_of item) ∙ not_top (is_top (path_of item).folder) (is_listed (path_of item).file files) (Some []) None below;
 }
 
 -- ---- the tree with one more room
@@ -92,7 +88,7 @@ absent_before (x ∷ xs) (suc i) y e = absent_before xs i y e
 no_room : (room : Room) (o : Option Room) → o ≡ Some room → o ≡ None → ⊥
 no_room room o p q = cc
 
-more : (last : ℕ) (issued : Ledger) (rows : List Row) (tree : Tree) (new : Room) → IsBare new → AreSound last issued rows tree → AreSound last issued rows (record { rooms = tree.rooms ++ new ∷ [] })
+pub more : (last : ℕ) (issued : Ledger) (rows : List Row) (tree : Tree) (new : Room) → IsBare new → AreSound last issued rows tree → AreSound last issued rows (record { rooms = tree.rooms ++ new ∷ [] })
 more last issued rows tree new bare s = record {
   rooms = λ m r e.
       let g = slice_get_more tree.rooms m r new e in

@@ -1,17 +1,17 @@
 -- Making a writer's folder and its log keeps soundness.
-use Rattle.std.proofs.Common.{◌≡◌, ◌≤◌, ◌<◌, ℕ, List, [], ◌∷◌, Option, Some, None, true, false, refl, ap, sym, ◌∙◌, inl, inr, subst, arith}
-use Rattle.std.specs.Prelude.{slice_get, MatchOption, Ok}
+use Rattle.std.proofs.Common.{◌≡◌, ◌≤◌, ◌<◌, ℕ, List, [], ◌∷◌, Some, true, false, refl, ap, sym, ◌∙◌, inl, inr, subst, arith}
+use Rattle.std.specs.Prelude.{MatchOption}
 use Rattle.plfs_types.specs.declared.entries.Entry.{Entry}
-use Rattle.container_layout.specs.declared.items.Item.TheVariants.{OpenHost, Meta, Trunc, Index, Log}
+use Rattle.container_layout.specs.declared.items.Item.TheVariants.{OpenHost, Meta, Index, Log}
 use Rattle.container_layout.specs.Paths.{hostdir_of}
-use Rattle.store_api.specs.declared.step.Answer.TheVariants.{Made, Old}
+use Rattle.store_api.specs.declared.step.Answer.TheVariants.{Old}
 use Rattle.store_api.specs.declared.tree.Room.{Room}
 use Rattle.store_api.specs.declared.tree.Tree.{Tree}
 use Rattle.store_api.specs.Room.{has_folder}
 use Rattle.store_laws.specs.Files.{file_at}
-use Rattle.store_laws.specs.Changes.{with_room, Created, FolderMade}
+use Rattle.store_laws.specs.Changes.{Created, FolderMade}
 use Rattle.store_laws.specs.Prefix.{IsPrefix}
-use Rattle.store_laws.specs.Tells.{Tells, made}
+use Rattle.store_laws.specs.Tells.{Tells}
 use Rattle.store_laws.specs.There.{HoldsFile, HoldsFolder}
 use Rattle.store_laws.proofs.Telling.{create_told, make_folder_told}
 use Rattle.mount_model.specs.declared.row.Row.{Row}
@@ -20,20 +20,21 @@ use Rattle.mount_model.specs.declared.row.Stage.TheVariants as stage
 use Rattle.mount_model.specs.declared.reply.Reply.{Reply}
 use Rattle.mount_model.specs.Building.{build_outcome, hostdir_step, MakesHostdir, log_step, MakesLog}
 use Rattle.mount_model.specs.Making.{Told, Makes}
-use Rattle.mount_model.specs.Paths.{Name, open_path, index_path, log_path}
+use Rattle.mount_model.specs.Paths.{Name, log_path}
 use Rattle.mount_model.specs.Regular.{IsRegular}
 use Rattle.mount_model.specs.State.{State, Table, last_id}
 use Rattle.mount_model.specs.Table.{with_row, rank, only, at_stage}
+use Rattle.mount_model.proofs.Deciding.{at_only}
 use Rattle.mount_sound.specs.Ledger.{Written, entries_in, content, Ledger}
 use Rattle.mount_sound.specs.Dropping.{log_bytes}
 use Rattle.mount_sound.specs.Kept.{Begins, IsAtStage, IsKept}
 use Rattle.mount_sound.specs.Sound.{AreSound}
 use Rattle.mount_sound.proofs.Building.{built, not_closing, stage_with, turned_stage}
 use Rattle.mount_sound.proofs.Frames.{Fits, kept_frame, writer_frame}
-use Rattle.mount_sound.proofs.Items.{SameFor, SameButItem, same_but_item, same_for_files, is_index, is_log, is_open, had, has_still}
+use Rattle.mount_sound.proofs.Items.{SameFor, SameButItem, same_but_item, same_for_files, is_index, is_log, is_open, had}
 use Rattle.mount_sound.proofs.Live.{Own, own_of, one_host_kept, had_meta_but, has_meta_but, had_trunc_but}
 use Rattle.mount_sound.proofs.Making.{AreRight, IsAccounted, makes_accounted}
-use Rattle.mount_sound.proofs.Stages.{on_writer, working, only_rank, live_stage, kept_at, own_at}
+use Rattle.mount_sound.proofs.Stages.{on_writer, working, live_stage, kept_at, own_at}
 use Rattle.mount_sound.proofs.Working.{Working, Holds, Turned, turned_same, turned_put, spares, spares_all, works_on, its_fit, its_kept, its_stage, its_own, its_writer}
 
 -- ---- the log
@@ -103,7 +104,7 @@ pub log_keeps : (issued : Ledger) (old : State) (caller writer : ℕ) (reply : R
 log_keeps issued old caller writer reply new r f a =
     on_writer issued old caller (only stage.Indexed) writer reply new (λ row. Makes (log_step row) (build_outcome stage.Open (hostdir_of row.host) (log_path row.host row.id).file row old.table) old reply new) f a
     (λ row stands at makes.
-    let is : rank row.stage ≡ 3 = only_rank stage.Indexed row.stage at in
+    let is : rank row.stage ≡ 3 = at_only stage.Indexed row.stage at in
     makes_accounted (log_step row) (build_outcome stage.Open (hostdir_of row.host) (log_path row.host row.id).file row old.table) (λ x. issued) old reply new a.tree a.told
     (log_told (last_id old) issued old.table a.tree row is a.right.no_holders a.right.no_flattenings (working issued old writer row r a stands (omega arith))) makes)
 
@@ -152,6 +153,6 @@ pub hostdir_keeps : (issued : Ledger) (old : State) (caller writer : ℕ) (reply
 hostdir_keeps issued old caller writer reply new r f a =
     on_writer issued old caller (only stage.Floored) writer reply new (λ row. Makes (hostdir_step row) (build_outcome stage.Housed (hostdir_of row.host) [] row old.table) old reply new) f a
     (λ row stands at makes.
-    let is : rank row.stage ≡ 1 = only_rank stage.Floored row.stage at in
+    let is : rank row.stage ≡ 1 = at_only stage.Floored row.stage at in
     makes_accounted (hostdir_step row) (build_outcome stage.Housed (hostdir_of row.host) [] row old.table) (λ x. issued) old reply new a.tree a.told
     (folder_told (last_id old) issued old.table a.tree row is a.right.no_holders a.right.no_flattenings (working issued old writer row r a stands (omega arith))) makes)

@@ -1,5 +1,5 @@
 -- Entries in order, their first ones, and one more of them.
-use Rattle.std.proofs.Common.{◌≡◌, ℕ, zero, suc, ◌+◌, ◌≤◌, ◌<◌, List, [], ◌∷◌, ◌++◌, length, take, drop, refl, sym, ap, ◌∙◌, subst, arith, add-zero, max}
+use Rattle.std.proofs.Common.{◌≡◌, ℕ, zero, suc, ◌+◌, ◌≤◌, ◌<◌, List, [], ◌∷◌, ◌++◌, length, take, drop, refl, ap, subst, arith, add-zero, max}
 use Rattle.std.specs.List.{AllByRecursion}
 use Rattle.plfs_types.specs.declared.entries.Entry.{Entry}
 use Rattle.mount_sound.specs.Entries.{MayFollow, AreInOrder, logged, last_stamp, greatest_end}

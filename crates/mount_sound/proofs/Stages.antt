@@ -1,32 +1,24 @@
 -- Calls on a writer, and rows that come to another stage.
-use Rattle.std.proofs.Common.{◌≡◌, ◌≤◌, ◌<◌, ℕ, List, [], Option, Some, None, Bool, true, nat_eq, refl, sym, ◌∙◌, inl, inr, subst, arith}
-use Rattle.std.specs.Prelude.{nat_lt, MatchOption}
+use Rattle.std.proofs.Common.{◌≡◌, ◌<◌, ℕ, List, Option, Some, None, Bool, true, sym, subst, arith}
+use Rattle.std.specs.Prelude.{nat_lt}
 use Rattle.std.proofs.lemmas.Bool.Decides.{nat_tests}
 use Rattle.plfs_types.specs.declared.entries.Entry.{Entry}
 use Rattle.store_api.specs.declared.tree.Room.{Room}
-use Rattle.store_api.specs.declared.tree.Tree.{Tree}
 use Rattle.mount_model.specs.declared.row.Row.{Row}
 use Rattle.mount_model.specs.declared.row.Stage.{Stage}
 use Rattle.mount_model.specs.declared.reply.Reply.{Reply}
 use Rattle.mount_model.specs.declared.reply.Refusal.{Refusal}
-use Rattle.mount_model.specs.declared.reply.Refusal.TheVariants.{NotOpen}
-use Rattle.mount_model.specs.Making.{OnWriter, UnlessRefused, Refuses}
+use Rattle.mount_model.specs.Making.{OnWriter, UnlessRefused}
 use Rattle.mount_model.specs.Regular.{IsRegular}
 use Rattle.mount_model.specs.State.{State, last_id}
-use Rattle.mount_model.specs.Table.{row_of, held_by, rank, only, is_live, at_stage}
+use Rattle.mount_model.specs.Table.{row_of, rank, is_live, at_stage}
+use Rattle.mount_model.proofs.Deciding.{on_writer as by_writer, unless_refused as by_check}
+use Rattle.mount_model.proofs.Tables.{row_of_id}
 use Rattle.mount_sound.specs.Ledger.{Written, entries_in, Ledger}
 use Rattle.mount_sound.specs.Kept.{AreItsNumbers, IsAtStage, IsKept}
 use Rattle.mount_sound.proofs.Live.{Own}
-use Rattle.mount_sound.proofs.Making.{IsAccounted, refused_accounted, all_fit, drawn_by}
-use Rattle.mount_sound.proofs.Tables.{match_cases, held_row, row_of_id}
+use Rattle.mount_sound.proofs.Making.{IsAccounted, accounted_as, all_fit, drawn_by}
 use Rattle.mount_sound.proofs.Working.{Working}
-
-same_number : (a b : ℕ) → nat_eq a b ≡ true → a ≡ b
-same_number a b t = grind (arith, nat_tests)
-
--- a stage that is this one is as far
-pub only_rank : (wanted stage : Stage) → only wanted stage ≡ true → rank stage ≡ rank wanted
-only_rank wanted stage t = same_number (rank stage) (rank wanted) t
 
 below_six : (a : ℕ) → a < 6 → nat_lt a 6 ≡ true
 below_six a l = grind (arith, nat_tests)
@@ -43,16 +35,11 @@ stage_live stage l = six_above (rank stage) l
 -- what a call does on a writer, or its refusal
 pub on_writer : (issued : Ledger) (old : State) (caller : ℕ) (stages : Stage → Bool) (writer : ℕ) (reply : Reply) (new : State) (does : Row → Type 0) → OnWriter caller stages writer old reply new does → IsAccounted issued old
     → ((row : Row) → row_of writer old.table.writers ≡ Some row → stages row.stage ≡ true → does row → IsAccounted issued new) → IsAccounted issued new
-on_writer issued old caller stages writer reply new does f a each = elim (match_cases (held_by caller stages (row_of writer old.table.writers)) (Refuses NotOpen old reply new) does f) as (λ _. IsAccounted issued new) [
-  | inl (none, refused) ↦ refused_accounted issued NotOpen old reply new refused a
-  | inr (row, held, done) ↦ let h = held_row caller stages (row_of writer old.table.writers) row held in each row h.0 h.1 done
-]
+on_writer issued old caller stages writer reply new does f a each =
+    by_writer caller stages writer old reply new does (IsAccounted issued new) f (λ same. accounted_as issued old new same a) (λ row held. each row held.found held.staged)
 
 pub unless_refused : (issued : Ledger) (check : Option Refusal) (old : State) (reply : Reply) (new : State) (does : Type 0) → UnlessRefused check old reply new does → IsAccounted issued old → (check ≡ None → does → IsAccounted issued new) → IsAccounted issued new
-unless_refused issued check old reply new does f a each = elim (match_cases check does (λ why. Refuses why old reply new) f) as (λ _. IsAccounted issued new) [
-  | inl (none, done) ↦ each none done
-  | inr (why, some, refused) ↦ refused_accounted issued why old reply new refused a
-]
+unless_refused issued check old reply new does f a each = by_check check old reply new does (IsAccounted issued new) f (λ same. accounted_as issued old new same a) each
 
 pub working : (issued : Ledger) (old : State) (writer : ℕ) (row : Row) → IsRegular old → (a : IsAccounted issued old) → row_of writer old.table.writers ≡ Some row → rank row.stage < 6 → Working (last_id old) issued old.table.writers a.tree row
 working issued old writer row r a stands live =

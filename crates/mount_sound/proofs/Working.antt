@@ -1,5 +1,5 @@
 -- A writer of the table does something: what is known of it, and what is to be shown.
-use Rattle.std.proofs.Common.{◌≡◌, ◌≤◌, ◌<◌, ◌^◌, ℕ, List, [], Option, Some, None, refl, ap, sym, ◌∙◌, subst, arith, true}
+use Rattle.std.proofs.Common.{◌≡◌, ◌≤◌, ◌<◌, ◌^◌, ℕ, List, Some, refl, sym, subst, arith, true}
 use Rattle.std.specs.Prelude.{slice_get}
 use Rattle.container_layout.specs.declared.items.Item.{Item}
 use Rattle.container_layout.specs.declared.items.Item.TheVariants.{Trunc}
@@ -17,8 +17,9 @@ use Rattle.mount_sound.specs.Kept.{IsAtStage, IsKept}
 use Rattle.mount_sound.specs.Sound.{AreSound}
 use Rattle.mount_sound.proofs.Items.{SameFor, SameButItem, owner, same_refl, same_for, same_truncates}
 use Rattle.mount_sound.proofs.Frames.{Fits}
-use Rattle.mount_sound.proofs.Tables.{one_row, row_of_other-with_row, row_of-with_row}
-use Rattle.mount_sound.proofs.Local.{AllFit, SameBut, Changes, local, same_tree}
+use Rattle.mount_model.proofs.Tables.{row_of_other-with_row}
+use Rattle.mount_sound.proofs.Tables.{one_row, put_row}
+use Rattle.mount_sound.proofs.Local.{AllFit, SameBut, local, same_tree}
 use Rattle.mount_sound.proofs.Live.{Own, live_writer, own_of}
 
 -- the table has this row of the writer, if any, and the others as before
@@ -30,7 +31,7 @@ pub turned_same : (rows : List Row) (id : ℕ) (row : Row) → row_of id rows �
 turned_same rows id row e = record { others = λ q other. refl; own = λ r f. one_row rows id r row f e }
 
 pub turned_put : (rows : List Row) (new : Row) → Turned rows (with_row new rows) new.id new
-turned_put rows new = record { others = λ q other. row_of_other-with_row new rows q other; own = λ r e. row_of-with_row new rows r e }
+turned_put rows new = record { others = λ q other. row_of_other-with_row new rows q other; own = λ r e. put_row new rows r e }
 
 -- what is known where a live writer's act is made
 pub record Working (last : ℕ) (issued : Ledger) (rows : List Row) (tree : Tree) (row : Row) : Type 0 where

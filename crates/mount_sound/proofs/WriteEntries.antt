@@ -1,25 +1,23 @@
 -- What a room holds of a writer that writes.
-use Rattle.std.proofs.Common.{◌≡◌, ◌≤◌, ◌<◌, ◌+◌, ◌-◌, ◌^◌, ℕ, List, [], ◌∷◌, ◌++◌, length, drop, max, Option, Some, None, Bool, true, false, nat_le, refl, ap, sym, ◌∙◌, subst, arith, length-append, append_assoc}
-use Rattle.std.specs.Prelude.{MatchOption, nat_lt, ◌||◌, if◌then◌else◌}
-use Rattle.std.proofs.lemmas.Bool.Decides.{nat_tests}
+use Rattle.std.proofs.Common.{◌≡◌, ◌≤◌, ◌<◌, ◌+◌, ◌^◌, ℕ, List, [], ◌∷◌, ◌++◌, length, drop, max, Option, Some, None, refl, ap, sym, ◌∙◌, subst, arith, length-append, append_assoc}
+use Rattle.std.specs.Prelude.{MatchOption}
 use Rattle.std.proofs.lemmas.List.{map-append, append-nil}
 use Rattle.plfs_types.specs.Bytes.{overwritten}
 use Rattle.plfs_types.specs.declared.entries.Entry.{Entry}
-use Rattle.plfs_types.specs.Stamps.{next_stamp}
 use Rattle.index_entry.specs.Spelling.{spelling_all}
 use Rattle.index_entry.proofs.Spelled.{spelling_all-append}
-use Rattle.container_layout.specs.declared.items.Item.TheVariants.{OpenHost, Meta, Trunc, Index, Log}
+use Rattle.container_layout.specs.declared.items.Item.TheVariants.{OpenHost, Meta, Index, Log}
 use Rattle.container_layout.specs.Paths.{hostdir_of}
 use Rattle.store_api.specs.declared.tree.Room.{Room}
 use Rattle.store_laws.specs.Files.{file_at}
 use Rattle.store_laws.specs.Prefix.{IsPrefix}
 use Rattle.store_laws.proofs.Overwriting.{prefix-append, prefix-over, prefix_front}
 use Rattle.mount_model.specs.declared.row.Row.{Row}
-use Rattle.mount_model.specs.declared.reply.Refusal.{Refusal}
-use Rattle.mount_model.specs.declared.reply.Refusal.TheVariants.{TooFar, StampsSpent, Full}
-use Rattle.mount_model.specs.Paths.{open_path, index_path, log_path}
+use Rattle.mount_model.specs.Paths.{index_path, log_path}
 use Rattle.mount_model.specs.Table.{rank}
-use Rattle.mount_model.specs.Writing.{write_check, entry_of, wrote}
+use Rattle.mount_model.specs.Writing.{entry_of, wrote}
+use Rattle.mount_model.proofs.Deciding.{MayWrite}
+use Rattle.mount_model.proofs.Ranges.{IsStamp}
 use Rattle.mount_sound.specs.Entries.{MayFollow, AreInOrder, logged, last_stamp, greatest_end}
 use Rattle.mount_sound.specs.Ledger.{Written, entries_in, content, AreFull, AreWritesOf}
 use Rattle.mount_sound.specs.Issued.{written_by}
@@ -28,7 +26,7 @@ use Rattle.mount_sound.specs.Dropping.{bytes_of, log_bytes}
 use Rattle.mount_sound.specs.Kept.{Begins, IsAtStage, IsKept}
 use Rattle.mount_sound.proofs.Building.{not_closing}
 use Rattle.mount_sound.proofs.Frames.{Fits}
-use Rattle.mount_sound.proofs.Items.{SameButItem, is_index, is_open, had}
+use Rattle.mount_sound.proofs.Items.{SameButItem, is_index, is_open}
 use Rattle.mount_sound.proofs.Live.{Own, one_host_kept, had_meta_but, has_meta_but, had_trunc_but}
 use Rattle.mount_sound.proofs.Orders.{in_order_push, in_order_from_0, logged_push, last_stamp_push, greatest_end_push, drop_push, last_stamp_floor}
 use Rattle.mount_sound.proofs.Stages.{live_stage}
@@ -50,40 +48,13 @@ content_push : (issued : List Written) (w : Written) → content (issued ++ w �
 content_push [] w = append-nil w.bytes
 content_push (v ∷ issued) w = ap (λ c. v.bytes ++ c) (content_push issued w) ∙ sym (append_assoc v.bytes (content issued) w.bytes)
 
-length-content : (issued : List Written) → AreFull issued → length (content issued) ≡ logged (entries_in issued)
+pub length-content : (issued : List Written) → AreFull issued → length (content issued) ≡ logged (entries_in issued)
 length-content [] f = refl
 length-content (w ∷ issued) f = omega (arith, length-append w.bytes (content issued), f.0, length-content issued f.1)
 
 full_push : (issued : List Written) (w : Written) → AreFull issued → length w.bytes ≡ w.entry.len → AreFull (issued ++ w ∷ [])
 full_push [] w f e = (e, tt)
 full_push (v ∷ issued) w f e = (f.0, full_push issued w f.1 e)
-
--- ---- the check
-
--- the write may be made
-pub record MayWrite (row : Row) (at len : ℕ) : Type 0 where
-  pub within : at + len ≤ 2 ^ 40
-  pub small : row.stored + len ≤ 2 ^ 56
-  pub last : row.last < 2 ^ 63 - 1
-  pub floor : row.floor < 2 ^ 63 - 1
-
-passes : (a b c d : ℕ) (e : Bool) (x y : Bool) → x ≡ (nat_lt (2 ^ 40) a || nat_lt (2 ^ 56) b) → y ≡ (nat_le (2 ^ 63 - 1) c || nat_le (2 ^ 63 - 1) d) → (if x then Some TooFar else if y then Some StampsSpent else if e then Some Full else None) ≡ None → (x ≡ false) × (y ≡ false)
-passes a b c d e true y is_x is_y none = absurd (cc)
-passes a b c d e false true is_x is_y none = absurd (cc)
-passes a b c d e false false is_x is_y none = (refl, refl)
-
-near : (a b m n : ℕ) → (nat_lt m a || nat_lt n b) ≡ false → (a ≤ m) × (b ≤ n)
-near a b m n e = (grind (arith, nat_tests), grind (arith, nat_tests))
-
-early : (a b m : ℕ) → (nat_le m a || nat_le m b) ≡ false → (a < m) × (b < m)
-early a b m e = (grind (arith, nat_tests), grind (arith, nat_tests))
-
-pub may_write : (row : Row) (at len : ℕ) → write_check row at len ≡ None → MayWrite row at len
-may_write row at len e =
-    let p = passes (at + len) (row.stored + len) row.last row.floor (nat_le row.pending.capacity (length row.pending.entries)) (nat_lt (2 ^ 40) (at + len) || nat_lt (2 ^ 56) (row.stored + len)) (nat_le (2 ^ 63 - 1) row.last || nat_le (2 ^ 63 - 1) row.floor) refl refl e in
-    let n = near (at + len) (row.stored + len) (2 ^ 40) (2 ^ 56) p.0 in
-    let s = early row.last row.floor (2 ^ 63 - 1) p.1 in
-    record { within = n.0; small = n.1; last = s.0; floor = s.1 }
 
 -- ---- the log
 
@@ -137,30 +108,21 @@ log_part_holds room new row issued old bytes fits at k a o full b there now = re
 may_follow : (stamp : ℕ) (row : Row) (es : List Entry) (at len : ℕ) → row.stored ≡ logged es → row.last ≡ last_stamp 0 es → row.last < stamp → row.floor < stamp → stamp < 2 ^ 63 → MayWrite row at len → 1 ≤ len → MayFollow row.id (last_stamp row.floor es) (0 + logged es) (entry_of stamp row at len)
 may_follow stamp row es at len stored last past above fits f some = record {
   some = some;
-  within = f.within;
+  within = f.near;
   owner = refl;
   later = last_stamp_floor row.floor es stamp above (omega (arith, last));
   in_range = fits;
   place = omega (arith, stored);
 }
 
--- the stamp is above the writer's last one and its floor
-pub record IsStampFor (row : Row) (stamp : ℕ) : Type 0 where
-  pub past : row.last < stamp
-  pub above : row.floor < stamp
-  pub fits : stamp < 2 ^ 63
-
-pub stamp_for : (row : Row) (at len time : ℕ) → MayWrite row at len → IsStampFor row (next_stamp time row.last row.floor)
-stamp_for row at len time f = record { past = omega arith; above = omega arith; fits = omega (arith, f.last, f.floor) }
-
-in_order_wrote : (stamp : ℕ) (room : Room) (row : Row) (issued : List Written) (at : ℕ) (bytes : List ℕ) → IsKept room row issued → IsStampFor row stamp → MayWrite row at (length bytes) → 1 ≤ length bytes → AreInOrder row.id row.floor 0 (entries_in (issued ++ written_by row stamp at bytes ∷ []))
+in_order_wrote : (stamp : ℕ) (room : Room) (row : Row) (issued : List Written) (at : ℕ) (bytes : List ℕ) → IsKept room row issued → IsStamp row.last row.floor stamp → MayWrite row at (length bytes) → 1 ≤ length bytes → AreInOrder row.id row.floor 0 (entries_in (issued ++ written_by row stamp at bytes ∷ []))
 in_order_wrote stamp room row issued at bytes k s f some =
     subst (AreInOrder row.id row.floor 0) (sym (entries_push issued (written_by row stamp at bytes)))
-    (in_order_push row.id row.floor 0 (entries_in issued) (entry_of stamp row at (length bytes)) k.in_order (may_follow stamp row (entries_in issued) at (length bytes) k.numbers.stored k.numbers.last s.past s.above s.fits f some))
+    (in_order_push row.id row.floor 0 (entries_in issued) (entry_of stamp row at (length bytes)) k.in_order (may_follow stamp row (entries_in issued) at (length bytes) k.numbers.stored k.numbers.last s.later s.above s.fits f some))
 
 -- all bytes were logged, and the row has their entry
 pub log_whole_holds : (stamp : ℕ) (room new : Room) (row : Row) (issued : List Written) (old : List ℕ) (at : ℕ) (bytes : List ℕ) → Fits row → rank row.stage ≡ 4 → IsKept room row issued → IsAtStage room row (entries_in issued) → Own room row issued → AreFull issued → SameButItem (Log row.host row.id) room new
-    → IsStampFor row stamp → MayWrite row at (length bytes) → 1 ≤ length bytes → file_at room (log_path row.host row.id) ≡ Some old → file_at new (log_path row.host row.id) ≡ Some (overwritten old row.stored bytes) → Holds new (wrote stamp row at (length bytes)) (issued ++ written_by row stamp at bytes ∷ [])
+    → IsStamp row.last row.floor stamp → MayWrite row at (length bytes) → 1 ≤ length bytes → file_at room (log_path row.host row.id) ≡ Some old → file_at new (log_path row.host row.id) ≡ Some (overwritten old row.stored bytes) → Holds new (wrote stamp row at (length bytes)) (issued ++ written_by row stamp at bytes ∷ [])
 log_whole_holds stamp room new row issued old at bytes fits is k a o full b s f some there now =
     let e : Entry = entry_of stamp row at (length bytes) in
     let es : List Entry = entries_in issued in
@@ -189,9 +151,9 @@ log_whole_holds stamp room new row issued old at bytes fits is k a o full b s f 
     }
 
 -- the writer's writes with one more
-pub writes_wrote : (stamp : ℕ) (room : Room) (row : Row) (issued : List Written) (at : ℕ) (bytes : List ℕ) → IsKept room row issued → AreWritesOf row.id issued → IsStampFor row stamp → MayWrite row at (length bytes) → 1 ≤ length bytes → AreWritesOf row.id (issued ++ written_by row stamp at bytes ∷ [])
+pub writes_wrote : (stamp : ℕ) (room : Room) (row : Row) (issued : List Written) (at : ℕ) (bytes : List ℕ) → IsKept room row issued → AreWritesOf row.id issued → IsStamp row.last row.floor stamp → MayWrite row at (length bytes) → 1 ≤ length bytes → AreWritesOf row.id (issued ++ written_by row stamp at bytes ∷ [])
 writes_wrote stamp room row issued at bytes k w s f some = record {
   in_order = in_order_from_0 row.id row.floor 0 (entries_in (issued ++ written_by row stamp at bytes ∷ [])) (in_order_wrote stamp room row issued at bytes k s f some);
   full = full_push issued (written_by row stamp at bytes) w.full refl;
-  small = omega (arith, k.numbers.stored, f.small, logged_push (entries_in issued) (entry_of stamp row at (length bytes)), ap logged (entries_push issued (written_by row stamp at bytes)));
+  small = omega (arith, k.numbers.stored, f.few, logged_push (entries_in issued) (entry_of stamp row at (length bytes)), ap logged (entries_push issued (written_by row stamp at bytes)));
 }

@@ -1,13 +1,11 @@
 -- A write keeps soundness, whatever its act leaves.
-use Rattle.std.proofs.Common.{◌≡◌, ◌≤◌, ◌<◌, ℕ, List, [], ◌∷◌, ◌++◌, length, take, Option, Some, None, true, false, nat_eq, refl, ap, sym, ◌∙◌, ◌⊎◌, inl, inr, subst, arith}
-use Rattle.std.specs.Prelude.{slice_get, Ok, Err}
+use Rattle.std.proofs.Common.{◌≡◌, ◌≤◌, ℕ, List, [], ◌∷◌, ◌++◌, length, take, Option, Some, true, false, nat_eq, refl, sym, inl, inr, subst, arith}
+use Rattle.std.specs.Prelude.{Ok, Err}
 use Rattle.std.proofs.lemmas.Bool.Decides.{nat_tests}
 use Rattle.std.proofs.lemmas.Bool.{cases_eq}
-use Rattle.plfs_types.specs.Bytes.{overwritten}
 use Rattle.container_layout.specs.declared.items.Item.TheVariants.{Log}
 use Rattle.store_api.specs.declared.step.Answer.TheVariants.{Made}
 use Rattle.store_api.specs.declared.store.Trouble.TheVariants.{Fault, NoMemory}
-use Rattle.store_api.specs.declared.tree.Room.{Room}
 use Rattle.store_api.specs.declared.tree.Tree.{Tree}
 use Rattle.store_laws.specs.Changes.{Wrote}
 use Rattle.store_laws.specs.Tells.{Tells, made}
@@ -23,16 +21,17 @@ use Rattle.mount_model.specs.Regular.{IsRegular}
 use Rattle.mount_model.specs.State.{State, Table, last_id, timed}
 use Rattle.mount_model.specs.Table.{with_row, row_of, held_by, rank, only}
 use Rattle.mount_model.specs.Writing.{write_check, stamp_at, wrote, write_step, write_outcome, WritesAt, Writes}
-use Rattle.mount_sound.specs.Ledger.{Written, entries_in, AreWritesOf, Ledger}
+use Rattle.mount_model.proofs.Deciding.{at_only, match_cases, is_held, MayWrite, may_write}
+use Rattle.mount_model.proofs.Ranges.{IsStamp, next_is_stamp}
+use Rattle.mount_sound.specs.Ledger.{Written, AreWritesOf, Ledger}
 use Rattle.mount_sound.specs.Issued.{with_write, written_by, noted}
 use Rattle.mount_sound.specs.Sound.{AreSound}
 use Rattle.mount_sound.proofs.Items.{SameButItem, same_but_item, is_log}
 use Rattle.mount_sound.proofs.Local.{SameBut}
 use Rattle.mount_sound.proofs.Making.{AreRight, IsAccounted, makes_accounted, refused_accounted}
-use Rattle.mount_sound.proofs.Stages.{working, only_rank}
-use Rattle.mount_sound.proofs.Tables.{match_cases, held_row}
+use Rattle.mount_sound.proofs.Stages.{working}
 use Rattle.mount_sound.proofs.Working.{Working, Holds, turned_same, turned_put, spares, works, works_on, its_fit, its_kept, its_stage, its_own}
-use Rattle.mount_sound.proofs.WriteEntries.{MayWrite, may_write, IsStampFor, stamp_for, log_part_holds, log_whole_holds, writes_wrote}
+use Rattle.mount_sound.proofs.WriteEntries.{log_part_holds, log_whole_holds, writes_wrote}
 
 apart : (a b : ℕ) → (a ≡ b → ⊥) → nat_eq a b ≡ false
 apart a b other = grind (arith, nat_tests)
@@ -62,7 +61,7 @@ log_part last issued rows tree after row bytes at w c =
     (log_part_holds c.room c.new row (issued row.room row.id) c.old bytes fits at (its_kept last issued rows tree row w c.room c.has_room) (its_stage last issued rows tree row w c.room c.has_room) (its_own last issued rows tree row w c.room c.has_room) (w.sound.writes row.room row.id).full b c.there c.now))
 
 -- all were
-log_whole : (last stamp : ℕ) (issued : Ledger) (rows : List Row) (tree after : Tree) (row : Row) (at : ℕ) (bytes : List ℕ) → rank row.stage ≡ 4 → Working last issued rows tree row → IsStampFor row stamp → MayWrite row at (length bytes) → 1 ≤ length bytes → Wrote tree row.room (log_path row.host row.id) row.stored bytes after
+log_whole : (last stamp : ℕ) (issued : Ledger) (rows : List Row) (tree after : Tree) (row : Row) (at : ℕ) (bytes : List ℕ) → rank row.stage ≡ 4 → Working last issued rows tree row → IsStamp row.last row.floor stamp → MayWrite row at (length bytes) → 1 ≤ length bytes → Wrote tree row.room (log_path row.host row.id) row.stored bytes after
     → AreSound last (with_write issued row (written_by row stamp at bytes)) (with_row (wrote stamp row at (length bytes)) rows) after
 log_whole last stamp issued rows tree after row at bytes is w s f some c =
     let fits = its_fit last issued rows tree row w c.room c.has_room in
@@ -83,7 +82,7 @@ not_noted issued stamp row at bytes table (Err Fault) other = (refl, refl)
 not_noted issued stamp row at bytes table (Err NoMemory) other = (refl, refl)
 not_noted issued stamp row at bytes table told other = (refl, refl)
 
-write_outcomes : (last stamp : ℕ) (issued : Ledger) (table : Table) (tree : Tree) (row : Row) (at : ℕ) (bytes : List ℕ) → rank row.stage ≡ 4 → table.holders ≡ [] → table.flattenings ≡ [] → Working last issued table.writers tree row → IsStampFor row stamp → MayWrite row at (length bytes) → 1 ≤ length bytes
+write_outcomes : (last stamp : ℕ) (issued : Ledger) (table : Table) (tree : Tree) (row : Row) (at : ℕ) (bytes : List ℕ) → rank row.stage ≡ 4 → table.holders ≡ [] → table.flattenings ≡ [] → Working last issued table.writers tree row → IsStamp row.last row.floor stamp → MayWrite row at (length bytes) → 1 ≤ length bytes
     → (told : Told) (after : Tree) → Tells (write_step row bytes) tree told after → AreRight last (noted issued (Some row) at bytes (write_outcome stamp row at (length bytes) table told).reply) (write_outcome stamp row at (length bytes) table told).table after
 write_outcomes last stamp issued table tree row at bytes is holders flattenings w s f some told after t = elim (write_told row.room (log_path row.host row.id) row.stored bytes tree told after t) as (λ _. AreRight last (noted issued (Some row) at bytes (write_outcome stamp row at (length bytes) table told).reply) (write_outcome stamp row at (length bytes) table told).table after) [
   | inl done ↦ subst (λ x. AreRight last (noted issued (Some row) at bytes (write_outcome stamp row at (length bytes) table x).reply) (write_outcome stamp row at (length bytes) table x).table after) (sym done.0)
@@ -106,7 +105,7 @@ write_row issued old row at bytes reply new a is w f = elim (match_cases (write_
   | inl (none, writes) ↦
       let m = may_write row at (length bytes) none in
       makes_accounted (write_step row bytes) (write_outcome (stamp_at writes.time row) row at (length bytes) old.table) (λ r. noted issued (Some row) at bytes r) (timed writes.times old) reply new a.tree a.told
-      (write_outcomes (last_id old) (stamp_at writes.time row) issued old.table a.tree row at bytes is a.right.no_holders a.right.no_flattenings w (stamp_for row at (length bytes) writes.time m) m writes.some) writes.makes
+      (write_outcomes (last_id old) (stamp_at writes.time row) issued old.table a.tree row at bytes is a.right.no_holders a.right.no_flattenings w (next_is_stamp writes.time row.last row.floor m.last m.floor) m writes.some) writes.makes
   | inr (why, some, refused) ↦ subst (λ r. IsAccounted (noted issued (Some row) at bytes r) new) (sym refused.0) (refused_accounted issued why old reply new refused a)
 ]
 
@@ -119,8 +118,8 @@ write_keeps issued old caller writer at bytes reply new r f a =
     elim (match_cases (held_by caller (only stage.Open) (row_of writer old.table.writers)) (Refuses NotOpen old reply new) (λ row. UnlessRefused (write_check row at (length bytes)) old reply new (WritesAt row at bytes old reply new)) f) as (λ _. IsAccounted (noted issued (row_of writer old.table.writers) at bytes reply) new) [
       | inl (none, refused) ↦ refused_noted issued (row_of writer old.table.writers) at bytes NotOpen old reply new refused a
       | inr (row, held, does) ↦
-          let h = held_row caller (only stage.Open) (row_of writer old.table.writers) row held in
-          let is : rank row.stage ≡ 4 = only_rank stage.Open row.stage h.1 in
-          subst (λ o. IsAccounted (noted issued o at bytes reply) new) (sym h.0)
-          (write_row issued old row at bytes reply new a is (working issued old writer row r a h.0 (omega arith)) does)
+          let h = is_held caller (only stage.Open) writer old.table.writers row held in
+          let is : rank row.stage ≡ 4 = at_only stage.Open row.stage h.staged in
+          subst (λ o. IsAccounted (noted issued o at bytes reply) new) (sym h.found)
+          (write_row issued old row at bytes reply new a is (working issued old writer row r a h.found (omega arith)) does)
     ]

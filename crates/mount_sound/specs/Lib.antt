@@ -5,3 +5,6 @@ pub mod Dropping
 pub mod Kept
 pub mod Sound
 pub mod Issued
+pub mod Growing
+pub mod Landed
+pub mod Damage

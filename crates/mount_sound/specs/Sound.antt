@@ -1,5 +1,5 @@
 -- Soundness of the state of a mount, room by room, for what its writers issued.
-use Rattle.std.specs.Prelude.{◌≡◌, ◌^◌, ◌≤◌, ◌<◌, ℕ, List, [], Some, None, slice_get}
+use Rattle.std.specs.Prelude.{◌≡◌, ◌^◌, ◌≤◌, ◌<◌, ℕ, List, [], length, Some, None, slice_get}
 use Rattle.container_layout.specs.declared.items.Item.TheVariants.{Trunc}
 use Rattle.store_api.specs.declared.tree.Room.{Room}
 use Rattle.store_api.specs.declared.tree.Tree.{Tree}
@@ -47,12 +47,13 @@ pub record IsSoundFor (issued : Ledger) (state : State) : Type 0 where
 abbrev pub IsSound : State → Type 0
 IsSound state = (issued : Ledger) × IsSoundFor issued state
 
--- A tree is sound that its writers' droppings alone account for.
+-- A tree is sound where its droppings alone account for what it holds: all that their writers issued has landed.
 pub record IsSoundTree (tree : Tree) : Type 0 where
   pub shaped : IsShapedTree (IsOfMark tree) tree
   pub issued : Ledger
   pub rooms : AreSoundRooms issued [] tree
   pub writes : (number writer : ℕ) → AreWritesOf writer (issued number writer)
+  pub all_landed : (number : ℕ) (room : Room) (there : slice_get tree.rooms number ≡ Some room) (writer : ℕ) (fits : writer < 2 ^ 64) → ((rooms number room there).writers writer fits).landed ≡ length (issued number writer)
   -- ids have 64 bits
   pub fitting : (number writer : ℕ) → 2 ^ 64 ≤ writer → issued number writer ≡ []
   pub roomless : (number writer : ℕ) → slice_get tree.rooms number ≡ None → issued number writer ≡ []
