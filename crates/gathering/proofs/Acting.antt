@@ -23,7 +23,7 @@ use Rattle.mount_model.specs.Writing.{write_check, write_step, WritesAt}
 use Rattle.mount_model.specs.Flushing.{flush_step, sync_log_step, sync_index_step, FlushesRow}
 use Rattle.mount_model.specs.Leaving.{put_meta_check, put_meta_step, exit_check, exit_step}
 use Rattle.mount_model.specs.Step.{Answers}
-use Rattle.mount_sound.proofs.Tables.{match_cases, held_row}
+use Rattle.mount_model.proofs.Deciding.{on_writer, unless_refused}
 
 -- the act that a call makes of this writer's row
 abbrev pub OfRow : State → ℕ → (Row → Step) → Step → Type 0
@@ -64,29 +64,13 @@ nothing old new call e = inl (ap (λ (s : State). s.store) e)
 one : (old new : State) (call : Call) (step : Step) (told : Told) → IsActOf old call step → Acts step old.store new.store told → AtMostOneAct old call new
 one old new call step told is made = inr (record { step = step; told = told; is_of = is; made = made })
 
--- a call on a writer is refused, or does this with its row
-pub on_writer : {R : Type 0} (caller : ℕ) (stages : Stage → Bool) (writer : ℕ) (old : State) (reply : Reply) (new : State) (does : Row → Type 0) → OnWriter caller stages writer old reply new does
-    → (Refuses NotOpen old reply new → R) → ((row : Row) → row_of writer old.table.writers ≡ Some row → does row → R) → R
-on_writer {R} caller stages writer old reply new does f refused each = elim (match_cases (held_by caller stages (row_of writer old.table.writers)) (Refuses NotOpen old reply new) does f) as (λ _. R) [
-  | inl (none, r) ↦ refused r
-  | inr (row, held, done) ↦ each row (held_row caller stages (row_of writer old.table.writers) row held).0 done
-]
-
--- a call is refused, or does this
-pub unless_refused : {R : Type 0} (check : Option Refusal) (old : State) (reply : Reply) (new : State) (does : Type 0) → UnlessRefused check old reply new does
-    → ((why : Refusal) → Refuses why old reply new → R) → (does → R) → R
-unless_refused {R} check old reply new does f refused each = elim (match_cases check does (λ why. Refuses why old reply new) f) as (λ _. R) [
-  | inl (none, done) ↦ each done
-  | inr (why, some, r) ↦ refused why r
-]
-
 -- a call on a writer that makes the act of its row
 on_row : (old new : State) (call : Call) (caller : ℕ) (stages : Stage → Bool) (writer : ℕ) (reply : Reply) (act : Row → Step) (outcome : Row → Told → Outcome) → ((step : Step) → OfRow old writer act step → IsActOf old call step)
     → OnWriter caller stages writer old reply new (λ row. Makes (act row) (outcome row) old reply new) → AtMostOneAct old call new
 on_row old new call caller stages writer reply act outcome is f =
-    on_writer caller stages writer old reply new (λ row. Makes (act row) (outcome row) old reply new) f
-    (λ r. nothing old new call r.1)
-    (λ row held m. one old new call (act row) m.told (is (act row) (row, held, refl)) m.made)
+    on_writer caller stages writer old reply new (λ row. Makes (act row) (outcome row) old reply new) (AtMostOneAct old call new) f
+    (λ e. nothing old new call e)
+    (λ row held m. one old new call (act row) m.told (is (act row) (row, held.found, refl)) m.made)
 
 flushing : (old new : State) (writer : ℕ) (row : Row) (entries : List Entry) (reply : Reply) → row_of writer old.table.writers ≡ Some row → FlushesRow row entries old reply new → AtMostOneAct old (Flush writer) new
 flushing old new writer row [] reply held f = nothing old new (Flush writer) f.1
@@ -105,41 +89,41 @@ at_most_one_act old caller (Find name) reply new f = one old new (Find name) (fi
 at_most_one_act old caller (MakeContainer name) reply new f = one old new (MakeContainer name) (make_room name new_folders new_files) f.makes.told refl f.makes.made
 at_most_one_act old caller Rooms reply new f = one old new Rooms all_rooms f.told refl f.made
 at_most_one_act old caller (Look room look) reply new f =
-    unless_refused (room_check old room) old reply new _ f
-    (λ why r. nothing old new (Look room look) r.1)
-    (λ m. one old new (Look room look) (look_step room look) m.told refl m.made)
+    unless_refused (room_check old room) old reply new _ (AtMostOneAct old (Look room look) new) f
+    (λ e. nothing old new (Look room look) e)
+    (λ none m. one old new (Look room look) (look_step room look) m.told refl m.made)
 at_most_one_act old caller (Enter room host most) reply new f =
-    unless_refused (enter_check old room) old reply new (EntersAs caller room host most old reply new) f
-    (λ why r. nothing old new (Enter room host most) r.1)
-    (λ e. entering old new caller room host most reply e)
+    unless_refused (enter_check old room) old reply new (EntersAs caller room host most old reply new) (AtMostOneAct old (Enter room host most) new) f
+    (λ e. nothing old new (Enter room host most) e)
+    (λ none e. entering old new caller room host most reply e)
 at_most_one_act old caller (Floor writer) reply new f =
-    on_writer caller (only stage.Entered) writer old reply new (λ row. FloorsRow row old reply new) f
-    (λ r. nothing old new (Floor writer) r.1)
-    (λ row held m. one old new (Floor writer) (list_folder row.room truncs) m.told (row, held, refl) m.made)
+    on_writer caller (only stage.Entered) writer old reply new (λ row. FloorsRow row old reply new) (AtMostOneAct old (Floor writer) new) f
+    (λ e. nothing old new (Floor writer) e)
+    (λ row held m. one old new (Floor writer) (list_folder row.room truncs) m.told (row, held.found, refl) m.made)
 at_most_one_act old caller (MakeHostdir writer) reply new f = on_row old new (MakeHostdir writer) caller (only stage.Floored) writer reply hostdir_step _ (λ step is. is) f
 at_most_one_act old caller (MakeIndex writer) reply new f = on_row old new (MakeIndex writer) caller (only stage.Housed) writer reply index_step _ (λ step is. is) f
 at_most_one_act old caller (MakeLog writer) reply new f = on_row old new (MakeLog writer) caller (only stage.Indexed) writer reply log_step _ (λ step is. is) f
 at_most_one_act old caller (Write writer at block) reply new f =
-    on_writer caller (only stage.Open) writer old reply new (λ row. UnlessRefused (write_check row at _) old reply new (WritesAt row at block old reply new)) f
-    (λ r. nothing old new (Write writer at block) r.1)
-    (λ row held g. unless_refused (write_check row at _) old reply new (WritesAt row at block old reply new) g
-    (λ why r. nothing old new (Write writer at block) r.1)
-    (λ w. one old new (Write writer at block) (write_step row block) w.makes.told (row, held, refl) w.makes.made))
+    on_writer caller (only stage.Open) writer old reply new (λ row. UnlessRefused (write_check row at _) old reply new (WritesAt row at block old reply new)) (AtMostOneAct old (Write writer at block) new) f
+    (λ e. nothing old new (Write writer at block) e)
+    (λ row held g. unless_refused (write_check row at _) old reply new (WritesAt row at block old reply new) (AtMostOneAct old (Write writer at block) new) g
+    (λ e. nothing old new (Write writer at block) e)
+    (λ none w. one old new (Write writer at block) (write_step row block) w.makes.told (row, held.found, refl) w.makes.made))
 at_most_one_act old caller (Flush writer) reply new f =
-    on_writer caller (only stage.Open) writer old reply new (λ row. FlushesRow row row.pending.entries old reply new) f
-    (λ r. nothing old new (Flush writer) r.1)
-    (λ row held m. flushing old new writer row row.pending.entries reply held m)
+    on_writer caller (only stage.Open) writer old reply new (λ row. FlushesRow row row.pending.entries old reply new) (AtMostOneAct old (Flush writer) new) f
+    (λ e. nothing old new (Flush writer) e)
+    (λ row held m. flushing old new writer row row.pending.entries reply held.found m)
 at_most_one_act old caller (SyncLog writer) reply new f = on_row old new (SyncLog writer) caller (only stage.Open) writer reply sync_log_step _ (λ step is. is) f
 at_most_one_act old caller (SyncIndex writer) reply new f = on_row old new (SyncIndex writer) caller (only stage.Open) writer reply sync_index_step _ (λ step is. is) f
 at_most_one_act old caller (PutMeta writer) reply new f =
-    on_writer caller may_close writer old reply new (λ row. UnlessRefused (put_meta_check row) old reply new (Makes (put_meta_step row) _ old reply new)) f
-    (λ r. nothing old new (PutMeta writer) r.1)
-    (λ row held g. unless_refused (put_meta_check row) old reply new _ g
-    (λ why r. nothing old new (PutMeta writer) r.1)
-    (λ m. one old new (PutMeta writer) (put_meta_step row) m.told (row, held, refl) m.made))
+    on_writer caller may_close writer old reply new (λ row. UnlessRefused (put_meta_check row) old reply new (Makes (put_meta_step row) _ old reply new)) (AtMostOneAct old (PutMeta writer) new) f
+    (λ e. nothing old new (PutMeta writer) e)
+    (λ row held g. unless_refused (put_meta_check row) old reply new _ (AtMostOneAct old (PutMeta writer) new) g
+    (λ e. nothing old new (PutMeta writer) e)
+    (λ none m. one old new (PutMeta writer) (put_meta_step row) m.told (row, held.found, refl) m.made))
 at_most_one_act old caller (Exit writer) reply new f =
-    on_writer caller is_live writer old reply new (λ row. UnlessRefused (exit_check row) old reply new (Makes (exit_step row) _ old reply new)) f
-    (λ r. nothing old new (Exit writer) r.1)
-    (λ row held g. unless_refused (exit_check row) old reply new _ g
-    (λ why r. nothing old new (Exit writer) r.1)
-    (λ m. one old new (Exit writer) (exit_step row) m.told (row, held, refl) m.made))
+    on_writer caller is_live writer old reply new (λ row. UnlessRefused (exit_check row) old reply new (Makes (exit_step row) _ old reply new)) (AtMostOneAct old (Exit writer) new) f
+    (λ e. nothing old new (Exit writer) e)
+    (λ row held g. unless_refused (exit_check row) old reply new _ (AtMostOneAct old (Exit writer) new) g
+    (λ e. nothing old new (Exit writer) e)
+    (λ none m. one old new (Exit writer) (exit_step row) m.told (row, held.found, refl) m.made))

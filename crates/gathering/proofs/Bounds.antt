@@ -18,7 +18,7 @@ use Rattle.mount_model.specs.declared.row.Row.{Row}
 use Rattle.mount_model.specs.declared.row.Stage.TheVariants as stage
 use Rattle.mount_model.specs.Paths.{index_path, trunc_path}
 use Rattle.mount_model.specs.State.{State, Table}
-use Rattle.mount_model.specs.Table.{row_of, with_row, held_by, only, rank}
+use Rattle.mount_model.specs.Table.{row_of, with_row, writer_of, only, rank}
 use Rattle.mount_model.specs.Making.{Told, Makes, OnWriter, Refuses}
 use Rattle.mount_model.specs.Flushing.{flushed, flush_outcome, FlushesRow, sync_index_step, sync_index_outcome}
 use Rattle.mount_model.specs.Step.{Answers, IsStep}
@@ -28,14 +28,17 @@ use Rattle.mount_sound.specs.Dropping.{bytes_of}
 use Rattle.mount_sound.specs.Kept.{Begins, IsKept}
 use Rattle.mount_sound.proofs.Frames.{Fits}
 use Rattle.mount_sound.proofs.Making.{all_fit}
-use Rattle.mount_sound.proofs.Stages.{only_rank, live_stage}
-use Rattle.mount_sound.proofs.Tables.{match_cases, held_row, row_of_id, one_row}
-use Rattle.gathering.specs.Moments.{Moment, IsSoundAt, next_moment, moment_after, file_in_room, file_told, Dropping, IsNamed, issued_by, index_then, whole, landed, HadTrunc, Grows}
+use Rattle.mount_sound.proofs.Stages.{live_stage}
+use Rattle.mount_sound.proofs.Tables.{one_row}
+use Rattle.mount_model.proofs.Deciding.{match_cases, is_held, at_only}
+use Rattle.mount_model.proofs.Tables.{row_of_id, row_of-with_row}
+use Rattle.mount_sound.specs.Landed.{whole}
+use Rattle.gathering.specs.Moments.{Moment, IsSoundAt, next_moment, moment_after, file_in_room, file_told, Dropping, IsNamed, issued_by, index_then, landed, HadTrunc, Grows}
 use Rattle.gathering.specs.Gathering.{Gathered, IsPrefixOf}
-use Rattle.gathering.specs.Bounds.{IsOf, HasLanded, IsSyncedIn, Spares, AllSpare}
+use Rattle.gathering.specs.Bounds.{IsOf, LandedAtLeast, IsSyncedIn, Spares, AllSpare}
 use Rattle.gathering.specs.Opening.{HasView}
 use Rattle.gathering.proofs.Acting.{at_most_one_act}
-use Rattle.gathering.proofs.Growing.{grows_refl}
+use Rattle.gathering.proofs.Growing.{grows_refl, trunc_grows}
 use Rattle.gathering.proofs.Seeing.{sound_next, grows_after}
 use Rattle.gathering.proofs.Fronts.{stood_grows, landed_issued}
 use Rattle.gathering.proofs.Gathers.{landed_grows}
@@ -55,7 +58,7 @@ abbrev its_dropping : Row → Dropping
 its_dropping row = record { room = row.room; host = row.host; writer = row.id }
 
 -- what the table counts of an open writer has landed
-row_landed : (m : Moment) (s : IsSoundAt m) (row : Row) → row_of row.id m.state.table.writers ≡ Some row → rank row.stage ≡ 4 → HasLanded m (its_dropping row) row.landed
+row_landed : (m : Moment) (s : IsSoundAt m) (row : Row) → row_of row.id m.state.table.writers ≡ Some row → rank row.stage ≡ 4 → LandedAtLeast m (its_dropping row) row.landed
 row_landed m s row held ready =
     let p = s.sound.placed row.id row held in
     let k : IsKept p.0 row (m.issued row.room row.id) = (s.sound.rooms row.room p.0 p.1).kept row.id row held refl in
@@ -75,16 +78,6 @@ record CallTold (new : State) (writer count : ℕ) : Type 0 where
   pub stands : row_of writer new.table.writers ≡ Some row
   pub counted : row.landed ≡ count
   pub ready : rank row.stage ≡ 4
-
-same_id : (a b : ℕ) → a ≡ b → nat_eq a b ≡ true
-same_id a b e = grind (arith, nat_tests)
-
-row_of-with_row : (new : Row) (rows : List Row) (row : Row) → row_of new.id rows ≡ Some row → row_of new.id (with_row new rows) ≡ Some new
-row_of-with_row new [] row e = absurd (cc)
-row_of-with_row new (x ∷ rows) row e = elim (nat_eq x.id new.id) as (λ b. nat_eq x.id new.id ≡ b → (if b then Some x else row_of new.id rows) ≡ Some row → row_of new.id (if b then new ∷ rows else x ∷ with_row new rows) ≡ Some new) [
-  | true ↦ λ t f. let itself : nat_eq new.id new.id ≡ true = same_id new.id new.id refl in rw itself refl
-  | false ↦ λ t f. rw t (row_of-with_row new rows row f)
-] refl e
 
 flush_told : (row : Row) (table : Table) (told : Told) (n : ℕ) → Flushed n ≡ (flush_outcome row table told).reply → ((flush_outcome row table told).table ≡ record table { writers = with_row (flushed row) table.writers }) × (n ≡ (flushed row).landed)
 flush_told row table (Ok Made) n e = (refl, cc)
@@ -107,11 +100,11 @@ flushed_row old new row writer n (x ∷ entries) is held ready f =
 -- a call on an open writer that wasn't refused
 open_row : {R : Type 0} (caller writer : ℕ) (old : State) (reply : Reply) (new : State) (does : Row → Type 0) → OnWriter caller (only stage.Open) writer old reply new does
     → (Refuses NotOpen old reply new → R) → ((row : Row) → row.id ≡ writer → row_of writer old.table.writers ≡ Some row → rank row.stage ≡ 4 → does row → R) → R
-open_row {R} caller writer old reply new does f refused each = elim (match_cases (held_by caller (only stage.Open) (row_of writer old.table.writers)) (Refuses NotOpen old reply new) does f) as (λ _. R) [
+open_row {R} caller writer old reply new does f refused each = elim (match_cases (writer_of caller (only stage.Open) writer old.table.writers) (Refuses NotOpen old reply new) does f) as (λ _. R) [
   | inl (none, r) ↦ refused r
   | inr (row, held, done) ↦
-      let h = held_row caller (only stage.Open) (row_of writer old.table.writers) row held in
-      each row (row_of_id writer old.table.writers row h.0) h.0 (only_rank stage.Open row.stage h.1) done
+      let h = is_held caller (only stage.Open) writer old.table.writers row held in
+      each row h.is h.found (at_only stage.Open row.stage h.staged) done
 ]
 
 flush_row : (old : State) (caller writer n : ℕ) (new : State) → Answers old caller (Flush writer) (Flushed n) new → CallTold new writer n
@@ -140,13 +133,13 @@ sync_row old caller writer n new f =
 
 -- the dropping of a writer whose call told a count, and what of it has landed
 abbrev pub Lands : Moment → ℕ → ℕ → Type 0
-Lands m writer count = (d : Dropping) × (d.writer ≡ writer) × IsOf m.state d × HasLanded m d count
+Lands m writer count = (d : Dropping) × (d.writer ≡ writer) × IsOf m.state d × LandedAtLeast m d count
 
 told_lands : (m : Moment) (s : IsSoundAt m) (writer count : ℕ) → CallTold m.state writer count → Lands m writer count
 told_lands m s writer count t =
     let id : t.row.id ≡ writer = row_of_id writer m.state.table.writers t.row t.stands in
     let held : row_of t.row.id m.state.table.writers ≡ Some t.row = subst (λ w. row_of w m.state.table.writers ≡ Some t.row) (sym id) t.stands in
-    (its_dropping t.row, id, record { row = t.row; held = held; room = refl; host = refl }, subst (HasLanded m (its_dropping t.row)) t.counted (row_landed m s t.row held t.ready))
+    (its_dropping t.row, id, record { row = t.row; held = held; room = refl; host = refl }, subst (LandedAtLeast m (its_dropping t.row)) t.counted (row_landed m s t.row held t.ready))
 
 pub flush_lands : (m : Moment) (event : Event) (writer count : ℕ) → IsLegal m.state (event ∷ []) → IsSoundAt m → event.ask.call ≡ Flush writer → event.reply ≡ Flushed count → Lands (next_moment m event) writer count
 flush_lands m event writer count legal s call reply =
@@ -158,7 +151,7 @@ sync_lands m event writer count legal s call reply =
     let a : Answers m.state event.caller (SyncIndex writer) (Synced count) event.after = subst (λ r. Answers m.state event.caller (SyncIndex writer) r event.after) reply (subst (λ c. Answers m.state event.caller c event.reply event.after) call legal.1.answers) in
     told_lands (next_moment m event) (sound_next m event [] legal s) writer count (sync_row m.state event.caller writer count event.after a)
 
-landed_later : (a b : Moment) (d : Dropping) (count : ℕ) → Grows a b → HasLanded a d count → HasLanded b d count
+landed_later : (a b : Moment) (d : Dropping) (count : ℕ) → Grows a b → LandedAtLeast a d count → LandedAtLeast b d count
 landed_later a b d count g h = record { stands = stood_grows a b d g h.stands; counted = omega (arith, h.counted, landed_grows a b d g) }
 
 -- the table has one dropping of a writer
@@ -170,14 +163,14 @@ one_of state a b writer of_a of_b =
     λ i. record { room = room i; host = host i; writer = writer i }
 
 -- what was synced in these events has landed after them
-pub synced_landed : (m : Moment) (events : List Event) (d : Dropping) (count : ℕ) (e : Event) → IsLegal m.state events → IsSoundAt m → Among e events → e.ask.call ≡ SyncIndex d.writer → e.reply ≡ Synced count → IsOf e.after d → HasLanded (moment_after m events) d count
+pub synced_landed : (m : Moment) (events : List Event) (d : Dropping) (count : ℕ) (e : Event) → IsLegal m.state events → IsSoundAt m → Among e events → e.ask.call ≡ SyncIndex d.writer → e.reply ≡ Synced count → IsOf e.after d → LandedAtLeast (moment_after m events) d count
 synced_landed m [] d count e legal s a call reply of = absurd a
 synced_landed m (v ∷ events) d count e legal s (inl same) call reply of =
     let next : Moment = next_moment m v in
     let l = sync_lands m v d.writer count (legal.0, legal.1, tt) s (ap (λ (x : Event). x.ask.call) (sym same) ∙ call) (ap (λ (x : Event). x.reply) (sym same) ∙ reply) in
     let its : IsOf v.after d = subst (λ (x : Event). IsOf x.after d) same of in
     let one : l.0 ≡ d = one_of v.after l.0 d l.1 l.2 its in
-    landed_later next (moment_after next events) d count (grows_after next events legal.2 (sound_next m v events legal s)) (subst (λ x. HasLanded next x count) one l.3)
+    landed_later next (moment_after next events) d count (grows_after next events legal.2 (sound_next m v events legal s)) (subst (λ x. LandedAtLeast next x count) one l.3)
 synced_landed m (v ∷ events) d count e legal s (inr more) call reply of = synced_landed (next_moment m v) events d count e legal.2 (sound_next m v events legal s) more call reply of
 
 -- A reader has all of the room that was synced before its first call.
@@ -218,6 +211,10 @@ landed_most m events d named legal s spare = omega (arith, landed_stays m events
 
 trunc_below : (stamp size : ℕ) → is_top (trunc_path stamp size).folder ≡ false
 trunc_below stamp size = refl
+
+-- a truncate that is there stays
+pub trunc_stays : (m : Moment) (events : List Event) (room stamp size : ℕ) → IsLegal m.state events → IsSoundAt m → HadTrunc m room stamp size → HadTrunc (moment_after m events) room stamp size
+trunc_stays m events room stamp size legal s had = trunc_grows m (moment_after m events) room stamp size (grows_after m events legal s) had
 
 -- a truncate that is there after these events was there before them
 pub trunc_before : (m : Moment) (events : List Event) (room stamp size : ℕ) → IsLegal m.state events → IsSoundAt m → HadTrunc (moment_after m events) room stamp size → HadTrunc m room stamp size

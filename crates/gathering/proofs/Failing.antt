@@ -30,7 +30,7 @@ use Rattle.mount_model.specs.Step.{Answers}
 use Rattle.mount_shape.proofs.Trees.{shape_of, container_at}
 use Rattle.mount_sound.specs.Ledger.{content}
 use Rattle.mount_sound.specs.Dropping.{bytes_of}
-use Rattle.mount_sound.proofs.Tables.{match_cases}
+use Rattle.mount_model.proofs.Deciding.{match_cases}
 use Rattle.gathering.specs.Failing.{BytesOrTrouble}
 use Rattle.gathering.specs.Gathering.{Gathered}
 use Rattle.gathering.specs.Listing.{IsAmong}
@@ -116,7 +116,7 @@ pub log_ends : (start end m : Moment) (room : ℕ) (cut : List Gathered) (truncs
 log_ends start end m room cut truncs g caller at len reply new view its goes s some within f =
     let d : Dropping = g.dropping in
     let stood : Stood m d = stood_grows end m d goes (prefix_of start end cut g view.admissible (among cut g its)).stands in
-    let more = goes.issued d in
+    let more = goes.issued d.room d.writer in
     let longer : length (content (issued_by m d)) ≡ length (content (issued_by end d)) + length (content more.0) = ap (λ w. length (content w)) more.1 ∙ ap length (content-append (issued_by end d) more.0) ∙ length-append (content (issued_by end d)) (content more.0) in
     let l = log_there m s d stood (omega (arith, within, some, longer)) in
     let bytes : take len (drop at l.0) ≡ take len (drop at (content (issued_by end d))) = log_slice end m s d stood.bytes l.0 at len stood.is_item goes stood.there l.1 within in

@@ -17,8 +17,10 @@ use Rattle.store_laws.proofs.Overwriting.{prefix_rest}
 use Rattle.mount_model.specs.Paths.{index_path, log_path}
 use Rattle.mount_sound.specs.Ledger.{Written, entries_in, content}
 use Rattle.mount_sound.specs.Items.{HasItem}
-use Rattle.mount_sound.specs.Dropping.{bytes_of, log_bytes, IsDropping, IsWriter}
-use Rattle.gathering.specs.Moments.{Moment, IsSoundAt, file_in_tree, file_told, file_then, Dropping, IsNamed, Stood, index_then, log_then, issued_by, whole, Grows}
+use Rattle.mount_sound.specs.Dropping.{bytes_of, log_bytes, IsWriter}
+use Rattle.mount_sound.specs.Landed.{HasLanded, whole}
+use Rattle.mount_sound.proofs.HasLanded.{landed_was_issued}
+use Rattle.gathering.specs.Moments.{Moment, IsSoundAt, file_in_tree, file_told, file_then, Dropping, IsNamed, Stood, index_then, log_then, issued_by, Grows}
 use Rattle.gathering.proofs.Growing.{in_a_room, index_grows}
 
 -- bytes within the front of a list
@@ -45,11 +47,7 @@ pub record Stands (m : Moment) (tree : Tree) (d : Dropping) (bytes : List ℕ) :
   pub at : file_at room (index_path d.host d.writer) ≡ Some bytes
   pub writer : IsWriter room d.writer (issued_by m d)
   pub host : d.host ≡ writer.host
-  pub dropping : IsDropping (issued_by m d) writer.landed bytes
-
-dropping_of : (P : Type 0) (Q : List ℕ → Type 0) (file : Option (List ℕ)) (bytes : List ℕ) → file ≡ Some bytes → MatchOption file P Q → Q bytes
-dropping_of P Q None bytes e m = absurd (cc)
-dropping_of P Q (Some found) bytes e m = let same : found ≡ bytes = cc in subst Q same m
+  pub landed : HasLanded room d.host d.writer (issued_by m d) bytes
 
 pub stands : (m : Moment) (s : IsSoundAt m) (d : Dropping) (bytes : List ℕ) → IsNamed d → index_then m d ≡ Some bytes → Stands m s.shape.tree d bytes
 stands m s d bytes named e =
@@ -57,18 +55,14 @@ stands m s d bytes named e =
     let w = (s.sound.rooms d.room r.0 r.1).writers d.writer named.widths.1 in
     let item : HasItem r.0 (Index d.host d.writer) bytes = record { is_item = named; there = r.2 } in
     let host : d.host ≡ w.host = w.one_host d.host (inl (bytes, item)) in
-    let there : file_at r.0 (index_path w.host d.writer) ≡ Some bytes = subst (λ h. file_at r.0 (index_path h d.writer) ≡ Some bytes) host r.2 in
     record {
       room = r.0;
       there = r.1;
       at = r.2;
       writer = w;
       host = host;
-      dropping = dropping_of (w.landed ≡ 0) (IsDropping (issued_by m d) w.landed) (file_at r.0 (index_path w.host d.writer)) bytes there w.index;
+      landed = landed_was_issued m.issued m.state s d.room r.0 r.1 d.host d.writer bytes item;
     }
-
-whole_count : (n : ℕ) (tail : List ℕ) → length tail < 40 → (40 * n + length tail) / 40 ≡ n
-whole_count n tail torn = mul-add-div (lit< tt) n (length tail) ∙ ap (λ r. n + r) (div-eq_of_lt torn) ∙ omega arith
 
 pub length-entries : (writes : List Written) → length (entries_in writes) ≡ length writes
 length-entries [] = refl
@@ -80,15 +74,6 @@ length_taken n es l = length-take-le n es l
 within_entries : (issued : List Written) (n : ℕ) → n ≤ length issued → n ≤ length (entries_in issued)
 within_entries issued n l = omega (arith, l, length-entries issued)
 
--- the whole entries of a dropping are those that landed
-count_of : (issued : List Written) (landed : ℕ) (bytes : List ℕ) → landed ≤ length issued → IsDropping issued landed bytes → whole bytes ≡ landed
-count_of issued landed bytes within d =
-    let n : length bytes ≡ 40 * landed + length d.tail = ap length d.spelled ∙ omega (arith, length-append (spelling_all (take landed (entries_in issued))) d.tail, length-spelling_all (take landed (entries_in issued)), length_taken landed (entries_in issued) (within_entries issued landed within)) in
-    ap (λ l. l / 40) n ∙ whole_count landed d.tail d.torn
-
-pub count_is : (m : Moment) (tree : Tree) (d : Dropping) (bytes : List ℕ) (w : Stands m tree d bytes) → whole bytes ≡ w.writer.landed
-count_is m tree d bytes w = count_of (issued_by m d) w.writer.landed bytes w.writer.within w.dropping
-
 pub entries-append : (a b : List Written) → entries_in (a ++ b) ≡ entries_in a ++ entries_in b
 entries-append a b = map-append (λ (w : Written). w.entry) a b
 
@@ -97,33 +82,32 @@ content-append [] b = refl
 content-append (w ∷ a) b = ap (λ c. w.bytes ++ c) (content-append a b) ∙ sym (append_assoc w.bytes (content a) (content b))
 
 -- the whole entries of a dropping, within what its writer issued, then and later
-whole_slice : (issued more : List Written) (landed : ℕ) (bytes : List ℕ) (at len : ℕ) → landed ≤ length issued → (d : IsDropping issued landed bytes) → at + len ≤ 40 * landed → take len (drop at bytes) ≡ take len (drop at (spelling_all (entries_in (issued ++ more))))
-whole_slice issued more landed bytes at len were d within =
+whole_slice : (room : Room) (host writer : ℕ) (issued more : List Written) (bytes : List ℕ) (at len : ℕ) → HasLanded room host writer issued bytes → at + len ≤ 40 * whole bytes → take len (drop at bytes) ≡ take len (drop at (spelling_all (entries_in (issued ++ more))))
+whole_slice room host writer issued more bytes at len h within =
+    let n : ℕ = whole bytes in
     let es : List Entry = entries_in issued in
-    let front : List ℕ = spelling_all (take landed es) in
-    let long : length front ≡ 40 * landed = length-spelling_all (take landed es) ∙ ap (λ n. 40 * n) (length_taken landed es (within_entries issued landed were)) in
-    let here : take len (drop at bytes) ≡ take len (drop at front) = ap (λ b. take len (drop at b)) d.spelled ∙ front_slice front d.tail at len (omega (arith, long)) in
-    let split : spelling_all (entries_in (issued ++ more)) ≡ front ++ (spelling_all (drop landed es) ++ spelling_all (entries_in more)) =
+    let front : List ℕ = spelling_all (take n es) in
+    let long : length front ≡ 40 * n = length-spelling_all (take n es) ∙ ap (λ k. 40 * k) (length_taken n es (within_entries issued n h.within)) in
+    let here : take len (drop at bytes) ≡ take len (drop at front) = ap (λ b. take len (drop at b)) h.entries ∙ front_slice front h.tail at len (omega (arith, long, within)) in
+    let split : spelling_all (entries_in (issued ++ more)) ≡ front ++ (spelling_all (drop n es) ++ spelling_all (entries_in more)) =
     ap spelling_all (entries-append issued more) ∙ spelling_all-append es (entries_in more)
-    ∙ ap (λ l. spelling_all l ++ spelling_all (entries_in more)) (sym (take-append-drop landed es))
-    ∙ ap (λ b. b ++ spelling_all (entries_in more)) (spelling_all-append (take landed es) (drop landed es))
-    ∙ append_assoc front (spelling_all (drop landed es)) (spelling_all (entries_in more)) in
-    here ∙ sym (ap (λ b. take len (drop at b)) split ∙ front_slice front (spelling_all (drop landed es) ++ spelling_all (entries_in more)) at len (omega (arith, long)))
+    ∙ ap (λ l. spelling_all l ++ spelling_all (entries_in more)) (sym (take-append-drop n es))
+    ∙ ap (λ b. b ++ spelling_all (entries_in more)) (spelling_all-append (take n es) (drop n es))
+    ∙ append_assoc front (spelling_all (drop n es)) (spelling_all (entries_in more)) in
+    here ∙ sym (ap (λ b. take len (drop at b)) split ∙ front_slice front (spelling_all (drop n es) ++ spelling_all (entries_in more)) at len (omega (arith, long, within)))
 
 -- Bytes read of the whole entries of an index dropping are those of what its writer issued.
 pub index_slice : (m end : Moment) (s : IsSoundAt m) (d : Dropping) (bytes : List ℕ) (at len : ℕ) → IsNamed d → Grows m end → index_then m d ≡ Some bytes → at + len ≤ 40 * whole bytes → take len (drop at bytes) ≡ take len (drop at (spelling_all (entries_in (issued_by end d))))
 index_slice m end s d bytes at len named grows e within =
     let w = stands m s d bytes named e in
-    let more = grows.issued d in
-    let count : whole bytes ≡ w.writer.landed = count_is m s.shape.tree d bytes w in
-    whole_slice (issued_by m d) more.0 w.writer.landed bytes at len w.writer.within w.dropping (omega (arith, within, ap (λ n. 40 * n) count)) ∙ ap (λ l. take len (drop at (spelling_all (entries_in l)))) (sym more.1)
+    let more = grows.issued d.room d.writer in
+    whole_slice w.room d.host d.writer (issued_by m d) more.0 bytes at len w.landed within ∙ ap (λ l. take len (drop at (spelling_all (entries_in l)))) (sym more.1)
 
 -- as many entries as landed were issued
 pub landed_issued : (m end : Moment) (s : IsSoundAt m) (d : Dropping) (bytes : List ℕ) → IsNamed d → Grows m end → index_then m d ≡ Some bytes → whole bytes ≤ length (issued_by end d)
 landed_issued m end s d bytes named grows e =
-    let w = stands m s d bytes named e in
-    let more = grows.issued d in
-    omega (arith, count_is m s.shape.tree d bytes w, w.writer.within, ap length more.1, length-append (issued_by m d) more.0)
+    let more = grows.issued d.room d.writer in
+    omega (arith, (stands m s d bytes named e).landed.within, ap length more.1, length-append (issued_by m d) more.0)
 
 some_room : (a b : Room) (o : Option Room) → o ≡ Some a → o ≡ Some b → a ≡ b
 some_room a b o p q = cc
@@ -143,7 +127,7 @@ log_begins m s d index log named e f =
 pub log_slice : (then m : Moment) (s : IsSoundAt m) (d : Dropping) (index log : List ℕ) (at len : ℕ) → IsNamed d → Grows then m → index_then m d ≡ Some index → log_then m d ≡ Some log → at + len ≤ length (content (issued_by then d)) → take len (drop at log) ≡ take len (drop at (content (issued_by then d)))
 log_slice then m s d index log at len named grows e f within =
     let rest = log_begins m s d index log named e f in
-    let more = grows.issued d in
+    let more = grows.issued d.room d.writer in
     let now : content (issued_by m d) ≡ content (issued_by then d) ++ content more.0 = ap content more.1 ∙ content-append (issued_by then d) more.0 in
     ap (λ l. take len (drop at l)) (rest.1 ∙ ap (λ c. c ++ rest.0) now ∙ append_assoc (content (issued_by then d)) (content more.0) rest.0)
     ∙ front_slice (content (issued_by then d)) (content more.0 ++ rest.0) at len within

@@ -11,7 +11,8 @@ use Rattle.mount_model.specs.State.{State}
 use Rattle.mount_model.specs.Step.{Answers}
 use Rattle.mount_sound.specs.Ledger.{entries_in}
 use Rattle.mount_sound.specs.Dropping.{bytes_of}
-use Rattle.gathering.specs.Moments.{Moment, IsNamed, index_then, Dropping, issued_by, landed, whole, Grows}
+use Rattle.mount_sound.specs.Landed.{whole}
+use Rattle.gathering.specs.Moments.{Moment, IsNamed, index_then, Dropping, issued_by, landed, Grows}
 use Rattle.gathering.specs.Seen.{Asked, IsSeenCall, IsSeen}
 use Rattle.gathering.specs.Gathering.{IsRead, AreReads, Gathered, Gathers, GathersAll, IsPrefixOf, IsAdmissible}
 use Rattle.gathering.proofs.Growing.{grows_trans, index_grows}

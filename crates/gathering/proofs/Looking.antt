@@ -1,5 +1,5 @@
 -- What the reply to a look says of the moment at which it was made.
-use Rattle.std.proofs.Common.{◌≡◌, ℕ, List, [], length, take, drop, Some, ap, sym, ◌∙◌, subst, true, false}
+use Rattle.std.proofs.Common.{◌≡◌, ℕ, List, [], length, take, drop, Some, ap, sym, ◌∙◌, subst, true, false, inl, inr}
 use Rattle.std.specs.Prelude.{Ok, Err, nat_le, if◌then◌else◌}
 use Rattle.plfs_types.specs.declared.names.Path.{Path}
 use Rattle.store_api.specs.declared.step.Answer.{Answer}
@@ -18,11 +18,11 @@ use Rattle.mount_model.specs.declared.call.Look.TheVariants.{Top, List as ListFo
 use Rattle.mount_model.specs.declared.reply.Reply.TheVariants.{Looked, Refused, Damaged}
 use Rattle.mount_model.specs.Paths.{Name}
 use Rattle.mount_model.specs.State.{State}
-use Rattle.mount_model.specs.Making.{Told, Makes}
+use Rattle.mount_model.specs.Making.{Told, Makes, Refuses}
 use Rattle.mount_model.specs.Looking.{room_check, look_step, look_outcome, listing_reply, length_reply, read_reply}
 use Rattle.mount_model.specs.Step.{Answers}
+use Rattle.mount_model.proofs.Deciding.{match_cases}
 use Rattle.gathering.specs.Moments.{Moment, IsSoundAt, file_in_room, file_told, file_then}
-use Rattle.gathering.proofs.Acting.{unless_refused}
 
 -- ---------- what the store told
 
@@ -31,7 +31,10 @@ abbrev Made : ℕ → Sight → State → Answer → State → Type 0
 Made room look old answer new = Makes (look_step room look) (look_outcome look old) old (Looked answer) new
 
 made : (old : State) (caller room : ℕ) (look : Sight) (answer : Answer) (new : State) → Answers old caller (Look room look) (Looked answer) new → Made room look old answer new
-made old caller room look answer new f = unless_refused (room_check old room) old (Looked answer) new (Made room look old answer new) f (λ why r. let e : Looked answer ≡ Refused why = r.0 in absurd (cc)) (λ m. m)
+made old caller room look answer new f = elim (match_cases (room_check old room) (Made room look old answer new) (λ why. Refuses why old (Looked answer) new) f) as (λ _. Made room look old answer new) [
+  | inl (none, m) ↦ m
+  | inr (why, some, r) ↦ absurd (let e : Looked answer ≡ Refused why = r.0 in cc)
+]
 
 names_told : (folder : Name) (told : Told) (names : List Name) → Looked (Names names) ≡ listing_reply folder told → told ≡ Ok (Names names)
 names_told folder (Ok (Names listed)) names e = let same : listed ≡ names = cc in ap (λ n. Ok (Names n)) same

@@ -20,7 +20,7 @@ use Rattle.gathering.proofs.Truncates.{truncs_listed}
 use Rattle.gathering.proofs.Viewing.{content_is}
 use Rattle.gathering.proofs.Answering.{answer_is_slice}
 use Rattle.gathering.proofs.Members.{all_at}
-use Rattle.gathering.proofs.Shares.{shares_admissible}
+use Rattle.gathering.proofs.Shares.{gathered_admissible, shares_admissible}
 use Rattle.gathering.proofs.Placing.{legal_first, legal_rest, moment-append}
 
 -- ---------- the cut's writes stay
@@ -31,7 +31,7 @@ taken_more n xs more l = take-append-le n xs more l
 pub writes_stay : (start end later : Moment) (cut : List Gathered) → IsAdmissible start end cut → Grows end later → writes_in later cut ≡ writes_in end cut
 writes_stay start end later [] a g = refl
 writes_stay start end later (h ∷ cut) a g =
-    let more = g.issued h.dropping in
+    let more = g.issued h.dropping.room h.dropping.writer in
     ap (λ l. take h.count l ++ writes_in later cut) more.1
     ∙ ap (λ l. l ++ writes_in later cut) (taken_more h.count (issued_by end h.dropping) more.0 a.0.were_issued)
     ∙ ap (λ l. take h.count (issued_by end h.dropping) ++ l) (writes_stay start end later cut a.1 g)
@@ -53,7 +53,7 @@ gathered_seen caller room start end cut truncs calls listing seen opening =
     let t = seen_split caller s.0 end opening.scan opening.entries s.2 in
     let first : Grows start s.0 = seen_grows caller start s.0 opening.earlier s.1 in
     let then : Grows start t.0 = grows_trans start s.0 t.0 first (seen_grows caller s.0 t.0 opening.scan t.1) in (
-      gathers_all caller start end cut opening.entries (seen_waits caller start t.0 end opening.entries then t.2) opening.gathers,
+      gathered_admissible start end opening.gathered cut (gathers_all caller start end opening.gathered opening.entries (seen_waits caller start t.0 end opening.entries then t.2) opening.gathers) opening.has,
       λ d its stood. all_at (λ (x : Dropping). Any (λ (g : Gathered). g.dropping ≡ x) cut) opening.droppings d opening.cuts.all
           (scan_found caller room s.0 t.0 opening.scan opening.droppings d t.1 opening.scans its (stood_grows start s.0 d first stood)),
     )

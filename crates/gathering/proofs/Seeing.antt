@@ -21,7 +21,7 @@ sound_after m [] legal sound = sound
 sound_after m (e ∷ rest) legal sound = sound_after (next_moment m e) rest legal.2 (sound_next m e rest legal sound)
 
 pub grows_next : (m : Moment) (e : Event) (rest : List Event) → IsLegal m.state (e ∷ rest) → IsSoundAt m → Grows m (next_moment m e)
-grows_next m e rest legal sound = step_grows m e.caller e.ask.call e.reply e.after sound.shape.tree sound.shape.told legal.1.answers
+grows_next m e rest legal sound = step_grows m e sound.shape.tree sound.shape.told legal.1
 
 -- Later moments of a legal history extend earlier ones.
 pub grows_after : (m : Moment) (events : List Event) → IsLegal m.state events → IsSoundAt m → Grows m (moment_after m events)

@@ -7,11 +7,19 @@ use Rattle.mount_model.specs.History.{Event, IsLegal}
 use Rattle.gathering.specs.Listing.{IsAmong}
 use Rattle.gathering.specs.Moments.{Moment, IsSoundAt, moment_after}
 use Rattle.gathering.specs.Seen.{calls_of}
-use Rattle.gathering.specs.Gathering.{Gathered, Share, GatherShares, AreShared, IsAdmissible}
+use Rattle.gathering.specs.Gathering.{Gathered, AreGathered, Share, GatherShares, AreShared, IsAdmissible}
 use Rattle.gathering.proofs.Seeing.{seen}
 use Rattle.gathering.proofs.Gathers.{gathers_all}
 use Rattle.gathering.proofs.Members.{any_found, among}
 use Rattle.gathering.proofs.Answering.{prefix_of}
+
+gathered_each : (start end : Moment) (gathered cut : List Gathered) → IsAdmissible start end gathered → AllByRecursion (λ (g : Gathered). IsAmong g gathered) cut → IsAdmissible start end cut
+gathered_each start end gathered [] a all = tt
+gathered_each start end gathered (g ∷ cut) a all = (prefix_of start end gathered g a (among gathered g all.0), gathered_each start end gathered cut a all.1)
+
+-- a cut of what was gathered is admissible where all of that is
+pub gathered_admissible : (start end : Moment) (gathered cut : List Gathered) → IsAdmissible start end gathered → AreGathered gathered cut → IsAdmissible start end cut
+gathered_admissible start end gathered cut a are = gathered_each start end gathered cut a (recursion_from_All (λ (g : Gathered). IsAmong g gathered) cut are)
 
 -- each worker's calls lie between the two places
 share_gathered : (start : Moment) (events : List Event) (shares : List Share) (share : Share) → IsLegal start.state events → IsSoundAt start → GatherShares events shares → Among share shares → IsAdmissible start (moment_after start events) share.part

@@ -35,7 +35,7 @@ use Rattle.mount_model.specs.Flushing.{flush_step}
 use Rattle.mount_model.specs.Leaving.{put_meta_step, exit_step}
 use Rattle.mount_sound.proofs.Frames.{Fits}
 use Rattle.mount_sound.proofs.Making.{all_fit}
-use Rattle.mount_sound.proofs.Tables.{row_of_id}
+use Rattle.mount_model.proofs.Tables.{row_of_id}
 use Rattle.gathering.specs.Bounds.{Spares}
 use Rattle.gathering.specs.Moments.{Moment, IsSoundAt, file_in_room, file_in_tree, file_told, Dropping, IsNamed}
 use Rattle.gathering.proofs.Acting.{IsActOf, AtMostOneAct}

@@ -18,7 +18,7 @@ pub record IsOf (state : State) (d : Dropping) : Type 0 where
   pub host : row.host ≡ d.host
 
 -- the index dropping stood, and so many of its entries had landed
-pub record HasLanded (moment : Moment) (d : Dropping) (count : ℕ) : Type 0 where
+pub record LandedAtLeast (moment : Moment) (d : Dropping) (count : ℕ) : Type 0 where
   pub stands : Stood moment d
   pub counted : count ≤ landed moment d
 

@@ -52,6 +52,10 @@ abbrev pub GathersAll : List Gathered → List Asked → Type 0
 GathersAll [] asked = asked ≡ []
 GathersAll (g ∷ rest) asked = (mine others : List Asked) × (asked ≡ mine ++ others) × Gathers g mine × GathersAll rest others
 
+-- each of the cut was gathered, in whatever order
+abbrev pub AreGathered : List Gathered → List Gathered → Type 0
+AreGathered gathered cut = All (λ (g : Gathered). IsAmong g gathered) cut
+
 -- A reader's count of a writer lies between what had landed at the two moments, and it read the first entries issued.
 pub record IsPrefixOf (start end : Moment) (g : Gathered) : Type 0 where
   pub least : landed start g.dropping ≤ g.count

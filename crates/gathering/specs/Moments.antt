@@ -1,5 +1,5 @@
 -- Moments of a history, and how later ones extend earlier ones.
-use Rattle.std.specs.Prelude.{◌≡◌, ◌≢◌, ◌≤◌, ◌/◌, ◌++◌, ℕ, List, [], ◌∷◌, length, Option, Some, None, slice_get}
+use Rattle.std.specs.Prelude.{◌≡◌, ◌≢◌, ◌≤◌, ℕ, List, [], ◌∷◌, length, Option, Some, None, slice_get}
 use Rattle.plfs_types.specs.declared.names.Path.{Path}
 use Rattle.container_layout.specs.declared.items.Item.{Item}
 use Rattle.container_layout.specs.declared.items.Item.TheVariants.{Index, Trunc}
@@ -14,6 +14,8 @@ use Rattle.mount_model.specs.History.{Event}
 use Rattle.mount_sound.specs.Ledger.{Written, Ledger}
 use Rattle.mount_sound.specs.Dropping.{bytes_of}
 use Rattle.mount_sound.specs.Issued.{issued_after}
+use Rattle.mount_sound.specs.Landed.{whole}
+use Rattle.mount_sound.specs.Growing.{IssuesMore}
 use Rattle.mount_sound.specs.Sound.{IsSoundFor}
 
 -- a state, and what was issued until then
@@ -82,10 +84,6 @@ index_then moment d = file_then moment d.room (index_path d.host d.writer)
 abbrev pub log_then : Moment → Dropping → Option (List ℕ)
 log_then moment d = file_then moment d.room (log_path d.host d.writer)
 
--- how many whole entries the bytes have
-abbrev pub whole : List ℕ → ℕ
-whole bytes = length bytes / 40
-
 -- the whole entries in its index dropping, or 0 without one
 abbrev pub landed : Moment → Dropping → ℕ
 landed moment d = whole (bytes_of (index_then moment d))
@@ -93,5 +91,5 @@ landed moment d = whole (bytes_of (index_then moment d))
 -- A later moment: writers issued no less, and each file is still there and no shorter, but for those that say who is
 -- open.
 pub record Grows (old new : Moment) : Type 0 where
-  pub issued : (d : Dropping) → (more : List Written) × (issued_by new d ≡ issued_by old d ++ more)
+  pub issued : IssuesMore old.issued new.issued
   pub files : (room : ℕ) (path : Path) (bytes : List ℕ) → path.folder ≢ openhosts → file_then old room path ≡ Some bytes → (later : List ℕ) × (file_then new room path ≡ Some later) × (length bytes ≤ length later)

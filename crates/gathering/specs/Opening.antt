@@ -13,7 +13,7 @@ use Rattle.mount_model.specs.History.{Event}
 use Rattle.mount_sound.specs.Ledger.{entries_in}
 use Rattle.gathering.specs.Moments.{Moment, moment_after, Dropping, Stood}
 use Rattle.gathering.specs.Seen.{Asked, calls_of}
-use Rattle.gathering.specs.Gathering.{Gathered, GathersAll, Share, GatherShares, AreShared, IsAdmissible}
+use Rattle.gathering.specs.Gathering.{Gathered, GathersAll, AreGathered, Share, GatherShares, AreShared, IsAdmissible}
 use Rattle.gathering.specs.Listing.{IsAmong, IsListing, IsScan, AreTruncsOf, AreTruncsAt}
 use Rattle.gathering.specs.View.{writes_in, tails_in, content_of, changes_in, WritersRise, IsAnswer}
 
@@ -39,7 +39,10 @@ pub record IsOpening (room : ℕ) (cut : List Gathered) (truncs : List Trunc) (c
   pub droppings : List Dropping
   pub scans : IsScan room droppings scan
   pub cuts : IsCutOf room droppings cut
-  pub gathers : GathersAll cut entries
+  -- in the order of the shares where these are read one after the other, else by rising writer
+  pub gathered : List Gathered
+  pub gathers : GathersAll gathered entries
+  pub has : AreGathered gathered cut
   pub lists : ListsTruncs room truncs listing
 
 -- The calls that open a reader whose workers gather: it scans the room for droppings, each worker gathers its share in these events, and last it

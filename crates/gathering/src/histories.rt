@@ -11,7 +11,7 @@ ghost use Rattle.mount_model.specs.declared.reply.Reply.{Reply};
 ghost use Rattle.mount_model.specs.declared.reply.Reply.TheVariants.{Flushed, Synced};
 ghost use Rattle.gathering.specs.Moments.{Moment, IsSoundAt, next_moment, moment_after, file_then, Dropping, IsNamed, HadTrunc, issued_by, landed, Grows};
 ghost use Rattle.gathering.specs.Seen.{Asked, calls_of, IsSeen, IsPlaceOf};
-ghost use Rattle.gathering.specs.Bounds.{IsOf, HasLanded, AllSpare};
+ghost use Rattle.gathering.specs.Bounds.{IsOf, LandedAtLeast, AllSpare};
 ghost use Rattle.gathering.specs.Failing.{BytesOrTrouble};
 
 /// A law: later moments of a legal history extend earlier ones.
@@ -32,18 +32,23 @@ pub fn call_has_place()
 /// A law: what a flush told has landed, in the dropping that the table then has of the writer.
 pub fn flush_lands()
     ensures { (moment : Moment) (event : Event) (writer told : ℕ) → IsLegal moment.state (event ∷ []) → IsSoundAt moment → event.ask.call ≡ Flush writer → event.reply ≡ Flushed told
-        → (d : Dropping) × (d.writer ≡ writer) × IsOf event.after d × HasLanded (next_moment moment event) d told }
+        → (d : Dropping) × (d.writer ≡ writer) × IsOf event.after d × LandedAtLeast (next_moment moment event) d told }
 {}
 
 /// A law: what a sync told has landed, in the dropping that the table then has of the writer.
 pub fn sync_lands()
     ensures { (moment : Moment) (event : Event) (writer told : ℕ) → IsLegal moment.state (event ∷ []) → IsSoundAt moment → event.ask.call ≡ SyncIndex writer → event.reply ≡ Synced told
-        → (d : Dropping) × (d.writer ≡ writer) × IsOf event.after d × HasLanded (next_moment moment event) d told }
+        → (d : Dropping) × (d.writer ≡ writer) × IsOf event.after d × LandedAtLeast (next_moment moment event) d told }
 {}
 
 /// A law: no more of a writer has landed than it had issued when it was last flushed.
 pub fn nothing_lands_unflushed()
     ensures { (moment : Moment) (events : List Event) (d : Dropping) → IsNamed d → IsLegal moment.state events → IsSoundAt moment → AllSpare events d → landed (moment_after moment events) d ≤ length (issued_by moment d) }
+{}
+
+/// A law: a truncate that is there stays.
+pub fn truncates_stay()
+    ensures { (moment : Moment) (events : List Event) (room stamp size : ℕ) → IsLegal moment.state events → IsSoundAt moment → HadTrunc moment room stamp size → HadTrunc (moment_after moment events) room stamp size }
 {}
 
 /// A law: a truncate that is there after events was there before them, since no call puts one yet.

@@ -11,6 +11,7 @@ mod readers;
 pub use histories::{
     call_has_place, caller_sees, flush_lands, history_grows, no_truncate_comes,
     nothing_lands_unflushed, reads_fail_by_store, sync_lands,
+    truncates_stay,
 };
 pub use readers::{
     actor_opens, actor_reads, flattening_changes_nothing, one_writer, open_readers_fail_by_store,
