@@ -19,3 +19,5 @@ pub mod Sparing
 pub mod Bounds
 pub mod Failing
 pub mod Flats
+pub mod Sample
+pub mod SampleSteps
