@@ -21,3 +21,4 @@ pub mod Failing
 pub mod Flats
 pub mod Sample
 pub mod SampleSteps
+pub mod SampleReader

@@ -20,8 +20,9 @@ use Rattle.mount_model.specs.Paths.{Name, marks_folder, index_path}
 use Rattle.plain_file.proofs.OrderLemmas.{Among}
 use Rattle.gathering.specs.Moments.{Moment, IsSoundAt, Dropping, IsNamed, Stood, Grows}
 use Rattle.gathering.specs.Seen.{Asked, IsSeenCall, IsSeen}
-use Rattle.gathering.specs.Listing.{IsIndexName, AreDroppingsOf, ListsHostdirs, hostdirs, IsScan}
+use Rattle.gathering.specs.Listing.{IsIndexName, AreDroppingsOf, ShowsHostdir, ListsHostdirs, hostdirs, IsScan}
 use Rattle.gathering.proofs.Growing.{in_a_room, grows_trans}
+use Rattle.gathering.proofs.Seeing.{seen_grows, seen_split}
 use Rattle.gathering.proofs.Looking.{top_listed, folder_listed}
 use Rattle.gathering.proofs.Fronts.{in_tree, stood_grows}
 use Rattle.gathering.proofs.Gathers.{answers_as}
@@ -111,22 +112,25 @@ index_name room k d named its number = record {
 
 -- ---------- the scan
 
+-- the folder of its number shows a dropping that stood
+shown : (caller room : ℕ) (start end : Moment) (top : List Name) (k : ℕ) (asked : List Asked) (ds : List Dropping) (d : Dropping) → IsSeen caller start asked end → ShowsHostdir room top k asked ds
+    → d.room ≡ room → Stood start d → Among (hostdir_of d.host) top → d.host % 32 ≡ k → Among d ds
+shown caller room start end top k asked ds d seen (inl (absent, none, nothing)) its stood named number =
+    absurd (absent (is_among top (hostdir_of k) (subst (λ f. Among f top) (its_hostdir d.host k number) named)))
+shown caller room start end top k asked ds d seen (inr (there, (call, only, lists))) its stood named number =
+    let s : IsSeen caller start (call ∷ []) end = subst (λ l. IsSeen caller start l end) only seen in
+    let names_it = folder_names caller room k start s.0 call lists.names d s.1 lists.lists.call lists.lists.reply its number stood in
+    named_dropping room k lists.names ds (index_path d.host d.writer).file d lists.found names_it (index_name room k d stood.is_item its number)
+
 hostdirs_found : (caller room : ℕ) (start end : Moment) (top : List Name) (ks : List ℕ) (asked : List Asked) (ds : List Dropping) (d : Dropping) → IsSeen caller start asked end → ListsHostdirs room top ks asked ds
     → d.room ≡ room → Stood start d → Among (hostdir_of d.host) top → Among (d.host % 32) ks → Among d ds
 hostdirs_found caller room start end top [] asked ds d seen lists its stood named a = absurd a
-hostdirs_found caller room start end top (k ∷ ks) asked ds d seen (inl (absent, lists)) its stood named (inl here) =
-    absurd (absent (is_among top (hostdir_of k) (subst (λ f. Among f top) (its_hostdir d.host k here) named)))
-hostdirs_found caller room start end top (k ∷ ks) asked ds d seen (inl (absent, lists)) its stood named (inr a) = hostdirs_found caller room start end top ks asked ds d seen lists its stood named a
-hostdirs_found caller room start end top (k ∷ ks) asked ds d seen (inr (there, (first, rest, mine, others, calls, split, lists, more))) its stood named a =
-    let s : IsSeen caller start (first ∷ rest) end = subst (λ l. IsSeen caller start l end) calls seen in
-    subst (Among d) (sym split) (elim a as (λ _. Among d (mine ++ others)) [
-      | inl here ↦
-          let names_it = folder_names caller room k start s.0 first lists.names d s.1 lists.lists.call lists.lists.reply its here stood in
-          among_left d mine others (named_dropping room k lists.names mine (index_path d.host d.writer).file d lists.found names_it (index_name room k d stood.is_item its here))
-      | inr later ↦
-          let goes : Grows start s.0 = grows_trans start s.1.before s.0 s.1.waits s.1.goes in
-          among_right d mine others (hostdirs_found caller room s.0 end top ks rest others d s.2 more its (stood_grows start s.0 d goes stood) named later)
-    ])
+hostdirs_found caller room start end top (k ∷ ks) asked ds d seen (mine, rest, here, others, calls, split, shows, more) its stood named (inl number) =
+    let s = seen_split caller start end mine rest (subst (λ l. IsSeen caller start l end) calls seen) in
+    subst (Among d) (sym split) (among_left d here others (shown caller room start s.0 top k mine here d s.1 shows its stood named number))
+hostdirs_found caller room start end top (k ∷ ks) asked ds d seen (mine, rest, here, others, calls, split, shows, more) its stood named (inr later) =
+    let s = seen_split caller start end mine rest (subst (λ l. IsSeen caller start l end) calls seen) in
+    subst (Among d) (sym split) (among_right d here others (hostdirs_found caller room s.0 end top ks rest others d s.2 more its (stood_grows start s.0 d (seen_grows caller start s.0 mine s.1) stood) named later))
 
 in_range : (from n k : ℕ) → from ≤ k → k < from + n → Among k (range_with_len from n)
 in_range from zero k low high = absurd (omega arith)

@@ -96,6 +96,10 @@ second_bytes = spelling_all (second_entry ∷ [])
 
 -- ---------- trees
 
+-- the room of the marks before its mount has put one
+abbrev pub unmarked : Tree
+unmarked = record { rooms = record { name = marks_name; folders = marks_folder ∷ []; files = [] } ∷ [] }
+
 abbrev pub no_container : Tree
 no_container = record { rooms = marks_room ∷ [] }
 

@@ -12,8 +12,8 @@ use Rattle.plain_file.proofs.OrderLemmas.{Among, All-Among}
 use Rattle.mount_model.specs.Paths.{Name, index_path}
 use Rattle.gathering.specs.Moments.{Moment, IsSoundAt, file_in_room, file_told, Dropping, Stood, Grows}
 use Rattle.gathering.specs.Seen.{Asked, IsSeenCall, IsSeen}
-use Rattle.gathering.specs.Listing.{IsIndexName, AreDroppingsOf, ListsHostdir, ListsHostdirs, hostdirs, IsScan, WritersDiffer, AreFound}
-use Rattle.gathering.proofs.Seeing.{seen_grows}
+use Rattle.gathering.specs.Listing.{IsIndexName, AreDroppingsOf, ListsHostdir, ShowsHostdir, ListsHostdirs, hostdirs, IsScan, WritersDiffer, AreFound}
+use Rattle.gathering.proofs.Seeing.{seen_grows, seen_split}
 use Rattle.gathering.proofs.Looking.{folder_listed}
 use Rattle.gathering.proofs.Fronts.{stood_grows, stands}
 use Rattle.gathering.proofs.Gathers.{answers_as}
@@ -124,25 +124,30 @@ pub record FoundSome (m : Moment) (room : ℕ) (ks : List ℕ) (ds : List Droppi
   pub all : AllByRecursion (InSome m room ks) ds
   pub differ : DroppingsDiffer ds
 
+-- what one folder shows
+folder_shows : (caller room k : ℕ) (start end : Moment) (top : List Name) (asked : List Asked) (ds : List Dropping) → IsSeen caller start asked end → ShowsHostdir room top k asked ds → FoundOne end room k ds
+folder_shows caller room k start end top asked ds seen (inl (absent, none, nothing)) = subst (FoundOne end room k) (sym nothing) (record { all = tt; differ = tt })
+folder_shows caller room k start end top asked ds seen (inr (there, (call, only, lists))) =
+    let s : IsSeen caller start (call ∷ []) end = subst (λ l. IsSeen caller start l end) only seen in
+    let one = one_folder caller room k start s.0 call ds s.1 lists in
+    record { all = All-weaker (IsFoundIn s.0 room k) (IsFoundIn end room k) ds (λ d i. found_later s.0 end room k d s.2 i) one.all; differ = one.differ }
+
 all_folders : (caller room : ℕ) (start end : Moment) (top : List Name) (ks : List ℕ) (asked : List Asked) (ds : List Dropping) → IsSeen caller start asked end → Rises ks → ListsHostdirs room top ks asked ds → FoundSome end room ks ds
 all_folders caller room start end top [] asked ds seen rises (none, empty) = subst (FoundSome end room []) (sym empty) (record { all = tt; differ = tt })
-all_folders caller room start end top (k ∷ ks) asked ds seen rises (inl (absent, lists)) =
-    let f = all_folders caller room start end top ks asked ds seen rises.1 lists in
-    record { all = All-weaker (InSome end room ks) (InSome end room (k ∷ ks)) ds (λ d i. (i.0, inr i.1, i.2)) f.all; differ = f.differ }
-all_folders caller room start end top (k ∷ ks) asked ds seen rises (inr (there, (first, rest, mine, others, calls, split, lists, more))) =
-    let s : IsSeen caller start (first ∷ rest) end = subst (λ l. IsSeen caller start l end) calls seen in
-    let one = one_folder caller room k start s.0 first mine s.1 lists in
+all_folders caller room start end top (k ∷ ks) asked ds seen rises (mine, rest, here, others, calls, split, shows, more) =
+    let s = seen_split caller start end mine rest (subst (λ l. IsSeen caller start l end) calls seen) in
+    let one = folder_shows caller room k start s.0 top mine here s.1 shows in
     let f = all_folders caller room s.0 end top ks rest others s.2 rises.1 more in
     let goes : Grows s.0 end = seen_grows caller s.0 end rest s.2 in
-    let mine_found : AllByRecursion (IsFoundIn end room k) mine = All-weaker (IsFoundIn s.0 room k) (IsFoundIn end room k) mine (λ d i. found_later s.0 end room k d goes i) one.all in
+    let here_found : AllByRecursion (IsFoundIn end room k) here = All-weaker (IsFoundIn s.0 room k) (IsFoundIn end room k) here (λ d i. found_later s.0 end room k d goes i) one.all in
     subst (FoundSome end room (k ∷ ks)) (sym split) (record {
-      all = All-append (InSome end room (k ∷ ks)) mine others
-          (All-weaker (IsFoundIn end room k) (InSome end room (k ∷ ks)) mine (λ d i. (k, inl refl, i)) mine_found)
-          (All-weaker (InSome end room ks) (InSome end room (k ∷ ks)) others (λ d i. (i.0, inr i.1, i.2)) f.all);
-      differ = differ_append mine others one.differ f.differ
-          (All-weaker (IsFoundIn end room k) (λ (d : Dropping). AllByRecursion (λ (e : Dropping). e ≢ d) others) mine
-          (λ d i. All-weaker (InSome end room ks) (λ (e : Dropping). e ≢ d) others (λ e j. apart end room k j.0 d e (All-Among (λ l. k < l) ks j.0 rises.0 j.1) i j.2) f.all)
-          mine_found);
+      all = All-append (InSome end room (k ∷ ks)) here others
+      (All-weaker (IsFoundIn end room k) (InSome end room (k ∷ ks)) here (λ d i. (k, inl refl, i)) here_found)
+      (All-weaker (InSome end room ks) (InSome end room (k ∷ ks)) others (λ d i. (i.0, inr i.1, i.2)) f.all);
+      differ = differ_append here others one.differ f.differ
+      (All-weaker (IsFoundIn end room k) (λ (d : Dropping). AllByRecursion (λ (e : Dropping). e ≢ d) others) here
+      (λ d i. All-weaker (InSome end room ks) (λ (e : Dropping). e ≢ d) others (λ e j. apart end room k j.0 d e (All-Among (λ l. k < l) ks j.0 rises.0 j.1) i j.2) f.all)
+      here_found);
     })
 
 -- ---------- one dropping a writer

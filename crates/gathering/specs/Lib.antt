@@ -6,3 +6,4 @@ pub mod View
 pub mod Opening
 pub mod Bounds
 pub mod Failing
+pub mod Example

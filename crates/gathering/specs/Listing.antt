@@ -59,18 +59,23 @@ AreDroppingsOf room k (name ∷ names) ds =
     ((d : Dropping) × (rest : List Dropping) × IsIndexName room k name d × (ds ≡ d ∷ rest) × AreDroppingsOf room k names rest)
     ⊎ (((d : Dropping) → IsIndexName room k name d → ⊥) × AreDroppingsOf room k names ds)
 
--- One folder of droppings is listed, and these of its droppings are found before the others.
-pub record ListsHostdir (room k : ℕ) (mine : List Dropping) (asked : Asked) : Type 0 where
+-- The folder of droppings of this number is listed, and these droppings are found.
+pub record ListsHostdir (room k : ℕ) (ds : List Dropping) (asked : Asked) : Type 0 where
   pub names : List Name
   pub lists : IsListing room (ListFolder (hostdir_of k)) names asked
-  pub found : AreDroppingsOf room k names mine
+  pub found : AreDroppingsOf room k names ds
 
--- Each folder of droppings that the top named is listed, by rising number, and these droppings are found.
+-- It is listed where the top named it, and else nothing is asked of it.
+abbrev pub ShowsHostdir : ℕ → List Name → ℕ → List Asked → List Dropping → Type 0
+ShowsHostdir room top k asked ds =
+    ((IsAmong (hostdir_of k) top → ⊥) × (asked ≡ []) × (ds ≡ []))
+    ⊎ (IsAmong (hostdir_of k) top × ((call : Asked) × (asked ≡ call ∷ []) × ListsHostdir room k ds call))
+
+-- So are the folders of these numbers, one after the other.
 abbrev pub ListsHostdirs : ℕ → List Name → List ℕ → List Asked → List Dropping → Type 0
 ListsHostdirs room top [] asked ds = (asked ≡ []) × (ds ≡ [])
 ListsHostdirs room top (k ∷ ks) asked ds =
-    ((IsAmong (hostdir_of k) top → ⊥) × ListsHostdirs room top ks asked ds)
-    ⊎ (IsAmong (hostdir_of k) top × ((first : Asked) × (rest : List Asked) × (mine others : List Dropping) × (asked ≡ first ∷ rest) × (ds ≡ mine ++ others) × ListsHostdir room k mine first × ListsHostdirs room top ks rest others))
+    (mine rest : List Asked) × (here others : List Dropping) × (asked ≡ mine ++ rest) × (ds ≡ here ++ others) × ShowsHostdir room top k mine here × ListsHostdirs room top ks rest others
 
 -- the numbers of folders of droppings
 abbrev pub hostdirs : List ℕ
