@@ -5,9 +5,11 @@
 //! soundness and on the plain file, and has no code beyond its laws.
 #![tactic(auto)]
 
+mod example;
 mod histories;
 mod readers;
 
+pub use example::a_reader_opens_beside_a_torn_flush;
 pub use histories::{
     call_has_place, caller_sees, flush_lands, history_grows, no_truncate_comes,
     nothing_lands_unflushed, reads_fail_by_store, sync_lands,
