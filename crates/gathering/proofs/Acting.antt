@@ -1,20 +1,18 @@
 -- Each step of the mount makes at most one act, and its call says which.
-use Rattle.std.proofs.Common.{◌≡◌, ℕ, List, [], ◌∷◌, Option, Some, Bool, refl, ap, ◌⊎◌, inl, inr}
+use Rattle.std.proofs.Common.{◌≡◌, ℕ, List, [], ◌∷◌, Some, Bool, refl, ap, ◌⊎◌, inl, inr}
 use Rattle.plfs_types.specs.declared.entries.Entry.{Entry}
 use Rattle.store_api.specs.Step.{Step, find_room, make_room, rooms as all_rooms, list_folder}
 use Rattle.store_api.specs.Acts.{Acts}
 use Rattle.mount_model.specs.declared.call.Call.{Call}
 use Rattle.mount_model.specs.declared.call.Call.TheVariants.{Greet, Find, MakeContainer, Rooms, Look, Enter, Floor, MakeHostdir, MakeIndex, MakeLog, Write, Flush, SyncLog, SyncIndex, PutMeta, Exit}
 use Rattle.mount_model.specs.declared.reply.Reply.{Reply}
-use Rattle.mount_model.specs.declared.reply.Refusal.{Refusal}
-use Rattle.mount_model.specs.declared.reply.Refusal.TheVariants.{NotOpen}
 use Rattle.mount_model.specs.declared.row.Row.{Row}
 use Rattle.mount_model.specs.declared.row.Stage.{Stage}
 use Rattle.mount_model.specs.declared.row.Stage.TheVariants as stage
 use Rattle.mount_model.specs.Paths.{new_folders, new_files, truncs}
 use Rattle.mount_model.specs.State.{State}
-use Rattle.mount_model.specs.Table.{row_of, held_by, only, may_close, is_live}
-use Rattle.mount_model.specs.Making.{Told, Outcome, Makes, Refuses, OnWriter, UnlessRefused}
+use Rattle.mount_model.specs.Table.{row_of, only, may_close, is_live}
+use Rattle.mount_model.specs.Making.{Told, Outcome, Makes, OnWriter, UnlessRefused}
 use Rattle.mount_model.specs.Looking.{room_check, look_step}
 use Rattle.mount_model.specs.Entering.{enter_check, enter_step, EntersAs}
 use Rattle.mount_model.specs.Flooring.{FloorsRow}

@@ -1,8 +1,7 @@
 -- Bounds on what has landed: what a flush or a sync told, and what was issued at the last flush.
-use Rattle.std.proofs.Common.{◌≡◌, ℕ, ◌≤◌, true, false, nat_eq, List, [], ◌∷◌, length, Option, Some, None, refl, ap, sym, ◌∙◌, inl, inr, subst, arith}
-use Rattle.std.specs.Prelude.{Ok, Err, MatchOption, if◌then◌else◌}
+use Rattle.std.proofs.Common.{◌≡◌, ℕ, ◌≤◌, false, List, [], ◌∷◌, length, Option, Some, None, refl, ap, sym, ◌∙◌, inl, inr, subst, arith}
+use Rattle.std.specs.Prelude.{Ok, Err, MatchOption}
 use Rattle.std.specs.List.{Any}
-use Rattle.std.proofs.lemmas.Bool.Decides.{nat_tests}
 use Rattle.plfs_types.specs.declared.entries.Entry.{Entry}
 use Rattle.plfs_types.specs.declared.entries.Trunc.{Trunc}
 use Rattle.store_api.specs.Room.{is_top}
@@ -35,7 +34,7 @@ use Rattle.mount_model.proofs.Tables.{row_of_id, row_of-with_row}
 use Rattle.mount_sound.specs.Landed.{whole}
 use Rattle.gathering.specs.Moments.{Moment, IsSoundAt, next_moment, moment_after, file_in_room, file_told, Dropping, IsNamed, issued_by, index_then, landed, HadTrunc, Grows}
 use Rattle.gathering.specs.Gathering.{Gathered, IsPrefixOf}
-use Rattle.gathering.specs.Bounds.{IsOf, LandedAtLeast, IsSyncedIn, Spares, AllSpare}
+use Rattle.gathering.specs.Bounds.{IsOf, LandedAtLeast, IsFlushedIn, IsSyncedIn, Spares, AllSpare}
 use Rattle.gathering.specs.Opening.{HasView}
 use Rattle.gathering.proofs.Acting.{at_most_one_act}
 use Rattle.gathering.proofs.Growing.{grows_refl, trunc_grows}
@@ -162,27 +161,40 @@ one_of state a b writer of_a of_b =
     let host : a.host ≡ b.host = sym of_a.host ∙ ap (λ (r : Row). r.host) same ∙ of_b.host in
     λ i. record { room = room i; host = host i; writer = writer i }
 
--- what was synced in these events has landed after them
-pub synced_landed : (m : Moment) (events : List Event) (d : Dropping) (count : ℕ) (e : Event) → IsLegal m.state events → IsSoundAt m → Among e events → e.ask.call ≡ SyncIndex d.writer → e.reply ≡ Synced count → IsOf e.after d → LandedAtLeast (moment_after m events) d count
-synced_landed m [] d count e legal s a call reply of = absurd a
-synced_landed m (v ∷ events) d count e legal s (inl same) call reply of =
+-- what this event told of the writer has landed after it
+abbrev Tells : Event → ℕ → ℕ → Type 0
+Tells e writer count = (m : Moment) → IsLegal m.state (e ∷ []) → IsSoundAt m → Lands (next_moment m e) writer count
+
+-- and after all events
+told_landed : (m : Moment) (events : List Event) (d : Dropping) (count : ℕ) (e : Event) → IsLegal m.state events → IsSoundAt m → Among e events → Tells e d.writer count → IsOf e.after d → LandedAtLeast (moment_after m events) d count
+told_landed m [] d count e legal s a tells of = absurd a
+told_landed m (v ∷ events) d count e legal s (inl same) tells of =
     let next : Moment = next_moment m v in
-    let l = sync_lands m v d.writer count (legal.0, legal.1, tt) s (ap (λ (x : Event). x.ask.call) (sym same) ∙ call) (ap (λ (x : Event). x.reply) (sym same) ∙ reply) in
-    let its : IsOf v.after d = subst (λ (x : Event). IsOf x.after d) same of in
-    let one : l.0 ≡ d = one_of v.after l.0 d l.1 l.2 its in
+    let l = subst (λ (x : Event). Tells x d.writer count) same tells m (legal.0, legal.1, tt) s in
+    let one : l.0 ≡ d = one_of v.after l.0 d l.1 l.2 (subst (λ (x : Event). IsOf x.after d) same of) in
     landed_later next (moment_after next events) d count (grows_after next events legal.2 (sound_next m v events legal s)) (subst (λ x. LandedAtLeast next x count) one l.3)
-synced_landed m (v ∷ events) d count e legal s (inr more) call reply of = synced_landed (next_moment m v) events d count e legal.2 (sound_next m v events legal s) more call reply of
+told_landed m (v ∷ events) d count e legal s (inr more) tells of = told_landed (next_moment m v) events d count e legal.2 (sound_next m v events legal s) more tells of
+
+-- it is in a cut that is admissible from there
+landed_gathered : (start end : Moment) (room : ℕ) (cut : List Gathered) (truncs : List Trunc) (d : Dropping) (count : ℕ) → HasView start end room cut truncs → d.room ≡ room → LandedAtLeast start d count → Any (λ (g : Gathered). (g.dropping ≡ d) × (count ≤ g.count)) cut
+landed_gathered start end room cut truncs d count view its landed_then =
+    let (g, among_cut, is) = any_found (λ (x : Gathered). x.dropping ≡ d) cut (view.complete d its landed_then.stands) in
+    let p : IsPrefixOf start end g = prefix_of start end cut g view.admissible among_cut in
+    found_any (λ (x : Gathered). (x.dropping ≡ d) × (count ≤ x.count)) cut g among_cut (is, omega (arith, landed_then.counted, p.least, ap (λ x. landed start x) is))
 
 -- A reader has all of the room that was synced before its first call.
 pub synced_gathered : (first : Moment) (before : List Event) (end : Moment) (room : ℕ) (cut : List Gathered) (truncs : List Trunc) (d : Dropping) (count : ℕ) → IsLegal first.state before → IsSoundAt first → HasView (moment_after first before) end room cut truncs
     → d.room ≡ room → IsSyncedIn before d count → Any (λ (g : Gathered). (g.dropping ≡ d) × (count ≤ g.count)) cut
 synced_gathered first before end room cut truncs d count legal s view its synced =
     let (e, a, (call, reply, of)) = any_found (λ (x : Event). (x.ask.call ≡ SyncIndex d.writer) × (x.reply ≡ Synced count) × IsOf x.after d) before synced in
-    let start : Moment = moment_after first before in
-    let h = synced_landed first before d count e legal s a call reply of in
-    let (g, among_cut, is) = any_found (λ (x : Gathered). x.dropping ≡ d) cut (view.complete d its h.stands) in
-    let p : IsPrefixOf start end g = prefix_of start end cut g view.admissible among_cut in
-    found_any (λ (x : Gathered). (x.dropping ≡ d) × (count ≤ x.count)) cut g among_cut (is, omega (arith, h.counted, p.least, ap (λ x. landed start x) is))
+    landed_gathered (moment_after first before) end room cut truncs d count view its (told_landed first before d count e legal s a (λ m l sound. sync_lands m e d.writer count l sound call reply) of)
+
+-- And all that was flushed.
+pub flushed_gathered : (first : Moment) (before : List Event) (end : Moment) (room : ℕ) (cut : List Gathered) (truncs : List Trunc) (d : Dropping) (count : ℕ) → IsLegal first.state before → IsSoundAt first → HasView (moment_after first before) end room cut truncs
+    → d.room ≡ room → IsFlushedIn before d count → Any (λ (g : Gathered). (g.dropping ≡ d) × (count ≤ g.count)) cut
+flushed_gathered first before end room cut truncs d count legal s view its flushed_so =
+    let (e, a, (call, reply, of)) = any_found (λ (x : Event). (x.ask.call ≡ Flush d.writer) × (x.reply ≡ Flushed count) × IsOf x.after d) before flushed_so in
+    landed_gathered (moment_after first before) end room cut truncs d count view its (told_landed first before d count e legal s a (λ m l sound. flush_lands m e d.writer count l sound call reply) of)
 
 -- ---------- nothing lands but by the writer's own flushes
 

@@ -1,5 +1,5 @@
 -- A short history in which two writers and a reader meet: its states.
-use Rattle.std.proofs.Common.{◌≡◌, ℕ, ◌+◌, ◌*◌, ◌≤◌, List, [], ◌∷◌, ◌++◌, take, Option, Some, None, false, refl, arith}
+use Rattle.std.proofs.Common.{ℕ, List, [], ◌∷◌, ◌++◌, take, Some, None, false}
 use Rattle.std.specs.Prelude.{codes}
 use Rattle.plfs_types.specs.declared.entries.Entry.{Entry}
 use Rattle.index_entry.specs.Spelling.{spelling_all}
@@ -18,7 +18,7 @@ use Rattle.mount_model.specs.declared.reply.Reply.TheVariants.{Room as RoomIs, L
 use Rattle.mount_model.specs.declared.row.Row.{Row}
 use Rattle.mount_model.specs.declared.row.Stage.{Stage}
 use Rattle.mount_model.specs.declared.row.Stage.TheVariants as stage
-use Rattle.mount_model.specs.Paths.{Name, new_folders, new_files, marks_name, marks_folder, mark_path, access_path, open_path, index_path, log_path, openhosts, truncs}
+use Rattle.mount_model.specs.Paths.{Name, new_folders, marks_name, marks_folder, mark_path, access_path, open_path, index_path, log_path, openhosts, truncs}
 use Rattle.mount_model.specs.History.{Event}
 use Rattle.mount_model.specs.State.{State, id_of}
 use Rattle.mount_model.specs.Writing.{wrote, entry_of}

@@ -1,25 +1,20 @@
 -- What the reader of the short history gathered and read.
-use Rattle.std.proofs.Common.{◌≡◌, ℕ, ◌+◌, ◌≤◌, ◌<◌, ◌^◌, ◌∙◌, Bool, true, false, List, [], ◌∷◌, ◌++◌, get_or, Option, Some, None, refl, ap, sym, arith, inl, inr}
+use Rattle.std.proofs.Common.{◌≡◌, ℕ, ◌<◌, ◌^◌, ◌∙◌, Bool, true, false, List, [], ◌∷◌, get_or, Some, None, refl, ap, sym, arith, inl, inr}
 use Rattle.std.specs.Prelude.{◌&&◌, nat_le, nat_lt, cond, option_map, if◌then◌else◌, not}
 use Rattle.std.specs.Fmt.{digits}
 use Rattle.std.specs.List.{Any, list_all, range_with_len}
 use Rattle.std.proofs.lemmas.List.{append-nil}
 use Rattle.std.proofs.lemmas.List.Elements.{All-from_recursion}
-use Rattle.plfs_types.specs.declared.entries.Entry.{Entry}
-use Rattle.plfs_types.specs.declared.entries.Trunc.{Trunc}
 use Rattle.plfs_types.specs.declared.names.Path.{Path}
 use Rattle.index_entry.specs.Spelling.{spelling}
 use Rattle.container_layout.specs.Paths.{hostdir_of}
 use Rattle.container_layout.proofs.Places.{elsewhere}
-use Rattle.store_api.specs.declared.tree.Tree.{Tree}
 use Rattle.store_laws.specs.Files.{file_at}
 use Rattle.store_laws.specs.Differ.{is_listed}
 use Rattle.plain_file.specs.declared.pieces.Piece.{Piece}
 use Rattle.plain_file.specs.Newest.{newest}
-use Rattle.plain_file.specs.Sources.{Source, source_of, source_in}
+use Rattle.plain_file.specs.Sources.{source_of, source_in}
 use Rattle.plain_file.specs.Runs.{ArePieces}
-use Rattle.plain_file.proofs.OrderLemmas.{Among}
-use Rattle.mount_model.specs.History.{Event}
 use Rattle.mount_model.specs.Paths.{Name, index_path}
 use Rattle.mount_model.specs.Mounting.{IsMounted}
 use Rattle.mount_shape.proofs.Held.{empty_shaped}
@@ -28,11 +23,11 @@ use Rattle.mount_sound.specs.Ledger.{entries_in}
 use Rattle.mount_sound.proofs.Landing.{no_writes}
 use Rattle.mount_sound.proofs.Mounting.{mounted_sound}
 use Rattle.gathering.specs.Moments.{Moment, IsSoundAt, moment_after, Dropping}
-use Rattle.gathering.specs.Seen.{Asked, asked_in, calls_of}
-use Rattle.gathering.specs.Gathering.{Gathered, Gathers, GathersAll}
+use Rattle.gathering.specs.Seen.{asked_in, calls_of}
+use Rattle.gathering.specs.Gathering.{Gathered, Gathers}
 use Rattle.gathering.specs.Listing.{IsAmong, IsIndexName, AreDroppingsOf, ListsHostdirs, IsScan}
 use Rattle.gathering.specs.View.{writes_in}
-use Rattle.gathering.specs.Opening.{IsCutOf, ListsTruncs, IsOpening, Answers}
+use Rattle.gathering.specs.Opening.{IsOpening, Answers}
 use Rattle.gathering.specs.Example.{IsBesideTornFlush}
 use Rattle.gathering.proofs.Entries.{among_listed}
 use Rattle.gathering.proofs.Members.{among, is_among, any_found, found_any}

@@ -1,18 +1,16 @@
 -- The short history is legal: each of its calls answers as the mount does.
-use Rattle.std.proofs.Common.{◌≡◌, ℕ, ◌≤◌, ◌<◌, ◌^◌, List, [], ◌∷◌, ◌++◌, take, Some, None, refl, arith, inl, inr}
+use Rattle.std.proofs.Common.{◌≡◌, ℕ, List, [], ◌∷◌, ◌++◌, None, refl, arith, inl}
 use Rattle.std.specs.Prelude.{Ok, Err, IsTrue}
 use Rattle.std.specs.Fmt.{digits}
 use Rattle.std.proofs.lemmas.List.Elements.{All-from_recursion}
 use Rattle.plfs_types.specs.Counts.{next_count}
 use Rattle.plfs_types.specs.Names.{IsLogicalName, is_name_byte}
 use Rattle.index_entry.specs.Spelling.{spelling}
-use Rattle.container_layout.specs.Paths.{hostdir_of}
 use Rattle.store_api.specs.declared.tree.Tree.{Tree}
 use Rattle.store_api.specs.declared.step.Answer.{Answer}
 use Rattle.store_api.specs.declared.step.Answer.TheVariants.{Made, Old, Number, Names, Bytes}
 use Rattle.store_api.specs.declared.store.Trouble.TheVariants as trouble
-use Rattle.store_api.specs.Acts.{Acts}
-use Rattle.store_api.specs.Effect.{Effect, effect}
+use Rattle.store_api.specs.Effect.{effect}
 use Rattle.store_api.specs.Leaves.{in_part}
 use Rattle.store_api.specs.Step.{Step}
 use Rattle.mount_model.specs.declared.row.Row.{Row}
@@ -146,26 +144,92 @@ step old event whole answers = record { goes_on = whole; answers = answers }
 
 -- The history is legal.
 pub legal : IsLegal begun (sample.gathering ++ sample.lists_truncs ∷ sample.later)
-legal = (record { goes_on = refl; call = tt }, step begun sample.makes_room refl makes_room, 
-    (record { goes_on = refl; call = (omega arith, omega arith) }, step sample.makes_room.after sample.enters_first refl enters_first, 
-    (record { goes_on = refl; call = tt }, step sample.enters_first.after sample.floors_first refl floors_first, 
-    (record { goes_on = refl; call = tt }, step sample.floors_first.after sample.houses_first refl houses_first, 
-    (record { goes_on = refl; call = tt }, step sample.houses_first.after sample.indexes_first refl indexes_first, 
-    (record { goes_on = refl; call = tt }, step sample.indexes_first.after sample.opens_first refl opens_first, 
-    (record { goes_on = refl; call = tt }, step sample.opens_first.after sample.writes_first refl writes_first, 
-    (record { goes_on = refl; call = tt }, step sample.writes_first.after sample.flushes_first refl flushes_first, 
-    (record { goes_on = refl; call = (omega arith, omega arith) }, step sample.flushes_first.after sample.enters_second refl enters_second, 
-    (record { goes_on = refl; call = tt }, step sample.enters_second.after sample.floors_second refl floors_second, 
-    (record { goes_on = refl; call = tt }, step sample.floors_second.after sample.houses_second refl houses_second, 
-    (record { goes_on = refl; call = tt }, step sample.houses_second.after sample.indexes_second refl indexes_second, 
-    (record { goes_on = refl; call = tt }, step sample.indexes_second.after sample.opens_second refl opens_second, 
-    (record { goes_on = refl; call = tt }, step sample.opens_second.after sample.writes_second refl writes_second, 
-    (record { goes_on = refl; call = tt }, step sample.writes_second.after sample.lists_top refl lists_top, 
-    (record { goes_on = refl; call = tt }, step sample.lists_top.after sample.flush_tears refl flush_tears, 
-    (record { goes_on = refl; call = tt }, step sample.flush_tears.after sample.lists_folder refl lists_folder, 
-    (record { goes_on = refl; call = tt }, step sample.lists_folder.after sample.asks_first refl asks_first, 
-    (record { goes_on = refl; call = tt }, step sample.asks_first.after sample.reads_first refl reads_first, 
-    (record { goes_on = refl; call = tt }, step sample.reads_first.after sample.asks_second refl asks_second, 
-    (record { goes_on = refl; call = tt }, step sample.asks_second.after sample.lists_truncs refl lists_truncs, 
-    (record { goes_on = refl; call = tt }, step sample.lists_truncs.after sample.flushes_second refl flushes_second, 
-    (record { goes_on = refl; call = tt }, step sample.flushes_second.after sample.reads_log refl reads_log, tt)))))))))))))))))))))))
+legal = (
+  record { goes_on = refl; call = tt },
+  step begun sample.makes_room refl makes_room,
+  (
+    record { goes_on = refl; call = (omega arith, omega arith) },
+    step sample.makes_room.after sample.enters_first refl enters_first,
+    (
+      record { goes_on = refl; call = tt },
+      step sample.enters_first.after sample.floors_first refl floors_first,
+      (
+        record { goes_on = refl; call = tt },
+        step sample.floors_first.after sample.houses_first refl houses_first,
+        (
+          record { goes_on = refl; call = tt },
+          step sample.houses_first.after sample.indexes_first refl indexes_first,
+          (
+            record { goes_on = refl; call = tt },
+            step sample.indexes_first.after sample.opens_first refl opens_first,
+            (
+              record { goes_on = refl; call = tt },
+              step sample.opens_first.after sample.writes_first refl writes_first,
+              (
+                record { goes_on = refl; call = tt },
+                step sample.writes_first.after sample.flushes_first refl flushes_first,
+                (
+                  record { goes_on = refl; call = (omega arith, omega arith) },
+                  step sample.flushes_first.after sample.enters_second refl enters_second,
+                  (
+                    record { goes_on = refl; call = tt },
+                    step sample.enters_second.after sample.floors_second refl floors_second,
+                    (
+                      record { goes_on = refl; call = tt },
+                      step sample.floors_second.after sample.houses_second refl houses_second,
+                      (
+                        record { goes_on = refl; call = tt },
+                        step sample.houses_second.after sample.indexes_second refl indexes_second,
+                        (
+                          record { goes_on = refl; call = tt },
+                          step sample.indexes_second.after sample.opens_second refl opens_second,
+                          (
+                            record { goes_on = refl; call = tt },
+                            step sample.opens_second.after sample.writes_second refl writes_second,
+                            (
+                              record { goes_on = refl; call = tt },
+                              step sample.writes_second.after sample.lists_top refl lists_top,
+                              (
+                                record { goes_on = refl; call = tt },
+                                step sample.lists_top.after sample.flush_tears refl flush_tears,
+                                (
+                                  record { goes_on = refl; call = tt },
+                                  step sample.flush_tears.after sample.lists_folder refl lists_folder,
+                                  (
+                                    record { goes_on = refl; call = tt },
+                                    step sample.lists_folder.after sample.asks_first refl asks_first,
+                                    (
+                                      record { goes_on = refl; call = tt },
+                                      step sample.asks_first.after sample.reads_first refl reads_first,
+                                      (
+                                        record { goes_on = refl; call = tt },
+                                        step sample.reads_first.after sample.asks_second refl asks_second,
+                                        (
+                                          record { goes_on = refl; call = tt },
+                                          step sample.asks_second.after sample.lists_truncs refl lists_truncs,
+                                          (
+                                            record { goes_on = refl; call = tt },
+                                            step sample.lists_truncs.after sample.flushes_second refl flushes_second,
+                                            (record { goes_on = refl; call = tt }, step sample.flushes_second.after sample.reads_log refl reads_log, tt),
+                                          ),
+                                        ),
+                                      ),
+                                    ),
+                                  ),
+                                ),
+                              ),
+                            ),
+                          ),
+                        ),
+                      ),
+                    ),
+                  ),
+                ),
+              ),
+            ),
+          ),
+        ),
+      ),
+    ),
+  ),
+)

@@ -142,12 +142,12 @@ all_folders caller room start end top (k ∷ ks) asked ds seen rises (mine, rest
     let here_found : AllByRecursion (IsFoundIn end room k) here = All-weaker (IsFoundIn s.0 room k) (IsFoundIn end room k) here (λ d i. found_later s.0 end room k d goes i) one.all in
     subst (FoundSome end room (k ∷ ks)) (sym split) (record {
       all = All-append (InSome end room (k ∷ ks)) here others
-      (All-weaker (IsFoundIn end room k) (InSome end room (k ∷ ks)) here (λ d i. (k, inl refl, i)) here_found)
-      (All-weaker (InSome end room ks) (InSome end room (k ∷ ks)) others (λ d i. (i.0, inr i.1, i.2)) f.all);
+          (All-weaker (IsFoundIn end room k) (InSome end room (k ∷ ks)) here (λ d i. (k, inl refl, i)) here_found)
+          (All-weaker (InSome end room ks) (InSome end room (k ∷ ks)) others (λ d i. (i.0, inr i.1, i.2)) f.all);
       differ = differ_append here others one.differ f.differ
-      (All-weaker (IsFoundIn end room k) (λ (d : Dropping). AllByRecursion (λ (e : Dropping). e ≢ d) others) here
-      (λ d i. All-weaker (InSome end room ks) (λ (e : Dropping). e ≢ d) others (λ e j. apart end room k j.0 d e (All-Among (λ l. k < l) ks j.0 rises.0 j.1) i j.2) f.all)
-      here_found);
+          (All-weaker (IsFoundIn end room k) (λ (d : Dropping). AllByRecursion (λ (e : Dropping). e ≢ d) others) here
+          (λ d i. All-weaker (InSome end room ks) (λ (e : Dropping). e ≢ d) others (λ e j. apart end room k j.0 d e (All-Among (λ l. k < l) ks j.0 rises.0 j.1) i j.2) f.all)
+          here_found);
     })
 
 -- ---------- one dropping a writer

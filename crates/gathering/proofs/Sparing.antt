@@ -54,8 +54,8 @@ absent_still tree after k n was new room there gives none e = elim (cases_eq n k
   | inr other ↦ no_room (slice_get tree.rooms n) room none (sym (other_room tree k n new other) ∙ ap (λ (t : Tree). slice_get t.rooms n) (sym gives) ∙ e)
 ]
 
-below_top : (b l : Bool) (some none : Option (List ℕ)) → b ≡ false → (if b && l then some else none) ≡ none
-below_top b l some none e = rw e refl
+below_top : (b l : Bool) (there absent : Option (List ℕ)) → b ≡ false → (if b && l then there else absent) ≡ absent
+below_top b l there absent e = rw e refl
 
 made_bare : (tree after : Tree) (name : List ℕ) (folders files : List (List ℕ)) (n : ℕ) (path : Path) (room : Room) → RoomMade tree name folders files after → is_top path.folder ≡ false → slice_get tree.rooms n ≡ None → slice_get after.rooms n ≡ Some room → file_at room path ≡ None
 made_bare tree after name folders files n path room m below none e =
@@ -130,6 +130,10 @@ call_same old new call tree n path e below spared (inr one) =
 
 -- ---------- index droppings
 
+-- what a step names, the act that it is names
+as_its_act : {step act : Step} (n : ℕ) (path : Path) → step ≡ act → NamesFile step n path → NamesFile act n path
+as_its_act n path is names = subst (λ s. NamesFile s n path) is names
+
 first_byte : (a b : List ℕ) → a ≡ b → get_or a 0 0 ≡ get_or b 0 0
 first_byte a b e = ap (λ (l : List ℕ). get_or l 0 0) e
 
@@ -145,37 +149,37 @@ other_row m s d writer row named other held folder file =
 
 pub spares_index : (m : Moment) (s : IsSoundAt m) (call : Call) (step : Step) (d : Dropping) → IsNamed d → Spares call d → IsActOf m.state call step → NamesFile step d.room (index_path d.host d.writer) → ⊥
 spares_index m s Greet step d named spares is names = is
-spares_index m s (Find name) step d named spares is names = subst (λ x. NamesFile x d.room (index_path d.host d.writer)) is names
-spares_index m s (MakeContainer name) step d named spares is names = subst (λ x. NamesFile x d.room (index_path d.host d.writer)) is names
-spares_index m s Rooms step d named spares is names = subst (λ x. NamesFile x d.room (index_path d.host d.writer)) is names
-spares_index m s (Look room Top) step d named spares is names = subst (λ x. NamesFile x d.room (index_path d.host d.writer)) is names
-spares_index m s (Look room (ListFolder folder)) step d named spares is names = subst (λ x. NamesFile x d.room (index_path d.host d.writer)) is names
-spares_index m s (Look room (Length path)) step d named spares is names = subst (λ x. NamesFile x d.room (index_path d.host d.writer)) is names
-spares_index m s (Look room (Read path at len)) step d named spares is names = subst (λ x. NamesFile x d.room (index_path d.host d.writer)) is names
+spares_index m s (Find name) step d named spares is names = as_its_act d.room (index_path d.host d.writer) is names
+spares_index m s (MakeContainer name) step d named spares is names = as_its_act d.room (index_path d.host d.writer) is names
+spares_index m s Rooms step d named spares is names = as_its_act d.room (index_path d.host d.writer) is names
+spares_index m s (Look room Top) step d named spares is names = as_its_act d.room (index_path d.host d.writer) is names
+spares_index m s (Look room (ListFolder folder)) step d named spares is names = as_its_act d.room (index_path d.host d.writer) is names
+spares_index m s (Look room (Length path)) step d named spares is names = as_its_act d.room (index_path d.host d.writer) is names
+spares_index m s (Look room (Read path at len)) step d named spares is names = as_its_act d.room (index_path d.host d.writer) is names
 spares_index m s (Enter room host most) step d named spares is names =
-    let n : NamesFile (enter_step m.state room host) d.room (index_path d.host d.writer) = subst (λ x. NamesFile x d.room (index_path d.host d.writer)) is names in
+    let n : NamesFile (enter_step m.state room host) d.room (index_path d.host d.writer) = as_its_act d.room (index_path d.host d.writer) is names in
     elsewhere (first_byte _ _ n.1.0) refl
-spares_index m s (Floor writer) step d named spares (row, held, is) names = subst (λ x. NamesFile x d.room (index_path d.host d.writer)) is names
-spares_index m s (MakeHostdir writer) step d named spares (row, held, is) names = subst (λ x. NamesFile x d.room (index_path d.host d.writer)) is names
+spares_index m s (Floor writer) step d named spares (row, held, is) names = as_its_act d.room (index_path d.host d.writer) is names
+spares_index m s (MakeHostdir writer) step d named spares (row, held, is) names = as_its_act d.room (index_path d.host d.writer) is names
 spares_index m s (MakeIndex writer) step d named spares (row, held, is) names =
-    let n : NamesFile (index_step row) d.room (index_path d.host d.writer) = subst (λ x. NamesFile x d.room (index_path d.host d.writer)) is names in
+    let n : NamesFile (index_step row) d.room (index_path d.host d.writer) = as_its_act d.room (index_path d.host d.writer) is names in
     other_row m s d writer row named spares held n.1.0 n.1.1
 spares_index m s (MakeLog writer) step d named spares (row, held, is) names =
-    let n : NamesFile (log_step row) d.room (index_path d.host d.writer) = subst (λ x. NamesFile x d.room (index_path d.host d.writer)) is names in
+    let n : NamesFile (log_step row) d.room (index_path d.host d.writer) = as_its_act d.room (index_path d.host d.writer) is names in
     elsewhere (first_byte _ _ n.1.1) refl
 spares_index m s (Write writer at block) step d named spares (row, held, is) names =
-    let n : NamesFile (write_step row block) d.room (index_path d.host d.writer) = subst (λ x. NamesFile x d.room (index_path d.host d.writer)) is names in
+    let n : NamesFile (write_step row block) d.room (index_path d.host d.writer) = as_its_act d.room (index_path d.host d.writer) is names in
     elsewhere (first_byte _ _ n.1.1) refl
 spares_index m s (Flush writer) step d named spares (row, held, is) names =
-    let n : NamesFile (flush_step row) d.room (index_path d.host d.writer) = subst (λ x. NamesFile x d.room (index_path d.host d.writer)) is names in
+    let n : NamesFile (flush_step row) d.room (index_path d.host d.writer) = as_its_act d.room (index_path d.host d.writer) is names in
     other_row m s d writer row named spares held n.1.0 n.1.1
-spares_index m s (SyncLog writer) step d named spares (row, held, is) names = subst (λ x. NamesFile x d.room (index_path d.host d.writer)) is names
-spares_index m s (SyncIndex writer) step d named spares (row, held, is) names = subst (λ x. NamesFile x d.room (index_path d.host d.writer)) is names
+spares_index m s (SyncLog writer) step d named spares (row, held, is) names = as_its_act d.room (index_path d.host d.writer) is names
+spares_index m s (SyncIndex writer) step d named spares (row, held, is) names = as_its_act d.room (index_path d.host d.writer) is names
 spares_index m s (PutMeta writer) step d named spares (row, held, is) names =
-    let n : NamesFile (put_meta_step row) d.room (index_path d.host d.writer) = subst (λ x. NamesFile x d.room (index_path d.host d.writer)) is names in
+    let n : NamesFile (put_meta_step row) d.room (index_path d.host d.writer) = as_its_act d.room (index_path d.host d.writer) is names in
     elsewhere (first_byte _ _ n.1.0) refl
 spares_index m s (Exit writer) step d named spares (row, held, is) names =
-    let n : NamesFile (exit_step row) d.room (index_path d.host d.writer) = subst (λ x. NamesFile x d.room (index_path d.host d.writer)) is names in
+    let n : NamesFile (exit_step row) d.room (index_path d.host d.writer) = as_its_act d.room (index_path d.host d.writer) is names in
     elsewhere (first_byte _ _ n.1.0) refl
 
 -- ---------- truncates
@@ -183,35 +187,35 @@ spares_index m s (Exit writer) step d named spares (row, held, is) names =
 -- no call puts a truncate
 pub spares_trunc : (old : State) (call : Call) (step : Step) (n stamp size : ℕ) → IsActOf old call step → NamesFile step n (trunc_path stamp size) → ⊥
 spares_trunc old Greet step n stamp size is names = is
-spares_trunc old (Find name) step n stamp size is names = subst (λ x. NamesFile x n (trunc_path stamp size)) is names
-spares_trunc old (MakeContainer name) step n stamp size is names = subst (λ x. NamesFile x n (trunc_path stamp size)) is names
-spares_trunc old Rooms step n stamp size is names = subst (λ x. NamesFile x n (trunc_path stamp size)) is names
-spares_trunc old (Look room Top) step n stamp size is names = subst (λ x. NamesFile x n (trunc_path stamp size)) is names
-spares_trunc old (Look room (ListFolder folder)) step n stamp size is names = subst (λ x. NamesFile x n (trunc_path stamp size)) is names
-spares_trunc old (Look room (Length path)) step n stamp size is names = subst (λ x. NamesFile x n (trunc_path stamp size)) is names
-spares_trunc old (Look room (Read path at len)) step n stamp size is names = subst (λ x. NamesFile x n (trunc_path stamp size)) is names
+spares_trunc old (Find name) step n stamp size is names = as_its_act n (trunc_path stamp size) is names
+spares_trunc old (MakeContainer name) step n stamp size is names = as_its_act n (trunc_path stamp size) is names
+spares_trunc old Rooms step n stamp size is names = as_its_act n (trunc_path stamp size) is names
+spares_trunc old (Look room Top) step n stamp size is names = as_its_act n (trunc_path stamp size) is names
+spares_trunc old (Look room (ListFolder folder)) step n stamp size is names = as_its_act n (trunc_path stamp size) is names
+spares_trunc old (Look room (Length path)) step n stamp size is names = as_its_act n (trunc_path stamp size) is names
+spares_trunc old (Look room (Read path at len)) step n stamp size is names = as_its_act n (trunc_path stamp size) is names
 spares_trunc old (Enter room host most) step n stamp size is names =
-    let named : NamesFile (enter_step old room host) n (trunc_path stamp size) = subst (λ x. NamesFile x n (trunc_path stamp size)) is names in
+    let named : NamesFile (enter_step old room host) n (trunc_path stamp size) = as_its_act n (trunc_path stamp size) is names in
     elsewhere (first_byte _ _ named.1.0) refl
-spares_trunc old (Floor writer) step n stamp size (row, held, is) names = subst (λ x. NamesFile x n (trunc_path stamp size)) is names
-spares_trunc old (MakeHostdir writer) step n stamp size (row, held, is) names = subst (λ x. NamesFile x n (trunc_path stamp size)) is names
+spares_trunc old (Floor writer) step n stamp size (row, held, is) names = as_its_act n (trunc_path stamp size) is names
+spares_trunc old (MakeHostdir writer) step n stamp size (row, held, is) names = as_its_act n (trunc_path stamp size) is names
 spares_trunc old (MakeIndex writer) step n stamp size (row, held, is) names =
-    let named : NamesFile (index_step row) n (trunc_path stamp size) = subst (λ x. NamesFile x n (trunc_path stamp size)) is names in
+    let named : NamesFile (index_step row) n (trunc_path stamp size) = as_its_act n (trunc_path stamp size) is names in
     elsewhere (first_byte _ _ named.1.0) refl
 spares_trunc old (MakeLog writer) step n stamp size (row, held, is) names =
-    let named : NamesFile (log_step row) n (trunc_path stamp size) = subst (λ x. NamesFile x n (trunc_path stamp size)) is names in
+    let named : NamesFile (log_step row) n (trunc_path stamp size) = as_its_act n (trunc_path stamp size) is names in
     elsewhere (first_byte _ _ named.1.0) refl
 spares_trunc old (Write writer at block) step n stamp size (row, held, is) names =
-    let named : NamesFile (write_step row block) n (trunc_path stamp size) = subst (λ x. NamesFile x n (trunc_path stamp size)) is names in
+    let named : NamesFile (write_step row block) n (trunc_path stamp size) = as_its_act n (trunc_path stamp size) is names in
     elsewhere (first_byte _ _ named.1.0) refl
 spares_trunc old (Flush writer) step n stamp size (row, held, is) names =
-    let named : NamesFile (flush_step row) n (trunc_path stamp size) = subst (λ x. NamesFile x n (trunc_path stamp size)) is names in
+    let named : NamesFile (flush_step row) n (trunc_path stamp size) = as_its_act n (trunc_path stamp size) is names in
     elsewhere (first_byte _ _ named.1.0) refl
-spares_trunc old (SyncLog writer) step n stamp size (row, held, is) names = subst (λ x. NamesFile x n (trunc_path stamp size)) is names
-spares_trunc old (SyncIndex writer) step n stamp size (row, held, is) names = subst (λ x. NamesFile x n (trunc_path stamp size)) is names
+spares_trunc old (SyncLog writer) step n stamp size (row, held, is) names = as_its_act n (trunc_path stamp size) is names
+spares_trunc old (SyncIndex writer) step n stamp size (row, held, is) names = as_its_act n (trunc_path stamp size) is names
 spares_trunc old (PutMeta writer) step n stamp size (row, held, is) names =
-    let named : NamesFile (put_meta_step row) n (trunc_path stamp size) = subst (λ x. NamesFile x n (trunc_path stamp size)) is names in
+    let named : NamesFile (put_meta_step row) n (trunc_path stamp size) = as_its_act n (trunc_path stamp size) is names in
     elsewhere (first_byte _ _ named.1.0) refl
 spares_trunc old (Exit writer) step n stamp size (row, held, is) names =
-    let named : NamesFile (exit_step row) n (trunc_path stamp size) = subst (λ x. NamesFile x n (trunc_path stamp size)) is names in
+    let named : NamesFile (exit_step row) n (trunc_path stamp size) = as_its_act n (trunc_path stamp size) is names in
     elsewhere (first_byte _ _ named.1.0) refl

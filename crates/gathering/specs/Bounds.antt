@@ -4,7 +4,7 @@ use Rattle.std.specs.List.{Any}
 use Rattle.mount_model.specs.declared.row.Row.{Row}
 use Rattle.mount_model.specs.declared.call.Call.{Call}
 use Rattle.mount_model.specs.declared.call.Call.TheVariants.{MakeIndex, Flush, SyncIndex}
-use Rattle.mount_model.specs.declared.reply.Reply.TheVariants.{Synced}
+use Rattle.mount_model.specs.declared.reply.Reply.TheVariants.{Flushed, Synced}
 use Rattle.mount_model.specs.Table.{row_of}
 use Rattle.mount_model.specs.State.{State}
 use Rattle.mount_model.specs.History.{Event}
@@ -25,6 +25,10 @@ pub record LandedAtLeast (moment : Moment) (d : Dropping) (count : ℕ) : Type 0
 -- in these events the writer was told that so many of its entries are synced
 abbrev pub IsSyncedIn : List Event → Dropping → ℕ → Type 0
 IsSyncedIn events d count = Any (λ (e : Event). (e.ask.call ≡ SyncIndex d.writer) × (e.reply ≡ Synced count) × IsOf e.after d) events
+
+-- in these events the writer was told that so many of its entries have landed
+abbrev pub IsFlushedIn : List Event → Dropping → ℕ → Type 0
+IsFlushedIn events d count = Any (λ (e : Event). (e.ask.call ≡ Flush d.writer) × (e.reply ≡ Flushed count) × IsOf e.after d) events
 
 -- a call that lets this index dropping be: none that makes or flushes it
 abbrev pub Spares : Call → Dropping → Type 0

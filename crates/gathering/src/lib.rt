@@ -12,11 +12,10 @@ mod readers;
 pub use example::a_reader_opens_beside_a_torn_flush;
 pub use histories::{
     call_has_place, caller_sees, flush_lands, history_grows, no_truncate_comes,
-    nothing_lands_unflushed, reads_fail_by_store, sync_lands,
-    truncates_stay,
+    nothing_lands_unflushed, reads_fail_by_store, sync_lands, truncates_stay,
 };
 pub use readers::{
-    actor_opens, actor_reads, flattening_changes_nothing, one_writer, open_readers_fail_by_store,
-    pieces_give_size, reader_answers, reader_opens, scan_finds, shared_reader_opens,
-    synced_is_gathered, view_is_answered, view_stays, workers_gather,
+    actor_opens, actor_reads, flattening_changes_nothing, flushed_is_gathered, one_writer,
+    open_readers_fail_by_store, pieces_give_size, reader_answers, reader_opens, scan_finds,
+    shared_reader_opens, synced_is_gathered, view_is_answered, view_stays, workers_gather,
 };

@@ -21,7 +21,7 @@ ghost use Rattle.gathering.specs.Gathering.{Gathered, Gathers, Share, GatherShar
 ghost use Rattle.gathering.specs.Listing.{IsAmong, IsScan, AreFound};
 ghost use Rattle.gathering.specs.View.{view, changes_in, writes_in, covered_in, tails_in, WritersRise};
 ghost use Rattle.gathering.specs.Opening.{IsOpening, IsSharedOpening, Answers, HasView, IsOpened};
-ghost use Rattle.gathering.specs.Bounds.{IsSyncedIn};
+ghost use Rattle.gathering.specs.Bounds.{IsFlushedIn, IsSyncedIn};
 ghost use Rattle.gathering.specs.Failing.{BytesOrTrouble};
 
 /// A law: a caller that asked an index dropping's length and read its whole entries has the first
@@ -99,6 +99,14 @@ pub fn actor_reads()
 pub fn synced_is_gathered()
     ensures { (first : Moment) (before : List Event) (end : Moment) (room : ℕ) (cut : List Gathered) (truncs : List Trunc) (d : Dropping) (count : ℕ)
         → IsLegal first.state before → IsSoundAt first → HasView (moment_after first before) end room cut truncs → d.room ≡ room → IsSyncedIn before d count
+        → Any (λ (g : Gathered). (g.dropping ≡ d) × (count ≤ g.count)) cut }
+{}
+
+/// A law: a reader has at least as many of a writer's entries as the writer was told, before the
+/// reader's first call, to be flushed.
+pub fn flushed_is_gathered()
+    ensures { (first : Moment) (before : List Event) (end : Moment) (room : ℕ) (cut : List Gathered) (truncs : List Trunc) (d : Dropping) (count : ℕ)
+        → IsLegal first.state before → IsSoundAt first → HasView (moment_after first before) end room cut truncs → d.room ≡ room → IsFlushedIn before d count
         → Any (λ (g : Gathered). (g.dropping ≡ d) × (count ≤ g.count)) cut }
 {}
 
