@@ -109,7 +109,8 @@ log_there m s d stood long =
     let l = some_log (content (issued_by m d)) (file_at w.room (log_path w.writer.host d.writer)) w.writer.log long in
     (l.0, ap (λ o. file_told o d.room (log_path d.host d.writer)) s.shape.told ∙ ap (λ o. file_in_room o (log_path d.host d.writer)) w.there ∙ ap (λ h. file_at w.room (log_path h d.writer)) w.host ∙ l.1)
 
--- Whenever an open reader reads bytes of its cut from a log, it gets them, or the store's count of faults rose, or memory was wanting.
+-- Whenever an open reader reads bytes of its cut from a log, it gets them, or the store's count of faults rose, or
+-- memory was wanting.
 pub log_ends : (start end m : Moment) (room : ℕ) (cut : List Gathered) (truncs : List Trunc) (g : Gathered) (caller at len : ℕ) (reply : Reply) (new : State) → HasView start end room cut truncs → IsAmong g cut → Grows end m → IsSoundAt m
     → 1 ≤ len → at + len ≤ length (content (issued_by end g.dropping)) → Answers m.state caller (Look g.dropping.room (Read (log_path g.dropping.host g.dropping.writer) at len)) reply new
     → BytesOrTrouble (take len (drop at (content (issued_by end g.dropping)))) m.state reply new

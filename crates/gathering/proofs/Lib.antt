@@ -10,6 +10,7 @@ pub mod Listings
 pub mod Scans
 pub mod Truncates
 pub mod Viewing
+pub mod Readable
 pub mod Answering
 pub mod Placing
 pub mod Shares

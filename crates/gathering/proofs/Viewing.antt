@@ -58,7 +58,7 @@ pub All-append : {X : Type 0} (P : X → Type 0) (xs ys : List X) → AllByRecur
 All-append P [] ys a b = b
 All-append P (x ∷ xs) ys a b = (a.0, All-append P xs ys a.1 b)
 
-All-take : {X : Type 0} (P : X → Type 0) (n : ℕ) (xs : List X) → AllByRecursion P xs → AllByRecursion P (take n xs)
+pub All-take : {X : Type 0} (P : X → Type 0) (n : ℕ) (xs : List X) → AllByRecursion P xs → AllByRecursion P (take n xs)
 All-take P zero [] a = tt
 All-take P zero (x ∷ xs) a = tt
 All-take P (suc n) [] a = tt

@@ -14,8 +14,8 @@ use Rattle.gathering.specs.Opening.{IsOpening, Answers}
 abbrev pub landed_of : Moment → List Gathered → List ℕ
 landed_of moment cut = map (λ (g : Gathered). landed moment g.dropping) cut
 
--- The premises of a reader's laws, met by caller 3, which opens room 1. The entry of the first writer is in its cut and is read later, though the
--- second writer, whose flush was torn, has by then tried again.
+-- The premises of a reader's laws, met by caller 3, which opens room 1. The entry of the first writer is in its cut and
+-- is read later, though the second writer, whose flush was torn, has by then tried again.
 pub record IsBesideTornFlush (start : Moment) (gathering : List Event) (listing : Event) (later : List Event) (cut : List Gathered) : Type 0 where
   pub sound : IsSoundAt start
   pub legal : IsLegal start.state (gathering ++ listing ∷ later)

@@ -95,7 +95,8 @@ abbrev pub WritersDiffer : List Dropping → Type 0
 WritersDiffer [] = Unit {0}
 WritersDiffer (d ∷ ds) = AllByRecursion (λ (e : Dropping). e.writer ≢ d.writer) ds × WritersDiffer ds
 
--- These are index droppings of the room that stood at the later moment, one a writer, and all that stood at the earlier one are among them.
+-- These are index droppings of the room that stood at the later moment, one a writer, and all that stood at the earlier
+-- one are among them.
 pub record AreFound (start end : Moment) (room : ℕ) (ds : List Dropping) : Type 0 where
   pub stood : All (λ (d : Dropping). (d.room ≡ room) × Stood end d) ds
   pub complete : (d : Dropping) → d.room ≡ room → Stood start d → IsAmong d ds

@@ -45,8 +45,8 @@ pub record IsOpening (room : ℕ) (cut : List Gathered) (truncs : List Trunc) (c
   pub has : AreGathered gathered cut
   pub lists : ListsTruncs room truncs listing
 
--- The calls that open a reader whose workers gather: it scans the room for droppings, each worker gathers its share in these events, and last it
--- lists the truncates.
+-- The calls that open a reader whose workers gather: it scans the room for droppings, each worker gathers its share in
+-- these events, and last it lists the truncates.
 pub record IsSharedOpening (room : ℕ) (cut : List Gathered) (truncs : List Trunc) (calls : List Asked) (gathering : List Event) (listing : Asked) : Type 0 where
   pub earlier : List Asked
   pub scan : List Asked
@@ -67,8 +67,9 @@ pub record Answers (end : Moment) (cut : List Gathered) (truncs : List Trunc) (a
   pub sized : size ≡ plain_size (changes_in end cut truncs)
   pub made : IsAnswer cut (plan_of pieces size at len) calls answer
 
--- What an opened reader has: a cut of the room's writers that is admissible between its first call and its listing of truncates and misses no dropping that was there
--- at the first call, the truncates of then, and entries that are the cut's.
+-- What an opened reader has: a cut of the room's writers that is admissible between its first call and its listing of
+-- truncates and misses no dropping that was there at the first call, the truncates of then, and entries that are the
+-- cut's.
 pub record HasView (start end : Moment) (room : ℕ) (cut : List Gathered) (truncs : List Trunc) : Type 0 where
   pub rise : WritersRise room cut
   pub admissible : IsAdmissible start end cut
@@ -76,7 +77,8 @@ pub record HasView (start end : Moment) (room : ℕ) (cut : List Gathered) (trun
   pub all_truncs : AreTruncsAt end room truncs
   pub entries : content_of cut ≡ spelling_all (tails_in end cut)
 
--- The places in a history at which a caller's opening of a reader began and at which it listed the truncates, with what the reader then has.
+-- The places in a history at which a caller's opening of a reader began and at which it listed the truncates, with what
+-- the reader then has.
 pub record IsOpened (caller : ℕ) (start : Moment) (events : List Event) (earlier calls : List Asked) (room : ℕ) (cut : List Gathered) (truncs : List Trunc) : Type 0 where
   pub before : List Event
   pub gathering : List Event

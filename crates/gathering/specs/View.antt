@@ -3,6 +3,8 @@ use Rattle.std.specs.Prelude.{◌≡◌, ◌<◌, ℕ, List, [], ◌∷◌, ◌+
 use Rattle.std.specs.List.{AllByRecursion, Any}
 use Rattle.plfs_types.specs.declared.entries.Entry.{Entry}
 use Rattle.plfs_types.specs.declared.entries.Trunc.{Trunc}
+use Rattle.index_entry.specs.Valid.{IsValidEntry}
+use Rattle.index_entry.specs.Spelling.{FitsPlaces}
 use Rattle.store_api.specs.declared.step.Answer.TheVariants.{Bytes}
 use Rattle.plain_file.specs.declared.changes.Change.{Change}
 use Rattle.plain_file.specs.declared.changes.Change.TheVariants.{Write, Truncate}
@@ -50,6 +52,11 @@ covered_in moment (g ∷ cut) = take g.covered (take g.count (entries_in (issued
 abbrev pub tails_in : Moment → List Gathered → List Entry
 tails_in moment [] = []
 tails_in moment (g ∷ cut) = drop g.covered (take g.count (entries_in (issued_by moment g.dropping))) ++ tails_in moment cut
+
+-- the entry is valid, and its bytes determine it
+pub record IsReadable (e : Entry) : Type 0 where
+  pub valid : IsValidEntry e
+  pub fits : FitsPlaces e
 
 -- the writers are of one room, and their ids rise
 abbrev pub WritersRise : ℕ → List Gathered → Type 0

@@ -1,6 +1,6 @@
 //! Laws of readers: what one that gathered so has, and what it answers, whatever other callers do.
 ghost use Rattle.std.specs.Prelude.{◌≡◌, ◌≤◌, ◌+◌, ◌++◌, [], ◌∷◌, ℕ, List, length};
-ghost use Rattle.std.specs.List.{Any};
+ghost use Rattle.std.specs.List.{All, Any};
 ghost use Rattle.plfs_types.specs.declared.entries.Trunc.{Trunc};
 ghost use Rattle.plain_file.specs.declared.pieces.Piece.{Piece};
 ghost use Rattle.plain_file.specs.File.{plain_size, slice};
@@ -19,7 +19,7 @@ ghost use Rattle.gathering.specs.Moments.{Moment, IsSoundAt, moment_after, Dropp
 ghost use Rattle.gathering.specs.Seen.{Asked, asked_in, calls_of, IsSeen};
 ghost use Rattle.gathering.specs.Gathering.{Gathered, Gathers, Share, GatherShares, AreShared, IsPrefixOf, IsAdmissible};
 ghost use Rattle.gathering.specs.Listing.{IsAmong, IsScan, AreFound};
-ghost use Rattle.gathering.specs.View.{view, changes_in, writes_in, covered_in, tails_in, WritersRise};
+ghost use Rattle.gathering.specs.View.{IsReadable, view, changes_in, writes_in, covered_in, tails_in, WritersRise};
 ghost use Rattle.gathering.specs.Opening.{IsOpening, IsSharedOpening, Answers, HasView, IsOpened};
 ghost use Rattle.gathering.specs.Bounds.{IsFlushedIn, IsSyncedIn};
 ghost use Rattle.gathering.specs.Failing.{BytesOrTrouble};
@@ -54,6 +54,11 @@ pub fn shared_reader_opens()
     ensures { (caller room : ℕ) (start : Moment) (scanning gathering : List Event) (listing : Event) (later : List Event) (cut : List Gathered) (truncs : List Trunc)
         → IsLegal start.state (scanning ++ (gathering ++ listing ∷ later)) → IsSoundAt start → IsSharedOpening room cut truncs (calls_of caller scanning) gathering (asked_in listing)
         → HasView start (moment_after (moment_after start scanning) gathering) room cut truncs }
+{}
+
+/// A law: the entries that a reader gathered are valid, and no other entries have their bytes.
+pub fn gathered_entries_are_readable()
+    ensures { (start end : Moment) (cut : List Gathered) → IsSoundAt end → IsAdmissible start end cut → All IsReadable (tails_in end cut) }
 {}
 
 /// A law: no later event changes the plain file of a cut and its truncates.
