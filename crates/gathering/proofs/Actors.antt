@@ -65,5 +65,6 @@ actor_answers caller room start events earlier first more listing between readin
     let same : writes_in (moment_after start events) cut ≡ writes_in end cut = ap (λ m. writes_in m cut) last ∙ writes_stay from end (moment_after end tail) cut o.has_view.admissible goes in
     let o2 : IsOpening room cut truncs (calls_of caller o.gathering) (asked_in o.listing) = subst (λ c. IsOpening room cut truncs c (asked_in o.listing)) (sym o.calls_then) (subst (IsOpening room cut truncs (first ∷ more)) (sym is) opening) in
     let a2 : Answers end cut truncs at len (calls_of caller r.first) answer = subst (λ c. Answers end cut truncs at len c answer) (sym r.calls_first) (answers_then end (moment_after start events) cut truncs at len reading answer same a) in
-    answers_last caller room from o.gathering o.listing b.first r.first r.rest cut truncs at len answer legal3 s o2 a2
-    ∙ ap (λ m. slice (view m cut truncs) at len) (moment-append from o.gathering tail ∙ sym last)
+    let so : answer ≡ slice (view (moment_after from whole) cut truncs) at len = answers_last caller room from o.gathering o.listing b.first r.first r.rest cut truncs at len answer legal3 s o2 a2 in
+    let then : moment_after from whole ≡ moment_after start events = moment-append from o.gathering tail ∙ sym last in
+    subst (λ m. answer ≡ slice (view m cut truncs) at len) then so

@@ -252,6 +252,7 @@ beside_torn_flush = record {
   sound = start_sound;
   legal = legal;
   torn = found_any _ sample.gathering sample.flush_tears (inr (inr (inr (inr (inr (inr (inr (inr (inr (inr (inr (inr (inr (inr (inr (inl refl)))))))))))))))) (second_writer, refl, refl);
+  tail = refl;
   opens = opens;
   counts = refl;
   sees = refl;

@@ -145,7 +145,7 @@ owners_all : (writer last offset : ℕ) (es : List Entry) → AreInOrder writer 
 owners_all writer last offset [] o = tt
 owners_all writer last offset (e ∷ es) o = (o.0.owner, owners_all writer e.stamp (offset + e.len) es o.1)
 
-in_order-take : (n writer last offset : ℕ) (es : List Entry) → AreInOrder writer last offset es → AreInOrder writer last offset (take n es)
+pub in_order-take : (n writer last offset : ℕ) (es : List Entry) → AreInOrder writer last offset es → AreInOrder writer last offset (take n es)
 in_order-take zero writer last offset [] o = tt
 in_order-take zero writer last offset (e ∷ es) o = tt
 in_order-take (suc n) writer last offset [] o = tt

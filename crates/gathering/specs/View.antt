@@ -15,6 +15,7 @@ use Rattle.mount_model.specs.declared.call.Call.TheVariants.{Look}
 use Rattle.mount_model.specs.declared.call.Look.TheVariants.{Read}
 use Rattle.mount_model.specs.declared.reply.Reply.TheVariants.{Looked}
 use Rattle.mount_model.specs.Paths.{log_path}
+use Rattle.mount_sound.specs.Entries.{AreInOrder, last_stamp, logged}
 use Rattle.mount_sound.specs.Ledger.{Written, entries_in, content}
 use Rattle.gathering.specs.Moments.{Moment, issued_by}
 use Rattle.gathering.specs.Seen.{Asked}
@@ -57,6 +58,17 @@ tails_in moment (g ∷ cut) = drop g.covered (take g.count (entries_in (issued_b
 pub record IsReadable (e : Entry) : Type 0 where
   pub valid : IsValidEntry e
   pub fits : FitsPlaces e
+
+-- the entries of one writer of the cut
+abbrev pub own_entries : Moment → Gathered → List Entry
+own_entries moment g = take g.count (entries_in (issued_by moment g.dropping))
+
+-- those that no flattened index covers follow, by the rules of a writer's entries, the ones that it covers
+abbrev pub FollowsCovered : Moment → Gathered → Type 0
+FollowsCovered moment g = AreInOrder g.dropping.writer
+    (last_stamp 0 (take g.covered (own_entries moment g)))
+    (logged (take g.covered (own_entries moment g)))
+    (drop g.covered (own_entries moment g))
 
 -- the writers are of one room, and their ids rise
 abbrev pub WritersRise : ℕ → List Gathered → Type 0

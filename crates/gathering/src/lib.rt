@@ -16,7 +16,7 @@ pub use histories::{
 };
 pub use readers::{
     actor_opens, actor_reads, flattening_changes_nothing, flushed_is_gathered,
-    gathered_entries_are_readable, one_writer,
+    gathered_entries_are_in_order, gathered_entries_are_readable, one_writer,
     open_readers_fail_by_store, pieces_give_size, reader_answers, reader_opens, scan_finds,
     shared_reader_opens, synced_is_gathered, view_is_answered, view_stays, workers_gather,
 };

@@ -19,7 +19,7 @@ ghost use Rattle.gathering.specs.Moments.{Moment, IsSoundAt, moment_after, Dropp
 ghost use Rattle.gathering.specs.Seen.{Asked, asked_in, calls_of, IsSeen};
 ghost use Rattle.gathering.specs.Gathering.{Gathered, Gathers, Share, GatherShares, AreShared, IsPrefixOf, IsAdmissible};
 ghost use Rattle.gathering.specs.Listing.{IsAmong, IsScan, AreFound};
-ghost use Rattle.gathering.specs.View.{IsReadable, view, changes_in, writes_in, covered_in, tails_in, WritersRise};
+ghost use Rattle.gathering.specs.View.{FollowsCovered, IsReadable, view, changes_in, writes_in, covered_in, tails_in, WritersRise};
 ghost use Rattle.gathering.specs.Opening.{IsOpening, IsSharedOpening, Answers, HasView, IsOpened};
 ghost use Rattle.gathering.specs.Bounds.{IsFlushedIn, IsSyncedIn};
 ghost use Rattle.gathering.specs.Failing.{BytesOrTrouble};
@@ -59,6 +59,12 @@ pub fn shared_reader_opens()
 /// A law: the entries that a reader gathered are valid, and no other entries have their bytes.
 pub fn gathered_entries_are_readable()
     ensures { (start end : Moment) (cut : List Gathered) → IsSoundAt end → IsAdmissible start end cut → All IsReadable (tails_in end cut) }
+{}
+
+/// A law: the entries that a reader gathered of a writer follow the rules of a writer's entries: its
+/// id, rising stamps, and places in the log that go on from each other.
+pub fn gathered_entries_are_in_order()
+    ensures { (end : Moment) (cut : List Gathered) → IsSoundAt end → All (FollowsCovered end) cut }
 {}
 
 /// A law: no later event changes the plain file of a cut and its truncates.
