@@ -12,7 +12,7 @@ use Rattle.plain_file.proofs.MergeLemmas.{ArePieces-merged}
 use Rattle.mount_sound.specs.Ledger.{entries_in}
 use Rattle.gathering.specs.Moments.{Moment, IsSoundAt, issued_by}
 use Rattle.gathering.specs.Gathering.{Gathered}
-use Rattle.gathering.specs.View.{writes_in, covered_in, tails_in, WritersRise}
+use Rattle.gathering.specs.View.{writes_in, own_entries, covered_in, tails_in, WritersRise}
 use Rattle.gathering.proofs.Fronts.{entries-append}
 use Rattle.gathering.proofs.Members.{among_left, among_right}
 use Rattle.gathering.proofs.Viewing.{entries_in-take, keys_in}
@@ -22,41 +22,37 @@ among_either x [] ys a = inr a
 among_either x (y ∷ xs) ys (inl e) = inl (inl e)
 among_either x (y ∷ xs) ys (inr a) = elim (among_either x xs ys a) as (λ _. Among x (y ∷ xs) ⊎ Among x ys) [ inl l ↦ inl (inr l) | inr r ↦ inr r ]
 
--- the entries of one writer of the cut
-abbrev own : Moment → Gathered → List Entry
-own end g = take g.count (entries_in (issued_by end g.dropping))
-
-entries_split : (end : Moment) (g : Gathered) (cut : List Gathered) → entries_in (writes_in end (g ∷ cut)) ≡ own end g ++ entries_in (writes_in end cut)
+entries_split : (end : Moment) (g : Gathered) (cut : List Gathered) → entries_in (writes_in end (g ∷ cut)) ≡ own_entries end g ++ entries_in (writes_in end cut)
 entries_split end g cut = entries-append (take g.count (issued_by end g.dropping)) (writes_in end cut) ∙ ap (λ l. l ++ entries_in (writes_in end cut)) (entries_in-take g.count (issued_by end g.dropping))
 
 to_parts : (end : Moment) (cut : List Gathered) (x : Entry) → Among x (entries_in (writes_in end cut)) → Among x (covered_in end cut) ⊎ Among x (tails_in end cut)
 to_parts end [] x a = absurd a
-to_parts end (g ∷ cut) x a = elim (among_either x (own end g) (entries_in (writes_in end cut)) (subst (Among x) (entries_split end g cut) a)) as (λ _. Among x (covered_in end (g ∷ cut)) ⊎ Among x (tails_in end (g ∷ cut))) [
-  | inl mine ↦ elim (among_either x (take g.covered (own end g)) (drop g.covered (own end g)) (subst (Among x) (sym (take-append-drop g.covered (own end g))) mine)) as (λ _. Among x (covered_in end (g ∷ cut)) ⊎ Among x (tails_in end (g ∷ cut))) [
-    | inl front ↦ inl (among_left x (take g.covered (own end g)) (covered_in end cut) front)
-    | inr tail ↦ inr (among_left x (drop g.covered (own end g)) (tails_in end cut) tail)
+to_parts end (g ∷ cut) x a = elim (among_either x (own_entries end g) (entries_in (writes_in end cut)) (subst (Among x) (entries_split end g cut) a)) as (λ _. Among x (covered_in end (g ∷ cut)) ⊎ Among x (tails_in end (g ∷ cut))) [
+  | inl mine ↦ elim (among_either x (take g.covered (own_entries end g)) (drop g.covered (own_entries end g)) (subst (Among x) (sym (take-append-drop g.covered (own_entries end g))) mine)) as (λ _. Among x (covered_in end (g ∷ cut)) ⊎ Among x (tails_in end (g ∷ cut))) [
+    | inl front ↦ inl (among_left x (take g.covered (own_entries end g)) (covered_in end cut) front)
+    | inr tail ↦ inr (among_left x (drop g.covered (own_entries end g)) (tails_in end cut) tail)
   ]
   | inr others ↦ elim (to_parts end cut x others) as (λ _. Among x (covered_in end (g ∷ cut)) ⊎ Among x (tails_in end (g ∷ cut))) [
-    | inl front ↦ inl (among_right x (take g.covered (own end g)) (covered_in end cut) front)
-    | inr tail ↦ inr (among_right x (drop g.covered (own end g)) (tails_in end cut) tail)
+    | inl front ↦ inl (among_right x (take g.covered (own_entries end g)) (covered_in end cut) front)
+    | inr tail ↦ inr (among_right x (drop g.covered (own_entries end g)) (tails_in end cut) tail)
   ]
 ]
 
-from_mine : (end : Moment) (g : Gathered) (cut : List Gathered) (x : Entry) → Among x (own end g) ⊎ Among x (entries_in (writes_in end cut)) → Among x (entries_in (writes_in end (g ∷ cut)))
-from_mine end g cut x (inl a) = subst (Among x) (sym (entries_split end g cut)) (among_left x (own end g) (entries_in (writes_in end cut)) a)
-from_mine end g cut x (inr a) = subst (Among x) (sym (entries_split end g cut)) (among_right x (own end g) (entries_in (writes_in end cut)) a)
+from_mine : (end : Moment) (g : Gathered) (cut : List Gathered) (x : Entry) → Among x (own_entries end g) ⊎ Among x (entries_in (writes_in end cut)) → Among x (entries_in (writes_in end (g ∷ cut)))
+from_mine end g cut x (inl a) = subst (Among x) (sym (entries_split end g cut)) (among_left x (own_entries end g) (entries_in (writes_in end cut)) a)
+from_mine end g cut x (inr a) = subst (Among x) (sym (entries_split end g cut)) (among_right x (own_entries end g) (entries_in (writes_in end cut)) a)
 
 from_covered : (end : Moment) (cut : List Gathered) (x : Entry) → Among x (covered_in end cut) → Among x (entries_in (writes_in end cut))
 from_covered end [] x a = absurd a
-from_covered end (g ∷ cut) x a = elim (among_either x (take g.covered (own end g)) (covered_in end cut) a) as (λ _. Among x (entries_in (writes_in end (g ∷ cut)))) [
-  | inl mine ↦ from_mine end g cut x (inl (subst (Among x) (take-append-drop g.covered (own end g)) (among_left x (take g.covered (own end g)) (drop g.covered (own end g)) mine)))
+from_covered end (g ∷ cut) x a = elim (among_either x (take g.covered (own_entries end g)) (covered_in end cut) a) as (λ _. Among x (entries_in (writes_in end (g ∷ cut)))) [
+  | inl mine ↦ from_mine end g cut x (inl (subst (Among x) (take-append-drop g.covered (own_entries end g)) (among_left x (take g.covered (own_entries end g)) (drop g.covered (own_entries end g)) mine)))
   | inr others ↦ from_mine end g cut x (inr (from_covered end cut x others))
 ]
 
 from_tails : (end : Moment) (cut : List Gathered) (x : Entry) → Among x (tails_in end cut) → Among x (entries_in (writes_in end cut))
 from_tails end [] x a = absurd a
-from_tails end (g ∷ cut) x a = elim (among_either x (drop g.covered (own end g)) (tails_in end cut) a) as (λ _. Among x (entries_in (writes_in end (g ∷ cut)))) [
-  | inl mine ↦ from_mine end g cut x (inl (subst (Among x) (take-append-drop g.covered (own end g)) (among_right x (take g.covered (own end g)) (drop g.covered (own end g)) mine)))
+from_tails end (g ∷ cut) x a = elim (among_either x (drop g.covered (own_entries end g)) (tails_in end cut) a) as (λ _. Among x (entries_in (writes_in end (g ∷ cut)))) [
+  | inl mine ↦ from_mine end g cut x (inl (subst (Among x) (take-append-drop g.covered (own_entries end g)) (among_right x (take g.covered (own_entries end g)) (drop g.covered (own_entries end g)) mine)))
   | inr others ↦ from_mine end g cut x (inr (from_tails end cut x others))
 ]
 

@@ -44,24 +44,24 @@ abbrev pub content_of : List Gathered → List ℕ
 content_of [] = []
 content_of (g ∷ cut) = g.content ++ content_of cut
 
+-- the entries of one writer of the cut
+abbrev pub own_entries : Moment → Gathered → List Entry
+own_entries moment g = take g.count (entries_in (issued_by moment g.dropping))
+
 -- the entries of the cut that a flattened index covers
 abbrev pub covered_in : Moment → List Gathered → List Entry
 covered_in moment [] = []
-covered_in moment (g ∷ cut) = take g.covered (take g.count (entries_in (issued_by moment g.dropping))) ++ covered_in moment cut
+covered_in moment (g ∷ cut) = take g.covered (own_entries moment g) ++ covered_in moment cut
 
 -- the entries of the cut that no flattened index covers
 abbrev pub tails_in : Moment → List Gathered → List Entry
 tails_in moment [] = []
-tails_in moment (g ∷ cut) = drop g.covered (take g.count (entries_in (issued_by moment g.dropping))) ++ tails_in moment cut
+tails_in moment (g ∷ cut) = drop g.covered (own_entries moment g) ++ tails_in moment cut
 
 -- the entry is valid, and its bytes determine it
 pub record IsReadable (e : Entry) : Type 0 where
   pub valid : IsValidEntry e
   pub fits : FitsPlaces e
-
--- the entries of one writer of the cut
-abbrev pub own_entries : Moment → Gathered → List Entry
-own_entries moment g = take g.count (entries_in (issued_by moment g.dropping))
 
 -- those that no flattened index covers follow, by the rules of a writer's entries, the ones that it covers
 abbrev pub FollowsCovered : Moment → Gathered → Type 0
