@@ -256,5 +256,9 @@ mounting_rises serial times opened new m =
       | inl a ↦ acts_fall marking opened m.roomed (Ok (answer.Number new.marks)) a
       | inr a ↦ acts_fall marking opened m.roomed (Ok (answer.Old new.marks)) a
     ] in
-    omega (arith, first, acts_fall (list_folder new.marks marks_folder) m.roomed m.listed (Ok (answer.Names m.names)) m.lists,
-    acts_fall (create new.marks marks_folder (mark_name new.mount)) m.listed new.store (Ok answer.Made) m.marked)
+    omega (
+      arith,
+      first,
+      acts_fall (list_folder new.marks marks_folder) m.roomed m.listed (Ok (answer.Names m.names)) m.lists,
+      acts_fall (create new.marks marks_folder (mark_name new.mount)) m.listed new.store (Ok answer.Made) m.marked,
+    )
