@@ -1,5 +1,5 @@
 -- The machines of a writer end in a fault only where one was answered.
-use Rattle.std.proofs.Common.{◌≡◌, ◌⊎◌, inl, inr, ℕ, List, Bool, true, false, Result, Ok, Err, refl, sym, subst, nat_eq, nat_le, Option, Some}
+use Rattle.std.proofs.Common.{◌≡◌, ◌⊎◌, inl, inr, ℕ, List, Bool, true, false, Result, Ok, Err, refl, ap, sym, subst, nat_eq, nat_le, Option, Some}
 use Rattle.std.specs.Prelude.{if◌then◌else◌}
 use Rattle.mount_model.specs.declared.call.Call.{Call}
 use Rattle.mount_model.specs.declared.reply.Refusal.{Refusal}
@@ -8,15 +8,18 @@ use Rattle.mount_model.specs.declared.reply.Reply.TheVariants.{Fault, NoMemory, 
 use Rattle.mount_model.specs.Paths.{Name}
 use Rattle.mount_model.specs.Replies.{IsTrouble, refused, damaged, fault, no_memory}
 use Rattle.flow.specs.declared.trouble.Stuck.{Stuck}
-use Rattle.flow.specs.Program.{Program, done, ask, then}
+use Rattle.flow.specs.Program.{Program, done, ask, then as followed}
 use Rattle.writer_flow.specs.declared.handle.WriterHandle.{WriterHandle}
 use Rattle.writer_flow.specs.declared.handle.WriterOut.{WriterOut}
-use Rattle.writer_flow.specs.Handle.{flushed, closing, synced}
-use Rattle.writer_flow.specs.Ending.{trouble}
-use Rattle.writer_flow.specs.Opening.{leaves, if_done, makes_log, makes_index, makes_hostdir, if_floored, finds_floor, if_entered, enters, if_made, open_program}
+use Rattle.writer_flow.specs.Handle.{flushed, closing}
+use Rattle.writer_flow.specs.Opening.{if_done, makes_log, makes_index, makes_hostdir, if_floored, finds_floor, if_entered, enters, if_made, open_program}
 use Rattle.writer_flow.specs.Writing.{if_flushed, flush_then, if_wrote, writes, write_program}
 use Rattle.writer_flow.specs.Syncing.{if_synced, syncs_index, flushes_and_syncs, if_log_synced, sync_program}
 use Rattle.writer_flow.specs.Closing.{if_left, exits, if_put, puts_meta, if_kept, after_sync, close_from, close_program}
+use Rattle.flow.specs.declared.trouble.Stuck.TheVariants as of_machine
+use Rattle.plfs_program.specs.declared.stuck.Stuck as own
+use Rattle.plfs_program.specs.declared.stuck.Stuck.TheVariants as of_own
+use Rattle.plfs_program.specs.Stuck.{machine_stuck}
 use Rattle.plfs_program.specs.Ending.{EndsIn, is_no_fault, ends_well}
 
 abbrev GoesWell : {R : Type 0} → (R → Bool) → (Reply → Program Call R) → Reply → Type 0
@@ -34,7 +37,7 @@ by_reply fine k own reply (inr (no_memory e)) owns refuses damages = inl e
 
 -- ---- opening
 
-abbrev opens_well : Result WriterHandle Stuck → Bool
+abbrev pub opens_well : Result WriterHandle Stuck → Bool
 opens_well result = is_no_fault result
 
 done_well : (writer : ℕ) (next : Program Call (Result WriterHandle Stuck)) → EndsIn opens_well next → (reply : Reply) → (reply ≡ Done) ⊎ IsTrouble reply → GoesWell opens_well (if_done writer next) reply
@@ -95,11 +98,11 @@ puts_well : (handle : WriterHandle) → EndsIn ends_well (puts_meta handle)
 puts_well handle = λ reply fits. by_reply ends_well (if_put (closing handle)) (reply ≡ Done) reply fits (λ e. subst (λ r. EndsIn ends_well (if_put (closing handle) r)) (sym e) (exits_well (closing handle))) (λ why. refl) (λ folder file. refl)
 
 -- one program after another ends well
-then_well : {R S : Type 0} (fine : R → Bool) (good : S → Bool) (p : Program Call R) (next : R → Program Call S) → ((r : R) → fine r ≡ true → EndsIn good (next r)) → EndsIn fine p → EndsIn good (then p next)
+then_well : {R S : Type 0} (fine : R → Bool) (good : S → Bool) (p : Program Call R) (next : R → Program Call S) → ((r : R) → fine r ≡ true → EndsIn good (next r)) → EndsIn fine p → EndsIn good (followed p next)
 then_well fine good (done r) next goes well = goes r well
-then_well fine good (ask q k) next goes well = λ reply fits. elim (well reply fits) as (λ _. GoesWell good (λ r. then (k r) next) reply) [
+then_well fine good (ask q k) next goes well = λ reply fits. elim (well reply fits) as (λ _. GoesWell good (λ r. followed (k r) next) reply) [
   | inl e ↦ inl e
-  | inr rest ↦ elim rest as (λ _. GoesWell good (λ r. then (k r) next) reply) [
+  | inr rest ↦ elim rest as (λ _. GoesWell good (λ r. followed (k r) next) reply) [
     | inl e ↦ inr (inl e)
     | inr more ↦ inr (inr (then_well fine good (k reply) next goes more))
   ]
@@ -115,3 +118,9 @@ from_well false handle = then_well ends_well ends_well (sync_program handle) aft
 
 pub close_well : (handle : WriterHandle) → EndsIn ends_well (close_program handle)
 close_well handle = from_well handle.closing handle
+
+-- the trouble of a machine is a fault only where its own is
+pub fault_alone : (result : Result WriterHandle Stuck) (why : Stuck) (stuck : own.Stuck) → result ≡ Err why → stuck ≡ machine_stuck why → stuck ≡ of_own.Fault → opens_well result ≡ false
+fault_alone result of_machine.Fault stuck is made bad = ap opens_well is
+fault_alone result (of_machine.Damaged folder file place) stuck is made bad = absurd (cc)
+fault_alone result (of_machine.Refused why) stuck is made bad = absurd (cc)

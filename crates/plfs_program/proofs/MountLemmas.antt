@@ -1,11 +1,9 @@
 -- What a mounting finds over a told tree.
-use Rattle.std.proofs.Common.{ℕ, zero, suc, ◌≡◌, ◌≢◌, ◌+◌, ◌-◌, ◌≤◌, ◌<◌, ◌^◌, ◌⊎◌, Bool, true, false, ◌&&◌, cond, if◌then◌else◌, nat_lt, List, [], ◌∷◌, ◌++◌, length, slice_get, slice_set, slice_index_or, Option, Some, None, IfSome, Result, Ok, Err, refl, sym, ap, subst, ◌∙◌, inl, inr, arith}
-use Rattle.std.specs.List.{position, position_or_len, find, All, Any, AllByRecursion}
+use Rattle.std.proofs.Common.{ℕ, zero, suc, ◌≡◌, ◌-◌, ◌<◌, ◌^◌, ◌⊎◌, Bool, true, false, ◌&&◌, ◌||◌, cond, if◌then◌else◌, nat_lt, List, [], ◌∷◌, ◌++◌, length, slice_get, slice_set, Option, Some, None, IfSome, IfOk, Result, Ok, Err, refl, sym, ap, subst, ◌∙◌, inl, inr, arith}
+use Rattle.std.specs.List.{position, position_or_len, find, AllByRecursion}
 use Rattle.std.specs.Option.{option_and_then}
 use Rattle.std.specs.Fmt.{decimal}
-use Rattle.std.specs.Ordering.{nat_cmp}
-use Rattle.std.specs.Cmp.Lexicographic.{same_text, slice_cmp}
-use Rattle.std.specs.declared.cmp.Ordering.TheVariants.{Greater}
+use Rattle.std.specs.Cmp.Lexicographic.{same_text}
 use Rattle.std.proofs.lemmas.Bool.Decides.{nat_tests}
 use Rattle.std.proofs.lemmas.List.Elements.{recursion_from_All}
 use Rattle.std.proofs.lemmas.List.Folds.{find_at}
@@ -15,7 +13,7 @@ use Rattle.store_api.specs.declared.tree.File.{File}
 use Rattle.store_api.specs.declared.tree.Room.{Room}
 use Rattle.store_api.specs.declared.tree.Tree.{Tree}
 use Rattle.store_api.specs.declared.step.Answer.{Answer}
-use Rattle.store_api.specs.declared.step.Answer.TheVariants.{Made, Old, Number, Names, NoFolder, NoRoom}
+use Rattle.store_api.specs.declared.step.Answer.TheVariants.{Made, Old, Number, Names, NoFolder}
 use Rattle.store_api.specs.declared.store.Trouble.TheVariants as told_trouble
 use Rattle.store_api.specs.Acts.{Stored, Goes, Acts}
 use Rattle.store_api.specs.Effect.{Effect, effect, number_of, new_room, room_made, or_no_room, room_after}
@@ -26,17 +24,16 @@ use Rattle.script_lang.specs.declared.line.Line.{Line}
 use Rattle.script_lang.specs.declared.line.Outcome.{Outcome}
 use Rattle.script_lang.specs.declared.script.Numbered.{Numbered}
 use Rattle.mount_model.specs.Making.{Told}
-use Rattle.mount_model.specs.Paths.{mark_name}
 use Rattle.mount_model.specs.State.{State}
 use Rattle.mount_model.specs.Mounting.{IsGreatestMark, IsMounted}
-use Rattle.mount_core.specs.declared.scanning.Listing.TheVariants.{Marks}
 use Rattle.mount_core.specs.declared.trouble.MountTrouble.{MountTrouble}
 use Rattle.mount_core.specs.declared.trouble.MountTrouble.TheVariants as trouble
-use Rattle.mount_core.specs.Scanning.{HasNumber, HasNone, IsLeastOther}
-use Rattle.mount_core.specs.Opening.{marks_step, list_step, mark_step, room_told, names_told, made_told, trouble_of, TellsRoom, FailsAt, LeavesNone, IsNextMark, FailsToMount, no_room, no_names, no_next, no_mark}
+use Rattle.mount_core.specs.Opening.{marks_step, list_step, mark_step, room_told, names_told, made_told, trouble_of, LeavesNone, FailsToMount, no_room, no_names, no_next, no_mark}
 use Rattle.mount_core.proofs.Scans.{mark_known}
-use Rattle.plfs_program.specs.Mounting.{marks_room, mounts, listed_in, listed_or_none, listed_at, listed_marks, IsForeign, IsLeastForeign, AreSpent, AreDamagedAt, HaveNext, BreaksOff, fault, spent, damaged, unmounted_of, IsUnmounted}
-use Rattle.plfs_program.specs.Lines.{AreLinesOf, unmounted, mounted, AreInTurn}
+use Rattle.plfs_program.specs.Mounting.{marks_room, mounts, listed_in, listed_or_none, listed_at, listed_marks, IsLeastForeign, AreSpent, AreDamagedAt, HaveNext, BreaksOff, fault, spent, damaged, unmounted_of, IsUnmounted}
+use Rattle.script_lang.specs.declared.line.Outcome.TheVariants as of
+use Rattle.script_lang.specs.declared.line.Why.TheVariants.{MountsSpent}
+use Rattle.plfs_program.specs.Lines.{AreLinesOf, unmounted, mounted, AreInTurn, has_line, is_fault}
 use Rattle.plfs_program.proofs.ListingLemmas.{of_listed}
 use Rattle.plfs_program.proofs.MarkLaws.{IsUpTo, above_greatest}
 
@@ -95,7 +92,7 @@ finds_where : (tree : Tree) (number : Option ℕ) → number_of tree marks_room 
 finds_where tree None is =
     let made : Tree = record { rooms = tree.rooms ++ new_room marks_room (mounts ∷ []) [] ∷ [] } in
     let listed : listed_at made (length tree.rooms) ≡ listed_marks tree =
-        ap (λ r. option_and_then listed_in r) (slice_get_last tree.rooms (new_room marks_room (mounts ∷ []) [])) ∙ sym (ap listed_or_none (find_nowhere is_marks_room tree.rooms is)) in
+    ap (λ r. option_and_then listed_in r) (slice_get_last tree.rooms (new_room marks_room (mounts ∷ []) [])) ∙ sym (ap listed_or_none (find_nowhere is_marks_room tree.rooms is)) in
     record {
       tells = λ room told. subst (λ n. listed_at made n ≡ listed_marks tree) (same_number (length tree.rooms) room told) listed;
       some = λ none. cc;
@@ -263,26 +260,16 @@ mark_is_made tree room mount greatest listed left names (Ok other) answer is mad
     cc
 mark_is_made tree room mount greatest listed left names (Err other) answer is made same all known above fits none = absurd (cc)
 
--- ---- names that are no marks
-
-All-weaker : {X : Type 0} (P Q : X → Type 0) → ((x : X) → P x → Q x) → (xs : List X) → All P xs → All Q xs
-All-weaker P Q more xs all = λ k d less. more (slice_index_or xs k d) (all k d less)
-
-foreign_of : (name : Name) → HasNone Marks name → IsForeign name
-foreign_of name none = λ n m. none n (m.positive, m.fits, m.named)
-
-none_of : (name : Name) → IsForeign name → HasNone Marks name
-none_of name foreign = λ n h. foreign n (record { named = h.2; positive = h.0; fits = h.1 })
-
-least_of : (names : List Name) (name : Name) → IsLeastOther Marks names name → IsLeastForeign names name
-least_of names name least = record {
-  there = least.there;
-  foreign = foreign_of name least.foreign;
-  least = All-weaker (λ other. HasNone Marks other → slice_cmp nat_cmp name other ≢ Greater) (λ other. IsForeign other → slice_cmp nat_cmp name other ≢ Greater) (λ other h foreign. h (none_of other foreign)) names least.least;
-}
+-- ---- names that leave no next mark
 
 why_none : (names : List Name) (why : MountTrouble) → LeavesNone names why → AreWhy (Some names) why
-why_none names why (inl (file, least, is)) = subst (AreWhy (Some names)) (sym is) (least_of names file least)
+why_none names why (inl (file, least, is)) =
+    let found : IsLeastForeign names file = record {
+      there = least.there;
+      foreign = λ n m. least.foreign n (m.positive, m.fits, m.named);
+      least = λ k d less foreign. least.least k d less (λ n h. foreign n (record { named = h.2; positive = h.0; fits = h.1 }));
+    } in
+    subst (AreWhy (Some names)) (sym is) found
 why_none names why (inr (known, is)) = subst (AreWhy (Some names)) (sym is) (mark_known names (2 ^ 32 - 1) known)
 
 -- ---- why a mounting fails over a told tree
@@ -336,3 +323,30 @@ has_next serial times opened new m tree is =
 -- the lines of the statements are right
 pub mounted_lines : (serial : ℕ) (times : Option (List ℕ)) (opened : Stored) (new : State) (statements : List Numbered) (lines : List Line) → IsMounted serial times opened new → AreInTurn statements lines → AreLinesOf opened.tree statements lines
 mounted_lines serial times opened new statements lines m in_turn = mounted (if_some opened.tree (λ tree. HaveNext (listed_marks tree)) (has_next serial times opened new m)) in_turn
+
+-- ---- the same of what may have been refused memory
+
+pub all_mounted : {E : Type 0} (serial : ℕ) (times : Option (List ℕ)) (opened : Stored) (new : State) (statements : List Numbered) (result : Result (List Line) E) → IsMounted serial times opened new → IfOk result (AreInTurn statements) → IfOk result (AreLinesOf opened.tree statements)
+all_mounted serial times opened new statements (Ok lines) m in_turn = mounted_lines serial times opened new statements lines m in_turn
+all_mounted serial times opened new statements (Err e) m in_turn = tt
+
+pub all_unmounted : {E : Type 0} (opened left : Stored) (why : MountTrouble) (statements : List Numbered) (result : Result (List Line) E) → FailsToMount opened why left → IfOk result (IsUnmounted why) → IfOk result (AreLinesOf opened.tree statements)
+all_unmounted opened left why statements (Ok lines) failed only = unmounted_lines opened left why statements lines failed only
+all_unmounted opened left why statements (Err e) failed only = tt
+
+by_trouble : (why : MountTrouble) (outcome : Outcome) (R : Type 0) → unmounted_of why ≡ Some outcome → (why ≡ trouble.Fault → R) → (is_fault outcome || false) ≡ true → R
+by_trouble (trouble.Damaged file) outcome R is cause bad = let same : outcome ≡ of.Damaged mounts file 0 = cc in absurd (let wrong : false ≡ true = ap (λ o. is_fault o || false) (sym same) ∙ bad in cc)
+by_trouble trouble.NoMarks outcome R is cause bad = let same : outcome ≡ of.Damaged mounts [] 0 = cc in absurd (let wrong : false ≡ true = ap (λ o. is_fault o || false) (sym same) ∙ bad in cc)
+by_trouble trouble.Spent outcome R is cause bad = let same : outcome ≡ of.Refused MountsSpent = cc in absurd (let wrong : false ≡ true = ap (λ o. is_fault o || false) (sym same) ∙ bad in cc)
+by_trouble trouble.Fault outcome R is cause bad = cause refl
+by_trouble trouble.NoMemory outcome R is cause bad = absurd (cc)
+
+-- the line of a mounting that broke off is a fault only where the mounting had one
+fault_line_alone : (why : MountTrouble) (outcome : Outcome) (lines : List Line) (R : Type 0) → unmounted_of why ≡ Some outcome → lines ≡ (record { number = 0; outcome = outcome }) ∷ [] → (why ≡ trouble.Fault → R) → has_line is_fault lines ≡ true → R
+fault_line_alone why outcome lines R is only cause bad =
+    let here : (is_fault outcome || false) ≡ true = ap (λ ls. has_line is_fault ls) (sym only) ∙ bad in
+    by_trouble why outcome R is cause here
+
+pub all_caused : {E : Type 0} (why : MountTrouble) (result : Result (List Line) E) (R : Type 0) → IfOk result (IsUnmounted why) → (why ≡ trouble.Fault → R) → IfOk result (λ lines. has_line is_fault lines ≡ true → R)
+all_caused why (Ok lines) R (outcome, is, only) cause = fault_line_alone why outcome lines R is only cause
+all_caused why (Err e) R only cause = tt

@@ -54,7 +54,9 @@ fn open_writer<S: Store + Drop, C: Clock + Drop>(
 
 impl Actor {
     // Keeps what a machine left of the writer, and answers its number.
-    fn keep(&mut self, out: WriterOut) -> Result<u64, Stuck> {
+    fn keep(&mut self, out: WriterOut) -> Result<u64, Stuck>
+        ensures { IsErrOf result Stuck.Fault → ends_well out ≡ false }
+    {
         self.writer = out.handle;
         match out.result {
             Ok(number) => Ok(number),

@@ -83,7 +83,12 @@ impl<S: Store + Drop, C: Clock + Drop> Session<S, C> {
     }
 
     /// Makes the calls of the machine to its end.
-    pub(crate) fn drive<F: Flow + Drop>(&mut self, flow: F) -> Result<F::Out, NoMemory> {
+    pub(crate) fn drive<F: Flow + Drop>(&mut self, flow: F) -> Result<F::Out, NoMemory>
+        requires { IsFresh (F.standing flow) }
+        ensures opened { self.new.mount.opened ≡ self.old.mount.opened }
+        ensures kept { self.old.faulted ≡ true → self.new.faulted ≡ true }
+        ensures ends { IfOk result (λ out. (fine : F.Out → Bool) → EndsFrom fine (F.standing flow) → (self.new.faulted ≡ true) ⊎ (fine out ≡ true)) }
+    {
         let mut flow = flow;
         while let Some(call) = flow.next()? {
             let reply = self.ask(call);
