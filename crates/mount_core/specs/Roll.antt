@@ -1,8 +1,7 @@
 -- What contracts see of a mount beside its store and clock: its marks, the serials that it drew, and its table.
-use Rattle.std.specs.Prelude.{ℕ, List, [], Option, None, refl, slice_get, IfSome}
+use Rattle.std.specs.Prelude.{ℕ, List, [], Option, None, refl}
 use Rattle.std.specs.Coded.{Coded, code_by, coded×, coded_ℕ}
 use Rattle.store_api.specs.Acts.{Stored}
-use Rattle.mount_model.specs.declared.row.Row.{Row}
 use Rattle.mount_model.specs.State.{State, Table}
 use Rattle.mount_model.specs.Regular.{IsRegular}
 use Rattle.mount_model.specs.Codes.{table_code}
@@ -52,7 +51,3 @@ new_roll marks mount serial = record { marks = marks; mount = mount; serial = se
 -- the roll with another table
 abbrev pub with_table : Table → Roll → Roll
 with_table table roll = record roll { table = table }
-
--- what holds of the row at this place
-abbrev pub AtPlace : Roll → ℕ → (Row → Type 0) → Type 0
-AtPlace roll place holds = IfSome (slice_get roll.table.writers place) holds

@@ -1,8 +1,8 @@
--- What a call does with the writer whose row stands at a place.
+-- The row that stands at a place of the table.
 use Rattle.std.specs.Prelude.{ℕ, slice_get, IfSome}
 use Rattle.mount_model.specs.declared.row.Row.{Row}
-use Rattle.mount_model.specs.State.{State}
+use Rattle.mount_model.specs.State.{Table}
 
--- what holds of the row at this place
-abbrev pub AtRow : State → ℕ → (Row → Type 0) → Type 0
-AtRow state place holds = IfSome (slice_get state.table.writers place) holds
+-- what holds of that row
+abbrev pub AtPlace : Table → ℕ → (Row → Type 0) → Type 0
+AtPlace table place holds = IfSome (slice_get table.writers place) holds

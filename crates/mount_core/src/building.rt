@@ -5,9 +5,8 @@ ghost use Rattle.mount_model.specs.declared.row.Stage.TheVariants.{Housed, Index
 ghost use Rattle.mount_model.specs.Making.{Makes};
 ghost use Rattle.mount_model.specs.Paths.{index_path as index_path_of, log_path as log_path_of};
 ghost use Rattle.mount_model.specs.Building.{build_outcome, hostdir_step, index_step, log_step, MakesHostdir, MakesIndex, MakesLog};
-ghost use Rattle.mount_core.specs.Roll.{AtPlace};
-ghost use Rattle.mount_core.specs.Standing.{AtRow};
 ghost use Rattle.mount_core.specs.Settling.{IsSettled};
+ghost use Rattle.mount_core.specs.Standing.{AtPlace};
 
 use crate::mount::Mount;
 use crate::paths::{hostdir_path, index_path, log_path};
@@ -29,7 +28,7 @@ impl Roster {
         told: Result<Answer, Trouble>,
     ) -> Reply
         requires { place < length self.old.table.writers }
-        ensures { AtPlace self.old place (λ row. IsSettled (build_outcome stage at.now.folder at.now.file row self.old.table told) self.old result self.new) }
+        ensures { AtPlace self.old.table place (λ row. IsSettled (build_outcome stage at.now.folder at.now.file row self.old.table told) self.old result self.new) }
     {
         match told {
             Ok(Answer::Made | Answer::Old { .. }) => {
@@ -58,7 +57,7 @@ impl<S: Store + Drop, C: Clock + Drop> Mount<S, C> {
 
     fn make_hostdir_at(&mut self, place: usize) -> Reply
         requires { place < length self.old.table.writers }
-        ensures { AtRow self.old place (λ row. Makes (hostdir_step row) (build_outcome Housed (hostdir_of row.host) [] row self.old.table) self.old result self.new) }
+        ensures { AtPlace self.old.table place (λ row. Makes (hostdir_step row) (build_outcome Housed (hostdir_of row.host) [] row self.old.table) self.old result self.new) }
     {
         let row = self.roster.row(place);
         let room = row.room;
@@ -85,7 +84,7 @@ impl<S: Store + Drop, C: Clock + Drop> Mount<S, C> {
 
     fn make_index_at(&mut self, place: usize) -> Reply
         requires { place < length self.old.table.writers }
-        ensures { AtRow self.old place (λ row. Makes (index_step row) (build_outcome Indexed (hostdir_of row.host) (index_path_of row.host row.id).file row self.old.table) self.old result self.new) }
+        ensures { AtPlace self.old.table place (λ row. Makes (index_step row) (build_outcome Indexed (hostdir_of row.host) (index_path_of row.host row.id).file row self.old.table) self.old result self.new) }
     {
         let row = self.roster.row(place);
         let room = row.room;
@@ -113,7 +112,7 @@ impl<S: Store + Drop, C: Clock + Drop> Mount<S, C> {
 
     fn make_log_at(&mut self, place: usize) -> Reply
         requires { place < length self.old.table.writers }
-        ensures { AtRow self.old place (λ row. Makes (log_step row) (build_outcome Open (hostdir_of row.host) (log_path_of row.host row.id).file row self.old.table) self.old result self.new) }
+        ensures { AtPlace self.old.table place (λ row. Makes (log_step row) (build_outcome Open (hostdir_of row.host) (log_path_of row.host row.id).file row self.old.table) self.old result self.new) }
     {
         let row = self.roster.row(place);
         let room = row.room;

@@ -2,8 +2,8 @@
 ghost use Rattle.std.specs.Prelude.{◌≡◌, ◌<◌, ◌^◌, length, IfOk, IfErr};
 ghost use Rattle.mount_model.specs.Paths.{truncs as truncs_name};
 ghost use Rattle.mount_model.specs.Flooring.{IsFloorOf, IsLeastForeign, FloorOutcome, FloorsRow, Floors};
-ghost use Rattle.mount_core.specs.Roll.{AtPlace, with_table};
-ghost use Rattle.mount_core.specs.Standing.{AtRow};
+ghost use Rattle.mount_core.specs.Roll.{with_table};
+ghost use Rattle.mount_core.specs.Standing.{AtPlace};
 
 use crate::mount::Mount;
 use crate::roster::Roster;
@@ -32,7 +32,7 @@ impl Roster {
     /// Settles the listing of the truncates.
     fn floored(&mut self, place: usize, told: Result<Answer, Trouble>) -> Reply
         requires { place < length self.old.table.writers }
-        ensures outcome { AtPlace self.old place (λ row. FloorOutcome row self.old.table told result self.new.table) }
+        ensures outcome { AtPlace self.old.table place (λ row. FloorOutcome row self.old.table told result self.new.table) }
         ensures rest { self.new ≡ with_table self.new.table self.old }
     {
         let at = Path {
@@ -72,7 +72,7 @@ impl<S: Store + Drop, C: Clock + Drop> Mount<S, C> {
 
     fn floor_at(&mut self, place: usize) -> Reply
         requires { place < length self.old.table.writers }
-        ensures { AtRow self.old place (λ row. FloorsRow row self.old result self.new) }
+        ensures { AtPlace self.old.table place (λ row. FloorsRow row self.old result self.new) }
     {
         let room = self.roster.row(place).room;
         let told = self.store.act(&Step::List {

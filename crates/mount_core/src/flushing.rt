@@ -4,9 +4,8 @@ ghost use Rattle.container_layout.specs.Paths.{hostdir_of};
 ghost use Rattle.mount_model.specs.Making.{Makes};
 ghost use Rattle.mount_model.specs.Paths.{index_path as index_path_of};
 ghost use Rattle.mount_model.specs.Flushing.{FlushesRow, Flushes, flush_step, flush_outcome, SyncsLog, sync_log_step, sync_log_outcome, SyncsIndex, sync_index_step, sync_index_outcome};
-ghost use Rattle.mount_core.specs.Roll.{AtPlace};
 ghost use Rattle.mount_core.specs.Settling.{IsSettled};
-ghost use Rattle.mount_core.specs.Standing.{AtRow};
+ghost use Rattle.mount_core.specs.Standing.{AtPlace};
 
 use crate::mount::Mount;
 use crate::paths::{index_path, log_path};
@@ -22,8 +21,8 @@ impl Roster {
     /// Settles the write of the pending entries to the index dropping at this path.
     fn flushed(&mut self, place: usize, at: &Path, told: Result<Answer, Trouble>) -> Reply
         requires within { place < length self.old.table.writers }
-        requires of_writer { AtPlace self.old place (λ row. at.now ≡ index_path_of row.host row.id) }
-        ensures { AtPlace self.old place (λ row. IsSettled (flush_outcome row self.old.table told) self.old result self.new) }
+        requires of_writer { AtPlace self.old.table place (λ row. at.now ≡ index_path_of row.host row.id) }
+        ensures { AtPlace self.old.table place (λ row. IsSettled (flush_outcome row self.old.table told) self.old result self.new) }
     {
         match told {
             Ok(Answer::Made) => {
@@ -49,7 +48,7 @@ impl<S: Store + Drop, C: Clock + Drop> Mount<S, C> {
 
     fn flush_at(&mut self, place: usize) -> Reply
         requires { place < length self.old.table.writers }
-        ensures { AtRow self.old place (λ row. FlushesRow row row.pending.entries self.old result self.new) }
+        ensures { AtPlace self.old.table place (λ row. FlushesRow row row.pending.entries self.old result self.new) }
     {
         let row = self.roster.row(place);
         if row.pending.pending() == 0 {
@@ -60,7 +59,7 @@ impl<S: Store + Drop, C: Clock + Drop> Mount<S, C> {
 
     fn flush_pending(&mut self, place: usize) -> Reply
         requires { place < length self.old.table.writers }
-        ensures { AtRow self.old place (λ row. Makes (flush_step row) (flush_outcome row self.old.table) self.old result self.new) }
+        ensures { AtPlace self.old.table place (λ row. Makes (flush_step row) (flush_outcome row self.old.table) self.old result self.new) }
     {
         let row = self.roster.row(place);
         let at = index_path(row.host, row.id);
@@ -86,7 +85,7 @@ impl<S: Store + Drop, C: Clock + Drop> Mount<S, C> {
 
     fn sync_log_at(&mut self, place: usize) -> Reply
         requires { place < length self.old.table.writers }
-        ensures { AtRow self.old place (λ row. Makes (sync_log_step row) (sync_log_outcome row self.old.table) self.old result self.new) }
+        ensures { AtPlace self.old.table place (λ row. Makes (sync_log_step row) (sync_log_outcome row self.old.table) self.old result self.new) }
     {
         let row = self.roster.row(place);
         let at = log_path(row.host, row.id);
@@ -114,7 +113,7 @@ impl<S: Store + Drop, C: Clock + Drop> Mount<S, C> {
 
     fn sync_index_at(&mut self, place: usize) -> Reply
         requires { place < length self.old.table.writers }
-        ensures { AtRow self.old place (λ row. Makes (sync_index_step row) (sync_index_outcome row self.old.table) self.old result self.new) }
+        ensures { AtPlace self.old.table place (λ row. Makes (sync_index_step row) (sync_index_outcome row self.old.table) self.old result self.new) }
     {
         let row = self.roster.row(place);
         let landed = row.landed;

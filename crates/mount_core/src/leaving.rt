@@ -3,9 +3,8 @@ ghost use Rattle.std.specs.Prelude.{◌≡◌, ◌<◌, length};
 ghost use Rattle.mount_model.specs.Making.{Makes, UnlessRefused};
 ghost use Rattle.mount_model.specs.Paths.{metadata, open_path as open_path_of};
 ghost use Rattle.mount_model.specs.Leaving.{put_meta_check as put_meta_refusal, put_meta_step, put_meta_outcome, meta_file, PutsMeta, exit_check as exit_refusal, exit_step, exit_outcome, Exits};
-ghost use Rattle.mount_core.specs.Roll.{AtPlace};
 ghost use Rattle.mount_core.specs.Settling.{IsSettled};
-ghost use Rattle.mount_core.specs.Standing.{AtRow};
+ghost use Rattle.mount_core.specs.Standing.{AtPlace};
 
 use crate::mount::Mount;
 use crate::paths::{meta_path, open_path};
@@ -43,8 +42,8 @@ impl Roster {
     /// Settles the making of the metadata dropping at this path: from then on the writer may only leave.
     fn closed(&mut self, place: usize, at: &Path, told: Result<Answer, Trouble>) -> Reply
         requires within { place < length self.old.table.writers }
-        requires of_writer { AtPlace self.old place (λ row. at.now ≡ record { folder = metadata; file = meta_file row }) }
-        ensures { AtPlace self.old place (λ row. IsSettled (put_meta_outcome row self.old.table told) self.old result self.new) }
+        requires of_writer { AtPlace self.old.table place (λ row. at.now ≡ record { folder = metadata; file = meta_file row }) }
+        ensures { AtPlace self.old.table place (λ row. IsSettled (put_meta_outcome row self.old.table told) self.old result self.new) }
     {
         match told {
             Ok(Answer::Made | Answer::Old { .. }) => {
@@ -66,8 +65,8 @@ impl Roster {
     /// Settles the removal of the writer's entry at this path.
     fn left(&mut self, place: usize, at: &Path, told: Result<Answer, Trouble>) -> Reply
         requires within { place < length self.old.table.writers }
-        requires of_writer { AtPlace self.old place (λ row. at.now ≡ open_path_of row.host row.id) }
-        ensures { AtPlace self.old place (λ row. IsSettled (exit_outcome row self.old.table told) self.old result self.new) }
+        requires of_writer { AtPlace self.old.table place (λ row. at.now ≡ open_path_of row.host row.id) }
+        ensures { AtPlace self.old.table place (λ row. IsSettled (exit_outcome row self.old.table told) self.old result self.new) }
     {
         match told {
             Ok(Answer::Made) => {
@@ -97,7 +96,7 @@ impl<S: Store + Drop, C: Clock + Drop> Mount<S, C> {
 
     fn put_meta_at(&mut self, place: usize) -> Reply
         requires { place < length self.old.table.writers }
-        ensures { AtRow self.old place (λ row. UnlessRefused (put_meta_refusal row) self.old result self.new
+        ensures { AtPlace self.old.table place (λ row. UnlessRefused (put_meta_refusal row) self.old result self.new
             (Makes (put_meta_step row) (put_meta_outcome row self.old.table) self.old result self.new)) }
     {
         match put_meta_check(self.roster.row(place)) {
@@ -108,7 +107,7 @@ impl<S: Store + Drop, C: Clock + Drop> Mount<S, C> {
 
     fn make_meta(&mut self, place: usize) -> Reply
         requires { place < length self.old.table.writers }
-        ensures { AtRow self.old place (λ row. Makes (put_meta_step row) (put_meta_outcome row self.old.table) self.old result self.new) }
+        ensures { AtPlace self.old.table place (λ row. Makes (put_meta_step row) (put_meta_outcome row self.old.table) self.old result self.new) }
     {
         let row = self.roster.row(place);
         let at = meta_path(row);
@@ -132,7 +131,7 @@ impl<S: Store + Drop, C: Clock + Drop> Mount<S, C> {
 
     fn exit_at(&mut self, place: usize) -> Reply
         requires { place < length self.old.table.writers }
-        ensures { AtRow self.old place (λ row. UnlessRefused (exit_refusal row) self.old result self.new
+        ensures { AtPlace self.old.table place (λ row. UnlessRefused (exit_refusal row) self.old result self.new
             (Makes (exit_step row) (exit_outcome row self.old.table) self.old result self.new)) }
     {
         match exit_check(self.roster.row(place)) {
@@ -143,7 +142,7 @@ impl<S: Store + Drop, C: Clock + Drop> Mount<S, C> {
 
     fn remove_entry(&mut self, place: usize) -> Reply
         requires { place < length self.old.table.writers }
-        ensures { AtRow self.old place (λ row. Makes (exit_step row) (exit_outcome row self.old.table) self.old result self.new) }
+        ensures { AtPlace self.old.table place (λ row. Makes (exit_step row) (exit_outcome row self.old.table) self.old result self.new) }
     {
         let row = self.roster.row(place);
         let at = open_path(row.host, row.id);

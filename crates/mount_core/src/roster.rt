@@ -7,9 +7,10 @@ ghost use Rattle.mount_model.specs.Flooring.{floored};
 ghost use Rattle.mount_model.specs.Writing.{wrote};
 ghost use Rattle.mount_model.specs.Flushing.{flushed};
 ghost use Rattle.mount_model.specs.Leaving.{closed};
-ghost use Rattle.mount_core.specs.Roll.{new_roll, with_table, IsRegularRoll, AtPlace};
+ghost use Rattle.mount_core.specs.Roll.{new_roll, with_table, IsRegularRoll};
 ghost use Rattle.mount_core.specs.Writable.{IsFine, IsStampFor};
 ghost use Rattle.mount_core.specs.Stages.{allowed};
+ghost use Rattle.mount_core.specs.Standing.{AtPlace};
 
 use crate::places::find;
 use crate::stages::Stages;
@@ -99,7 +100,7 @@ impl Roster {
     /// Puts the row at this place into another stage.
     pub(crate) fn set_stage(&mut self, place: usize, stage: Stage)
         requires { place < length self.old.table.writers }
-        ensures { AtPlace self.old place (λ row. self.new ≡ with_table (put (at_stage stage row) self.old.table) self.old) }
+        ensures { AtPlace self.old.table place (λ row. self.new ≡ with_table (put (at_stage stage row) self.old.table) self.old) }
     {
         self.writers[place].stage = stage;
     }
@@ -108,7 +109,7 @@ impl Roster {
     pub(crate) fn set_floor(&mut self, place: usize, floor: u64)
         requires within { place < length self.old.table.writers }
         requires fits { floor < 2 ^ 63 }
-        ensures { AtPlace self.old place (λ row. self.new ≡ with_table (put (floored floor row) self.old.table) self.old) }
+        ensures { AtPlace self.old.table place (λ row. self.new ≡ with_table (put (floored floor row) self.old.table) self.old) }
     {
         let row = &mut self.writers[place];
         row.floor = floor;
@@ -118,7 +119,7 @@ impl Roster {
     /// Notes that the metadata dropping of the writer at this place is there.
     pub(crate) fn set_closed(&mut self, place: usize)
         requires { place < length self.old.table.writers }
-        ensures { AtPlace self.old place (λ row. self.new ≡ with_table (put (closed row) self.old.table) self.old) }
+        ensures { AtPlace self.old.table place (λ row. self.new ≡ with_table (put (closed row) self.old.table) self.old) }
     {
         let row = &mut self.writers[place];
         row.has_meta = true;
@@ -128,9 +129,9 @@ impl Roster {
     /// Keeps the entry of a write of so many bytes from the logical place `at` on.
     pub(crate) fn keep_entry(&mut self, place: usize, stamp: u64, at: u64, len: u64)
         requires within { place < length self.old.table.writers }
-        requires fine { AtPlace self.old place (λ row. IsFine row at len) }
-        requires stamped { AtPlace self.old place (λ row. IsStampFor row stamp) }
-        ensures { AtPlace self.old place (λ row. self.new ≡ with_table (put (wrote stamp row at len) self.old.table) self.old) }
+        requires fine { AtPlace self.old.table place (λ row. IsFine row at len) }
+        requires stamped { AtPlace self.old.table place (λ row. IsStampFor row stamp) }
+        ensures { AtPlace self.old.table place (λ row. self.new ≡ with_table (put (wrote stamp row at len) self.old.table) self.old) }
     {
         let row = &mut self.writers[place];
         let entry = Entry {
@@ -149,8 +150,8 @@ impl Roster {
     /// Counts the pending entries of the writer at this place as landed: how many have landed then.
     pub(crate) fn land(&mut self, place: usize) -> u64
         requires { place < length self.old.table.writers }
-        ensures count { AtPlace self.old place (λ row. result ≡ (flushed row).landed) }
-        ensures left { AtPlace self.old place (λ row. self.new ≡ with_table (put (flushed row) self.old.table) self.old) }
+        ensures count { AtPlace self.old.table place (λ row. result ≡ (flushed row).landed) }
+        ensures left { AtPlace self.old.table place (λ row. self.new ≡ with_table (put (flushed row) self.old.table) self.old) }
     {
         let row = &mut self.writers[place];
         let landed = row.landed + row.pending.pending();
@@ -162,7 +163,7 @@ impl Roster {
     /// Takes the writer at this place out of the table.
     pub(crate) fn take_out(&mut self, place: usize)
         requires { place < length self.old.table.writers }
-        ensures { AtPlace self.old place (λ row. self.new ≡ with_table (take_out row.id self.old.table) self.old) }
+        ensures { AtPlace self.old.table place (λ row. self.new ≡ with_table (take_out row.id self.old.table) self.old) }
     {
         let _ = self.writers.remove(place);
     }

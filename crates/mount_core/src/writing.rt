@@ -3,10 +3,9 @@ ghost use Rattle.std.specs.Prelude.{◌≡◌, ◌<◌, ◌≤◌, ◌-◌, ◌^
 ghost use Rattle.mount_model.specs.Making.{Makes, UnlessRefused};
 ghost use Rattle.mount_model.specs.Paths.{log_path as log_path_of};
 ghost use Rattle.mount_model.specs.Writing.{write_check as write_refusal, stamp_at as stamp_of, write_step, write_outcome, WritesAt, Writes};
-ghost use Rattle.mount_core.specs.Roll.{AtPlace};
 ghost use Rattle.mount_core.specs.Settling.{IsSettled};
-ghost use Rattle.mount_core.specs.Standing.{AtRow};
 ghost use Rattle.mount_core.specs.Writable.{IsFine, IsStampFor};
+ghost use Rattle.mount_core.specs.Standing.{AtPlace};
 
 use crate::mount::Mount;
 use crate::paths::log_path;
@@ -66,10 +65,10 @@ impl Roster {
         told: Result<Answer, Trouble>,
     ) -> Reply
         requires within { place < length self.old.table.writers }
-        requires fine { AtPlace self.old place (λ row. IsFine row at len) }
-        requires stamped { AtPlace self.old place (λ row. IsStampFor row stamp) }
-        requires of_writer { AtPlace self.old place (λ row. log.now ≡ log_path_of row.host row.id) }
-        ensures { AtPlace self.old place (λ row. IsSettled (write_outcome stamp row at len self.old.table told) self.old result self.new) }
+        requires fine { AtPlace self.old.table place (λ row. IsFine row at len) }
+        requires stamped { AtPlace self.old.table place (λ row. IsStampFor row stamp) }
+        requires of_writer { AtPlace self.old.table place (λ row. log.now ≡ log_path_of row.host row.id) }
+        ensures { AtPlace self.old.table place (λ row. IsSettled (write_outcome stamp row at len self.old.table told) self.old result self.new) }
     {
         match told {
             Ok(Answer::Made) => {
@@ -97,7 +96,7 @@ impl<S: Store + Drop, C: Clock + Drop> Mount<S, C> {
     fn write_at(&mut self, place: usize, at: u64, bytes: &[u8]) -> Reply
         requires within { place < length self.old.table.writers }
         requires some { 1 ≤ length bytes.now }
-        ensures { AtRow self.old place (λ row. UnlessRefused (write_refusal row at (length bytes.now)) self.old result self.new
+        ensures { AtPlace self.old.table place (λ row. UnlessRefused (write_refusal row at (length bytes.now)) self.old result self.new
             (WritesAt row at bytes.now self.old result self.new)) }
     {
         match write_check(self.roster.row(place), at, bytes.len() as u64) {
@@ -108,8 +107,8 @@ impl<S: Store + Drop, C: Clock + Drop> Mount<S, C> {
 
     fn write_now(&mut self, place: usize, at: u64, bytes: &[u8]) -> Reply
         requires within { place < length self.old.table.writers }
-        requires fine { AtRow self.old place (λ row. IsFine row at (length bytes.now)) }
-        ensures { AtRow self.old place (λ row. WritesAt row at bytes.now self.old result self.new) }
+        requires fine { AtPlace self.old.table place (λ row. IsFine row at (length bytes.now)) }
+        ensures { AtPlace self.old.table place (λ row. WritesAt row at bytes.now self.old result self.new) }
     {
         let time = self.clock.now();
         self.log(place, time, at, bytes)
@@ -118,8 +117,8 @@ impl<S: Store + Drop, C: Clock + Drop> Mount<S, C> {
     /// Writes the bytes, stamped by that time.
     fn log(&mut self, place: usize, time: u64, at: u64, bytes: &[u8]) -> Reply
         requires within { place < length self.old.table.writers }
-        requires fine { AtRow self.old place (λ row. IsFine row at (length bytes.now)) }
-        ensures { AtRow self.old place (λ row. Makes (write_step row bytes.now) (write_outcome (stamp_of time row) row at (length bytes.now) self.old.table) self.old result self.new) }
+        requires fine { AtPlace self.old.table place (λ row. IsFine row at (length bytes.now)) }
+        ensures { AtPlace self.old.table place (λ row. Makes (write_step row bytes.now) (write_outcome (stamp_of time row) row at (length bytes.now) self.old.table) self.old result self.new) }
     {
         let row = self.roster.row(place);
         let stamp = stamp_at(time, row);

@@ -14,7 +14,7 @@ pub fn name(rt: &impl Abort, text: &str) -> Name {
     Name::from_bytes(text.as_bytes()).expect(rt, "a short name")
 }
 
-fn logical(rt: &impl Abort, text: &str) -> LogicalName {
+pub fn logical(rt: &impl Abort, text: &str) -> LogicalName {
     LogicalName::read(text.as_bytes()).expect(rt, "a logical name")
 }
 

@@ -5,6 +5,8 @@
 #[cfg(test)]
 mod asking;
 #[cfg(test)]
+mod containers;
+#[cfg(test)]
 mod faults;
 #[cfg(test)]
 mod mounting;
