@@ -6,3 +6,4 @@ mod Machines
 mod Closes
 mod Opens
 mod Counts
+mod Regulars

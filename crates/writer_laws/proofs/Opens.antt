@@ -22,7 +22,8 @@ use Rattle.writer_flow.specs.declared.handle.WriterHandle.{WriterHandle}
 use Rattle.writer_flow.specs.Handle.{opened}
 use Rattle.writer_flow.specs.Ending.{trouble}
 use Rattle.writer_flow.specs.Opening.{Opening, leaves, if_done, makes_log, makes_index, makes_hostdir, if_floored, finds_floor, if_entered, if_made, open_program}
-use Rattle.writer_laws.specs.Running.{Runs, AreRegular}
+use Rattle.writer_laws.specs.Running.{Runs}
+use Rattle.writer_laws.proofs.Regulars.{AreRegular, are_regular}
 use Rattle.writer_laws.specs.Counting.{entries_of, wrote_by, StaysAt}
 use Rattle.writer_laws.specs.Knowing.{HasRow, IsOpened}
 use Rattle.writer_laws.proofs.Steps.{step_kept, unless_refused, enter_table}
@@ -195,3 +196,7 @@ pub open_ends : (me : ℕ) (name : List ℕ) (host most : ℕ) (start : State) (
 open_ends me name host most start events out handle regular l r e =
     let g = asks me (call.MakeContainer name) (if_made host most) start events out regular l r in
     subst (IsOpened me handle) g.ends (after_make me host most g.rep g.next g.rest out handle g.all e g.legal g.runs)
+
+-- the same from one regular state on
+pub opened_ends : (me : ℕ) (name : List ℕ) (host most : ℕ) (start : State) (events : List Event) (out : Result WriterHandle Stuck) (handle : WriterHandle) → IsRegular start → IsLegal start events → Runs me (open_program name host most) events out → out ≡ Ok handle → IsOpened me handle (state_after start events)
+opened_ends me name host most start events out handle regular legal runs is = open_ends me name host most start events out handle (are_regular start events regular legal) legal runs is

@@ -3,8 +3,6 @@ use Rattle.std.specs.Prelude.{◌≡◌, ◌≢◌, ◌⊎◌, ℕ, List, [], �
 use Rattle.flow.specs.Program.{Program, done, ask}
 use Rattle.mount_model.specs.declared.call.Call.{Call}
 use Rattle.mount_model.specs.declared.reply.Reply.TheVariants.{NoMemory}
-use Rattle.mount_model.specs.State.{State}
-use Rattle.mount_model.specs.Regular.{IsRegular}
 use Rattle.mount_model.specs.History.{Event}
 
 -- In these events the caller makes the calls of the program and no others, each goes on with its reply, and this is
@@ -16,8 +14,3 @@ Runs caller (done r) (event ∷ events) out = (event.caller ≢ caller) × Runs 
 Runs caller (ask q k) (event ∷ events) out =
     ((event.caller ≢ caller) × Runs caller (ask q k) events out)
     ⊎ ((event.caller ≡ caller) × (event.ask.call ≡ q) × (event.reply ≢ NoMemory) × Runs caller (k event.reply) events out)
-
--- the table is as in every state, before and after each of these events
-abbrev pub AreRegular : State → List Event → Type 0
-AreRegular start [] = IsRegular start
-AreRegular start (event ∷ events) = IsRegular start × AreRegular event.after events

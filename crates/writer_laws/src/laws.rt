@@ -10,7 +10,8 @@ ghost use Rattle.writer_flow.specs.Opening.{open_program};
 ghost use Rattle.writer_flow.specs.Closing.{close_program};
 ghost use Rattle.writer_flow.specs.Writing.{write_program};
 ghost use Rattle.writer_flow.specs.Syncing.{sync_program};
-ghost use Rattle.writer_laws.specs.Running.{Runs, AreRegular};
+ghost use Rattle.mount_model.specs.Regular.{IsRegular};
+ghost use Rattle.writer_laws.specs.Running.{Runs};
 ghost use Rattle.writer_laws.specs.Counting.{entries_of, writes_told, Stays};
 ghost use Rattle.writer_laws.specs.Knowing.{HasRow, Knows, IsLeft, IsSynced, IsClosed, IsOpened};
 
@@ -41,12 +42,12 @@ pub fn a_handle_tells_of_its_buffer()
         → IsClosed caller handle (entries_of row) out (state_after start events) }
 {}
 
-/// A law: an opening that ends with a handle, in states whose tables are regular, leaves the caller a writer without
-/// entries, of whose buffer the handle tells.
+/// A law: an opening that ends with a handle, from a state on whose table is regular, as that of every mount is, leaves
+/// the caller a writer without entries, of whose buffer the handle tells.
 pub fn an_opened_writer_has_no_entries()
     ensures { (caller : ℕ) (name : List ℕ) (host most : ℕ)
         (start : State) (events : List Event) (out : Result WriterHandle Stuck) (handle : WriterHandle)
-        → AreRegular start events
+        → IsRegular start
         → IsLegal start events
         → Runs caller (open_program name host most) events out
         → out ≡ Ok handle
