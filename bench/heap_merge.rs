@@ -1,8 +1,9 @@
 //! What the program `merge_bench` is measured against: a k-way merge by a heap, written by hand in
 //! plain Rust, over the same entries and with the same pieces.
 //!
-//! heap_merge ENTRIES WRITERS prints the processor's nanoseconds for the merge, its peak of
-//! memory, and the pieces' number, bytes and checksum. It runs on Linux on machines of 64 bits.
+//! heap_merge ENTRIES WRITERS prints the processor's nanoseconds for the merge, its peak of memory, and
+//! the pieces' number, bytes and checksum, and then what searches by halves and bare reads of pieces
+//! take. It runs on Linux on machines of 64 bits.
 
 use std::cmp::{Ordering, Reverse};
 use std::collections::BinaryHeap;
@@ -230,6 +231,44 @@ fn search_time(pieces: &[Piece], within: u64) -> i64 {
     processor_time() - start
 }
 
+/// The nanoseconds of 100000 reads of one piece, at places that look like chance. Each place is known
+/// when the piece before was read, so that no two reads overlap.
+fn read_time(pieces: &[Piece]) -> i64 {
+    let mut seed: u64 = 2009;
+    let start = processor_time();
+    for _ in 0..100_000 {
+        seed = seed
+            .wrapping_mul(6364136223846793005)
+            .wrapping_add(1442695040888963407);
+        let piece = &pieces[(seed >> 33) as usize % pieces.len()];
+        seed = seed.wrapping_add(piece.writer);
+    }
+    std::hint::black_box(seed);
+    processor_time() - start
+}
+
+/// So many pieces one behind the other, each of 1 byte up to two blocks.
+fn uneven(count: u64) -> Vec<Piece> {
+    let mut seed: u64 = 1983;
+    let mut at = 0;
+    let mut pieces = Vec::new();
+    for i in 0..count {
+        seed = seed
+            .wrapping_mul(6364136223846793005)
+            .wrapping_add(1442695040888963407);
+        let len = (seed >> 33) % (2 * BLOCK) + 1;
+        pieces.push(Piece {
+            at,
+            len,
+            physical: at,
+            stamp: i + 1,
+            writer: 0,
+        });
+        at += len;
+    }
+    pieces
+}
+
 fn main() {
     let words: Vec<u64> = std::env::args()
         .skip(1)
@@ -251,4 +290,6 @@ fn main() {
     println!("merge_checksum {}", checksum(&whole));
     println!("search_ns {}", search_time(&whole, 10_000 * BLOCK));
     println!("search_far_ns {}", search_time(&whole, u64::MAX));
+    println!("read_far_ns {}", read_time(&whole));
+    println!("search_uneven_ns {}", search_time(&uneven(count), u64::MAX));
 }

@@ -9,6 +9,7 @@
 mod measured;
 mod strided;
 mod sums;
+mod uneven;
 
 use crate::measured::{Failure, measure};
 use crate::strided::Task;

@@ -2,6 +2,7 @@
 
 use crate::strided::{BLOCK, Task, Writer, truncates, writers};
 use crate::sums::{START, bytes_of, next_of, of_pieces, with_parts};
+use crate::uneven::uneven;
 use interval_merge::{PiecesList, clip, merge_all, of_writer, size};
 use plain_file::Pieces;
 use plfs_types::NoMemory;
@@ -37,8 +38,8 @@ impl From<io::Error> for Failure {
     }
 }
 
-/// Merges the entries of the task, clips the pieces by many and by few truncates, plans reads of them,
-/// and prints what came of it.
+/// Merges the entries of the task, clips the pieces by many and by few truncates, plans reads of them and
+/// of as many pieces of uneven lengths, and prints what came of it.
 pub fn measure(rt: &HostRuntime, task: &Task) -> Result<(), Failure> {
     let writers = writers(rt.alloc(), task)?;
     let start = rt.thread_cpu_time()?;
@@ -49,7 +50,9 @@ pub fn measure(rt: &HostRuntime, task: &Task) -> Result<(), Failure> {
     measure_clip(rt, "clip_1000", &whole, task, 1000)?;
     measure_clip(rt, "clip_10", &whole, task, 10)?;
     measure_plans(rt, "plan", &whole, NEAR, task.is_timed)?;
-    measure_plans(rt, "plan_far", &whole, u64::MAX, task.is_timed)
+    measure_plans(rt, "plan_far", &whole, u64::MAX, task.is_timed)?;
+    let uneven = uneven(rt.alloc(), task.count)?;
+    measure_plans(rt, "plan_uneven", &uneven, u64::MAX, task.is_timed)
 }
 
 /// The pieces of all writers.

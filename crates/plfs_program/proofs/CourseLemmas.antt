@@ -9,7 +9,7 @@ use Rattle.plfs_program.specs.Output.{IsPrinted, IsCutOff}
 use Rattle.plfs_program.specs.Course.{Ends, IsSaid, HasCause, InputCourse, played, cut_off}
 
 -- a run whose lines were printed, or cut off
-pub reported : (bytes : List ℕ) (statements : List Numbered) (lines shown : List Line) (text printed : List ℕ) (e : Ends) (status : ℕ) → IsBuiltScript bytes statements → AreLinesOf statements lines
+pub reported : (bytes : List ℕ) (statements : List Numbered) (lines shown : List Line) (text printed : List ℕ) (e : Ends) (status : ℕ) → IsBuiltScript bytes statements → AreLinesOf e.stored.tree statements lines
     → HasCause lines e → text ≡ text_of lines → printed ≡ text → shown ≡ lines
     → ((status ≡ status_of shown) × IsPrinted printed e.taking e.taking_after) ⊎ ((status ≡ 6) × IsCutOff printed e.taking e.taking_after) → InputCourse bytes e status
 reported bytes statements lines shown text printed e status built in_turn cause is_text is_printed is_shown (inl (told, all)) =

@@ -1,6 +1,12 @@
 mod CourseLemmas
+mod Driving
+mod Machines
+mod ListingLemmas
+mod MarkLaws
+mod MountLemmas
 mod EntryLemmas
 mod InputLemmas
+mod LineLemmas
 mod LogLemmas
 mod OutputLemmas
 mod Played

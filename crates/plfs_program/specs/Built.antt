@@ -1,5 +1,5 @@
 -- The scripts that are played so far: one actor, its writers and its readers.
-use Rattle.std.specs.Prelude.{◌≡◌, ℕ, ◌^◌, ◌&&◌, nat_eq, nat_le, Bool, true, false, List, [], ◌∷◌, Ok}
+use Rattle.std.specs.Prelude.{◌≡◌, ℕ, ◌^◌, ◌&&◌, nat_eq, nat_le, Bool, true, false, List, [], ◌∷◌}
 use Rattle.std.specs.List.{list_all, flat_map}
 use Rattle.script_lang.specs.declared.script.ActorDecl.{ActorDecl}
 use Rattle.script_lang.specs.declared.script.Data.TheVariants.{Hex, Text}
@@ -9,7 +9,7 @@ use Rattle.script_lang.specs.declared.script.Script.{Script}
 use Rattle.script_lang.specs.declared.script.Statement.{Statement}
 use Rattle.script_lang.specs.declared.script.Statement.TheVariants.{Open, Write, Sync, Close, Ropen, Read}
 use Rattle.script_lang.specs.declared.script.Turned.{Turned}
-use Rattle.script_lang.specs.Scripts.{script_of}
+use Rattle.script_lang.specs.Grammar.{IsScript}
 
 -- writes are of bytes that are spelled out, and places are at most 2^23; one worker reads; a read is of at most 2^20 bytes
 abbrev pub is_built_statement : Statement → Bool
@@ -56,6 +56,6 @@ statements_of script = flat_map (λ (phase : Phase). phase.statements) script.ph
 -- the bytes are a script that is played so far, and these are its statements
 pub record IsBuiltScript (bytes : List ℕ) (statements : List Numbered) : Type 0 where
   pub script : Script
-  pub reads_so : script_of bytes ≡ Ok script
+  pub is_script : IsScript bytes script
   pub built : is_built script ≡ true
   pub stated : statements ≡ statements_of script

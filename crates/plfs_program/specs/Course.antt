@@ -1,5 +1,5 @@
 -- How a run goes, from its words to its status.
-use Rattle.std.specs.Prelude.{ℕ, ◌≡◌, ◌≢◌, ◌⊎◌, ◌+◌, ◌^◌, true, false, List, [], ◌∷◌, Option, Some, Ok, Err, codes}
+use Rattle.std.specs.Prelude.{ℕ, ◌≡◌, ◌≢◌, ◌⊎◌, ◌+◌, ◌^◌, true, false, List, [], ◌∷◌, Option, Some, codes}
 use Rattle.plfs_types.specs.Counts.{HasRisen}
 use Rattle.edge_io.specs.Sink.{Taking}
 use Rattle.edge_io.specs.Source.{Given}
@@ -7,7 +7,8 @@ use Rattle.store_api.specs.Acts.{Stored}
 use Rattle.script_lang.specs.declared.line.Line.{Line}
 use Rattle.script_lang.specs.declared.script.Numbered.{Numbered}
 use Rattle.script_lang.specs.declared.script.Script.{Script}
-use Rattle.script_lang.specs.Scripts.{Fault, script_of}
+use Rattle.script_lang.specs.Faults.{Fault, HasFault}
+use Rattle.script_lang.specs.Grammar.{IsScript}
 use Rattle.report_text.specs.Text.{text_of}
 use Rattle.plfs_program.specs.Built.{IsBuiltScript, is_built}
 use Rattle.plfs_program.specs.Faults.{fault_line}
@@ -51,18 +52,20 @@ HasCause lines e = (after : Stored) × (e.stored_after ≡ Some after) × (has_l
 pub record IsPlayedAs (bytes : List ℕ) (lines : List Line) (e : Ends) : Type 0 where
   pub statements : List Numbered
   pub built : IsBuiltScript bytes statements
-  pub in_turn : AreLinesOf statements lines
+  pub in_turn : AreLinesOf e.stored.tree statements lines
   pub cause : HasCause lines e
 
--- what becomes of an input of these bytes, one way for each kind of end, with its status
+-- What becomes of an input of these bytes, one way for each kind of end, with its status. Memory was refused before the
+-- mounting where it is starved, and from the mounting on where it is exhausted.
 pub data InputCourse (bytes : List ℕ) (e : Ends) (status : ℕ) : Type 0 where
-  faulty : (fault : Fault) → script_of bytes ≡ Err fault → IsUntouched e → IsSaid (fault_line fault.line fault.kind) e → status ≡ 2
+  faulty : (fault : Fault) → HasFault bytes fault → IsUntouched e → IsSaid (fault_line fault.line fault.kind) e → status ≡ 2
       → InputCourse bytes e status
-  unbuilt : (script : Script) → script_of bytes ≡ Ok script → is_built script ≡ false → IsUntouched e → IsSaid unbuilt_line e → status ≡ 2
+  unbuilt : (script : Script) → IsScript bytes script → is_built script ≡ false → IsUntouched e → IsSaid unbuilt_line e → status ≡ 2
       → InputCourse bytes e status
   played : (lines : List Line) → IsPlayedAs bytes lines e → IsPrinted (text_of lines) e.taking e.taking_after → status ≡ status_of lines → InputCourse bytes e status
   cut_off : (lines : List Line) → IsPlayedAs bytes lines e → IsCutOff (text_of lines) e.taking e.taking_after → status ≡ 6 → InputCourse bytes e status
-  starved : e.taking_after ≡ e.taking → status ≡ 3 → InputCourse bytes e status
+  starved : IsUntouched e → e.taking_after ≡ e.taking → status ≡ 3 → InputCourse bytes e status
+  exhausted : (statements : List Numbered) → IsBuiltScript bytes statements → e.taking_after ≡ e.taking → status ≡ 3 → InputCourse bytes e status
 
 -- the input was read to its end, or to one byte past the limit of a script, and these are its bytes
 abbrev pub IsInput : List ℕ → Given → Given → Type 0

@@ -1,8 +1,11 @@
 pub mod Built
 pub mod Course
+pub mod Ending
 pub mod Entries
 pub mod Faults
 pub mod Input
 pub mod Lines
 pub mod Logged
+pub mod Mounting
 pub mod Output
+pub mod Stuck

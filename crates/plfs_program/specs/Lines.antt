@@ -1,5 +1,5 @@
 -- The lines of a run, and its status.
-use Rattle.std.specs.Prelude.{ℕ, ◌≡◌, ◌⊎◌, Bool, true, false, if◌then◌else◌, List, [], ◌∷◌, length, take, map}
+use Rattle.std.specs.Prelude.{ℕ, ◌≡◌, ◌-◌, Bool, true, false, if◌then◌else◌, List, [], ◌∷◌, length, take, map, Option, IfSome}
 use Rattle.std.specs.List.{list_any}
 use Rattle.script_lang.specs.declared.line.Line.{Line}
 use Rattle.script_lang.specs.declared.line.Outcome.{Outcome}
@@ -9,6 +9,8 @@ use Rattle.script_lang.specs.declared.script.Statement.{Statement}
 use Rattle.script_lang.specs.declared.script.Statement.TheVariants.{Open, Write, Sync, Close, Ropen, Read}
 use Rattle.script_lang.specs.declared.script.Numbered.{Numbered}
 use Rattle.report_text.specs.Text.{ListsLogicalNames}
+use Rattle.store_api.specs.declared.tree.Tree.{Tree}
+use Rattle.plfs_program.specs.Mounting.{BreaksOff, HaveNext, listed_marks}
 
 abbrev pub is_refusal : Outcome → Bool
 is_refusal (Refused why) = true
@@ -45,14 +47,21 @@ IsPlayed (Ropen name workers) = Unit {0}
 IsPlayed (Read at len) = Unit {0}
 IsPlayed _ = ⊥
 
+abbrev pub all_but_last : List Line → List Line
+all_but_last lines = take (length lines - 1) lines
+
 -- a line for each statement, in order, but that a fault or damage is the last
 pub record AreInTurn (statements : List Numbered) (lines : List Line) : Type 0 where
   pub numbers : map (λ (l : Line). l.number) lines ≡ map (λ (s : Numbered). s.line) (take (length lines) statements)
   pub whole : has_line is_fault lines ≡ false → has_line is_damage lines ≡ false → length lines ≡ length statements
+  pub no_earlier_fault : has_line is_fault (all_but_last lines) ≡ false
+  pub no_earlier_damage : has_line is_damage (all_but_last lines) ≡ false
 
--- what the mounting was refused for, or where it broke, as line 0; or the lines of the statements
-abbrev pub AreLinesOf : List Numbered → List Line → Type 0
-AreLinesOf statements lines = ((outcome : Outcome) × (lines ≡ (record { number = 0; outcome = outcome }) ∷ [])) ⊎ AreInTurn statements lines
+-- The mounting broke off, which line 0 says alone; or it drew a number, and these are the lines of the statements.
+-- The tree is what the store held before, where it told.
+pub data AreLinesOf (told : Option Tree) (statements : List Numbered) (lines : List Line) : Type 0 where
+  unmounted : (outcome : Outcome) → lines ≡ (record { number = 0; outcome = outcome }) ∷ [] → BreaksOff told outcome → AreLinesOf told statements lines
+  mounted : IfSome told (λ tree. HaveNext (listed_marks tree)) → AreInTurn statements lines → AreLinesOf told statements lines
 
 -- what a statement that is no refusal, fault or damage is answered, by those that are played so far
 pub record IsAnswer (outcome : Outcome) : Type 0 where

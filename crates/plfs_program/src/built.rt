@@ -3,7 +3,7 @@ ghost use Rattle.std.specs.Prelude.{◌≡◌, true, false, IfSome, IfNone};
 ghost use Rattle.std.specs.List.{list_all};
 ghost use Rattle.plfs_program.specs.Built.{are_built_actors, is_built, is_built_phase, is_built_statement, statements_of};
 
-use crate::writing::{CAPACITY, HOST};
+use crate::playing::{CAPACITY, HOST};
 use script_lang::{ActorDecl, Data, Numbered, Phase, Script, Statement};
 
 // The greatest place of a write or a read.
@@ -34,7 +34,7 @@ fn are_built_actors(actors: &[ActorDecl]) -> bool
 {
     match actors {
         [] => true,
-        [actor] => actor.host == HOST && u64::from(actor.cap) == CAPACITY,
+        [actor] => actor.host == HOST && actor.cap == CAPACITY,
         _ => false,
     }
 }

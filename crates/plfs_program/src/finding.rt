@@ -1,14 +1,14 @@
 //! What a container has, by the listings of its folders.
 ghost use Rattle.std.specs.Prelude.{◌≡◌, ◌≤◌, ◌^◌, true, IsErrOf};
 
-use crate::acting::{damaged, folder_path};
-use crate::backing::Backing;
-use crate::stuck::Stuck;
+use crate::session::Session;
+use crate::stuck::{Stuck, damaged, folder_path};
 use container_layout::{Item, flats, hostdir, metadata, openhosts, print, read, truncs};
+use edge_io::Clock;
+use mount_model::{Call, Look, Reply};
 use plfs_types::{LogicalName, Name, NameList, Path, Trunc, TruncList};
-use script_lang::Why;
 use std::alloc::Global;
-use store_api::{Answer, Step, Store};
+use store_api::{Answer, Store};
 
 /// The index dropping of a writer.
 #[derive(Clone, Copy, PartialEq, Eq, PartialOrd, Ord)]
@@ -18,36 +18,57 @@ pub(crate) struct Dropping {
 }
 
 /// The room of the file of this name.
-pub(crate) fn find<S: Store>(store: &mut Backing<S>, name: &LogicalName) -> Result<u64, Stuck>
-    ensures cause { IsErrOf result Stuck.Fault → store.new.faulted ≡ true }
-    ensures opened { store.new.opened ≡ store.old.opened }
+pub(crate) fn find<S: Store + Drop, C: Clock + Drop>(
+    session: &mut Session<S, C>,
+    name: &LogicalName,
+) -> Result<u64, Stuck>
+    ensures cause { IsErrOf result Stuck.Fault → session.new.faulted ≡ true }
+    ensures opened { session.new.mount.opened ≡ session.old.mount.opened }
 {
-    let name = name.name();
-    match store.act(&Step::FindRoom { name })? {
-        Answer::Number { value: room } => Ok(room),
-        Answer::Absent => Err(Stuck::Refused(Why::NoFile)),
-        _ => Err(damaged(&folder_path(Name::empty()))),
+    match session.ask(Call::Find { name: *name }) {
+        Reply::Room { room } => Ok(room),
+        reply => Err(Stuck::of(reply)),
     }
 }
 
-// The names in a folder. A missing folder is damage.
-fn list<S: Store>(store: &mut Backing<S>, room: u64, folder: Name) -> Result<NameList, Stuck>
-    ensures cause { IsErrOf result Stuck.Fault → store.new.faulted ≡ true }
-    ensures opened { store.new.opened ≡ store.old.opened }
+// The names that a look at a folder gives. A missing folder is damage.
+fn names<S: Store + Drop, C: Clock + Drop>(
+    session: &mut Session<S, C>,
+    room: u64,
+    look: Look,
+    folder: Name,
+) -> Result<NameList, Stuck>
+    ensures cause { IsErrOf result Stuck.Fault → session.new.faulted ≡ true }
+    ensures opened { session.new.mount.opened ≡ session.old.mount.opened }
 {
-    match store.act(&Step::List { room, folder })? {
+    match session.look(room, look)? {
         Answer::Names(names) => Ok(names),
         _ => Err(damaged(&folder_path(folder))),
     }
 }
 
+// The names in a folder.
+fn list<S: Store + Drop, C: Clock + Drop>(
+    session: &mut Session<S, C>,
+    room: u64,
+    folder: Name,
+) -> Result<NameList, Stuck>
+    ensures cause { IsErrOf result Stuck.Fault → session.new.faulted ≡ true }
+    ensures opened { session.new.mount.opened ≡ session.old.mount.opened }
+{
+    names(session, room, Look::List { folder }, folder)
+}
+
 // No flattened index is made so far, so each name there is damage.
-fn check_flats<S: Store>(store: &mut Backing<S>, room: u64) -> Result<(), Stuck>
-    ensures cause { IsErrOf result Stuck.Fault → store.new.faulted ≡ true }
-    ensures opened { store.new.opened ≡ store.old.opened }
+fn check_flats<S: Store + Drop, C: Clock + Drop>(
+    session: &mut Session<S, C>,
+    room: u64,
+) -> Result<(), Stuck>
+    ensures cause { IsErrOf result Stuck.Fault → session.new.faulted ≡ true }
+    ensures opened { session.new.mount.opened ≡ session.old.mount.opened }
 {
     let folder = flats();
-    let names = list(store, room, folder)?;
+    let names = list(session, room, folder)?;
     match names.as_slice().first() {
         None => Ok(()),
         Some(file) => Err(damaged(&Path {
@@ -75,11 +96,14 @@ fn is_of_top(name: &Name) -> bool {
 }
 
 // The names at the top. A foreign name is damage, and then a missing one is.
-fn top<S: Store>(store: &mut Backing<S>, room: u64) -> Result<NameList, Stuck>
-    ensures cause { IsErrOf result Stuck.Fault → store.new.faulted ≡ true }
-    ensures opened { store.new.opened ≡ store.old.opened }
+fn top<S: Store + Drop, C: Clock + Drop>(
+    session: &mut Session<S, C>,
+    room: u64,
+) -> Result<NameList, Stuck>
+    ensures cause { IsErrOf result Stuck.Fault → session.new.faulted ≡ true }
+    ensures opened { session.new.mount.opened ≡ session.old.mount.opened }
 {
-    let names = list(store, room, Name::empty())?;
+    let names = names(session, room, Look::Top, Name::empty())?;
     check_top(names.as_slice())?;
     Ok(names)
 }
@@ -129,21 +153,21 @@ fn add_droppings(folder: Name, names: &[Name], droppings: &mut Vec<Dropping>) ->
 }
 
 /// The index droppings of a container, by ascending writer.
-pub(crate) fn droppings<S: Store>(
+pub(crate) fn droppings<S: Store + Drop, C: Clock + Drop>(
     alloc: Global,
-    store: &mut Backing<S>,
+    session: &mut Session<S, C>,
     room: u64,
 ) -> Result<Vec<Dropping>, Stuck>
-    ensures cause { IsErrOf result Stuck.Fault → store.new.faulted ≡ true }
-    ensures opened { store.new.opened ≡ store.old.opened }
+    ensures cause { IsErrOf result Stuck.Fault → session.new.faulted ≡ true }
+    ensures opened { session.new.mount.opened ≡ session.old.mount.opened }
 {
-    check_flats(store, room)?;
-    let top = top(store, room)?;
+    check_flats(session, room)?;
+    let top = top(session, room)?;
     let mut droppings = Vec::new(alloc);
     for host in 0..32 {
         let folder = hostdir(host);
         if top.as_slice().contains(&folder) {
-            let names = list(store, room, folder)?;
+            let names = list(session, room, folder)?;
             add_droppings(folder, names.as_slice(), &mut droppings)?;
         }
     }
@@ -169,15 +193,15 @@ fn add_truncates(names: &[Name], found: &mut Vec<Trunc>) -> Result<(), Stuck>
 }
 
 /// The truncates of a container, by stamp.
-pub(crate) fn truncates<S: Store>(
+pub(crate) fn truncates<S: Store + Drop, C: Clock + Drop>(
     alloc: Global,
-    store: &mut Backing<S>,
+    session: &mut Session<S, C>,
     room: u64,
 ) -> Result<TruncList, Stuck>
-    ensures cause { IsErrOf result Stuck.Fault → store.new.faulted ≡ true }
-    ensures opened { store.new.opened ≡ store.old.opened }
+    ensures cause { IsErrOf result Stuck.Fault → session.new.faulted ≡ true }
+    ensures opened { session.new.mount.opened ≡ session.old.mount.opened }
 {
-    let names = list(store, room, truncs())?;
+    let names = list(session, room, truncs())?;
     let mut found = Vec::new(alloc);
     add_truncates(names.as_slice(), &mut found)?;
     found.sort_by_key(|trunc| (trunc.stamp, trunc.size))?;

@@ -3,14 +3,16 @@ ghost use Rattle.std.specs.Prelude.{◌≡◌, ◌≢◌, ◌≤◌, ◌<◌, �
 ghost use Rattle.std.specs.Bool.{OnTrue};
 ghost use Rattle.plfs_program.specs.Entries.{AreFound, AreReplayable};
 
-use crate::backing::Backing;
 use crate::finding::Dropping;
+use crate::session::Session;
 use crate::stuck::Stuck;
 use container_layout::{Item, print};
+use edge_io::Clock;
 use index_entry::decode;
+use mount_model::Look;
 use plfs_types::{CountList, Entry, Path, WriterCount};
 use std::alloc::Global;
-use store_api::{Answer, Step, Store};
+use store_api::{Answer, Store};
 
 /// The greatest size of a file that is read: a reader keeps all of it.
 pub(crate) const MAX_FILE: u64 = 1 << 24;
@@ -105,39 +107,38 @@ fn add_entries(
 }
 
 // How many whole entries a dropping has.
-fn whole_entries<S: Store>(
-    store: &mut Backing<S>,
+fn whole_entries<S: Store + Drop, C: Clock + Drop>(
+    session: &mut Session<S, C>,
     room: u64,
     dropping: Dropping,
     path: &Path,
 ) -> Result<u64, Stuck>
-    ensures cause { IsErrOf result Stuck.Fault → store.new.faulted ≡ true }
-    ensures opened { store.new.opened ≡ store.old.opened }
+    ensures cause { IsErrOf result Stuck.Fault → session.new.faulted ≡ true }
+    ensures opened { session.new.mount.opened ≡ session.old.mount.opened }
 {
-    let Path { folder, file } = *path;
-    match store.act(&Step::Length { room, folder, file })? {
+    match session.look(room, Look::Length { path: *path })? {
         Answer::Number { value } => Ok(value / 40),
         _ => Err(damaged_at(dropping, 0)),
     }
 }
 
 // Reads the entries of one dropping.
-fn read_index<S: Store>(
-    store: &mut Backing<S>,
+fn read_index<S: Store + Drop, C: Clock + Drop>(
+    session: &mut Session<S, C>,
     room: u64,
     dropping: Dropping,
     found: &mut Vec<Found>,
 ) -> Result<Far, Stuck>
     requires { AreFound dropping.writer 0 found.old.items }
     ensures found { IfOk result (λ far. AreFound dropping.writer far.stamp found.new.items) }
-    ensures cause { IsErrOf result Stuck.Fault → store.new.faulted ≡ true }
-    ensures opened { store.new.opened ≡ store.old.opened }
+    ensures cause { IsErrOf result Stuck.Fault → session.new.faulted ≡ true }
+    ensures opened { session.new.mount.opened ≡ session.old.mount.opened }
 {
     let path = print(&Item::Index {
         host: dropping.host,
         writer: dropping.writer,
     });
-    let whole = whole_entries(store, room, dropping, &path)?;
+    let whole = whole_entries(session, room, dropping, &path)?;
     let mut far = Far {
         count: 0,
         stamp: 0,
@@ -147,14 +148,14 @@ fn read_index<S: Store>(
         if far.count >= whole {
             break;
         }
-        far = read_piece(store, room, dropping, &path, whole, far, found)?;
+        far = read_piece(session, room, dropping, &path, whole, far, found)?;
     }
     Ok(far)
 }
 
 // Reads the next entries of one dropping by one step.
-fn read_piece<S: Store>(
-    store: &mut Backing<S>,
+fn read_piece<S: Store + Drop, C: Clock + Drop>(
+    session: &mut Session<S, C>,
     room: u64,
     dropping: Dropping,
     path: &Path,
@@ -165,19 +166,17 @@ fn read_piece<S: Store>(
     requires more { far.count < whole }
     requires found { AreFound dropping.writer far.stamp found.old.items }
     ensures found { IfOk result (λ new. AreFound dropping.writer new.stamp found.new.items) }
-    ensures cause { IsErrOf result Stuck.Fault → store.new.faulted ≡ true }
-    ensures opened { store.new.opened ≡ store.old.opened }
+    ensures cause { IsErrOf result Stuck.Fault → session.new.faulted ≡ true }
+    ensures opened { session.new.mount.opened ≡ session.old.mount.opened }
 {
     let at = far.count.saturating_mul(40);
     let len = (whole - far.count).saturating_mul(40).min(PIECE);
-    let step = Step::ReadAt {
-        room,
-        folder: path.folder,
-        file: path.file,
+    let look = Look::Read {
+        path: *path,
         at,
         len,
     };
-    let Answer::Bytes(bytes) = store.act(&step)? else {
+    let Answer::Bytes(bytes) = session.look(room, look)? else {
         return Err(damaged_at(dropping, 0));
     };
     let bytes = bytes.as_slice();
@@ -199,16 +198,16 @@ fn comes_after(last: Option<u64>, writer: u64) -> bool
 }
 
 /// The entries of these droppings, which stand by ascending writer, and how many each writer has.
-pub(crate) fn entries<S: Store>(
+pub(crate) fn entries<S: Store + Drop, C: Clock + Drop>(
     alloc: Global,
-    store: &mut Backing<S>,
+    session: &mut Session<S, C>,
     room: u64,
     droppings: &[Dropping],
     cut: &mut CountList,
 ) -> Result<Vec<Found>, Stuck>
     ensures found { IfOk result (λ found. AreReplayable found.items) }
-    ensures cause { IsErrOf result Stuck.Fault → store.new.faulted ≡ true }
-    ensures opened { store.new.opened ≡ store.old.opened }
+    ensures cause { IsErrOf result Stuck.Fault → session.new.faulted ≡ true }
+    ensures opened { session.new.mount.opened ≡ session.old.mount.opened }
 {
     let mut found = Vec::new(alloc);
     let mut last: Option<u64> = None;
@@ -217,7 +216,7 @@ pub(crate) fn entries<S: Store>(
             // A second index dropping of one writer is a foreign name.
             return Err(damaged_at(*dropping, 0));
         }
-        let far = read_index(store, room, *dropping, &mut found)?;
+        let far = read_index(session, room, *dropping, &mut found)?;
         if far.count > 0 {
             cut.push(WriterCount {
                 writer: dropping.writer,

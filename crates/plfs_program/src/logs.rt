@@ -8,43 +8,45 @@ ghost use Rattle.plain_file.specs.Shows.{entries_of};
 ghost use Rattle.plfs_program.specs.Entries.{AreReplayable, IsNear, entries_in};
 ghost use Rattle.plfs_program.specs.Logged.{AreLogged};
 
-use crate::acting::damaged;
-use crate::backing::Backing;
 use crate::indices::{Found, MAX_FILE};
-use crate::stuck::Stuck;
+use crate::session::Session;
+use crate::stuck::{Stuck, damaged};
 use container_layout::{Item, print};
+use edge_io::Clock;
+use mount_model::Look;
 use plain_file::{Change, ChangeList};
-use plfs_types::{Bytes, Path, Trunc};
+use plfs_types::{Bytes, Trunc};
 use std::alloc::Global;
-use store_api::{Answer, Step, Store};
+use store_api::{Answer, Store};
 
 // The bytes of a write, by one step.
-fn read_log<S: Store>(store: &mut Backing<S>, room: u64, found: &Found) -> Result<Bytes, Stuck>
+fn read_log<S: Store + Drop, C: Clock + Drop>(
+    session: &mut Session<S, C>,
+    room: u64,
+    found: &Found,
+) -> Result<Bytes, Stuck>
     ensures bytes { IfOk result (λ bytes. length bytes ≡ found.now.entry.len) }
-    ensures cause { IsErrOf result Stuck.Fault → store.new.faulted ≡ true }
-    ensures opened { store.new.opened ≡ store.old.opened }
+    ensures cause { IsErrOf result Stuck.Fault → session.new.faulted ≡ true }
+    ensures opened { session.new.mount.opened ≡ session.old.mount.opened }
 {
     let entry = found.entry;
     let path = print(&Item::Log {
         host: found.host,
         writer: entry.writer,
     });
-    let Path { folder, file } = path;
-    let step = Step::ReadAt {
-        room,
-        folder,
-        file,
+    let look = Look::Read {
+        path,
         at: entry.physical,
         len: entry.len,
     };
-    let Answer::Bytes(bytes) = store.act(&step)? else {
+    let Answer::Bytes(bytes) = session.look(room, look)? else {
         return Err(damaged(&path));
     };
     let length = bytes.as_slice().len() as u64;
     if length != entry.len {
         return Err(Stuck::Damaged {
-            folder,
-            file,
+            folder: path.folder,
+            file: path.file,
             place: entry.physical.saturating_add(length),
         });
     }
@@ -52,8 +54,8 @@ fn read_log<S: Store>(store: &mut Backing<S>, room: u64, found: &Found) -> Resul
 }
 
 // Adds the writes of these entries.
-fn add_writes<S: Store>(
-    store: &mut Backing<S>,
+fn add_writes<S: Store + Drop, C: Clock + Drop>(
+    session: &mut Session<S, C>,
     room: u64,
     found: &[Found],
     changes: &mut ChangeList,
@@ -61,11 +63,11 @@ fn add_writes<S: Store>(
     requires none { changes.old ≡ [] }
     requires near { AllByRecursion IsNear found.now }
     ensures logged { OnOk result (AreLogged (entries_in found.now) changes.new) }
-    ensures cause { IsErrOf result Stuck.Fault → store.new.faulted ≡ true }
-    ensures opened { store.new.opened ≡ store.old.opened }
+    ensures cause { IsErrOf result Stuck.Fault → session.new.faulted ≡ true }
+    ensures opened { session.new.mount.opened ≡ session.old.mount.opened }
 {
     for write in found {
-        let bytes = read_log(store, room, write)?;
+        let bytes = read_log(session, room, write)?;
         changes.push(Change::Write {
             entry: write.entry,
             bytes,
@@ -90,9 +92,9 @@ fn add_truncates(truncs: &[Trunc], changes: &mut ChangeList) -> Result<(), Stuck
 }
 
 /// The writes of these entries, with their bytes, and these truncates.
-pub(crate) fn changes<S: Store>(
+pub(crate) fn changes<S: Store + Drop, C: Clock + Drop>(
     alloc: Global,
-    store: &mut Backing<S>,
+    session: &mut Session<S, C>,
     room: u64,
     found: &[Found],
     truncs: &[Trunc],
@@ -101,11 +103,11 @@ pub(crate) fn changes<S: Store>(
     ensures bytes { IfOk result (λ changes. All HasItsBytes changes) }
     ensures within { IfOk result (λ changes. All (EndsWithin (2 ^ 24)) changes) }
     ensures keys { IfOk result (λ changes. KeysDiffer (entries_of changes)) }
-    ensures cause { IsErrOf result Stuck.Fault → store.new.faulted ≡ true }
-    ensures opened { store.new.opened ≡ store.old.opened }
+    ensures cause { IsErrOf result Stuck.Fault → session.new.faulted ≡ true }
+    ensures opened { session.new.mount.opened ≡ session.old.mount.opened }
 {
     let mut changes = ChangeList::new(alloc);
-    add_writes(store, room, found, &mut changes)?;
+    add_writes(session, room, found, &mut changes)?;
     add_truncates(truncs, &mut changes)?;
     Ok(changes)
 }

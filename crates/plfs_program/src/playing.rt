@@ -1,70 +1,102 @@
 //! The statements of a script, one after the other.
-ghost use Rattle.std.specs.Prelude.{◌≡◌, ◌||◌, true, All, IfOk, IsErrOf};
+ghost use Rattle.std.specs.Prelude.{◌≡◌, ◌||◌, true, false, All, Some, IfOk, IsErrOf};
+ghost use Rattle.plfs_program.specs.Ending.{ends_well};
 ghost use Rattle.report_text.specs.Text.{ListsLogicalNames, HaveText};
 ghost use Rattle.plfs_program.specs.Lines.{IsPlayed, IsAnswer, AreInTurn, is_fault, is_damage, has_line};
+ghost use Rattle.plfs_program.specs.Stuck.{outcome_of};
 
-use crate::backing::Backing;
-use crate::mounting::Mount;
 use crate::reading::{Sight, look, read};
+use crate::session::Session;
 use crate::stuck::Stuck;
-use crate::writing::{Writer, open};
 use edge_io::Clock;
-use plfs_types::{Bytes, LogicalName, NoMemory};
+use plfs_types::{Block, Bytes, LogicalName, NoMemory};
 use script_lang::{Data, Line, Lines, Numbered, Outcome, Statement, Why};
 use std::alloc::Global;
 use store_api::Store;
+use writer_flow::{CloseFlow, OpenWrite, SyncFlow, WriteFlow, WriterHandle, WriterOut};
+
+/// The host of the one actor.
+pub(crate) const HOST: u32 = 0;
+
+/// How many entries wait for the index at most.
+pub(crate) const CAPACITY: u32 = 64;
 
 /// The actor: at most one writer and one reader, of which the plain file is kept that it saw as it opened.
 #[derive(Drop)]
 pub(crate) struct Actor {
-    writer: Option<Writer>,
+    writer: Option<WriterHandle>,
     reader: Option<Bytes>,
 }
 
 // Opens a writer.
-fn open_writer<S: Store>(
-    alloc: Global,
-    store: &mut Backing<S>,
-    mount: &mut Mount,
+fn open_writer<S: Store + Drop, C: Clock + Drop>(
+    session: &mut Session<S, C>,
     actor: &mut Actor,
     name: &LogicalName,
 ) -> Result<Outcome, Stuck>
     ensures outcome { IfOk result IsAnswer }
-    ensures cause { IsErrOf result Stuck.Fault → store.new.faulted ≡ true }
-    ensures opened { store.new.opened ≡ store.old.opened }
+    ensures cause { IsErrOf result Stuck.Fault → session.new.faulted ≡ true }
+    ensures opened { session.new.mount.opened ≡ session.old.mount.opened }
 {
     if actor.writer.is_some() {
         return Err(Stuck::Refused(Why::AlreadyOpen));
     }
-    let writer = open(alloc, store, mount, name)?;
-    let id = writer.id();
-    actor.writer = Some(writer);
-    Ok(Outcome::Opened { writer: id })
+    match session.drive(OpenWrite::new(*name, HOST, CAPACITY))? {
+        Ok(handle) => {
+            actor.writer = Some(handle);
+            Ok(Outcome::Opened {
+                writer: handle.writer,
+            })
+        }
+        Err(stuck) => Err(Stuck::of_machine(stuck)),
+    }
+}
+
+impl Actor {
+    // Keeps what a machine left of the writer, and answers its number.
+    fn keep(&mut self, out: WriterOut) -> Result<u64, Stuck>
+        ensures { IsErrOf result Stuck.Fault → ends_well out ≡ false }
+    {
+        self.writer = out.handle;
+        match out.result {
+            Ok(number) => Ok(number),
+            Err(stuck) => Err(Stuck::of_machine(stuck)),
+        }
+    }
+
+    // The writer, where it may write: its close has not asked for its metadata.
+    fn open_handle(&self) -> Result<WriterHandle, Stuck>
+        ensures { IsErrOf result Stuck.Fault → ⊥ }
+    {
+        match self.writer {
+            Some(handle) if !handle.closing => Ok(handle),
+            _ => Err(Stuck::Refused(Why::NotOpen)),
+        }
+    }
 }
 
 // Writes.
-fn write<S: Store, C: Clock>(
-    store: &mut Backing<S>,
-    clock: &mut C,
+fn write<S: Store + Drop, C: Clock + Drop>(
+    alloc: Global,
+    session: &mut Session<S, C>,
     actor: &mut Actor,
     at: u64,
     bytes: &[u8],
 ) -> Result<Outcome, Stuck>
     ensures outcome { IfOk result IsAnswer }
-    ensures cause { IsErrOf result Stuck.Fault → store.new.faulted ≡ true }
-    ensures opened { store.new.opened ≡ store.old.opened }
+    ensures cause { IsErrOf result Stuck.Fault → session.new.faulted ≡ true }
+    ensures opened { session.new.mount.opened ≡ session.old.mount.opened }
 {
-    let Some(writer) = &mut actor.writer else {
-        return Err(Stuck::Refused(Why::NotOpen));
-    };
-    if bytes.is_empty() {
+    let handle = actor.open_handle()?;
+    let Ok(block) = Block::new(Bytes::copy(alloc, bytes)?) else {
         return Ok(Outcome::Wrote {
             at,
             len: 0,
             stamp: None,
         });
-    }
-    let stamp = writer.write(store, clock, at, bytes)?;
+    };
+    let out = session.drive(WriteFlow::new(handle, at, block))?;
+    let stamp = actor.keep(out)?;
     Ok(Outcome::Wrote {
         at,
         len: bytes.len() as u64,
@@ -73,47 +105,52 @@ fn write<S: Store, C: Clock>(
 }
 
 // Syncs the writer.
-fn sync<S: Store>(store: &mut Backing<S>, actor: &mut Actor) -> Result<Outcome, Stuck>
+fn sync<S: Store + Drop, C: Clock + Drop>(
+    session: &mut Session<S, C>,
+    actor: &mut Actor,
+) -> Result<Outcome, Stuck>
     ensures outcome { IfOk result IsAnswer }
-    ensures cause { IsErrOf result Stuck.Fault → store.new.faulted ≡ true }
-    ensures opened { store.new.opened ≡ store.old.opened }
+    ensures cause { IsErrOf result Stuck.Fault → session.new.faulted ≡ true }
+    ensures opened { session.new.mount.opened ≡ session.old.mount.opened }
 {
-    let Some(writer) = &mut actor.writer else {
-        return Err(Stuck::Refused(Why::NotOpen));
-    };
-    let landed = writer.sync(store)?;
+    let handle = actor.open_handle()?;
+    let out = session.drive(SyncFlow::new(handle))?;
+    let landed = actor.keep(out)?;
     Ok(Outcome::Synced { landed })
 }
 
 // Closes the writer.
-fn close<S: Store>(store: &mut Backing<S>, actor: &mut Actor) -> Result<Outcome, Stuck>
+fn close<S: Store + Drop, C: Clock + Drop>(
+    session: &mut Session<S, C>,
+    actor: &mut Actor,
+) -> Result<Outcome, Stuck>
     ensures outcome { IfOk result IsAnswer }
-    ensures cause { IsErrOf result Stuck.Fault → store.new.faulted ≡ true }
-    ensures opened { store.new.opened ≡ store.old.opened }
+    ensures cause { IsErrOf result Stuck.Fault → session.new.faulted ≡ true }
+    ensures opened { session.new.mount.opened ≡ session.old.mount.opened }
 {
-    let Some(writer) = &mut actor.writer else {
+    let Some(handle) = actor.writer else {
         return Err(Stuck::Refused(Why::NotOpen));
     };
-    let landed = writer.close(store)?;
-    actor.writer = None;
+    let out = session.drive(CloseFlow::new(handle))?;
+    let landed = actor.keep(out)?;
     Ok(Outcome::Closed { landed })
 }
 
 // Opens a reader.
-fn open_reader<S: Store>(
+fn open_reader<S: Store + Drop, C: Clock + Drop>(
     alloc: Global,
-    store: &mut Backing<S>,
+    session: &mut Session<S, C>,
     actor: &mut Actor,
     name: &LogicalName,
 ) -> Result<Outcome, Stuck>
     ensures outcome { IfOk result IsAnswer }
-    ensures cause { IsErrOf result Stuck.Fault → store.new.faulted ≡ true }
-    ensures opened { store.new.opened ≡ store.old.opened }
+    ensures cause { IsErrOf result Stuck.Fault → session.new.faulted ≡ true }
+    ensures opened { session.new.mount.opened ≡ session.old.mount.opened }
 {
     if actor.reader.is_some() {
         return Err(Stuck::Refused(Why::AlreadyOpen));
     }
-    let sight = look(alloc, store, name)?;
+    let sight = look(alloc, session, name)?;
     let size = sight.content.as_slice().len() as u64;
     let Sight {
         content,
@@ -137,28 +174,26 @@ fn read_from(alloc: Global, actor: &Actor, at: u64, len: u64) -> Result<Outcome,
 }
 
 // Makes one statement.
-fn make<S: Store, C: Clock>(
+fn make<S: Store + Drop, C: Clock + Drop>(
     alloc: Global,
-    store: &mut Backing<S>,
-    clock: &mut C,
-    mount: &mut Mount,
+    session: &mut Session<S, C>,
     actor: &mut Actor,
     statement: &Statement,
 ) -> Result<Outcome, Stuck>
     requires { IsPlayed statement.now }
     ensures outcome { IfOk result IsAnswer }
-    ensures cause { IsErrOf result Stuck.Fault → store.new.faulted ≡ true }
-    ensures opened { store.new.opened ≡ store.old.opened }
+    ensures cause { IsErrOf result Stuck.Fault → session.new.faulted ≡ true }
+    ensures opened { session.new.mount.opened ≡ session.old.mount.opened }
 {
     match statement {
-        Statement::Open { name } => open_writer(alloc, store, mount, actor, name),
+        Statement::Open { name } => open_writer(session, actor, name),
         Statement::Write {
             at,
             content: Data::Text(bytes) | Data::Hex(bytes),
-        } => write(store, clock, actor, *at, bytes.as_slice()),
-        Statement::Sync => sync(store, actor),
-        Statement::Close => close(store, actor),
-        Statement::Ropen { name, .. } => open_reader(alloc, store, actor, name),
+        } => write(alloc, session, actor, *at, bytes.as_slice()),
+        Statement::Sync => sync(session, actor),
+        Statement::Close => close(session, actor),
+        Statement::Ropen { name, .. } => open_reader(alloc, session, actor, name),
         Statement::Read { at, len } => read_from(alloc, actor, *at, *len),
         _ => unreachable!(),
     }
@@ -168,6 +203,7 @@ fn make<S: Store, C: Clock>(
 pub(crate) fn trouble_of(stuck: Stuck) -> Result<Outcome, NoMemory>
     ensures text { IfOk result ListsLogicalNames }
     ensures fault { IfOk result (λ outcome. is_fault outcome ≡ true → stuck ≡ Stuck.Fault) }
+    ensures exact { IfOk result (λ outcome. outcome_of stuck ≡ Some outcome) }
 {
     match stuck {
         Stuck::Refused(why) => Ok(Outcome::Refused { why }),
@@ -205,34 +241,24 @@ fn is_last(outcome: &Outcome) -> bool
 }
 
 /// Makes the statements in order, and tells a line of each. A fault or damage is the last line.
-pub(crate) fn play<S: Store, C: Clock>(
+pub(crate) fn play<S: Store + Drop, C: Clock + Drop>(
     alloc: Global,
-    store: &mut Backing<S>,
-    clock: &mut C,
-    mount: Mount,
+    session: &mut Session<S, C>,
     statements: &[Numbered],
 ) -> Result<Lines, NoMemory>
     requires { All (λ s. IsPlayed s.statement) statements.now }
     ensures in_turn { IfOk result (λ lines. AreInTurn statements.now lines) }
     ensures text { IfOk result HaveText }
-    ensures cause { IfOk result (λ lines. has_line is_fault lines ≡ true → store.new.faulted ≡ true) }
-    ensures opened { store.new.opened ≡ store.old.opened }
+    ensures cause { IfOk result (λ lines. has_line is_fault lines ≡ true → session.new.faulted ≡ true) }
+    ensures opened { session.new.mount.opened ≡ session.old.mount.opened }
 {
-    let mut mount = mount;
     let mut actor = Actor {
         writer: None,
         reader: None,
     };
     let mut lines = Lines::new(alloc);
     for numbered in statements {
-        let made = make(
-            alloc,
-            store,
-            clock,
-            &mut mount,
-            &mut actor,
-            &numbered.statement,
-        );
+        let made = make(alloc, session, &mut actor, &numbered.statement);
         let outcome = outcome_of(made)?;
         let last = is_last(&outcome);
         lines.push(Line {

@@ -2,11 +2,12 @@
 ghost use Rattle.std.specs.Prelude.{◌≡◌, true, IsErrOf, IfOk};
 ghost use Rattle.plain_file.specs.File.{slice};
 
-use crate::backing::Backing;
 use crate::finding::{droppings, find, truncates};
 use crate::indices::entries;
 use crate::logs::changes;
+use crate::session::Session;
 use crate::stuck::Stuck;
+use edge_io::Clock;
 use plain_file::replay;
 use plfs_types::{Bytes, CountList, LogicalName, NoMemory, TruncList};
 use std::alloc::Global;
@@ -21,20 +22,20 @@ pub(crate) struct Sight {
 }
 
 /// Gathers what the file of this name holds now.
-pub(crate) fn look<S: Store>(
+pub(crate) fn look<S: Store + Drop, C: Clock + Drop>(
     alloc: Global,
-    store: &mut Backing<S>,
+    session: &mut Session<S, C>,
     name: &LogicalName,
 ) -> Result<Sight, Stuck>
-    ensures cause { IsErrOf result Stuck.Fault → store.new.faulted ≡ true }
-    ensures opened { store.new.opened ≡ store.old.opened }
+    ensures cause { IsErrOf result Stuck.Fault → session.new.faulted ≡ true }
+    ensures opened { session.new.mount.opened ≡ session.old.mount.opened }
 {
-    let room = find(store, name)?;
-    let droppings = droppings(alloc, store, room)?;
+    let room = find(session, name)?;
+    let droppings = droppings(alloc, session, room)?;
     let mut cut = CountList::new(alloc);
-    let found = entries(alloc, store, room, &droppings, &mut cut)?;
-    let truncs = truncates(alloc, store, room)?;
-    let changes = changes(alloc, store, room, &found, truncs.as_slice())?;
+    let found = entries(alloc, session, room, &droppings, &mut cut)?;
+    let truncs = truncates(alloc, session, room)?;
+    let changes = changes(alloc, session, room, &found, truncs.as_slice())?;
     let content = replay(alloc, &changes)?;
     Ok(Sight {
         content,

@@ -1,5 +1,10 @@
 //! Why work ends early.
-use plfs_types::{Name, NoMemory};
+ghost use Rattle.std.specs.Prelude.{◌≡◌, []};
+ghost use Rattle.plfs_program.specs.Stuck.{stuck_of, machine_stuck, why_of};
+
+use flow::Stuck as MachineStuck;
+use mount_model::{Refusal, Reply};
+use plfs_types::{Name, NoMemory, Path};
 use script_lang::Why;
 use std::alloc::{AllocError, AllocFailed};
 
@@ -18,6 +23,78 @@ pub(crate) enum Stuck {
     Fault,
     /// Memory was refused.
     NoMemory,
+}
+
+// Why a line says that a call was refused. The last three come of no call that an actor makes.
+fn why_of(refusal: Refusal) -> Why
+    ensures { result ≡ why_of refusal }
+{
+    match refusal {
+        Refusal::NoRoom => Why::NoFile,
+        Refusal::Held => Why::Held,
+        Refusal::TooFar => Why::TooFar,
+        Refusal::StampsSpent => Why::StampsSpent,
+        Refusal::IdsSpent => Why::IdsSpent,
+        Refusal::NotOpen | Refusal::Full | Refusal::NotFlushed | Refusal::NoMeta => Why::NotOpen,
+    }
+}
+
+impl Stuck {
+    /// The trouble that a reply is.
+    pub(crate) fn of(reply: Reply) -> Stuck
+        ensures { result ≡ stuck_of reply }
+    {
+        match reply {
+            Reply::Refused(refusal) => Stuck::Refused(why_of(refusal)),
+            Reply::Damaged { folder, file } => Stuck::Damaged {
+                folder,
+                file,
+                place: 0,
+            },
+            Reply::NoMemory => Stuck::NoMemory,
+            _ => Stuck::Fault,
+        }
+    }
+
+    /// The trouble of a machine.
+    pub(crate) fn of_machine(stuck: MachineStuck) -> Stuck
+        ensures { result ≡ machine_stuck stuck }
+    {
+        match stuck {
+            MachineStuck::Refused(refusal) => Stuck::Refused(why_of(refusal)),
+            MachineStuck::Damaged {
+                folder,
+                file,
+                place,
+            } => Stuck::Damaged {
+                folder,
+                file,
+                place,
+            },
+            MachineStuck::Fault => Stuck::Fault,
+        }
+    }
+}
+
+/// The item at this path is damaged from its beginning on.
+pub(crate) fn damaged(path: &Path) -> Stuck
+    ensures { result ≡ Stuck.Damaged path.now.folder path.now.file 0 }
+{
+    Stuck::Damaged {
+        folder: path.folder,
+        file: path.file,
+        place: 0,
+    }
+}
+
+/// The folder at the top of a container.
+pub(crate) fn folder_path(folder: Name) -> Path
+    ensures { result ≡ record { folder = folder; file = [] } }
+{
+    Path {
+        folder,
+        file: Name::empty(),
+    }
 }
 
 impl From<NoMemory> for Stuck {

@@ -1,25 +1,27 @@
 //! The whole of a run: words, input, script, mount, work, output, status.
-ghost use Rattle.std.specs.Prelude.{◌≡◌, ◌≢◌, ◌⊎◌, ◌∷◌, ℕ, List, [], true, Some, All, Ok, Err, IfOk, option_map};
+ghost use Rattle.std.specs.Prelude.{◌≡◌, ◌≢◌, ◌⊎◌, ◌∷◌, ℕ, List, [], true, Some, All, IfOk, option_map};
 ghost use Rattle.std.specs.Bool.{OnTrue, OnFalse};
 ghost use Rattle.plfs_types.specs.Counts.{HasRisen};
-ghost use Rattle.script_lang.specs.Scripts.{script_of};
+ghost use Rattle.script_lang.specs.Faults.{HasFault};
+ghost use Rattle.script_lang.specs.Grammar.{IsScript};
 ghost use Rattle.report_text.specs.Text.{text_of, HaveText};
 ghost use Rattle.plfs_program.specs.Built.{IsBuiltScript};
 ghost use Rattle.plfs_program.specs.Course.{Course, InputCourse, ends_of, play_words};
 ghost use Rattle.plfs_program.specs.Lines.{AreLinesOf, IsPlayed, has_line, is_fault, is_damage, is_refusal, status_of};
+ghost use Rattle.plfs_program.specs.Mounting.{mounts, unmounted_of, IsUnmounted};
 ghost use Rattle.plfs_program.specs.Output.{IsPrinted, IsCutOff};
 
-use crate::backing::Backing;
 use crate::built::built;
 use crate::faults::fault_line;
 use crate::input::{NoInput, read_input};
-use crate::mounting::draw_mount;
 use crate::output::write_out;
-use crate::playing::{play, trouble_of};
+use crate::playing::play;
+use crate::session::Session;
 use edge_io::{Clock, Gate, Sink, Source};
-use plfs_types::{NoMemory, Word};
+use mount_core::{Mount, MountTrouble};
+use plfs_types::{Name, NoMemory, Word};
 use report_text::print;
-use script_lang::{Kind, Line, Lines, Numbered, Outcome, Script, ScriptTrouble};
+use script_lang::{Kind, Line, Lines, Numbered, Outcome, Script, ScriptTrouble, Why};
 use std::alloc::Global;
 use std::sync::Wait;
 use std::thread::Threads;
@@ -100,32 +102,40 @@ fn status_of(lines: &[Line]) -> u8
     }
 }
 
-// The line of a mounting that ended so.
-fn mounting_line(alloc: Global, outcome: Outcome) -> Result<Lines, NoMemory>
-    ensures { IfOk result (λ lines. lines ≡ (record { number = 0; outcome = outcome }) ∷ []) }
+// What the line says of a mounting that broke off. Want of memory has no line.
+fn unmounted(trouble: MountTrouble) -> Result<Outcome, NoMemory>
+    ensures { IfOk result (λ outcome. unmounted_of trouble ≡ Some outcome) }
 {
-    let mut lines = Lines::new(alloc);
-    lines.push(Line { number: 0, outcome })?;
-    Ok(lines)
+    match trouble {
+        MountTrouble::Damaged { file } => Ok(damaged_marks(file)),
+        MountTrouble::NoMarks => Ok(damaged_marks(Name::empty())),
+        MountTrouble::Spent => Ok(Outcome::Refused {
+            why: Why::MountsSpent,
+        }),
+        MountTrouble::Fault => Ok(Outcome::Fault),
+        MountTrouble::NoMemory => Err(NoMemory),
+    }
 }
 
-// Mounts, and plays the statements.
-fn mount_and_play<S: Store, C: Clock>(
-    alloc: Global,
-    store: &mut Backing<S>,
-    clock: &mut C,
-    statements: &[Numbered],
-) -> Result<Lines, NoMemory>
-    requires { All (λ s. IsPlayed s.statement) statements.now }
-    ensures in_turn { IfOk result (AreLinesOf statements.now) }
-    ensures text { IfOk result HaveText }
-    ensures cause { IfOk result (λ lines. has_line is_fault lines ≡ true → store.new.faulted ≡ true) }
-    ensures opened { store.new.opened ≡ store.old.opened }
+// A file among the marks is damaged.
+fn damaged_marks(file: Name) -> Outcome
+    ensures { result ≡ Outcome.Damaged mounts file 0 }
 {
-    match draw_mount(store) {
-        Ok(mount) => play(alloc, store, clock, mount, statements),
-        Err(stuck) => mounting_line(alloc, trouble_of(stuck)?),
+    Outcome::Damaged {
+        folder: Name::from_bytes(b"mounts").unwrap(),
+        file,
+        place: 0,
     }
+}
+
+// The line of a mounting that broke off.
+fn mounting_line(alloc: Global, trouble: MountTrouble) -> Result<Lines, NoMemory>
+    ensures { IfOk result (IsUnmounted trouble) }
+{
+    let mut lines = Lines::new(alloc);
+    let outcome = unmounted(trouble)?;
+    lines.push(Line { number: 0, outcome })?;
+    Ok(lines)
 }
 
 // What the work on a store leaves.
@@ -136,22 +146,30 @@ struct Worked<S> {
 }
 
 // Mounts a store, and plays the statements on it.
-fn work<S: Store, C: Clock>(
+fn work<S: Store + Drop, C: Clock + Drop>(
     alloc: Global,
     store: S,
-    clock: &mut C,
+    clock: C,
     statements: &[Numbered],
 ) -> Worked<S>
     requires { All (λ s. IsPlayed s.statement) statements.now }
-    ensures in_turn { IfOk result.lines (AreLinesOf statements.now) }
+    ensures in_turn { IfOk result.lines (AreLinesOf (S.stored store).tree statements.now) }
     ensures text { IfOk result.lines HaveText }
     ensures cause { IfOk result.lines (λ lines. has_line is_fault lines ≡ true → HasRisen (S.stored store).faults (S.stored result.store).faults) }
 {
-    let mut backing = Backing::new(store);
-    let lines = mount_and_play(alloc, &mut backing, clock, statements);
-    Worked {
-        store: backing.into_store(),
-        lines,
+    match Mount::open(alloc, store, clock) {
+        Ok(mount) => {
+            let mut session = Session::new(mount);
+            let lines = play(alloc, &mut session, statements);
+            Worked {
+                store: session.into_store(),
+                lines,
+            }
+        }
+        Err((store, trouble)) => Worked {
+            store,
+            lines: mounting_line(alloc, trouble),
+        },
     }
 }
 
@@ -173,12 +191,12 @@ fn say<O: Sink>(out: &mut O, line: &[u8])
 }
 
 // Plays the statements of a script, and prints their lines.
-fn play_statements<S: Store, C: Clock, O: Sink>(
+fn play_statements<S: Store + Drop, C: Clock + Drop, O: Sink>(
     alloc: Global,
     statements: &[Numbered],
     out: &mut O,
     store: S,
-    clock: &mut C,
+    clock: C,
 ) -> Ended<S>
     requires { All (λ s. IsPlayed s.statement) statements.now }
     ensures { (bytes : List ℕ) → IsBuiltScript bytes statements.now → InputCourse bytes (ends_of (O.taking out.old) (O.taking out.new) (S.stored store) (option_map S.stored result.store)) result.status }
@@ -216,7 +234,7 @@ fn end_faulty<S: Store, O: Sink>(
     out: &mut O,
     store: S,
 ) -> Ended<S>
-    ensures { (bytes : List ℕ) → script_of bytes ≡ Err (record { line = line; kind = kind }) → InputCourse bytes (ends_of (O.taking out.old) (O.taking out.new) (S.stored store) (option_map S.stored result.store)) result.status }
+    ensures { (bytes : List ℕ) → HasFault bytes (record { line = line; kind = kind }) → InputCourse bytes (ends_of (O.taking out.old) (O.taking out.new) (S.stored store) (option_map S.stored result.store)) result.status }
 {
     let Ok(text) = fault_line(alloc, line, kind) else {
         return starved(store);
@@ -229,14 +247,14 @@ fn end_faulty<S: Store, O: Sink>(
 }
 
 // Plays the script, where it is one that is built.
-fn play_script<S: Store, C: Clock, O: Sink>(
+fn play_script<S: Store + Drop, C: Clock + Drop, O: Sink>(
     alloc: Global,
     script: &Script,
     out: &mut O,
     store: S,
-    clock: &mut C,
+    clock: C,
 ) -> Ended<S>
-    ensures { (bytes : List ℕ) → script_of bytes ≡ Ok script.now → InputCourse bytes (ends_of (O.taking out.old) (O.taking out.new) (S.stored store) (option_map S.stored result.store)) result.status }
+    ensures { (bytes : List ℕ) → IsScript bytes script.now → InputCourse bytes (ends_of (O.taking out.old) (O.taking out.new) (S.stored store) (option_map S.stored result.store)) result.status }
 {
     let Some(statements) = built(script) else {
         say(out, UNBUILT);
@@ -249,12 +267,12 @@ fn play_script<S: Store, C: Clock, O: Sink>(
 }
 
 // Plays the script that these bytes are.
-fn play_input<S: Store, C: Clock, O: Sink>(
+fn play_input<S: Store + Drop, C: Clock + Drop, O: Sink>(
     alloc: Global,
     bytes: &[u8],
     out: &mut O,
     store: S,
-    clock: &mut C,
+    clock: C,
 ) -> Ended<S>
     ensures { InputCourse bytes.now (ends_of (O.taking out.old) (O.taking out.new) (S.stored store) (option_map S.stored result.store)) result.status }
 {
@@ -274,7 +292,12 @@ fn play_input<S: Store, C: Clock, O: Sink>(
 /// 2^23. Every other valid script prints `script 0 unbuilt`, a script with a fault prints `script`, the fault's line
 /// and its kind, and all other words print the usage line. A fault or damage is the last line. What the lines say of
 /// the file is not in the contract.
-pub fn single<S: Store, C: Clock + Drop, I: Source, O: Sink>(
+///
+/// A mounting that breaks off is line 0 alone: a fault, `refused mounts-spent`, or damage in `mounts`. Over a store that
+/// told its tree before, refused says that all names listed in `mounts` are marks and the greatest is 2^32 - 1; damaged
+/// names the first that is no mark, or nothing where the room of the marks lacks that folder; and the statements are
+/// played only where all are marks and a number is left. `marks_decide` says that these exclude each other.
+pub fn single<S: Store + Drop, C: Clock + Drop, I: Source, O: Sink>(
     alloc: Global,
     words: &[Word],
     input: &mut I,
@@ -284,7 +307,6 @@ pub fn single<S: Store, C: Clock + Drop, I: Source, O: Sink>(
 ) -> Ended<S>
     ensures { Course words.now (I.given input.old) (I.given input.new) (ends_of (O.taking out.old) (O.taking out.new) (S.stored store) (option_map S.stored result.store)) result.status }
 {
-    let mut clock = clock;
     if !is_play(words) {
         say(out, USAGE);
         return Ended {
@@ -293,7 +315,7 @@ pub fn single<S: Store, C: Clock + Drop, I: Source, O: Sink>(
         };
     }
     match read_input(alloc, input) {
-        Ok(bytes) => play_input(alloc, bytes.as_slice(), out, store, &mut clock),
+        Ok(bytes) => play_input(alloc, bytes.as_slice(), out, store, clock),
         Err(NoInput::Failed) => Ended {
             store: Some(store),
             status: 5,
@@ -303,7 +325,7 @@ pub fn single<S: Store, C: Clock + Drop, I: Source, O: Sink>(
 }
 
 /// Runs a command. So far no command waits or starts threads, and this is `single`.
-pub fn plfs<R: Threads + Wait, S: Store, C: Clock + Drop, I: Source, O: Sink, G: Gate>(
+pub fn plfs<R: Threads + Wait, S: Store + Drop, C: Clock + Drop, I: Source, O: Sink, G: Gate>(
     _rt: &R,
     alloc: Global,
     words: &[Word],

@@ -109,3 +109,34 @@ fn a_root_that_is_no_folder_is_a_fault(rt: HostRuntime) -> Result<(), Fail> {
     fs::remove_file(&rt, "file-store")?;
     Ok(())
 }
+
+#[test]
+fn a_root_that_can_not_be_written_is_a_fault(rt: HostRuntime) -> Result<(), Fail> {
+    // Nobody makes a folder in /sys, nor anything under a file.
+    let (system, lines) = play(rt, "/sys", HELLO)?;
+    assert_eq!(rt; system, 4);
+    assert_eq!(rt; lines.as_slice(), b"0 fault\n".as_slice());
+    assert!(rt; !fs::exists(&rt, "/sys/.plfs")?);
+    fs::write(&rt, "stem-file", "kept")?;
+    let (under, lines) = play(rt, "stem-file/store", HELLO)?;
+    assert_eq!(rt; under, 4);
+    assert_eq!(rt; lines.as_slice(), b"0 fault\n".as_slice());
+    assert!(rt; has_file(rt, "stem-file", b"kept"));
+    fs::remove_file(&rt, "stem-file")?;
+    Ok(())
+}
+
+#[test]
+fn a_file_in_a_containers_place_is_a_fault_and_stays(rt: HostRuntime) -> Result<(), Fail> {
+    let root = "taken-store";
+    let _ = fs::remove_dir_all(&rt, root);
+    fs::create_dir(&rt, root)?;
+    fs::write(&rt, "taken-store/f", "kept")?;
+    let (status, lines) = play(rt, root, HELLO)?;
+    assert_eq!(rt; status, 4);
+    assert_eq!(rt; lines.as_slice(), b"2 fault\n".as_slice());
+    assert!(rt; has_file(rt, "taken-store/f", b"kept"));
+    assert_eq!(rt; count_names(rt, root), 2);
+    fs::remove_dir_all(&rt, root)?;
+    Ok(())
+}

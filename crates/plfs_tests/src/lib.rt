@@ -7,6 +7,8 @@ mod edges;
 #[cfg(test)]
 mod folder;
 #[cfg(test)]
+mod marks;
+#[cfg(test)]
 mod runs;
 #[cfg(test)]
 mod scripts;

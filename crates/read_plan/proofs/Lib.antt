@@ -1,3 +1,4 @@
 pub mod RangeLemmas
 pub mod PlanLemmas
 mod StepLemmas
+mod BracketLemmas

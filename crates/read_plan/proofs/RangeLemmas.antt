@@ -1,8 +1,7 @@
 -- The pieces of a range: where they lie, and what they say of its bytes.
-use Rattle.std.proofs.Common.{◌≡◌, ℕ, zero, suc, ◌+◌, ◌-◌, ◌<◌, ◌≤◌, inl, inr, true, false, nat_le, min, max, List, [], ◌∷◌, None, Some, refl, ap, ◌∙◌, sym, subst, arith, length, drop, get_or, map, filter}
+use Rattle.std.proofs.Common.{◌≡◌, ℕ, zero, suc, ◌+◌, ◌-◌, ◌<◌, ◌≤◌, inl, inr, min, max, List, [], ◌∷◌, None, Some, refl, ap, ◌∙◌, sym, subst, arith, length, drop, get_or, map, filter}
 use Rattle.std.specs.List.{AllByRecursion, AllWithin}
-use Rattle.std.specs.List.Sorted.{IsPartitionedBy}
-use Rattle.std.proofs.lemmas.Bool.{cases_lt, cond-true, cond-false, le-leb, le-ltb, lt-ltb, leb-true, leb-false}
+use Rattle.std.proofs.lemmas.Bool.{cases_lt, cond-true, cond-false, le-ltb, lt-ltb}
 use Rattle.plain_file.specs.declared.pieces.Piece.{Piece}
 use Rattle.plain_file.specs.Sources.{has_byte, source_in, source_at}
 use Rattle.plain_file.specs.Runs.{AreRuns}
@@ -31,22 +30,19 @@ at_place n [] j d all h = absurd (omega arith)
 at_place n (p ∷ pieces) zero d all h = all.0
 at_place n (p ∷ pieces) (suc j) d all h = at_place n pieces j d all.1 (omega arith)
 
-ends_in_order : (at : ℕ) (pieces : List Piece) → AreRuns pieces → IsPartitionedBy (λ (p : Piece). nat_le (p.at + p.len) at) pieces
-ends_in_order at [] runs i j d le lt h = absurd (omega arith)
-ends_in_order at (p ∷ pieces) runs zero zero d le lt h = h
-ends_in_order at (p ∷ pieces) runs (suc i) zero d le lt h = absurd (omega arith)
-ends_in_order at (p ∷ pieces) runs zero (suc j) d le lt h =
-    let from : p.at + p.len ≤ (get_or pieces j d).at = at_place (p.at + p.len) pieces j d (all_from (p.at + p.len) pieces runs.2 (Starts-after p pieces runs.1)) (omega arith) in
-    le-leb (p.at + p.len) at (omega (arith, leb-true ((get_or pieces j d).at + (get_or pieces j d).len) at h))
-ends_in_order at (p ∷ pieces) runs (suc i) (suc j) d le lt h = ends_in_order at pieces runs.2 i j d (omega arith) (omega arith) h
+-- a piece ends where a later one begins, or before it
+pub ends_in_turn : (pieces : List Piece) (i j : ℕ) (d e : Piece) → AreRuns pieces → i < j → j < length pieces
+    → (get_or pieces i d).at + (get_or pieces i d).len ≤ (get_or pieces j e).at
+ends_in_turn [] i j d e runs lt h = absurd (omega arith)
+ends_in_turn (p ∷ pieces) zero zero d e runs lt h = absurd (omega arith)
+ends_in_turn (p ∷ pieces) (suc i) zero d e runs lt h = absurd (omega arith)
+ends_in_turn (p ∷ pieces) zero (suc j) d e runs lt h =
+    at_place (p.at + p.len) pieces j e (all_from (p.at + p.len) pieces runs.2 (Starts-after p pieces runs.1)) (omega arith)
+ends_in_turn (p ∷ pieces) (suc i) (suc j) d e runs lt h = ends_in_turn pieces i j d e runs.2 (omega arith) (omega arith)
 
--- the pieces that end at or before a byte stand in front of the others
-pub partitioned : (at : ℕ) (pieces : List Piece) → AreRuns pieces → IsPartitionedBy (λ (p : Piece). nat_le (p.at + p.len) at) pieces
-partitioned at pieces runs = λ i j d le lt h. ends_in_order at pieces runs i j d le lt h
-
-pub EndsPast-drop : (at i : ℕ) (pieces : List Piece) → AllWithin (λ (p : Piece). nat_le (p.at + p.len) at ≡ false) pieces i (length pieces) → EndsPast at (drop i pieces)
+pub EndsPast-drop : (at i : ℕ) (pieces : List Piece) → AllWithin (λ (p : Piece). at < p.at + p.len) pieces i (length pieces) → EndsPast at (drop i pieces)
 EndsPast-drop at zero [] h = tt
-EndsPast-drop at zero (p ∷ pieces) h = leb-false (p.at + p.len) at (h 0 p (omega arith) (omega arith))
+EndsPast-drop at zero (p ∷ pieces) h = h 0 p (omega arith) (omega arith)
 EndsPast-drop at (suc i) [] h = tt
 EndsPast-drop at (suc i) (p ∷ pieces) h = EndsPast-drop at i pieces (λ k d low high. h (suc k) d (omega arith) (omega arith))
 
@@ -66,11 +62,11 @@ pieces_in-missed at until p pieces missed =
     ap (map (cut at until)) (cond-false (meets at until p) (p ∷ filter (meets at until) pieces) (filter (meets at until) pieces) (le-ltb (max at p.at) (min until (p.at + p.len)) missed))
 
 -- pieces that end at or before the range's first byte may be left out
-pub pieces_in-skipped : (at until i : ℕ) (pieces : List Piece) → AllWithin (λ (p : Piece). nat_le (p.at + p.len) at ≡ true) pieces 0 i → i ≤ length pieces → pieces_in at until (drop i pieces) ≡ pieces_in at until pieces
+pub pieces_in-skipped : (at until i : ℕ) (pieces : List Piece) → AllWithin (λ (p : Piece). p.at + p.len ≤ at) pieces 0 i → i ≤ length pieces → pieces_in at until (drop i pieces) ≡ pieces_in at until pieces
 pieces_in-skipped at until zero pieces h l = refl
 pieces_in-skipped at until (suc i) [] h l = absurd (omega arith)
 pieces_in-skipped at until (suc i) (p ∷ pieces) h l =
-    let ended : p.at + p.len ≤ at = leb-true (p.at + p.len) at (h 0 p (omega arith) (omega arith)) in
+    let ended : p.at + p.len ≤ at = h 0 p (omega arith) (omega arith) in
     pieces_in-skipped at until i pieces (λ k d low high. h (suc k) d (omega arith) (omega arith)) (omega arith)
     ∙ sym (pieces_in-missed at until p pieces (omega arith))
 

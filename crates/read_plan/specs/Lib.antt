@@ -1,3 +1,4 @@
 pub mod Parts
 pub mod Ranges
 pub mod Plan
+pub mod Brackets

@@ -7,6 +7,7 @@
 
 mod part;
 mod planning;
+mod searching;
 
 pub use part::{Part, PartList};
 pub use planning::plan;

@@ -1,6 +1,6 @@
 //! The plan of a read.
 
-ghost use Rattle.std.specs.Prelude.{◌≡◌, ℕ, ◌+◌, ◌-◌, ◌<◌, ◌≤◌, [], ◌++◌, List, length, drop, map, filter, All, IfOk, OnOk, min, nat_le, sum_by};
+ghost use Rattle.std.specs.Prelude.{◌≡◌, ℕ, ◌+◌, ◌-◌, ◌<◌, ◌≤◌, [], ◌++◌, List, map, filter, All, IfOk, OnOk, min, sum_by};
 ghost use Rattle.plain_file.specs.declared.changes.Change.{Change};
 ghost use Rattle.plain_file.specs.File.{plain, plain_size, slice, HasItsBytes};
 ghost use Rattle.plain_file.specs.Keys.{KeysDiffer};
@@ -12,14 +12,15 @@ ghost use Rattle.read_plan.specs.Ranges.{end_of, pieces_in, EndsPast};
 ghost use Rattle.read_plan.specs.Plan.{part_of, hole, filled, plan_of};
 
 use crate::part::{Part, PartList};
+use crate::searching::first_past;
 use plain_file::{Piece, Pieces};
 use plfs_types::NoMemory;
 use std::alloc::Global;
 
 /// The parts of a read of `len` bytes from byte `at` on, of a file of `size` bytes with these
 /// pieces. They end where the file ends, so there are none at and past its end. It takes time for
-/// the pieces that meet the range, and to find the first of them by halves. Any range is taken, and
-/// `NoMemory` comes only where memory is refused.
+/// the pieces that meet the range, and to find the first of them, at worst for the logarithm of the
+/// number of all. Any range is taken, and `NoMemory` comes only where memory is refused.
 pub fn plan(
     alloc: Global,
     pieces: &Pieces,
@@ -47,36 +48,24 @@ pub fn plan(
     Ok(parts)
 }
 
+/// For how many parts room is made at first.
+const FEW_PARTS: usize = 4;
+
 /// The parts from byte `at` up to byte `until`.
 fn parts_between(alloc: Global, pieces: &Pieces, at: u64, until: u64) -> Result<PartList, NoMemory>
     requires { at ≤ until }
     ensures runs { AreRuns pieces.now }
     ensures exact { IfOk result (λ parts. parts ≡ filled at until (pieces_in at until pieces.now)) }
 {
-    let mut parts = PartList::new(alloc);
     let pieces = pieces.as_slice();
-    if at < until {
-        let first = first_past(pieces, at);
-        push_parts(&mut parts, &pieces[first..], at, until)?;
+    if at >= until {
+        return Ok(PartList::new(alloc));
     }
+    // A range with bytes has parts, so this asks for no memory without need.
+    let mut parts = PartList::from_vec(Vec::with_capacity(alloc, FEW_PARTS)?);
+    let first = first_past(pieces, at);
+    push_parts(&mut parts, &pieces[first..], at, until)?;
     Ok(parts)
-}
-
-/// The place of the first piece that ends past this byte of the file.
-fn first_past(pieces: &[Piece], at: u64) -> usize
-    requires { AreRuns pieces.now }
-    ensures within { result ≤ length pieces.now }
-    ensures first { EndsPast at (drop result pieces.now) }
-    ensures skipped { (until : ℕ) → pieces_in at until (drop result pieces.now) ≡ pieces_in at until pieces.now }
-{
-    pieces.partition_point(|piece| ends_by(piece, at))
-}
-
-/// Whether the piece ends at or before this byte of the file.
-fn ends_by(piece: &Piece, at: u64) -> bool
-    ensures { result ≡ nat_le (piece.now.at + piece.now.len) at }
-{
-    piece.at <= at && piece.len <= at - piece.at
 }
 
 /// Adds the parts from byte `at` up to byte `until`. The first piece ends past `at`.

@@ -5,7 +5,8 @@ use Rattle.std.proofs.lemmas.List.Elements.{All-append}
 use Rattle.script_lang.specs.declared.draft.Draft.{Draft}
 use Rattle.script_lang.specs.declared.meaning.Meaning.{Meaning}
 use Rattle.script_lang.specs.declared.meaning.Meaning.TheVariants as meaning
-use Rattle.script_lang.specs.Drafts.{FitsDraft, draft_with, empty_phase, script_in}
+use Rattle.script_lang.specs.Drafts.{FitsDraft, draft_with, script_in}
+use Rattle.script_lang.specs.Phases.{empty_phase}
 use Rattle.script_lang.specs.Lines.{IsFit}
 use Rattle.script_lang.specs.Ranges.{FitsActor, FitsTurned, FitsNumbered, FitsPhase, FitsScript}
 

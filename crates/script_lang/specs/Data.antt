@@ -8,14 +8,11 @@ use Rattle.script_lang.specs.declared.script.Data.TheVariants as data_of
 use Rattle.script_lang.specs.declared.trouble.Kind.{Kind}
 use Rattle.script_lang.specs.declared.trouble.Kind.TheVariants as kinds
 use Rattle.script_lang.specs.Numbers.{number_in}
+use Rattle.script_lang.specs.Spelling.{is_seen}
 
 -- one of 0-9 and a-f
 abbrev pub is_lower_digit : ℕ → Bool
 is_lower_digit b = (nat_le 48 b && nat_le b 57) || (nat_le 97 b && nat_le b 102)
-
--- a byte that is seen: 0x21 to 0x7e
-abbrev pub is_seen : ℕ → Bool
-is_seen b = nat_le 33 b && nat_le b 126
 
 abbrev pub decoded : Result (List ℕ) FromHexError → Result Data Kind
 decoded (Ok bytes) = Ok (data_of.Hex bytes)

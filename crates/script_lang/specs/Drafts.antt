@@ -4,15 +4,12 @@ use Rattle.script_lang.specs.declared.draft.Draft.{Draft}
 use Rattle.script_lang.specs.declared.flaw.Flaw.{Flaw}
 use Rattle.script_lang.specs.declared.meaning.Meaning.{Meaning}
 use Rattle.script_lang.specs.declared.meaning.Meaning.TheVariants as meaning
-use Rattle.script_lang.specs.declared.script.Phase.{Phase}
 use Rattle.script_lang.specs.declared.script.Script.{Script}
 use Rattle.script_lang.specs.declared.trouble.Kind.{Kind}
+use Rattle.script_lang.specs.Phases.{empty_phase}
 use Rattle.script_lang.specs.Lines.{line_meaning}
 use Rattle.script_lang.specs.Ranges.{FitsActor, FitsPhase}
 use Rattle.script_lang.specs.Reading.{Fails}
-
-abbrev pub empty_phase : Phase
-empty_phase = record { turns = []; statements = [] }
 
 -- before the first line
 abbrev pub empty_draft : Draft

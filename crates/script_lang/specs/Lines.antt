@@ -5,10 +5,10 @@ use Rattle.script_lang.specs.declared.meaning.Meaning.{Meaning}
 use Rattle.script_lang.specs.declared.meaning.Meaning.TheVariants as meaning
 use Rattle.script_lang.specs.declared.script.ActorDecl.{ActorDecl}
 use Rattle.script_lang.specs.declared.script.Statement.{Statement}
-use Rattle.script_lang.specs.declared.script.Statement.TheVariants as statement
 use Rattle.script_lang.specs.declared.trouble.Kind.{Kind}
 use Rattle.script_lang.specs.declared.trouble.Kind.TheVariants as kinds
 use Rattle.script_lang.specs.declared.verb.Verb.{Verb}
+use Rattle.script_lang.specs.Grammar.{read_length}
 use Rattle.script_lang.specs.Names.{is_word, is_actor_name, place_of}
 use Rattle.script_lang.specs.Numbers.{number_in, number_or}
 use Rattle.script_lang.specs.Ranges.{FitsActor, FitsTurned, FitsStatement}
@@ -50,11 +50,6 @@ turns_at (Some place) line = if line.count == 3 then (do
 -- `turn A N`
 abbrev pub turning : List ActorDecl → Spoken → Result Meaning Kind
 turning actors line = if line.count == 1 then Err kinds.Count else turns_at (place_of actors line.second) line
-
--- how many bytes a `read` line asks for
-abbrev pub read_length : Statement → ℕ
-read_length (statement.Read at len) = len
-read_length other = 0
 
 -- a statement, where the `read` lines so far ask for so many bytes
 abbrev pub within_reads : ℕ → Statement → ℕ → Result Meaning Kind

@@ -9,12 +9,8 @@ use Rattle.script_lang.specs.declared.trouble.Kind.TheVariants.{Long}
 use Rattle.script_lang.specs.declared.trouble.ScriptTrouble.{ScriptTrouble}
 use Rattle.script_lang.specs.declared.trouble.ScriptTrouble.TheVariants as trouble
 use Rattle.script_lang.specs.Drafts.{empty_draft, line_draft, script_in}
+pub use Rattle.script_lang.specs.Faults.{Fault}
 use Rattle.script_lang.specs.Words.{lines_of}
-
--- the line of a fault, from 1, and its kind
-pub record Fault : Type 0 where
-  pub line : ℕ
-  pub kind : Kind
 
 -- what comes behind a line, or its fault
 abbrev pub go_on : ℕ → (Draft → Result Draft Fault) → Result Draft Kind → Result Draft Fault

@@ -1,18 +1,17 @@
--- How statements and their data are written, apart from how they are read.
-use Rattle.std.specs.Prelude.{◌≡◌, ℕ, ◌+◌, ◌≤◌, ◌<◌, ◌^◌, true, Some, List, [], ◌∷◌, ◌++◌, codes}
+-- How statements and their data are written.
+use Rattle.std.specs.Prelude.{◌≡◌, ◌⊎◌, ℕ, ◌≤◌, ◌<◌, ◌^◌, ◌&&◌, nat_le, Bool, true, List, [], ◌∷◌, ◌++◌, codes}
 use Rattle.std.specs.Fmt.{decimal}
 use Rattle.std.specs.List.{list_all}
 use Rattle.hex.specs.Hex.{encode_lower, IsBytes}
 use Rattle.plfs_types.specs.Names.{IsLogicalName}
-use Rattle.script_lang.specs.declared.script.ActorDecl.{ActorDecl}
 use Rattle.script_lang.specs.declared.script.Data.{Data}
 use Rattle.script_lang.specs.declared.script.Data.TheVariants as data_of
 use Rattle.script_lang.specs.declared.script.Statement.{Statement}
 use Rattle.script_lang.specs.declared.script.Statement.TheVariants as statement
-use Rattle.script_lang.specs.Data.{is_seen}
-use Rattle.script_lang.specs.Lines.{saying, within_reads, read_length}
-use Rattle.script_lang.specs.Names.{place_of}
-use Rattle.script_lang.specs.Spoken.{spoken}
+
+-- a byte that is seen: 0x21 to 0x7e
+abbrev pub is_seen : ℕ → Bool
+is_seen b = nat_le 33 b && nat_le b 126
 
 -- the word of some data
 abbrev pub data_word : Data → List ℕ
@@ -28,44 +27,21 @@ IsData (data_of.Text bytes) = list_all is_seen bytes ≡ true
 IsData (data_of.Fill len byte) = (len ≤ 2 ^ 24) × (byte ≤ 255)
 IsData (data_of.Ramp len first) = (len ≤ 2 ^ 24) × (first ≤ 255)
 
--- the words of a statement, behind the name of its actor
-abbrev pub statement_words : Statement → List (List ℕ)
-statement_words (statement.Open name) = codes "open" ∷ name ∷ []
-statement_words (statement.Write at content) = codes "write" ∷ decimal at ∷ data_word content ∷ []
-statement_words statement.Sync = codes "sync" ∷ []
-statement_words statement.Close = codes "close" ∷ []
-statement_words (statement.Ropen name workers) = codes "ropen" ∷ name ∷ decimal workers ∷ []
-statement_words (statement.Read at len) = codes "read" ∷ decimal at ∷ decimal len ∷ []
-statement_words (statement.Verify at content) = codes "verify" ∷ decimal at ∷ data_word content ∷ []
-statement_words statement.Map = codes "map" ∷ []
-statement_words statement.Rclose = codes "rclose" ∷ []
-statement_words (statement.Stat name) = codes "stat" ∷ name ∷ []
-statement_words (statement.Flatten name) = codes "flatten" ∷ name ∷ []
-statement_words (statement.Recover name) = codes "recover" ∷ name ∷ []
-statement_words (statement.Trunc name size) = codes "trunc" ∷ name ∷ decimal size ∷ []
-statement_words (statement.Rename name to) = codes "rename" ∷ name ∷ to ∷ []
-statement_words statement.Ls = codes "ls" ∷ []
-statement_words (statement.Stop call bytes) = codes "stop" ∷ decimal call ∷ decimal bytes ∷ []
-
--- a statement in its ranges
-abbrev pub IsStatement : Statement → Type 0
-IsStatement (statement.Open name) = IsLogicalName name
-IsStatement (statement.Write at content) = (at < 2 ^ 64) × IsData content
-IsStatement statement.Sync = Unit {0}
-IsStatement statement.Close = Unit {0}
-IsStatement (statement.Ropen name workers) = IsLogicalName name × (1 ≤ workers) × (workers ≤ 16)
-IsStatement (statement.Read at len) = (at < 2 ^ 64) × (len ≤ 2 ^ 24)
-IsStatement (statement.Verify at content) = (at < 2 ^ 64) × IsData content
-IsStatement statement.Map = Unit {0}
-IsStatement statement.Rclose = Unit {0}
-IsStatement (statement.Stat name) = IsLogicalName name
-IsStatement (statement.Flatten name) = IsLogicalName name
-IsStatement (statement.Recover name) = IsLogicalName name
-IsStatement (statement.Trunc name size) = IsLogicalName name × (size < 2 ^ 64)
-IsStatement (statement.Rename name to) = IsLogicalName name × IsLogicalName to
-IsStatement statement.Ls = Unit {0}
-IsStatement (statement.Stop call bytes) = (1 ≤ call) × (call < 2 ^ 64) × (bytes < 2 ^ 64)
-
--- the words of a statement in its ranges, behind the name of an actor at this place, say that statement
-abbrev pub AreReadAgain : Type 0
-AreReadAgain = (actors : List ActorDecl) (actor : List ℕ) (place reads : ℕ) (made : Statement) → place_of actors actor ≡ Some place → IsStatement made → saying actors reads (spoken (actor ∷ statement_words made)) ≡ within_reads place made (reads + read_length made)
+-- the words of a statement, behind the name of its actor; only the workers of a reader may be left out, where there is one
+abbrev pub Spells : Statement → List (List ℕ) → Type 0
+Spells (statement.Open name) words = IsLogicalName name × (words ≡ codes "open" ∷ name ∷ [])
+Spells (statement.Write at content) words = (at < 2 ^ 64) × IsData content × (words ≡ codes "write" ∷ decimal at ∷ data_word content ∷ [])
+Spells statement.Sync words = words ≡ codes "sync" ∷ []
+Spells statement.Close words = words ≡ codes "close" ∷ []
+Spells (statement.Ropen name workers) words = IsLogicalName name × (1 ≤ workers) × (workers ≤ 16) × ((words ≡ codes "ropen" ∷ name ∷ decimal workers ∷ []) ⊎ ((words ≡ codes "ropen" ∷ name ∷ []) × (workers ≡ 1)))
+Spells (statement.Read at len) words = (at < 2 ^ 64) × (len ≤ 2 ^ 24) × (words ≡ codes "read" ∷ decimal at ∷ decimal len ∷ [])
+Spells (statement.Verify at content) words = (at < 2 ^ 64) × IsData content × (words ≡ codes "verify" ∷ decimal at ∷ data_word content ∷ [])
+Spells statement.Map words = words ≡ codes "map" ∷ []
+Spells statement.Rclose words = words ≡ codes "rclose" ∷ []
+Spells (statement.Stat name) words = IsLogicalName name × (words ≡ codes "stat" ∷ name ∷ [])
+Spells (statement.Flatten name) words = IsLogicalName name × (words ≡ codes "flatten" ∷ name ∷ [])
+Spells (statement.Recover name) words = IsLogicalName name × (words ≡ codes "recover" ∷ name ∷ [])
+Spells (statement.Trunc name size) words = IsLogicalName name × (size < 2 ^ 64) × (words ≡ codes "trunc" ∷ name ∷ decimal size ∷ [])
+Spells (statement.Rename name to) words = IsLogicalName name × IsLogicalName to × (words ≡ codes "rename" ∷ name ∷ to ∷ [])
+Spells statement.Ls words = words ≡ codes "ls" ∷ []
+Spells (statement.Stop call bytes) words = (1 ≤ call) × (call < 2 ^ 64) × (bytes < 2 ^ 64) × (words ≡ codes "stop" ∷ decimal call ∷ decimal bytes ∷ [])

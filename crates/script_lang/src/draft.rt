@@ -4,7 +4,8 @@ ghost use Rattle.script_lang.specs.Lines.{IsFit, line_meaning};
 ghost use Rattle.script_lang.specs.Ranges.{FitsScript};
 ghost use Rattle.script_lang.specs.Reading.{Gives};
 ghost use Rattle.script_lang.specs.Words.{is_passed};
-ghost use Rattle.script_lang.specs.Drafts.{empty_phase, empty_draft, draft_with, line_draft, Follows, script_in, FitsDraft};
+ghost use Rattle.script_lang.specs.Phases.{empty_phase};
+ghost use Rattle.script_lang.specs.Drafts.{empty_draft, draft_with, line_draft, Follows, script_in, FitsDraft};
 
 use crate::cast::Cast;
 use crate::flaw::Flaw;

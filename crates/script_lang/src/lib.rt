@@ -23,7 +23,7 @@ pub use script::{
     ActorDecl, ActorList, Data, Numbered, Phase, PhaseList, Script, Statement, StatementList,
     TurnList, Turned,
 };
-pub use spelling::statements_are_read_again;
+pub use spelling::{scripts_are_told_apart, statements_are_read_again};
 pub use trouble::{Kind, ScriptTrouble};
 
 #[cfg(test)]

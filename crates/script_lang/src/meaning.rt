@@ -1,6 +1,7 @@
 //! What a line says.
 ghost use Rattle.std.specs.Prelude.{◌≡◌, ◌≤◌, ◌^◌, ◌+◌, ◌<◌, Bool, Some, List, length, IfOk};
-ghost use Rattle.script_lang.specs.Lines.{is_refused, declared, declaration, beginning, turning, turns_at, read_length, within_reads, says_by, saying, meaning_of, Names, IsFit};
+ghost use Rattle.script_lang.specs.Grammar.{read_length};
+ghost use Rattle.script_lang.specs.Lines.{is_refused, declared, declaration, beginning, turning, turns_at, within_reads, says_by, saying, meaning_of, Names, IsFit};
 ghost use Rattle.script_lang.specs.Ranges.{FitsStatement};
 ghost use Rattle.script_lang.specs.Reading.{Gives};
 ghost use Rattle.script_lang.specs.declared.script.ActorDecl.{ActorDecl};

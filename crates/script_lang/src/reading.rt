@@ -1,9 +1,13 @@
 //! Reads scripts.
-ghost use Rattle.std.specs.Prelude.{◌≡◌, ◌≤◌, ◌^◌, length, IfOk};
+ghost use Rattle.std.specs.Prelude.{◌≡◌, ◌≤◌, ◌^◌, length, Ok, Err, IfOk, IfErr};
 ghost use Rattle.script_lang.specs.Drafts.{FitsDraft, empty_draft};
+ghost use Rattle.script_lang.specs.Faults.{Fault, HasFault};
+ghost use Rattle.script_lang.specs.Grammar.{IsScript};
 ghost use Rattle.script_lang.specs.Ranges.{FitsScript};
 ghost use Rattle.script_lang.specs.Scripts.{Answers, lines_draft, script_of, trouble_at};
+ghost use Rattle.script_lang.specs.Told.{IsTroubleOf, IsAnswer};
 ghost use Rattle.script_lang.specs.Words.{lines_of};
+ghost use Rattle.script_lang.specs.declared.script.Script.{Script};
 
 use crate::draft::Draft;
 use crate::flaw::Flaw;
@@ -46,21 +50,33 @@ fn read_lines(alloc: Global, bytes: &[u8]) -> Result<Draft, ScriptTrouble>
     Ok(draft)
 }
 
+// The script of these bytes, read step by step.
+fn read_script(alloc: Global, bytes: &[u8]) -> Result<Script, ScriptTrouble>
+    ensures script { Answers result (script_of bytes.now) }
+    ensures fits { IfOk result FitsScript }
+{
+    if bytes.len() > MAX_SCRIPT {
+        return Err(ScriptTrouble::Fault {
+            line: 0,
+            kind: Kind::Long,
+        });
+    }
+    let draft = read_lines(alloc, bytes)?;
+    Ok(draft.finish(alloc)?)
+}
+
 impl Script {
     /// The script that these bytes are, or the first fault by its line and then by the order of kinds.
     ///
     /// Takes time linear in the bytes.
     pub fn read(alloc: Global, bytes: &[u8]) -> Result<Script, ScriptTrouble>
-        ensures script { Answers result (script_of bytes.now) }
+        ensures script { IfOk result (IsScript bytes.now) }
+        ensures fault { IfErr result (IsTroubleOf bytes.now) }
+        // Each script is read, and each first fault is found, unless memory is refused.
+        ensures every_script { (script : Script) → IsScript bytes.now script → IsAnswer result (Ok script) }
+        ensures every_fault { (fault : Fault) → HasFault bytes.now fault → IsAnswer result (Err (ScriptTrouble.Fault fault.line fault.kind)) }
         ensures fits { IfOk result FitsScript }
     {
-        if bytes.len() > MAX_SCRIPT {
-            return Err(ScriptTrouble::Fault {
-                line: 0,
-                kind: Kind::Long,
-            });
-        }
-        let draft = read_lines(alloc, bytes)?;
-        Ok(draft.finish(alloc)?)
+        read_script(alloc, bytes)
     }
 }

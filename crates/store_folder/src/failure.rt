@@ -13,18 +13,33 @@ pub enum Failure {
 }
 
 impl From<AllocError> for Failure {
+    ghost use Rattle.std.specs.Prelude.{◌≡◌};
+    ghost use Rattle.store_folder.specs.declared.failure.Failure.TheVariants as variant;
+
+    ghost from_gives = { λ _ failure. failure ≡ variant.NoMemory };
+
     fn from(_: AllocError) -> Self {
         Failure::NoMemory
     }
 }
 
 impl<T: Drop> From<AllocFailed<T>> for Failure {
+    ghost use Rattle.std.specs.Prelude.{◌≡◌};
+    ghost use Rattle.store_folder.specs.declared.failure.Failure.TheVariants as variant;
+
+    ghost from_gives = { λ _ failure. failure ≡ variant.NoMemory };
+
     fn from(_: AllocFailed<T>) -> Self {
         Failure::NoMemory
     }
 }
 
 impl From<NoMemory> for Failure {
+    ghost use Rattle.std.specs.Prelude.{◌≡◌};
+    ghost use Rattle.store_folder.specs.declared.failure.Failure.TheVariants as variant;
+
+    ghost from_gives = { λ _ failure. failure ≡ variant.NoMemory };
+
     fn from(_: NoMemory) -> Self {
         Failure::NoMemory
     }
@@ -32,6 +47,11 @@ impl From<NoMemory> for Failure {
 
 /// An error of the system is a failure of it, also where the system had no memory: what it did is not known then.
 impl From<io::Error> for Failure {
+    ghost use Rattle.std.specs.Prelude.{◌≡◌};
+    ghost use Rattle.store_folder.specs.declared.failure.Failure.TheVariants as variant;
+
+    ghost from_gives = { λ _ failure. failure ≡ variant.Failed };
+
     fn from(_: io::Error) -> Self {
         Failure::Failed
     }

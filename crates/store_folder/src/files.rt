@@ -1,5 +1,5 @@
 //! The steps of files.
-ghost use Rattle.std.specs.Prelude.{◌≡◌, ◌≤◌, length, Ok};
+ghost use Rattle.std.specs.Prelude.{◌≡◌, ◌⊎◌, ◌≤◌, length, Ok, IfOk, IfErr};
 
 use crate::cache::key_of;
 use crate::disk::{Disk, System};
@@ -20,7 +20,10 @@ pub enum Found {
 }
 
 // What is answered where the system gave this error for a file: it is absent, or its folder is.
-fn not_found<R: System>(rt: &R, spot: &Spot, error: &io::Error) -> Result<Answer, Failure> {
+fn not_found<R: System>(rt: &R, spot: &Spot, error: &io::Error) -> Result<Answer, Failure>
+    ensures answer { IfOk result (λ answer. (answer ≡ Answer.NoFolder) ⊎ (answer ≡ Answer.Absent)) }
+    ensures failed { IfErr result (λ failure. failure ≡ Failure.Failed) }
+{
     if error.kind() != ErrorKind::NotFound {
         return Err(Failure::Failed);
     }

@@ -1,5 +1,5 @@
 //! The steps of folders.
-ghost use Rattle.std.specs.Prelude.{◌≡◌, ◌≤◌, ◌<◌, length, None, Ok, IsSome, IfOk};
+ghost use Rattle.std.specs.Prelude.{◌≡◌, ◌≤◌, ◌<◌, length, true, None, Ok, Err, IsSome, IfOk, IfErr};
 
 use crate::disk::{Disk, System};
 use crate::failure::Failure;
@@ -19,14 +19,18 @@ pub struct Spot {
 }
 
 /// Syncs the names of a folder.
-pub fn sync_folder<R: System>(rt: &R, path: &str) -> Result<(), Failure> {
+pub fn sync_folder<R: System>(rt: &R, path: &str) -> Result<(), Failure>
+    ensures { IfErr result (λ failure. failure ≡ Failure.Failed) }
+{
     let folder = File::open(rt, path)?;
     folder.sync_all()?;
     Ok(())
 }
 
 /// Whether a folder is there. It fails where something else is.
-pub fn is_folder<R: System>(rt: &R, path: &str) -> Result<bool, Failure> {
+pub fn is_folder<R: System>(rt: &R, path: &str) -> Result<bool, Failure>
+    ensures { IfErr result (λ failure. failure ≡ Failure.Failed) }
+{
     match fs::metadata(rt, path) {
         Ok(found) if found.is_dir() => Ok(true),
         Err(error) if error.kind() == ErrorKind::NotFound => Ok(false),
@@ -35,7 +39,9 @@ pub fn is_folder<R: System>(rt: &R, path: &str) -> Result<bool, Failure> {
 }
 
 /// Whether a folder lacks where the system found nothing. It fails where the room itself does.
-pub fn is_without_folder<R: System>(rt: &R, spot: &Spot) -> Result<bool, Failure> {
+pub fn is_without_folder<R: System>(rt: &R, spot: &Spot) -> Result<bool, Failure>
+    ensures { IfErr result (λ failure. failure ≡ Failure.Failed) }
+{
     if is_folder(rt, spot.folder.as_str())? {
         return Ok(false);
     }
@@ -44,7 +50,11 @@ pub fn is_without_folder<R: System>(rt: &R, spot: &Spot) -> Result<bool, Failure
 }
 
 // That there is no such folder, in a room that is there.
-fn no_folder<R: System>(rt: &R, spot: &Spot) -> Result<Answer, Failure> {
+fn no_folder<R: System>(rt: &R, spot: &Spot) -> Result<Answer, Failure>
+    ensures answer { IfOk result (λ answer. answer ≡ Answer.NoFolder) }
+    ensures top { spot.now.is_top ≡ true → result ≡ Err Failure.Failed }
+    ensures failed { IfErr result (λ failure. failure ≡ Failure.Failed) }
+{
     if !spot.is_top && is_folder(rt, spot.room.as_str())? {
         Ok(Answer::NoFolder)
     } else {

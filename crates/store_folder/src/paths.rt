@@ -1,5 +1,6 @@
 //! Names as parts of a path, so that no name leads out of its folder.
-ghost use Rattle.std.specs.Prelude.{◌≡◌, ◌↔◌, ◌∷◌, ◌++◌, IsTrue, IfOk, IsOk, string_bytes};
+ghost use Rattle.std.specs.Prelude.{◌≡◌, ◌↔◌, ◌∷◌, ◌++◌, IsTrue, IfOk, IfErr, IsOk, string_bytes};
+ghost use Rattle.std.specs.Str.{IsUtf8};
 ghost use Rattle.store_folder.specs.Parts.{is_part_byte, IsNoItem, IsPart, IsRoomName};
 
 use crate::failure::Failure;
@@ -38,7 +39,9 @@ pub fn is_part(name: &[u8]) -> bool
 
 /// The name as a part of a path. It fails where it is no part, or is no text in UTF-8.
 pub fn part(name: &Name) -> Result<&str, Failure>
-    ensures { IfOk result (λ text. (text.now ≡ name.now) × IsPart name.now) }
+    ensures text { IfOk result (λ text. (text.now ≡ name.now) × IsPart name.now) }
+    ensures only { IsPart name.now → IsUtf8 name.now → IsOk result }
+    ensures failed { IfErr result (λ failure. failure ≡ Failure.Failed) }
 {
     if !is_part(name.bytes()) {
         return Err(Failure::Failed);
@@ -58,7 +61,8 @@ pub fn is_room_name(name: &[u8]) -> bool
 
 /// The path of an item of a folder.
 pub fn join(alloc: Global, folder: &str, item: &str) -> Result<String, Failure>
-    ensures { IfOk result (λ path. string_bytes path ≡ folder.now ++ 47 ∷ item.now) }
+    ensures path { IfOk result (λ path. string_bytes path ≡ folder.now ++ 47 ∷ item.now) }
+    ensures memory { IfErr result (λ failure. failure ≡ Failure.NoMemory) }
 {
     let mut path = String::from_str(alloc, folder)?;
     path.push('/')?;

@@ -1,5 +1,5 @@
 //! The steps of whole rooms.
-ghost use Rattle.std.specs.Prelude.{◌≡◌, ◌≤◌, ◌<◌, length, position, Some, None, Ok, IsSome, IfOk};
+ghost use Rattle.std.specs.Prelude.{◌≡◌, ◌≤◌, ◌<◌, length, position, Some, None, Ok, IsSome, IfSome, IfOk};
 ghost use Rattle.store_api.specs.Names.{same_name};
 ghost use Rattle.store_api.specs.Effect.{number_or_absent};
 
@@ -67,7 +67,9 @@ impl<R: System> Disk<R> {
         name: &Name,
         folders: &[Name],
         files: &[Name],
-    ) -> Result<Answer, Failure> {
+    ) -> Result<Answer, Failure>
+        ensures old { IfSome (position (λ room. same_name room name.now) self.old.rooms.items) (λ room. result ≡ Ok (Answer.Old room)) }
+    {
         if let Some(room) = self.number_of(name) {
             return Ok(Answer::Old { room });
         }

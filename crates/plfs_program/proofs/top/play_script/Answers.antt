@@ -10,7 +10,7 @@ pub returns : goal.returns
 returns g c bytes reads =
     let is_built_script : IsBuiltScript bytes c.in-Some.statements.now = record {
       script = c.args.script.now;
-      reads_so = reads;
+      is_script = reads;
       built = c.in-Some.ensures.found.0;
       stated = c.in-Some.ensures.found.1;
     } in

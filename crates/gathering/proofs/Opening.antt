@@ -1,0 +1,133 @@
+-- The reader's law over a history.
+use Rattle.std.proofs.Common.{◌≡◌, ℕ, ◌≤◌, List, [], ◌∷◌, ◌++◌, length, take, map, refl, ap, sym, ◌∙◌, subst, arith}
+use Rattle.std.specs.List.{Any}
+use Rattle.std.proofs.lemmas.List.{take-append-le}
+use Rattle.plfs_types.specs.declared.entries.Trunc.{Trunc}
+use Rattle.plain_file.specs.File.{slice, plain}
+use Rattle.mount_model.specs.History.{Event, IsLegal}
+use Rattle.mount_sound.specs.Ledger.{Written}
+use Rattle.gathering.specs.Moments.{Moment, IsSoundAt, moment_after, Dropping, Stood, issued_by, Grows}
+use Rattle.gathering.specs.Seen.{Asked, asked_in, calls_of, IsSeen}
+use Rattle.gathering.specs.Gathering.{Gathered, IsAdmissible}
+use Rattle.gathering.specs.View.{change_of, cut_off, writes_in, view}
+use Rattle.gathering.specs.Opening.{IsOpening, IsSharedOpening, Answers, HasView}
+use Rattle.gathering.proofs.Growing.{grows_trans}
+use Rattle.gathering.proofs.Seeing.{seen, seen_split, seen_grows, seen_waits, sound_after, grows_after}
+use Rattle.gathering.proofs.Fronts.{stood_grows}
+use Rattle.gathering.proofs.Gathers.{gathers_all, landed_grows}
+use Rattle.gathering.proofs.Listings.{scan_found}
+use Rattle.gathering.proofs.Truncates.{truncs_listed}
+use Rattle.gathering.proofs.Viewing.{content_is}
+use Rattle.gathering.proofs.Answering.{answer_is_slice}
+use Rattle.gathering.proofs.Members.{all_at}
+use Rattle.gathering.proofs.Shares.{gathered_admissible, shares_admissible}
+use Rattle.gathering.proofs.Placing.{legal_first, legal_rest, moment-append}
+
+-- ---------- the cut's writes stay
+
+taken_more : (n : ℕ) (xs more : List Written) → n ≤ length xs → take n (xs ++ more) ≡ take n xs
+taken_more n xs more l = take-append-le n xs more l
+
+pub writes_stay : (start end later : Moment) (cut : List Gathered) → IsAdmissible start end cut → Grows end later → writes_in later cut ≡ writes_in end cut
+writes_stay start end later [] a g = refl
+writes_stay start end later (h ∷ cut) a g =
+    let more = g.issued h.dropping.room h.dropping.writer in
+    ap (λ l. take h.count l ++ writes_in later cut) more.1
+    ∙ ap (λ l. l ++ writes_in later cut) (taken_more h.count (issued_by end h.dropping) more.0 a.0.were_issued)
+    ∙ ap (λ l. take h.count (issued_by end h.dropping) ++ l) (writes_stay start end later cut a.1 g)
+
+-- The file that a reader sees is the same at each later moment.
+pub view_kept : (start end later : Moment) (cut : List Gathered) (truncs : List Trunc) → IsAdmissible start end cut → Grows end later → view later cut truncs ≡ view end cut truncs
+view_kept start end later cut truncs a g = ap (λ ws. plain (map change_of ws ++ map cut_off truncs)) (writes_stay start end later cut a g)
+
+pub view_stays : (start end : Moment) (events : List Event) (cut : List Gathered) (truncs : List Trunc) → IsLegal end.state events → IsSoundAt end → IsAdmissible start end cut → view (moment_after end events) cut truncs ≡ view end cut truncs
+view_stays start end events cut truncs legal s a = view_kept start end (moment_after end events) cut truncs a (grows_after end events legal s)
+
+-- ---------- the laws
+
+-- the calls of an opening: what it scanned and what it gathered
+pub gathered_seen : (caller room : ℕ) (start end : Moment) (cut : List Gathered) (truncs : List Trunc) (calls : List Asked) (listing : Asked) → IsSeen caller start calls end → IsOpening room cut truncs calls listing
+    → IsAdmissible start end cut × ((d : Dropping) → d.room ≡ room → Stood start d → Any (λ (g : Gathered). g.dropping ≡ d) cut)
+gathered_seen caller room start end cut truncs calls listing seen opening =
+    let s = seen_split caller start end opening.earlier (opening.scan ++ opening.entries) (subst (λ a. IsSeen caller start a end) opening.split seen) in
+    let t = seen_split caller s.0 end opening.scan opening.entries s.2 in
+    let first : Grows start s.0 = seen_grows caller start s.0 opening.earlier s.1 in
+    let then : Grows start t.0 = grows_trans start s.0 t.0 first (seen_grows caller s.0 t.0 opening.scan t.1) in (
+      gathered_admissible start end opening.gathered cut (gathers_all caller start end opening.gathered opening.entries (seen_waits caller start t.0 end opening.entries then t.2) opening.gathers) opening.has,
+      λ d its stood. all_at (λ (x : Dropping). Any (λ (g : Gathered). g.dropping ≡ x) cut) opening.droppings d opening.cuts.all
+          (scan_found caller room s.0 t.0 opening.scan opening.droppings d t.1 opening.scans its (stood_grows start s.0 d first stood)),
+    )
+
+pub opened : (caller room : ℕ) (start : Moment) (gathering : List Event) (listing : Event) (later : List Event) (cut : List Gathered) (truncs : List Trunc) → IsLegal start.state (gathering ++ listing ∷ later) → IsSoundAt start → IsOpening room cut truncs (calls_of caller gathering) (asked_in listing)
+    → HasView start (moment_after start gathering) room cut truncs
+opened caller room start gathering listing later cut truncs legal sound opening =
+    let end : Moment = moment_after start gathering in
+    let first = legal_first start gathering (listing ∷ later) legal in
+    let rest = legal_rest start gathering (listing ∷ later) legal in
+    let s : IsSoundAt end = sound_after start gathering first sound in
+    let g = gathered_seen caller room start end cut truncs (calls_of caller gathering) (asked_in listing) (seen caller start gathering first sound) opening in
+    record {
+      rise = opening.cuts.rise;
+      admissible = g.0;
+      complete = g.1;
+      all_truncs = truncs_listed end s listing.caller room truncs (asked_in listing) listing.after rest.1.answers opening.lists;
+      entries = content_is start end cut g.0;
+    }
+
+-- Each answer of who has a view is a slice of its plain file, whatever goes on.
+pub view_answers : (caller room : ℕ) (start end : Moment) (cut : List Gathered) (truncs : List Trunc) (between reading rest : List Event) (at len : ℕ) (answer : List ℕ)
+    → IsLegal end.state (between ++ (reading ++ rest)) → IsSoundAt end → HasView start end room cut truncs
+    → Answers end cut truncs at len (calls_of caller reading) answer → answer ≡ slice (view end cut truncs) at len
+view_answers caller room start end cut truncs between reading rest at len answer legal s v a =
+    let first = legal_first end between (reading ++ rest) legal in
+    let last = legal_rest end between (reading ++ rest) legal in
+    let from : Moment = moment_after end between in
+    let then : IsSoundAt from = sound_after end between first s in
+    answer_is_slice caller start end from (moment_after from reading) room cut truncs a.pieces a.size at len (calls_of caller reading) answer s v.admissible v.rise a.runs a.sized (grows_after end between first s)
+    (seen caller from reading (legal_first from reading rest last) then) a.made
+
+-- The same of one who opened a reader, with the file as it is at the history's end.
+pub answers_last : (caller room : ℕ) (start : Moment) (gathering : List Event) (listing : Event) (between reading rest : List Event) (cut : List Gathered) (truncs : List Trunc) (at len : ℕ) (answer : List ℕ)
+    → IsLegal start.state (gathering ++ listing ∷ (between ++ (reading ++ rest))) → IsSoundAt start → IsOpening room cut truncs (calls_of caller gathering) (asked_in listing)
+    → Answers (moment_after start gathering) cut truncs at len (calls_of caller reading) answer
+    → answer ≡ slice (view (moment_after start (gathering ++ listing ∷ (between ++ (reading ++ rest)))) cut truncs) at len
+answers_last caller room start gathering listing between reading rest cut truncs at len answer legal sound opening a =
+    let later : List Event = between ++ (reading ++ rest) in
+    let end : Moment = moment_after start gathering in
+    let s : IsSoundAt end = sound_after start gathering (legal_first start gathering (listing ∷ later) legal) sound in
+    let v = opened caller room start gathering listing later cut truncs legal sound opening in
+    view_answers caller room start end cut truncs (listing ∷ between) reading rest at len answer (legal_rest start gathering (listing ∷ later) legal) s v a
+    ∙ ap (λ f. slice f at len) (sym (view_stays start end (listing ∷ later) cut truncs (legal_rest start gathering (listing ∷ later) legal) s v.admissible))
+    ∙ ap (λ m. slice (view m cut truncs) at len) (sym (moment-append start gathering (listing ∷ later)))
+
+-- a view that is complete between two moments, from an earlier start
+view_waits : (first start end : Moment) (room : ℕ) (cut : List Gathered) → Grows first start → IsAdmissible start end cut → IsAdmissible first end cut
+view_waits first start end room [] g a = tt
+view_waits first start end room (h ∷ cut) g (p, more) = (
+  record { least = omega (arith, landed_grows first start h.dropping g, p.least); most = p.most; were_issued = p.were_issued; stands = p.stands; entries = p.entries },
+  view_waits first start end room cut g more,
+)
+
+-- The same of a reader whose workers gather.
+pub shared_opened : (caller room : ℕ) (start : Moment) (scanning gathering : List Event) (listing : Event) (later : List Event) (cut : List Gathered) (truncs : List Trunc)
+    → IsLegal start.state (scanning ++ (gathering ++ listing ∷ later)) → IsSoundAt start → IsSharedOpening room cut truncs (calls_of caller scanning) gathering (asked_in listing)
+    → HasView start (moment_after (moment_after start scanning) gathering) room cut truncs
+shared_opened caller room start scanning gathering listing later cut truncs legal sound opening =
+    let middle : Moment = moment_after start scanning in
+    let end : Moment = moment_after middle gathering in
+    let l1 = legal_first start scanning (gathering ++ listing ∷ later) legal in
+    let l2 = legal_rest start scanning (gathering ++ listing ∷ later) legal in
+    let s1 : IsSoundAt middle = sound_after start scanning l1 sound in
+    let l3 = legal_first middle gathering (listing ∷ later) l2 in
+    let l4 = legal_rest middle gathering (listing ∷ later) l2 in
+    let s2 : IsSoundAt end = sound_after middle gathering l3 s1 in
+    let t = seen_split caller start middle opening.earlier opening.scan (subst (λ a. IsSeen caller start a middle) opening.split (seen caller start scanning l1 sound)) in
+    let admissible : IsAdmissible start end cut = view_waits start middle end room cut (grows_after start scanning l1 sound) (shares_admissible middle gathering opening.shares cut l3 s1 opening.gathers opening.shared) in
+    record {
+      rise = opening.cuts.rise;
+      admissible = admissible;
+      complete = λ d its stood. all_at (λ (x : Dropping). Any (λ (g : Gathered). g.dropping ≡ x) cut) opening.droppings d opening.cuts.all
+          (scan_found caller room t.0 middle opening.scan opening.droppings d t.2 opening.scans its (stood_grows start t.0 d (seen_grows caller start t.0 opening.earlier t.1) stood));
+      all_truncs = truncs_listed end s2 listing.caller room truncs (asked_in listing) listing.after l4.1.answers opening.lists;
+      entries = content_is start end cut admissible;
+    }

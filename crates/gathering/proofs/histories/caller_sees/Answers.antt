@@ -1,0 +1,5 @@
+use Rattle.gathering.proofs.Seeing.{seen}
+use Rattle.gathering.proofs.histories.caller_sees.Goals as goal
+
+pub returns : goal.returns
+returns c = seen

@@ -1,0 +1,5 @@
+use Rattle.gathering.proofs.Bounds.{landed_most}
+use Rattle.gathering.proofs.histories.nothing_lands_unflushed.Goals as goal
+
+pub returns : goal.returns
+returns c = landed_most

@@ -1,0 +1,5 @@
+use Rattle.gathering.proofs.Bounds.{trunc_stays}
+use Rattle.gathering.proofs.histories.truncates_stay.Goals as goal
+
+pub returns : goal.returns
+returns c = trunc_stays

@@ -1,0 +1,5 @@
+use Rattle.gathering.proofs.Actors.{actor_opened}
+use Rattle.gathering.proofs.readers.actor_opens.Goals as goal
+
+pub returns : goal.returns
+returns c = actor_opened

@@ -1,0 +1,5 @@
+use Rattle.gathering.proofs.Actors.{actor_answers}
+use Rattle.gathering.proofs.readers.actor_reads.Goals as goal
+
+pub returns : goal.returns
+returns c = actor_answers

@@ -1,0 +1,5 @@
+use Rattle.gathering.proofs.Flats.{flattened_pieces}
+use Rattle.gathering.proofs.readers.flattening_changes_nothing.Goals as goal
+
+pub returns : goal.returns
+returns c = flattened_pieces

@@ -1,0 +1,5 @@
+use Rattle.gathering.proofs.Bounds.{flushed_gathered}
+use Rattle.gathering.proofs.readers.flushed_is_gathered.Goals as goal
+
+pub returns : goal.returns
+returns c = flushed_gathered

@@ -1,0 +1,5 @@
+use Rattle.gathering.proofs.Readable.{gathered_follow}
+use Rattle.gathering.proofs.readers.gathered_entries_are_in_order.Goals as goal
+
+pub returns : goal.returns
+returns c = gathered_follow

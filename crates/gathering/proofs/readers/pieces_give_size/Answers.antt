@@ -1,0 +1,5 @@
+use Rattle.gathering.proofs.Answering.{size_of_pieces}
+use Rattle.gathering.proofs.readers.pieces_give_size.Goals as goal
+
+pub returns : goal.returns
+returns c = size_of_pieces

@@ -1,0 +1,5 @@
+use Rattle.gathering.proofs.Opening.{opened}
+use Rattle.gathering.proofs.readers.reader_opens.Goals as goal
+
+pub returns : goal.returns
+returns c = opened

@@ -1,0 +1,5 @@
+use Rattle.gathering.proofs.Scans.{scan_finds}
+use Rattle.gathering.proofs.readers.scan_finds.Goals as goal
+
+pub returns : goal.returns
+returns c = scan_finds

@@ -1,0 +1,5 @@
+use Rattle.gathering.proofs.Opening.{shared_opened}
+use Rattle.gathering.proofs.readers.shared_reader_opens.Goals as goal
+
+pub returns : goal.returns
+returns c = shared_opened

@@ -1,0 +1,83 @@
+-- How a reader gathers the entries of writers.
+use Rattle.std.specs.Prelude.{◌≡◌, ◌≤◌, ◌+◌, ◌*◌, ◌/◌, ◌++◌, ℕ, List, [], ◌∷◌, length, take, drop}
+use Rattle.std.specs.List.{All, Any, AllByRecursion}
+use Rattle.index_entry.specs.Spelling.{spelling_all}
+use Rattle.store_api.specs.declared.step.Answer.TheVariants.{Number, Bytes}
+use Rattle.mount_model.specs.declared.call.Call.TheVariants.{Look}
+use Rattle.mount_model.specs.declared.call.Look.TheVariants.{Length, Read}
+use Rattle.mount_model.specs.declared.reply.Reply.TheVariants.{Looked}
+use Rattle.mount_model.specs.Paths.{index_path}
+use Rattle.mount_model.specs.History.{Event}
+use Rattle.mount_sound.specs.Ledger.{entries_in}
+use Rattle.gathering.specs.Moments.{Moment, Dropping, IsNamed, Stood, issued_by, landed}
+use Rattle.gathering.specs.Seen.{Asked, calls_of}
+use Rattle.gathering.specs.Listing.{IsAmong}
+
+-- the length of the index dropping was asked and told
+pub record IsLength (d : Dropping) (length : ℕ) (asked : Asked) : Type 0 where
+  pub call : asked.call ≡ Look d.room (Length (index_path d.host d.writer))
+  pub reply : asked.reply ≡ Looked (Number length)
+
+-- bytes of the index dropping were asked and told
+pub record IsRead (d : Dropping) (at len : ℕ) (bytes : List ℕ) (asked : Asked) : Type 0 where
+  pub call : asked.call ≡ Look d.room (Read (index_path d.host d.writer) at len)
+  pub reply : asked.reply ≡ Looked (Bytes bytes)
+
+-- Reads of the bytes from one place to another, piece by piece, and what they gave.
+abbrev pub AreReads : Dropping → ℕ → ℕ → List Asked → List ℕ → Type 0
+AreReads d at end [] content = (at ≡ end) × (content ≡ [])
+AreReads d at end (asked ∷ rest) content = (len : ℕ) × (bytes more : List ℕ) × IsRead d at len bytes asked × (at + len ≤ end) × AreReads d (at + len) end rest more × (content ≡ bytes ++ more)
+
+-- What was gathered of a writer: how many entries, and the bytes of those that a flattened index doesn't cover.
+pub record Gathered : Type 0 where
+  pub dropping : Dropping
+  pub covered : ℕ
+  pub count : ℕ
+  pub content : List ℕ
+
+-- The calls that gathered it: the length, then the bytes of the whole entries past the covered ones.
+pub record Gathers (g : Gathered) (asked : List Asked) : Type 0 where
+  pub named : IsNamed g.dropping
+  pub first : Asked
+  pub reads : List Asked
+  pub calls : asked ≡ first ∷ reads
+  pub told : ℕ
+  pub length : IsLength g.dropping told first
+  pub count : g.count ≡ told / 40
+  pub covered : g.covered ≤ g.count
+  pub bytes : AreReads g.dropping (40 * g.covered) (40 * g.count) reads g.content
+
+-- the calls that gathered them all, one writer after the other
+abbrev pub GathersAll : List Gathered → List Asked → Type 0
+GathersAll [] asked = asked ≡ []
+GathersAll (g ∷ rest) asked = (mine others : List Asked) × (asked ≡ mine ++ others) × Gathers g mine × GathersAll rest others
+
+-- each of the cut was gathered, in whatever order
+abbrev pub AreGathered : List Gathered → List Gathered → Type 0
+AreGathered gathered cut = All (λ (g : Gathered). IsAmong g gathered) cut
+
+-- A reader's count of a writer lies between what had landed at the two moments, and it read the first entries issued.
+pub record IsPrefixOf (start end : Moment) (g : Gathered) : Type 0 where
+  pub least : landed start g.dropping ≤ g.count
+  pub most : g.count ≤ landed end g.dropping
+  pub were_issued : g.count ≤ length (issued_by end g.dropping)
+  pub stands : Stood end g.dropping
+  pub entries : g.content ≡ spelling_all (drop g.covered (take g.count (entries_in (issued_by end g.dropping))))
+
+-- each count lies between what had landed at the two moments
+abbrev pub IsAdmissible : Moment → Moment → List Gathered → Type 0
+IsAdmissible start end cut = AllByRecursion (IsPrefixOf start end) cut
+
+-- a caller, such as a worker of a reader, and what it gathered
+pub record Share : Type 0 where
+  pub worker : ℕ
+  pub part : List Gathered
+
+-- Each worker gathered its share in these events.
+abbrev pub GatherShares : List Event → List Share → Type 0
+GatherShares events [] = Unit {0}
+GatherShares events (share ∷ others) = GathersAll share.part (calls_of share.worker events) × GatherShares events others
+
+-- what was gathered of each writer of the cut is in one of the shares
+abbrev pub AreShared : List Share → List Gathered → Type 0
+AreShared shares cut = All (λ (g : Gathered). Any (λ (share : Share). IsAmong g share.part) shares) cut

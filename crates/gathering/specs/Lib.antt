@@ -1,0 +1,9 @@
+pub mod Moments
+pub mod Seen
+pub mod Gathering
+pub mod Listing
+pub mod View
+pub mod Opening
+pub mod Bounds
+pub mod Failing
+pub mod Example

@@ -1,0 +1,90 @@
+-- The opening of a reader, and what it sees from then on.
+use Rattle.std.specs.Prelude.{◌≡◌, ℕ, List, ◌∷◌, ◌++◌}
+use Rattle.std.specs.List.{All, Any}
+use Rattle.plfs_types.specs.declared.entries.Trunc.{Trunc}
+use Rattle.index_entry.specs.Spelling.{spelling_all}
+use Rattle.plain_file.specs.declared.pieces.Piece.{Piece}
+use Rattle.plain_file.specs.File.{plain_size}
+use Rattle.plain_file.specs.Runs.{ArePieces}
+use Rattle.read_plan.specs.Plan.{plan_of}
+use Rattle.mount_model.specs.declared.call.Look.TheVariants.{List as ListFolder}
+use Rattle.mount_model.specs.Paths.{Name, truncs as truncs_folder}
+use Rattle.mount_model.specs.History.{Event}
+use Rattle.mount_sound.specs.Ledger.{entries_in}
+use Rattle.gathering.specs.Moments.{Moment, moment_after, Dropping, Stood}
+use Rattle.gathering.specs.Seen.{Asked, calls_of}
+use Rattle.gathering.specs.Gathering.{Gathered, GathersAll, AreGathered, Share, GatherShares, AreShared, IsAdmissible}
+use Rattle.gathering.specs.Listing.{IsAmong, IsListing, IsScan, AreTruncsOf, AreTruncsAt}
+use Rattle.gathering.specs.View.{writes_in, tails_in, content_of, changes_in, WritersRise, IsAnswer}
+
+-- The truncates of the room were asked and told.
+pub record ListsTruncs (room : ℕ) (truncs : List Trunc) (asked : Asked) : Type 0 where
+  pub names : List Name
+  pub lists : IsListing room (ListFolder truncs_folder) names asked
+  pub told : AreTruncsOf names truncs
+
+-- The cut has each of these droppings, by rising writer, and no other.
+pub record IsCutOf (room : ℕ) (ds : List Dropping) (cut : List Gathered) : Type 0 where
+  pub rise : WritersRise room cut
+  pub found : All (λ (g : Gathered). IsAmong g.dropping ds) cut
+  pub all : All (λ (d : Dropping). Any (λ (g : Gathered). g.dropping ≡ d) cut) ds
+
+-- The calls that open a reader: it scans the room for droppings, gathers the cut, and last lists the truncates.
+pub record IsOpening (room : ℕ) (cut : List Gathered) (truncs : List Trunc) (calls : List Asked) (listing : Asked) : Type 0 where
+  -- it finds the room, and reads the newest flattened index
+  pub earlier : List Asked
+  pub scan : List Asked
+  pub entries : List Asked
+  pub split : calls ≡ earlier ++ (scan ++ entries)
+  pub droppings : List Dropping
+  pub scans : IsScan room droppings scan
+  pub cuts : IsCutOf room droppings cut
+  -- in the order of the shares where these are read one after the other, else by rising writer
+  pub gathered : List Gathered
+  pub gathers : GathersAll gathered entries
+  pub has : AreGathered gathered cut
+  pub lists : ListsTruncs room truncs listing
+
+-- The calls that open a reader whose workers gather: it scans the room for droppings, each worker gathers its share in
+-- these events, and last it lists the truncates.
+pub record IsSharedOpening (room : ℕ) (cut : List Gathered) (truncs : List Trunc) (calls : List Asked) (gathering : List Event) (listing : Asked) : Type 0 where
+  pub earlier : List Asked
+  pub scan : List Asked
+  pub split : calls ≡ earlier ++ scan
+  pub droppings : List Dropping
+  pub scans : IsScan room droppings scan
+  pub cuts : IsCutOf room droppings cut
+  pub shares : List Share
+  pub gathers : GatherShares gathering shares
+  pub shared : AreShared shares cut
+  pub lists : ListsTruncs room truncs listing
+
+-- The calls of one read of so many bytes from there on, with pieces that are those of the cut and the truncates.
+pub record Answers (end : Moment) (cut : List Gathered) (truncs : List Trunc) (at len : ℕ) (calls : List Asked) (answer : List ℕ) : Type 0 where
+  pub pieces : List Piece
+  pub size : ℕ
+  pub runs : ArePieces (entries_in (writes_in end cut)) truncs pieces
+  pub sized : size ≡ plain_size (changes_in end cut truncs)
+  pub made : IsAnswer cut (plan_of pieces size at len) calls answer
+
+-- What an opened reader has: a cut of the room's writers that is admissible between its first call and its listing of
+-- truncates and misses no dropping that was there at the first call, the truncates of then, and entries that are the
+-- cut's.
+pub record HasView (start end : Moment) (room : ℕ) (cut : List Gathered) (truncs : List Trunc) : Type 0 where
+  pub rise : WritersRise room cut
+  pub admissible : IsAdmissible start end cut
+  pub complete : (d : Dropping) → d.room ≡ room → Stood start d → Any (λ (g : Gathered). g.dropping ≡ d) cut
+  pub all_truncs : AreTruncsAt end room truncs
+  pub entries : content_of cut ≡ spelling_all (tails_in end cut)
+
+-- The places in a history at which a caller's opening of a reader began and at which it listed the truncates, with what
+-- the reader then has.
+pub record IsOpened (caller : ℕ) (start : Moment) (events : List Event) (earlier calls : List Asked) (room : ℕ) (cut : List Gathered) (truncs : List Trunc) : Type 0 where
+  pub before : List Event
+  pub gathering : List Event
+  pub listing : Event
+  pub later : List Event
+  pub split : events ≡ before ++ (gathering ++ listing ∷ later)
+  pub calls_before : calls_of caller before ≡ earlier
+  pub calls_then : calls_of caller gathering ≡ calls
+  pub has_view : HasView (moment_after start before) (moment_after (moment_after start before) gathering) room cut truncs

@@ -1,0 +1,46 @@
+//! Any call.
+ghost use Rattle.mount_model.specs.Step.{Answers, IsOwed, IsStep, OwedBy};
+ghost use Rattle.mount_sound.specs.Sound.{IsFine};
+
+use crate::mount::Mount;
+use edge_io::Clock;
+use mount_model::{Ask, Call, Reply};
+use store_api::Store;
+
+impl<S: Store + Drop, C: Clock + Drop> Mount<S, C> {
+    /// Makes the caller's call, which is a check and at most one act. A caller owes a capacity of 1 to 4096 where it
+    /// enters a writer, and stops no call. What was fine stays so: the table is regular, and where the store told a
+    /// sound tree as it was mounted, the state is sound.
+    #[tactic(auto, using(mount_sound::proofs::Fine::step_fine))]
+    pub fn apply(&mut self, caller: u64, ask: &Ask) -> Reply
+        requires { IsOwed ask.now }
+        ensures step { IsStep self.old caller ask.now result self.new }
+        ensures fine { IsFine self.old → IsFine self.new }
+    {
+        self.answer(caller, &ask.call)
+    }
+
+    fn answer(&mut self, caller: u64, call: &Call) -> Reply
+        requires { OwedBy call.now }
+        ensures { Answers self.old caller call.now result self.new }
+    {
+        match call {
+            Call::Greet => Reply::Greeted,
+            Call::Find { name } => self.find(name),
+            Call::MakeContainer { name } => self.make_container(name),
+            Call::Rooms => self.rooms(),
+            Call::Look { room, look } => self.look(*room, look),
+            Call::Enter { room, host, cap } => self.enter(caller, *room, *host, *cap),
+            Call::Floor { writer } => self.floor(caller, *writer),
+            Call::MakeHostdir { writer } => self.make_hostdir(caller, *writer),
+            Call::MakeIndex { writer } => self.make_index(caller, *writer),
+            Call::MakeLog { writer } => self.make_log(caller, *writer),
+            Call::Write { writer, at, block } => self.write(caller, *writer, *at, block),
+            Call::Flush { writer } => self.flush(caller, *writer),
+            Call::SyncLog { writer } => self.sync_log(caller, *writer),
+            Call::SyncIndex { writer } => self.sync_index(caller, *writer),
+            Call::PutMeta { writer } => self.put_meta(caller, *writer),
+            Call::Exit { writer } => self.exit(caller, *writer),
+        }
+    }
+}

@@ -1,0 +1,105 @@
+//! Calls that find, make and name containers.
+ghost use Rattle.std.specs.Prelude.{◌≡◌, ◌↔◌, [], IsTrue, codes};
+ghost use Rattle.plfs_types.specs.Names.{IsLogicalName};
+ghost use Rattle.mount_model.specs.Making.{Makes};
+ghost use Rattle.mount_model.specs.Finding.{Finds, MakesContainer, make_outcome, AreLogicalOf, RoomsReply, NamesRooms};
+ghost use Rattle.mount_model.specs.Paths.{new_folders, new_files};
+ghost use Rattle.store_api.specs.Step.{make_room};
+
+use crate::mount::Mount;
+use crate::telling::otherwise;
+use container_layout::{flats, metadata, openhosts, truncs};
+use edge_io::Clock;
+use mount_model::{Refusal, Reply};
+use plfs_types::{LogicalName, Name, NameList, Path};
+use store_api::{Answer, Step, Store, Trouble};
+
+/// No folder and no file.
+fn nowhere() -> Path
+    ensures { result ≡ record { folder = []; file = [] } }
+{
+    Path {
+        folder: Name::empty(),
+        file: Name::empty(),
+    }
+}
+
+/// The top file of a container.
+fn access() -> Name
+    ensures { result ≡ codes "access" }
+{
+    Name::from_bytes(b"access").unwrap()
+}
+
+/// Whether the name is that of a container.
+fn is_logical(name: &Name) -> bool
+    ensures { IsTrue result ↔ IsLogicalName name.now }
+{
+    LogicalName::read(name.bytes()).is_some()
+}
+
+/// The logical names among these, in their order. It takes no memory.
+fn logical(names: NameList) -> NameList
+    ensures { AreLogicalOf names result }
+{
+    let mut names = names.into_vec();
+    names.retain(|name| is_logical(name));
+    NameList::from_vec(names)
+}
+
+/// What is answered to what the store told of its rooms.
+fn named(told: Result<Answer, Trouble>) -> Reply
+    ensures { RoomsReply told result }
+{
+    match told {
+        Ok(Answer::Names(names)) => Reply::Rooms(logical(names)),
+        Ok(answer) => otherwise(&nowhere(), Ok(answer)),
+        Err(trouble) => otherwise(&nowhere(), Err(trouble)),
+    }
+}
+
+impl<S: Store + Drop, C: Clock + Drop> Mount<S, C> {
+    /// Finds the container of this name.
+    pub(crate) fn find(&mut self, name: &LogicalName) -> Reply
+        ensures { Finds name.now self.old result self.new }
+    {
+        let told = self.store.act(&Step::FindRoom { name: name.name() });
+        match told {
+            Ok(Answer::Number { value }) => Reply::Room { room: value },
+            Ok(Answer::Absent) => Reply::Refused(Refusal::NoRoom),
+            Ok(answer) => otherwise(&nowhere(), Ok(answer)),
+            Err(trouble) => otherwise(&nowhere(), Err(trouble)),
+        }
+    }
+
+    /// Makes a container of this name, where there is none.
+    pub(crate) fn make_container(&mut self, name: &LogicalName) -> Reply
+        ensures { MakesContainer name.now self.old result self.new }
+    {
+        self.make_room(name.name())
+    }
+
+    fn make_room(&mut self, name: Name) -> Reply
+        ensures { Makes (make_room name new_folders new_files) (make_outcome self.old.table) self.old result self.new }
+    {
+        let told = self.store.act(&Step::MakeRoom {
+            name,
+            folders: &[openhosts(), metadata(), truncs(), flats()],
+            files: &[access()],
+        });
+        match told {
+            Ok(Answer::Number { value }) => Reply::Room { room: value },
+            Ok(Answer::Old { room }) => Reply::Room { room },
+            Ok(answer) => otherwise(&nowhere(), Ok(answer)),
+            Err(trouble) => otherwise(&nowhere(), Err(trouble)),
+        }
+    }
+
+    /// Names all containers.
+    pub(crate) fn rooms(&mut self) -> Reply
+        ensures { NamesRooms self.old result self.new }
+    {
+        let told = self.store.act(&Step::Rooms);
+        named(told)
+    }
+}

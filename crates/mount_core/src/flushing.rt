@@ -1,0 +1,132 @@
+//! A writer's pending entries go to its index dropping, and its droppings are synced.
+ghost use Rattle.std.specs.Prelude.{◌≡◌, ◌<◌, length};
+ghost use Rattle.container_layout.specs.Paths.{hostdir_of};
+ghost use Rattle.mount_model.specs.Making.{Makes};
+ghost use Rattle.mount_model.specs.Paths.{index_path as index_path_of};
+ghost use Rattle.mount_model.specs.Flushing.{FlushesRow, Flushes, flush_step, flush_outcome, SyncsLog, sync_log_step, sync_log_outcome, SyncsIndex, sync_index_step, sync_index_outcome};
+ghost use Rattle.mount_core.specs.Settling.{IsSettled};
+ghost use Rattle.mount_core.specs.Standing.{AtPlace};
+
+use crate::mount::Mount;
+use crate::paths::{index_path, log_path};
+use crate::roster::Roster;
+use crate::stages::Stages;
+use crate::telling::otherwise;
+use edge_io::Clock;
+use mount_model::{Refusal, Reply, Stage};
+use plfs_types::Path;
+use store_api::{Answer, Step, Store, Trouble};
+
+impl Roster {
+    /// Settles the write of the pending entries to the index dropping at this path.
+    fn flushed(&mut self, place: usize, at: &Path, told: Result<Answer, Trouble>) -> Reply
+        requires within { place < length self.old.table.writers }
+        requires of_writer { AtPlace self.old.table place (λ row. at.now ≡ index_path_of row.host row.id) }
+        ensures { AtPlace self.old.table place (λ row. IsSettled (flush_outcome row self.old.table told) self.old result self.new) }
+    {
+        match told {
+            Ok(Answer::Made) => {
+                let landed = self.land(place);
+                Reply::Flushed { landed }
+            }
+            Ok(answer) => otherwise(at, Ok(answer)),
+            Err(trouble) => otherwise(at, Err(trouble)),
+        }
+    }
+}
+
+impl<S: Store + Drop, C: Clock + Drop> Mount<S, C> {
+    /// Writes the pending entries of the caller's open writer to its index dropping.
+    pub(crate) fn flush(&mut self, caller: u64, writer: u64) -> Reply
+        ensures { Flushes caller writer self.old result self.new }
+    {
+        match self.roster.find(caller, Stages::Only(Stage::Open), writer) {
+            Some(place) => self.flush_at(place),
+            None => Reply::Refused(Refusal::NotOpen),
+        }
+    }
+
+    fn flush_at(&mut self, place: usize) -> Reply
+        requires { place < length self.old.table.writers }
+        ensures { AtPlace self.old.table place (λ row. FlushesRow row row.pending.entries self.old result self.new) }
+    {
+        let row = self.roster.row(place);
+        if row.pending.pending() == 0 {
+            return Reply::Flushed { landed: row.landed };
+        }
+        self.flush_pending(place)
+    }
+
+    fn flush_pending(&mut self, place: usize) -> Reply
+        requires { place < length self.old.table.writers }
+        ensures { AtPlace self.old.table place (λ row. Makes (flush_step row) (flush_outcome row self.old.table) self.old result self.new) }
+    {
+        let row = self.roster.row(place);
+        let at = index_path(row.host, row.id);
+        let told = self.store.act(&Step::WriteAt {
+            room: row.room,
+            folder: at.folder,
+            file: at.file,
+            at: 40 * row.landed,
+            bytes: row.pending.bytes(),
+        });
+        self.roster.flushed(place, &at, told)
+    }
+
+    /// Syncs the log of the caller's open writer.
+    pub(crate) fn sync_log(&mut self, caller: u64, writer: u64) -> Reply
+        ensures { SyncsLog caller writer self.old result self.new }
+    {
+        match self.roster.find(caller, Stages::Only(Stage::Open), writer) {
+            Some(place) => self.sync_log_at(place),
+            None => Reply::Refused(Refusal::NotOpen),
+        }
+    }
+
+    fn sync_log_at(&mut self, place: usize) -> Reply
+        requires { place < length self.old.table.writers }
+        ensures { AtPlace self.old.table place (λ row. Makes (sync_log_step row) (sync_log_outcome row self.old.table) self.old result self.new) }
+    {
+        let row = self.roster.row(place);
+        let at = log_path(row.host, row.id);
+        let told = self.store.act(&Step::Sync {
+            room: row.room,
+            folder: at.folder,
+            file: at.file,
+        });
+        match told {
+            Ok(Answer::Made) => Reply::Done,
+            Ok(answer) => otherwise(&at, Ok(answer)),
+            Err(trouble) => otherwise(&at, Err(trouble)),
+        }
+    }
+
+    /// Syncs the index dropping of the caller's open writer.
+    pub(crate) fn sync_index(&mut self, caller: u64, writer: u64) -> Reply
+        ensures { SyncsIndex caller writer self.old result self.new }
+    {
+        match self.roster.find(caller, Stages::Only(Stage::Open), writer) {
+            Some(place) => self.sync_index_at(place),
+            None => Reply::Refused(Refusal::NotOpen),
+        }
+    }
+
+    fn sync_index_at(&mut self, place: usize) -> Reply
+        requires { place < length self.old.table.writers }
+        ensures { AtPlace self.old.table place (λ row. Makes (sync_index_step row) (sync_index_outcome row self.old.table) self.old result self.new) }
+    {
+        let row = self.roster.row(place);
+        let landed = row.landed;
+        let at = index_path(row.host, row.id);
+        let told = self.store.act(&Step::Sync {
+            room: row.room,
+            folder: at.folder,
+            file: at.file,
+        });
+        match told {
+            Ok(Answer::Made) => Reply::Synced { landed },
+            Ok(answer) => otherwise(&at, Ok(answer)),
+            Err(trouble) => otherwise(&at, Err(trouble)),
+        }
+    }
+}

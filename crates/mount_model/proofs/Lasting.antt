@@ -1,0 +1,152 @@
+-- Each step keeps the table regular.
+use Rattle.std.proofs.Common.{◌≡◌, ℕ, ◌≤◌, List, [], ◌∷◌, length, Bool, Option, None, refl, sym, ◌∙◌, inl, inr, subst, arith, Ok}
+use Rattle.store_api.specs.declared.step.Answer.TheVariants.{Names}
+use Rattle.store_api.specs.Step.{Step}
+use Rattle.plfs_types.specs.declared.entries.Entry.{Entry}
+use Rattle.mount_model.specs.declared.row.Row.{Row}
+use Rattle.mount_model.specs.declared.row.Stage.{Stage}
+use Rattle.mount_model.specs.declared.row.Stage.TheVariants as stage
+use Rattle.mount_model.specs.declared.call.Call.{Call}
+use Rattle.mount_model.specs.declared.call.Call.TheVariants.{Greet, Find, MakeContainer, Rooms, Look, Enter, Floor, MakeHostdir, MakeIndex, MakeLog, Write, Flush, SyncLog, SyncIndex, PutMeta, Exit}
+use Rattle.mount_model.specs.declared.call.Ask.{Ask}
+use Rattle.mount_model.specs.declared.reply.Refusal.{Refusal}
+use Rattle.mount_model.specs.declared.reply.Reply.{Reply}
+use Rattle.mount_model.specs.Paths.{Name}
+use Rattle.mount_model.specs.Table.{at_stage}
+use Rattle.mount_model.specs.State.{State, Table, put, drawn, timed}
+use Rattle.mount_model.specs.Making.{Told, Outcome, Makes, OnWriter, UnlessRefused}
+use Rattle.mount_model.specs.Finding.{NamesRooms}
+use Rattle.mount_model.specs.Entering.{EntersAs, enter_check, entered}
+use Rattle.mount_model.specs.Flooring.{FloorsRow, FloorOutcome, floored}
+use Rattle.mount_model.specs.Writing.{WritesAt, write_check, wrote, stamp_at}
+use Rattle.mount_model.specs.Building.{build_outcome}
+use Rattle.mount_model.specs.Flushing.{FlushesRow, flushed}
+use Rattle.mount_model.specs.Leaving.{closed, closing}
+use Rattle.mount_model.specs.Step.{Answers, IsStep, OwedBy, IsOwed}
+use Rattle.mount_model.specs.Regular.{IsCounted, IsRegular}
+use Rattle.mount_model.proofs.Deciding.{IsHeld, on_writer, unless_refused, may_enter, may_write}
+use Rattle.mount_model.proofs.Ranges.{counted_entered, counted_staged, counted_closed, counted_floored, counted_flushed, counted_wrote, floor_fits}
+use Rattle.mount_model.proofs.Rows.{AreRegularFor, rows_of, regular_of, regular_row, regular_put, regular_taken, regular_drawn, regular_pushed}
+use Rattle.mount_model.proofs.Outcomes as table
+
+regular_as : (old new : State) → IsRegular old → new ≡ old → IsRegular new
+regular_as old new r e = subst IsRegular (sym e) r
+
+-- a call that makes an act keeps the table regular if it does so whatever the act tells
+makes_regular : (step : Step) (outcome : Told → Outcome) (old : State) (reply : Reply) (new : State) → IsRegular old
+    → ((told : Told) → AreRegularFor old (outcome told).table) → Makes step outcome old reply new → IsRegular new
+makes_regular step outcome old reply new r keeps m =
+    subst IsRegular (sym m.after)
+    (regular_of (record old { store = new.store; table = (outcome m.told).table }) r.mount_fits r.serial_fits
+    (let now : AreRegularFor old (outcome m.told).table = keeps m.told in
+    record { counted = now.counted; ascending = now.ascending; drawn = now.drawn; apart = now.apart }))
+
+-- the writer's row with other numbers
+put_regular : (old : State) (id : ℕ) (row new : Row) → IsRegular old → (caller : ℕ) (stages : Stage → Bool) → IsHeld caller stages id old.table.writers row
+    → new.id ≡ row.id → new.room ≡ row.room → (IsCounted row → IsCounted new) → AreRegularFor old (put new old.table)
+put_regular old id row new r caller stages held same_id same_room counted =
+    let was = regular_row old.mount old.serial old.marks id old.table.writers row (rows_of old r) held.found in
+    regular_put old.mount old.serial old.marks old.table.writers new
+    (record {
+      counted = counted was.counted;
+      drawn = (was.drawn.0, was.drawn.1, was.drawn.2, same_id ∙ was.drawn.3);
+      apart = λ same. was.apart (sym same_room ∙ same);
+    })
+    (rows_of old r)
+
+module _ (old : State) (regular : IsRegular old) (reply : Reply) (new : State) where
+  kept : AreRegularFor old old.table
+  kept = rows_of old regular
+
+  by_writer : (caller : ℕ) (stages : Stage → Bool) (id : ℕ) (does : Row → Type 0) → OnWriter caller stages id old reply new does
+      → ((row : Row) → IsHeld caller stages id old.table.writers row → does row → IsRegular new) → IsRegular new
+  by_writer caller stages id does on keeps = on_writer caller stages id old reply new does (IsRegular new) on (regular_as old new regular) keeps
+
+  by_check : (check : Option Refusal) (does : Type 0) → UnlessRefused check old reply new does → (check ≡ None → does → IsRegular new) → IsRegular new
+  by_check check does on keeps = unless_refused check old reply new does (IsRegular new) on (regular_as old new regular) keeps
+
+  rooms_regular : NamesRooms old reply new → IsRegular new
+  rooms_regular n = subst IsRegular (sym n.after) (regular_of (record old { store = new.store }) regular.mount_fits regular.serial_fits kept)
+
+  enter_regular : (caller room host most : ℕ) → most ≤ 4096 → enter_check old room ≡ None → EntersAs caller room host most old reply new → IsRegular new
+  enter_regular caller room host most few none e =
+      let may = may_enter old room none in
+      let next : IsRegular (drawn old) = regular_of (drawn old) regular.mount_fits (omega (arith, may.1)) (regular_drawn old.mount old.serial old.marks old.table.writers kept) in
+      let row : Row = entered old caller room host most in
+      elim (e.does) as (λ _. IsRegular new) [
+        | inl makes ↦ makes_regular _ _ (drawn old) reply new next
+            (table.enter_table (AreRegularFor (drawn old)) old.table (rows_of (drawn old) next) row
+            (regular_pushed old.mount old.serial old.marks old.table.writers row refl (counted_entered old caller room host most e.host_fits few) may.0 kept))
+            makes
+        | inr (no_memory, is) ↦ regular_as (drawn old) new next is
+      ]
+
+  floor_told : (caller writer : ℕ) (stages : Stage → Bool) (row : Row) → IsHeld caller stages writer old.table.writers row → (after : Table) (told : Told)
+      → FloorOutcome row old.table told reply after → AreRegularFor old after
+  floor_told caller writer stages row held after (Ok (Names names)) o = elim o as (λ _. AreRegularFor old after) [
+    | inl (floor, is, answered, same) ↦ subst (AreRegularFor old) (sym same)
+        (put_regular old writer row (floored floor row) regular caller stages held refl refl (counted_floored floor row (floor_fits names floor is)))
+    | inr (name, foreign, answered, same) ↦ subst (AreRegularFor old) (sym same) kept
+  ]
+  floor_told caller writer stages row held after told o = subst (AreRegularFor old) (sym o.1) kept
+
+  floor_regular : (caller writer : ℕ) (stages : Stage → Bool) (row : Row) → IsHeld caller stages writer old.table.writers row → FloorsRow row old reply new → IsRegular new
+  floor_regular caller writer stages row held f =
+      subst IsRegular (sym f.after)
+      (regular_of (record old { store = new.store; table = new.table }) regular.mount_fits regular.serial_fits
+      (floor_told caller writer stages row held new.table f.told f.outcome))
+
+  build_regular : (caller writer : ℕ) (stages : Stage → Bool) (to : Stage) (folder file : Name) (step : Step) (row : Row) → IsHeld caller stages writer old.table.writers row
+      → Makes step (build_outcome to folder file row old.table) old reply new → IsRegular new
+  build_regular caller writer stages to folder file step row held m =
+      makes_regular step _ old reply new regular
+      (table.build_table (AreRegularFor old) old.table kept to folder file row
+      (put_regular old writer row (at_stage to row) regular caller stages held refl refl (counted_staged to row)))
+      m
+
+  write_regular : (caller writer at : ℕ) (bytes : List ℕ) (stages : Stage → Bool) (row : Row) → IsHeld caller stages writer old.table.writers row
+      → write_check row at (length bytes) ≡ None → WritesAt row at bytes old reply new → IsRegular new
+  write_regular caller writer at bytes stages row held none w =
+      let later : IsRegular (timed w.times old) = regular_of (timed w.times old) regular.mount_fits regular.serial_fits kept in
+      makes_regular _ _ (timed w.times old) reply new later
+      (table.write_table (AreRegularFor (timed w.times old)) old.table (rows_of (timed w.times old) later) (stamp_at w.time row) row at (length bytes)
+      (put_regular old writer row (wrote (stamp_at w.time row) row at (length bytes)) regular caller stages held refl refl
+      (counted_wrote w.time row at (length bytes) w.some (may_write row at (length bytes) none))))
+      w.makes
+
+  flush_regular : (caller writer : ℕ) (stages : Stage → Bool) (row : Row) → IsHeld caller stages writer old.table.writers row → (pending : List Entry) → FlushesRow row pending old reply new → IsRegular new
+  flush_regular caller writer stages row held [] f = regular_as old new regular f.1
+  flush_regular caller writer stages row held (first ∷ rest) f =
+      makes_regular _ _ old reply new regular
+      (table.flush_table (AreRegularFor old) old.table kept row (put_regular old writer row (flushed row) regular caller stages held refl refl (counted_flushed row)))
+      f
+
+  answers_regular : (caller : ℕ) (call : Call) → OwedBy call → Answers old caller call reply new → IsRegular new
+  answers_regular caller Greet owed a = regular_as old new regular a.1
+  answers_regular caller (Find name) owed a = makes_regular _ _ old reply new regular (table.find_table (AreRegularFor old) old.table kept) a.makes
+  answers_regular caller (MakeContainer name) owed a = makes_regular _ _ old reply new regular (table.make_table (AreRegularFor old) old.table kept) a.makes
+  answers_regular caller Rooms owed a = rooms_regular a
+  answers_regular caller (Look room look) owed a = by_check _ _ a (λ none m. makes_regular _ _ old reply new regular (λ told. rows_of old regular) m)
+  answers_regular caller (Enter room host most) owed a = by_check _ _ a (enter_regular caller room host most owed.1)
+  answers_regular caller (Floor writer) owed a = by_writer caller _ writer _ a (λ row held. floor_regular caller writer _ row held)
+  answers_regular caller (MakeHostdir writer) owed a = by_writer caller _ writer _ a (λ row held. build_regular caller writer _ _ _ _ _ row held)
+  answers_regular caller (MakeIndex writer) owed a = by_writer caller _ writer _ a (λ row held. build_regular caller writer _ _ _ _ _ row held)
+  answers_regular caller (MakeLog writer) owed a = by_writer caller _ writer _ a (λ row held. build_regular caller writer _ _ _ _ _ row held)
+  answers_regular caller (Write writer at block) owed a = by_writer caller _ writer _ a (λ row held u. by_check _ _ u (write_regular caller writer at block _ row held))
+  answers_regular caller (Flush writer) owed a = by_writer caller _ writer _ a (λ row held. flush_regular caller writer _ row held row.pending.entries)
+  answers_regular caller (SyncLog writer) owed a = by_writer caller _ writer _ a (λ row held m. makes_regular _ _ old reply new regular (table.sync_log_table (AreRegularFor old) old.table kept row) m)
+  answers_regular caller (SyncIndex writer) owed a = by_writer caller _ writer _ a (λ row held m. makes_regular _ _ old reply new regular (table.sync_index_table (AreRegularFor old) old.table kept row) m)
+  answers_regular caller (PutMeta writer) owed a = by_writer caller _ writer _ a (λ row held u. by_check _ _ u (λ none m. makes_regular _ _ old reply new regular
+      (table.put_meta_table (AreRegularFor old) old.table kept row
+      (put_regular old writer row (closed row) regular caller _ held refl refl (counted_closed row))
+      (put_regular old writer row (closing row) regular caller _ held refl refl (counted_staged stage.Closing row)))
+      m))
+  answers_regular caller (Exit writer) owed a = by_writer caller _ writer _ a (λ row held u. by_check _ _ u (λ none m. makes_regular _ _ old reply new regular
+      (table.exit_table (AreRegularFor old) old.table kept row
+      (regular_taken old.mount old.serial old.marks row.id old.table.writers kept)
+      (put_regular old writer row (at_stage stage.Dead row) regular caller _ held refl refl (counted_staged stage.Dead row)))
+      m))
+
+-- Each step whose caller owes no more keeps the table regular.
+pub step_regular : (old new : State) (caller : ℕ) (ask : Ask) (reply : Reply) → IsOwed ask → IsStep old caller ask reply new → IsRegular old → IsRegular new
+step_regular old new caller ask reply owed s r = answers_regular old r reply new caller ask.call owed.call s.answers

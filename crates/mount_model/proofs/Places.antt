@@ -1,0 +1,108 @@
+-- No call changes where the mount stands.
+use Rattle.std.proofs.Common.{◌≡◌, ℕ, List, [], ◌∷◌, Bool, Option, refl, sym, ap, ◌∙◌, inl, inr, subst, arith}
+use Rattle.plfs_types.specs.declared.entries.Entry.{Entry}
+use Rattle.store_api.specs.Step.{Step}
+use Rattle.mount_model.specs.declared.row.Row.{Row}
+use Rattle.mount_model.specs.declared.row.Stage.{Stage}
+use Rattle.mount_model.specs.declared.call.Call.{Call}
+use Rattle.mount_model.specs.declared.call.Call.TheVariants.{Greet, Find, MakeContainer, Rooms, Look, Enter, Floor, MakeHostdir, MakeIndex, MakeLog, Write, Flush, SyncLog, SyncIndex, PutMeta, Exit}
+use Rattle.mount_model.specs.declared.call.Ask.{Ask}
+use Rattle.mount_model.specs.declared.reply.Refusal.{Refusal}
+use Rattle.mount_model.specs.declared.reply.Reply.{Reply}
+use Rattle.mount_model.specs.State.{State, drawn, timed}
+use Rattle.mount_model.specs.Making.{Told, Outcome, Makes, OnWriter, UnlessRefused}
+use Rattle.mount_model.specs.Finding.{NamesRooms}
+use Rattle.mount_model.specs.Entering.{EntersAs}
+use Rattle.mount_model.specs.Flooring.{FloorsRow}
+use Rattle.mount_model.specs.Writing.{WritesAt}
+use Rattle.mount_model.specs.Flushing.{FlushesRow}
+use Rattle.mount_model.specs.Step.{Answers, IsStep}
+use Rattle.mount_model.specs.Places.{KeepsPlace}
+use Rattle.mount_model.proofs.Deciding.{on_writer, unless_refused}
+
+pub place_as : (old new : State) → new ≡ old → KeepsPlace old new
+place_as old new e = record {
+  opened = ap (λ (s : State). s.opened) e;
+  marks = ap (λ (s : State). s.marks) e;
+  mount = ap (λ (s : State). s.mount) e;
+  serial = omega (arith, ap (λ (s : State). s.serial) e);
+}
+
+-- a call whose act is made once serials were drawn, or the clock asked
+pub makes_place : (step : Step) (outcome : Told → Outcome) (old from : State) (reply : Reply) (new : State) → KeepsPlace old from → Makes step outcome from reply new → KeepsPlace old new
+makes_place step outcome old from reply new k m = record {
+  opened = ap (λ (s : State). s.opened) m.after ∙ k.opened;
+  marks = ap (λ (s : State). s.marks) m.after ∙ k.marks;
+  mount = ap (λ (s : State). s.mount) m.after ∙ k.mount;
+  serial = omega (arith, ap (λ (s : State). s.serial) m.after, k.serial);
+}
+
+pub drawn_place : (old : State) → KeepsPlace old (drawn old)
+drawn_place old = record { opened = refl; marks = refl; mount = refl; serial = omega arith }
+
+pub timed_place : (times : Option (List ℕ)) (old : State) → KeepsPlace old (timed times old)
+timed_place times old = record { opened = refl; marks = refl; mount = refl; serial = omega arith }
+
+same_place : (old : State) → KeepsPlace old old
+same_place old = place_as old old refl
+
+made_place : (step : Step) (outcome : Told → Outcome) (old : State) (reply : Reply) (new : State) → Makes step outcome old reply new → KeepsPlace old new
+made_place step outcome old reply new m = makes_place step outcome old old reply new (same_place old) m
+
+rooms_place : (old : State) (reply : Reply) (new : State) → NamesRooms old reply new → KeepsPlace old new
+rooms_place old reply new n = record {
+  opened = ap (λ (s : State). s.opened) n.after;
+  marks = ap (λ (s : State). s.marks) n.after;
+  mount = ap (λ (s : State). s.mount) n.after;
+  serial = omega (arith, ap (λ (s : State). s.serial) n.after);
+}
+
+enter_place : (caller room host cap : ℕ) (old : State) (reply : Reply) (new : State) → EntersAs caller room host cap old reply new → KeepsPlace old new
+enter_place caller room host cap old reply new e = elim (e.does) as (λ _. KeepsPlace old new) [
+  | inl makes ↦ makes_place _ _ old (drawn old) reply new (drawn_place old) makes
+  | inr (no_memory, is) ↦ subst (KeepsPlace old) (sym is) (drawn_place old)
+]
+
+floor_place : (row : Row) (old : State) (reply : Reply) (new : State) → FloorsRow row old reply new → KeepsPlace old new
+floor_place row old reply new f = record {
+  opened = ap (λ (s : State). s.opened) f.after;
+  marks = ap (λ (s : State). s.marks) f.after;
+  mount = ap (λ (s : State). s.mount) f.after;
+  serial = omega (arith, ap (λ (s : State). s.serial) f.after);
+}
+
+flush_place : (row : Row) (pending : List Entry) (old : State) (reply : Reply) (new : State) → FlushesRow row pending old reply new → KeepsPlace old new
+flush_place row [] old reply new f = place_as old new f.1
+flush_place row (first ∷ rest) old reply new f = made_place _ _ old reply new f
+
+-- a call on a writer of the caller's
+by_writer : (caller : ℕ) (stages : Stage → Bool) (id : ℕ) (old : State) (reply : Reply) (new : State) (does : Row → Type 0)
+    → OnWriter caller stages id old reply new does → ((row : Row) → does row → KeepsPlace old new) → KeepsPlace old new
+by_writer caller stages id old reply new does on keeps = on_writer caller stages id old reply new does (KeepsPlace old new) on (place_as old new) (λ row held. keeps row)
+
+by_check : (check : Option Refusal) (old : State) (reply : Reply) (new : State) (does : Type 0)
+    → UnlessRefused check old reply new does → (does → KeepsPlace old new) → KeepsPlace old new
+by_check check old reply new does on keeps = unless_refused check old reply new does (KeepsPlace old new) on (place_as old new) (λ none. keeps)
+
+answers_place : (old : State) (caller : ℕ) (call : Call) (reply : Reply) (new : State) → Answers old caller call reply new → KeepsPlace old new
+answers_place old caller Greet reply new a = place_as old new a.1
+answers_place old caller (Find name) reply new a = made_place _ _ old reply new a.makes
+answers_place old caller (MakeContainer name) reply new a = made_place _ _ old reply new a.makes
+answers_place old caller Rooms reply new a = rooms_place old reply new a
+answers_place old caller (Look room look) reply new a = by_check _ old reply new _ a (λ m. made_place _ _ old reply new m)
+answers_place old caller (Enter room host most) reply new a = by_check _ old reply new _ a (enter_place caller room host most old reply new)
+answers_place old caller (Floor writer) reply new a = by_writer caller _ writer old reply new _ a (λ row. floor_place row old reply new)
+answers_place old caller (MakeHostdir writer) reply new a = by_writer caller _ writer old reply new _ a (λ row m. made_place _ _ old reply new m)
+answers_place old caller (MakeIndex writer) reply new a = by_writer caller _ writer old reply new _ a (λ row m. made_place _ _ old reply new m)
+answers_place old caller (MakeLog writer) reply new a = by_writer caller _ writer old reply new _ a (λ row m. made_place _ _ old reply new m)
+answers_place old caller (Write writer at block) reply new a =
+    by_writer caller _ writer old reply new _ a (λ row u. by_check _ old reply new _ u (λ (w : WritesAt row at block old reply new). makes_place _ _ old (timed w.times old) reply new (timed_place w.times old) w.makes))
+answers_place old caller (Flush writer) reply new a = by_writer caller _ writer old reply new _ a (λ row. flush_place row row.pending.entries old reply new)
+answers_place old caller (SyncLog writer) reply new a = by_writer caller _ writer old reply new _ a (λ row m. made_place _ _ old reply new m)
+answers_place old caller (SyncIndex writer) reply new a = by_writer caller _ writer old reply new _ a (λ row m. made_place _ _ old reply new m)
+answers_place old caller (PutMeta writer) reply new a = by_writer caller _ writer old reply new _ a (λ row u. by_check _ old reply new _ u (λ m. made_place _ _ old reply new m))
+answers_place old caller (Exit writer) reply new a = by_writer caller _ writer old reply new _ a (λ row u. by_check _ old reply new _ u (λ m. made_place _ _ old reply new m))
+
+-- Each step leaves the mount where it stands.
+pub step_place : (old new : State) (caller : ℕ) (ask : Ask) (reply : Reply) → IsStep old caller ask reply new → KeepsPlace old new
+step_place old new caller ask reply s = answers_place old caller ask.call reply new s.answers

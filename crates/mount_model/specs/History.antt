@@ -1,0 +1,26 @@
+-- Histories of calls.
+use Rattle.std.specs.Prelude.{List, [], ◌∷◌, Option}
+use Rattle.store_api.specs.declared.tree.Tree.{Tree}
+use Rattle.turn_object.specs.declared.history.Entry as turn
+use Rattle.turn_object.specs.History as history
+use Rattle.mount_model.specs.declared.call.Ask.{Ask}
+use Rattle.mount_model.specs.declared.reply.Reply.{Reply}
+use Rattle.mount_model.specs.State.{State}
+use Rattle.mount_model.specs.Step.{IsStep, IsOwed}
+
+-- one call: who made it, what was asked and answered, and the state after it
+abbrev pub Event : Type 0
+Event = turn.Entry Ask Reply State
+
+-- each event is a step from the state before it, and its caller owed it no more than it met
+abbrev pub IsLegal : State → List Event → Type 0
+IsLegal start [] = Unit {0}
+IsLegal start (event ∷ events) = IsOwed event.ask × IsStep start event.caller event.ask event.reply event.after × IsLegal event.after events
+
+-- the state after the events
+abbrev pub state_after : State → List Event → State
+state_after start events = history.state_after start events
+
+-- the tree that the store tells after them
+abbrev pub tree_after : State → List Event → Option Tree
+tree_after start events = (state_after start events).store.tree

@@ -1,0 +1,45 @@
+-- Which replies each call has, and what a fault says of the store.
+use Rattle.std.specs.Prelude.{◌≡◌, ◌⊎◌, ◌≤◌, ℕ, List}
+use Rattle.plfs_types.specs.Counts.{HasRisen}
+use Rattle.store_api.specs.declared.step.Answer.{Answer}
+use Rattle.mount_model.specs.declared.call.Call.{Call}
+use Rattle.mount_model.specs.declared.call.Call.TheVariants as call
+use Rattle.mount_model.specs.declared.reply.Reply.{Reply}
+use Rattle.mount_model.specs.declared.reply.Reply.TheVariants.{Greeted, Room, Rooms, Looked, Entered, Floored, Done, Wrote, Flushed, Synced, Refused, Damaged, Fault, NoMemory}
+use Rattle.mount_model.specs.declared.reply.Refusal.{Refusal}
+use Rattle.mount_model.specs.Paths.{Name}
+use Rattle.mount_model.specs.State.{State}
+
+-- the call did not do what it was made for
+pub data IsTrouble (reply : Reply) : Type 0 where
+  refused : (why : Refusal) → reply ≡ Refused why → IsTrouble reply
+  damaged : (folder file : Name) → reply ≡ Damaged folder file → IsTrouble reply
+  fault : reply ≡ Fault → IsTrouble reply
+  no_memory : reply ≡ NoMemory → IsTrouble reply
+
+-- the call did it, and is answered so
+abbrev pub IsAnswerTo : Call → Reply → Type 0
+IsAnswerTo call.Greet reply = reply ≡ Greeted
+IsAnswerTo (call.Find name) reply = (room : ℕ) × (reply ≡ Room room)
+IsAnswerTo (call.MakeContainer name) reply = (room : ℕ) × (reply ≡ Room room)
+IsAnswerTo call.Rooms reply = (names : List Name) × (reply ≡ Rooms names)
+IsAnswerTo (call.Look room look) reply = (answer : Answer) × (reply ≡ Looked answer)
+IsAnswerTo (call.Enter room host cap) reply = (writer : ℕ) × (reply ≡ Entered writer)
+IsAnswerTo (call.Floor writer) reply = (floor : ℕ) × (reply ≡ Floored floor)
+IsAnswerTo (call.MakeHostdir writer) reply = reply ≡ Done
+IsAnswerTo (call.MakeIndex writer) reply = reply ≡ Done
+IsAnswerTo (call.MakeLog writer) reply = reply ≡ Done
+IsAnswerTo (call.Write writer at block) reply = (stamp : ℕ) × (reply ≡ Wrote stamp)
+IsAnswerTo (call.Flush writer) reply = (landed : ℕ) × (reply ≡ Flushed landed)
+IsAnswerTo (call.SyncLog writer) reply = reply ≡ Done
+IsAnswerTo (call.SyncIndex writer) reply = (landed : ℕ) × (reply ≡ Synced landed)
+IsAnswerTo (call.PutMeta writer) reply = reply ≡ Done
+IsAnswerTo (call.Exit writer) reply = reply ≡ Done
+
+abbrev pub Fits : Call → Reply → Type 0
+Fits call reply = IsAnswerTo call reply ⊎ IsTrouble reply
+
+-- The store's count of faults never falls, and has risen where a fault is answered.
+pub record HasItsCause (old new : State) (reply : Reply) : Type 0 where
+  pub never_falls : old.store.faults ≤ new.store.faults
+  pub cause : reply ≡ Fault → HasRisen old.store.faults new.store.faults

@@ -1,0 +1,19 @@
+//! What a mount is, and what each call on it may answer and leave.
+//!
+//! It owns the table of writers, the calls and replies, and the one step relation, in which a call is a check, an
+//! act on the store, and what each answer of the store makes of the table. It has no code of the mount: the mount is
+//! proved to make these steps, and laws about histories of steps need nothing but this crate.
+#![tactic(auto)]
+
+mod call;
+mod laws;
+mod reply;
+mod row;
+
+pub use call::{Ask, Call, Look};
+pub use laws::{
+    faults_have_causes, mounting_is_regular, mounting_lowers_no_count, place_lasts, regular_lasts,
+    replies_fit,
+};
+pub use reply::{Refusal, Reply};
+pub use row::{FlatStage, Flattening, Holder, Row, Stage};

@@ -1,0 +1,56 @@
+-- What stands in a container.
+use Rattle.std.specs.Prelude.{◌≡◌, ◌⊎◌, ℕ, ◌<◌, List, [], true, false, Some}
+use Rattle.plfs_types.specs.declared.names.Path.{Path}
+use Rattle.plfs_types.specs.Names.{IsLogicalName}
+use Rattle.container_layout.specs.declared.items.Item.{Item}
+use Rattle.container_layout.specs.declared.items.Item.TheVariants.{OpenHost, Meta, Flat, TmpFlat, Index, Log}
+use Rattle.container_layout.specs.Paths.{IsAt, hostdir_of}
+use Rattle.store_api.specs.declared.tree.Room.{Room}
+use Rattle.store_api.specs.Room.{has_folder}
+use Rattle.store_laws.specs.Files.{file_at}
+use Rattle.store_laws.specs.Differ.{is_listed, FoldersDiffer, PathsDiffer}
+use Rattle.mount_model.specs.Paths.{Name, openhosts, metadata, truncs, flats, access_path}
+
+-- the top, or a folder that a container may have
+abbrev pub IsContainerFolder : Name → Type 0
+IsContainerFolder folder =
+    (folder ≡ []) ⊎ (folder ≡ openhosts) ⊎ (folder ≡ metadata) ⊎ (folder ≡ truncs) ⊎ (folder ≡ flats)
+    ⊎ ((host : ℕ) × (host < 32) × (folder ≡ hostdir_of host))
+
+-- an item may hold these bytes: droppings hold any, all others none; there are no flattened indices yet
+abbrev pub MayHold : Item → List ℕ → Type 0
+MayHold (Index host writer) bytes = Unit {0}
+MayHold (Log host writer) bytes = Unit {0}
+MayHold (Flat id) bytes = ⊥
+MayHold (TmpFlat id) bytes = ⊥
+MayHold item bytes = bytes ≡ []
+
+-- the writer of the item, where it has one, has an id of which this holds
+abbrev pub IsWritersOf : (ℕ → Type 0) → Item → Type 0
+IsWritersOf allowed (OpenHost host writer) = allowed writer
+IsWritersOf allowed (Meta last bytes stamp host writer) = allowed writer
+IsWritersOf allowed (Index host writer) = allowed writer
+IsWritersOf allowed (Log host writer) = allowed writer
+IsWritersOf allowed item = Unit {0}
+
+-- the file is that of an item, in a folder that is there
+pub record IsItemFile (allowed : ℕ → Type 0) (room : Room) (path : Path) (bytes : List ℕ) : Type 0 where
+  pub item : Item
+  pub is_at : IsAt path item
+  pub holds : MayHold item bytes
+  pub writer : IsWritersOf allowed item
+  pub housed : has_folder room path.folder ≡ true
+
+-- the room has what every container has, and nothing that none may have
+pub record IsContainer (allowed : ℕ → Type 0) (room : Room) : Type 0 where
+  pub named : IsLogicalName room.name
+  pub folders_differ : FoldersDiffer room
+  pub paths_differ : PathsDiffer room
+  pub has_metadata : has_folder room metadata ≡ true
+  pub has_truncs : has_folder room truncs ≡ true
+  pub has_flats : has_folder room flats ≡ true
+  pub has_access : file_at room access_path ≡ Some []
+  pub folders : (folder : Name) → has_folder room folder ≡ true → IsContainerFolder folder
+  -- the top has no entry of its own
+  pub top_unlisted : is_listed [] room.folders ≡ false
+  pub files : (path : Path) (bytes : List ℕ) → file_at room path ≡ Some bytes → IsItemFile allowed room path bytes

@@ -1,0 +1,33 @@
+//! Laws of the shape of a sound tree.
+ghost use Rattle.std.specs.Prelude.{◌≡◌, ℕ, List, [], Option, Some};
+ghost use Rattle.store_api.specs.declared.tree.Tree.{Tree};
+ghost use Rattle.store_api.specs.Acts.{Stored};
+ghost use Rattle.mount_model.specs.declared.call.Ask.{Ask};
+ghost use Rattle.mount_model.specs.declared.reply.Reply.{Reply};
+ghost use Rattle.mount_model.specs.State.{State};
+ghost use Rattle.mount_model.specs.Step.{IsStep};
+ghost use Rattle.mount_model.specs.Regular.{IsRegular};
+ghost use Rattle.mount_model.specs.Mounting.{IsMounted};
+ghost use Rattle.mount_shape.specs.Marks.{IsOfMark};
+ghost use Rattle.mount_shape.specs.Shape.{IsShapedTree, HasShape};
+
+/// A tree with no rooms has the right shape.
+pub fn an_empty_tree_is_shaped()
+    ensures { (tree : Tree) → tree.rooms ≡ [] → IsShapedTree (IsOfMark tree) tree }
+{}
+
+/// A mount over a store that told a tree of the right shape has it: its mark is above all others, so
+/// that no id in the tree is above its last one.
+pub fn mounting_has_shape()
+    ensures { (serial : ℕ) (times : Option (List ℕ)) (opened : Stored) (new : State) (tree : Tree) → IsMounted serial times opened new → opened.tree ≡ Some tree → IsShapedTree (IsOfMark tree) tree → HasShape new }
+{}
+
+/// Each step of the mount keeps the shape of what its store tells, whatever fault the store answers.
+pub fn shape_lasts()
+    ensures { (old new : State) (caller : ℕ) (ask : Ask) (reply : Reply) → IsRegular old → IsStep old caller ask reply new → HasShape old → HasShape new }
+{}
+
+/// The tree that a mount leaves has the right shape for the next one.
+pub fn a_left_tree_is_shaped()
+    ensures { (state : State) (shape : HasShape state) → IsShapedTree (IsOfMark shape.tree) shape.tree }
+{}

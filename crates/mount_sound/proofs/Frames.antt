@@ -1,0 +1,67 @@
+-- A call that changes one writer's items leaves what the room holds of the others.
+use Rattle.std.proofs.Common.{◌≡◌, ◌<◌, ◌^◌, ℕ, List, refl, ap, sym, ◌∙◌, subst}
+use Rattle.std.specs.Prelude.{MatchOption}
+use Rattle.plfs_types.specs.declared.entries.Entry.{Entry}
+use Rattle.container_layout.specs.declared.items.Item.TheVariants.{OpenHost, Meta, Trunc, Index, Log}
+use Rattle.container_layout.specs.Items.{IsItem}
+use Rattle.container_layout.specs.Paths.{path_of, hostdir_of}
+use Rattle.store_api.specs.declared.tree.Room.{Room}
+use Rattle.store_laws.specs.Files.{file_at}
+use Rattle.store_laws.specs.Prefix.{IsPrefix}
+use Rattle.mount_model.specs.declared.row.Row.{Row}
+use Rattle.mount_model.specs.Paths.{open_path, index_path, log_path}
+use Rattle.mount_sound.specs.Ledger.{Written, entries_in, content}
+use Rattle.mount_sound.specs.Dropping.{bytes_of, log_bytes, IsDropping, IsWriter}
+use Rattle.mount_sound.specs.Kept.{Begins, IsAtStage, IsKept}
+use Rattle.mount_sound.specs.Sound.{TruncatesDiffer}
+use Rattle.mount_sound.proofs.Items.{SameFor, is_index, is_log, is_open, had, had_meta, has_meta_still, had_item_of}
+
+-- a row's numbers are those of items
+pub record Fits (row : Row) : Type 0 where
+  pub host : row.host < 2 ^ 32
+  pub id : row.id < 2 ^ 64
+
+pub log_frame : (room new : Room) (host writer : ℕ) (bytes : List ℕ) → file_at new (log_path host writer) ≡ file_at room (log_path host writer) → IsPrefix bytes (log_bytes room host writer) → IsPrefix bytes (log_bytes new host writer)
+log_frame room new host writer bytes e p = subst (IsPrefix bytes) (ap bytes_of (sym e)) p
+
+pub writer_frame : (room new : Room) (writer : ℕ) (issued : List Written) → writer < 2 ^ 64 → SameFor writer room new → IsWriter room writer issued → IsWriter new writer issued
+writer_frame room new writer issued fits s w =
+    let index_same : file_at new (index_path w.host writer) ≡ file_at room (index_path w.host writer) = s.owned (Index w.host writer) (is_index w.host writer w.host_fits fits) refl in
+    let log_same : file_at new (log_path w.host writer) ≡ file_at room (log_path w.host writer) = s.owned (Log w.host writer) (is_log w.host writer w.host_fits fits) refl in
+    let open_same : file_at new (open_path w.host writer) ≡ file_at room (open_path w.host writer) = s.owned (OpenHost w.host writer) (is_open w.host writer w.host_fits fits) refl in
+    record {
+      host = w.host;
+      host_fits = w.host_fits;
+      one_host = λ other h. w.one_host other (had_item_of room new other writer (λ item is o a. s.owned item is o) h);
+      landed = w.landed;
+      within = w.within;
+      index = subst (λ o. MatchOption o (w.landed ≡ 0) (IsDropping issued w.landed)) (sym index_same) w.index;
+      log = log_frame room new w.host writer (content issued) log_same w.log;
+      left = λ gone some. has_meta_still room new w.host writer s (w.left (sym open_same ∙ gone) some);
+      told = λ last bytes stamp inside h. w.told last bytes stamp inside (had room new (Meta last bytes stamp w.host writer) inside (λ is. s.owned (Meta last bytes stamp w.host writer) is refl) h);
+      beside = λ stamp size inside h. w.beside stamp size inside (had room new (Trunc stamp size) inside (λ is. s.truncates stamp size is) h);
+    }
+
+stage_frame : (row : Row) (room new : Room) (issued : List Entry) → Fits row → SameFor row.id room new → IsAtStage room row issued → IsAtStage new row issued
+stage_frame row room new issued fits s a = record {
+  opened = s.owned (OpenHost row.host row.id) (is_open row.host row.id fits.host fits.id) refl ∙ a.opened;
+  unopened = a.unopened;
+  floored = λ far stamp size inside h. a.floored far stamp size inside (had room new (Trunc stamp size) inside (λ is. s.truncates stamp size is) h);
+  housed = λ far. s.folders (hostdir_of row.host) (a.housed far);
+  indexed = λ far. let i = a.indexed far in (i.0, s.owned (Index row.host row.id) (is_index row.host row.id fits.host fits.id) refl ∙ i.1);
+  logged = λ far. let l = a.logged far in (l.0, s.owned (Log row.host row.id) (is_log row.host row.id fits.host fits.id) refl ∙ l.1);
+  closing = λ m. a.closing (had_meta room new row.host row.id s m);
+  has_meta = λ e. has_meta_still room new row.host row.id s (a.has_meta e);
+}
+
+pub kept_frame : (row : Row) (room new : Room) (issued : List Written) → Fits row → SameFor row.id room new → IsKept room row issued → IsKept new row issued
+kept_frame row room new issued fits s k = record {
+  in_order = k.in_order;
+  numbers = k.numbers;
+  index = subst (λ o. MatchOption o (row.landed ≡ 0) (Begins (entries_in issued) row.landed)) (sym (s.owned (Index row.host row.id) (is_index row.host row.id fits.host fits.id) refl)) k.index;
+  alive = λ live. stage_frame row room new (entries_in issued) fits s (k.alive live);
+}
+
+pub truncates_frame : (room new : Room) → ((stamp size : ℕ) → IsItem (Trunc stamp size) → file_at new (path_of (Trunc stamp size)) ≡ file_at room (path_of (Trunc stamp size))) → TruncatesDiffer room → TruncatesDiffer new
+truncates_frame room new same d stamp size other a b has_a has_b =
+    d stamp size other a b (had room new (Trunc stamp size) a (λ is. same stamp size is) has_a) (had room new (Trunc stamp other) b (λ is. same stamp other is) has_b)

@@ -1,0 +1,5 @@
+use Rattle.mount_sound.proofs.Fine.{step_fine}
+use Rattle.mount_sound.proofs.laws.fineness_lasts.Goals as goal
+
+pub returns : goal.returns
+returns c = step_fine

@@ -1,0 +1,5 @@
+use Rattle.mount_sound.proofs.Growing.{history_issues}
+use Rattle.mount_sound.proofs.laws.issues_only_grow.Goals as goal
+
+pub returns : goal.returns
+returns c = history_issues

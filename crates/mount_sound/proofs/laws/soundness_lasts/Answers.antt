@@ -1,0 +1,5 @@
+use Rattle.mount_sound.proofs.Steps.{history_keeps}
+use Rattle.mount_sound.proofs.laws.soundness_lasts.Goals as goal
+
+pub returns : goal.returns
+returns c = history_keeps

@@ -1,0 +1,5 @@
+use Rattle.mount_sound.proofs.Steps.{step_keeps}
+use Rattle.mount_sound.proofs.laws.steps_keep_soundness.Goals as goal
+
+pub returns : goal.returns
+returns c = step_keeps

@@ -1,0 +1,5 @@
+use Rattle.mount_sound.proofs.HasLanded.{landed_was_issued}
+use Rattle.mount_sound.proofs.laws.what_landed_was_issued.Goals as goal
+
+pub returns : goal.returns
+returns c = landed_was_issued

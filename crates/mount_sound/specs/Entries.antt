@@ -1,0 +1,32 @@
+-- The rules of a writer's entries, and what is told of them together.
+use Rattle.std.specs.Prelude.{◌≡◌, ◌+◌, ◌^◌, ◌≤◌, ◌<◌, ℕ, List, [], ◌∷◌, max}
+use Rattle.plfs_types.specs.declared.entries.Entry.{Entry}
+
+-- The entry may follow one with this stamp, where so many bytes were logged before.
+pub record MayFollow (writer last offset : ℕ) (e : Entry) : Type 0 where
+  pub some : 1 ≤ e.len
+  pub within : e.at + e.len ≤ 2 ^ 40
+  pub owner : e.writer ≡ writer
+  pub later : last < e.stamp
+  pub in_range : e.stamp < 2 ^ 63
+  pub place : e.physical ≡ offset
+
+-- each entry may follow the one before it
+abbrev pub AreInOrder : ℕ → ℕ → ℕ → List Entry → Type 0
+AreInOrder writer last offset [] = Unit {0}
+AreInOrder writer last offset (e ∷ es) = MayFollow writer last offset e × AreInOrder writer e.stamp (offset + e.len) es
+
+-- how many bytes the entries logged
+abbrev pub logged : List Entry → ℕ
+logged [] = 0
+logged (e ∷ es) = e.len + logged es
+
+-- the stamp of the last entry, or this one where there is none
+abbrev pub last_stamp : ℕ → List Entry → ℕ
+last_stamp last [] = last
+last_stamp last (e ∷ es) = last_stamp e.stamp es
+
+-- the greatest logical end of the entries, or 0 where there is none
+abbrev pub greatest_end : List Entry → ℕ
+greatest_end [] = 0
+greatest_end (e ∷ es) = max (e.at + e.len) (greatest_end es)

@@ -1,0 +1,10 @@
+pub mod Entries
+pub mod Ledger
+pub mod Items
+pub mod Dropping
+pub mod Kept
+pub mod Sound
+pub mod Issued
+pub mod Growing
+pub mod Landed
+pub mod Damage

@@ -1,0 +1,76 @@
+//! Laws of soundness.
+ghost use Rattle.std.specs.Prelude.{◌≡◌, ℕ, List, [], Option, Some, slice_get};
+ghost use Rattle.container_layout.specs.declared.items.Item.TheVariants.{Index};
+ghost use Rattle.store_api.specs.declared.tree.Room.{Room};
+ghost use Rattle.store_api.specs.declared.tree.Tree.{Tree};
+ghost use Rattle.store_api.specs.Acts.{Stored};
+ghost use Rattle.mount_model.specs.declared.call.Ask.{Ask};
+ghost use Rattle.mount_model.specs.declared.reply.Reply.{Reply};
+ghost use Rattle.mount_model.specs.State.{State};
+ghost use Rattle.mount_model.specs.Step.{IsStep, IsOwed};
+ghost use Rattle.mount_model.specs.Mounting.{IsMounted};
+ghost use Rattle.mount_model.specs.History.{Event, IsLegal, state_after, tree_after};
+ghost use Rattle.mount_sound.specs.Ledger.{Ledger};
+ghost use Rattle.mount_sound.specs.Items.{HasItem};
+ghost use Rattle.mount_sound.specs.Sound.{IsSoundFor, IsSoundTree, IsFine};
+ghost use Rattle.mount_sound.specs.Landed.{HasLanded};
+ghost use Rattle.mount_sound.specs.Damage.{ShowsNoDamage};
+ghost use Rattle.mount_sound.specs.Growing.{Grows, IssuesMore};
+ghost use Rattle.mount_sound.specs.Issued.{issued, issued_after};
+
+/// A tree with no rooms is sound.
+pub fn an_empty_tree_is_sound()
+    ensures { (tree : Tree) → tree.rooms ≡ [] → IsSoundTree tree }
+{}
+
+/// A mount over a store that told a sound tree is sound for the writes that have landed in it.
+pub fn mounting_is_sound()
+    ensures { (serial : ℕ) (times : Option (List ℕ)) (opened : Stored) (new : State) (tree : Tree) → IsMounted serial times opened new → opened.tree ≡ Some tree → (sound : IsSoundTree tree) → IsSoundFor sound.issued new }
+{}
+
+/// A step of the mount whose caller owed no more than it met keeps soundness, for what was issued by then.
+pub fn steps_keep_soundness()
+    ensures { (before : Ledger) (old new : State) (caller : ℕ) (ask : Ask) (reply : Reply) → IsOwed ask → IsStep old caller ask reply new → IsSoundFor before old → IsSoundFor (issued_after before old ask.call reply) new }
+{}
+
+/// Soundness lasts along each legal history, for what was issued in it.
+pub fn soundness_lasts()
+    ensures { (before : Ledger) (start : State) (events : List Event) → IsLegal start events → IsSoundFor before start → IsSoundFor (issued before start events) (state_after start events) }
+{}
+
+/// The tree that a sound mount leaves is sound for the next one.
+pub fn a_left_tree_is_sound()
+    ensures { (issued : Ledger) (state : State) (sound : IsSoundFor issued state) → IsSoundTree sound.shape.tree }
+{}
+
+/// A mount begins fine: regular, and sound where the store told a sound tree.
+pub fn mounting_is_fine()
+    ensures { (serial : ℕ) (times : Option (List ℕ)) (opened : Stored) (new : State) → IsMounted serial times opened new → IsFine new }
+{}
+
+/// A step of the mount whose caller owed no more than it met keeps a fine state fine.
+pub fn fineness_lasts()
+    ensures { (old new : State) (caller : ℕ) (ask : Ask) (reply : Reply) → IsOwed ask → IsStep old caller ask reply new → IsFine old → IsFine new }
+{}
+
+/// No step of a sound mount shows damage, whatever fault the store answers.
+pub fn a_sound_mount_shows_no_damage()
+    ensures { (issued : Ledger) (old new : State) (caller : ℕ) (ask : Ask) (reply : Reply) → IsStep old caller ask reply new → IsSoundFor issued old → ShowsNoDamage reply }
+{}
+
+/// The whole entries of each index dropping of a sound mount are the first that its writer issued, and its log begins
+/// with the bytes of their writes.
+pub fn what_landed_was_issued()
+    ensures { (issued : Ledger) (state : State) (sound : IsSoundFor issued state) (number : ℕ) (room : Room) → slice_get sound.shape.tree.rooms number ≡ Some room → (host writer : ℕ) (bytes : List ℕ) → HasItem room (Index host writer) bytes → HasLanded room host writer (issued number writer) bytes }
+{}
+
+/// Along a legal history each file but an entry of an open writer stays, and none of them gets shorter: what has landed
+/// never falls.
+pub fn files_only_grow()
+    ensures { (start : State) (events : List Event) (tree : Tree) → IsLegal start events → start.store.tree ≡ Some tree → (after : Tree) × (tree_after start events ≡ Some after) × Grows tree after }
+{}
+
+/// Along a history more is issued, or nothing.
+pub fn issues_only_grow()
+    ensures { (before : Ledger) (start : State) (events : List Event) → IssuesMore before (issued before start events) }
+{}

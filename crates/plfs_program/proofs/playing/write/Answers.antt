@@ -1,0 +1,13 @@
+use Rattle.std.proofs.Common.{rules, ◌≡◌, true, false}
+use Rattle.writer_flow.specs.WritingStages.{write_standing}
+use Rattle.writer_flow.specs.Writing.{write_program}
+use Rattle.plfs_program.specs.Ending.{ends_well}
+use Rattle.plfs_program.proofs.Driving.{met_fault}
+use Rattle.plfs_program.proofs.Machines.{write_well}
+use Rattle.plfs_program.proofs.playing.write.Goals as goal
+
+pub returns-in_err-stamp-clause-cause : goal.returns-in_err-stamp-clause-cause
+returns-in_err-stamp-clause-cause g c =
+    let cause : ends_well c.in_ok-out.out ≡ false → c.drive.new.self.faulted ≡ true =
+    met_fault ends_well (write_standing c.new-2.result) (write_program c.in_ok-handle.handle c.args.at c.in-Ok.block) c.in_ok-out.out c.drive.new.self.faulted c.new-2.ensures (write_well c.in_ok-handle.handle c.args.at c.in-Ok.block) (c.in_ok-out.ensures.ends ends_well) in
+    search (rules, cause, c.keep.ensures)

@@ -1,0 +1,15 @@
+use Rattle.std.proofs.Common.{◌≡◌, ◌⊎◌, Bool, true}
+use Rattle.flow.specs.Standing.{IsFresh}
+use Rattle.plfs_program.specs.Ending.{EndsFrom}
+use Rattle.plfs_program.proofs.session.Session.drive.Given as goal
+
+abbrev pub invariant-loop-flow : goal.invariant-loop-flow
+invariant-loop-flow g l = record {
+  fresh : IsFresh (g.F.Flow.standing l.flow);
+  opened : l.self.mount.opened ≡ l.fn.self.mount.opened;
+  kept : l.fn.self.faulted ≡ true → l.self.faulted ≡ true;
+  ends : (fine : g.row.F-Out.Denot → Bool) → EndsFrom fine (g.F.Flow.standing l.fn.flow) → (l.self.faulted ≡ true) ⊎ EndsFrom fine (g.F.Flow.standing l.flow);
+}
+
+abbrev pub decreases-loop-flow : goal.decreases-loop-flow
+decreases-loop-flow g l = g.F.Flow.left l.flow

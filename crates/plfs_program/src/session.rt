@@ -1,0 +1,108 @@
+//! The mount at work, and whether its store has failed.
+ghost use Rattle.std.specs.Prelude.{◌≡◌, ◌≤◌, ◌⊎◌, true, Bool, IsErrOf, IfOk};
+ghost use Rattle.plfs_types.specs.Counts.{next_count};
+ghost use Rattle.mount_model.specs.declared.reply.Reply.TheVariants.{Fault as Faulted};
+ghost use Rattle.mount_model.specs.Step.{OwedBy};
+ghost use Rattle.mount_model.specs.Replies.{Fits, HasItsCause};
+ghost use Rattle.flow.specs.Standing.{IsFresh};
+ghost use Rattle.plfs_program.specs.Ending.{EndsFrom};
+
+use crate::stuck::Stuck;
+use edge_io::Clock;
+use flow::Flow;
+use mount_core::Mount;
+use mount_model::{Ask, Call, Look, Reply};
+use plfs_types::NoMemory;
+use store_api::{Answer, Store};
+
+/// The one actor's number as a caller.
+const CALLER: u64 = 0;
+
+/// A mount that an actor uses, and whether its store has failed since it was mounted.
+#[derive(Drop)]
+pub(crate) struct Session<S: Store + Drop, C: Clock + Drop> {
+    mount: Mount<S, C>,
+    faulted: bool,
+    ghost never_falls: { mount.opened.faults ≤ mount.store.faults },
+    ghost cause: { faulted ≡ true → next_count mount.opened.faults ≤ mount.store.faults },
+}
+
+// Makes the one actor's call.
+fn apply<S: Store + Drop, C: Clock + Drop>(mount: &mut Mount<S, C>, call: Call) -> Reply
+    requires { OwedBy call }
+    ensures fits { Fits call result }
+    ensures opened { mount.new.opened ≡ mount.old.opened }
+    ensures faults { HasItsCause mount.old mount.new result }
+{
+    let ask = Ask { call, stop: None };
+    mount.apply(CALLER, &ask)
+}
+
+fn is_fault(reply: &Reply) -> bool
+    ensures is { reply.now ≡ Faulted → result ≡ true }
+    ensures only { result ≡ true → reply.now ≡ Faulted }
+{
+    matches!(reply, Reply::Fault)
+}
+
+impl<S: Store + Drop, C: Clock + Drop> Session<S, C> {
+    /// A mount whose store has not failed yet.
+    pub(crate) fn new(mount: Mount<S, C>) -> Self
+        requires { mount.opened.faults ≤ mount.store.faults }
+        ensures { result.mount ≡ mount }
+    {
+        Session {
+            mount,
+            faulted: false,
+        }
+    }
+
+    /// Makes one call. At `Fault` the store has failed.
+    pub(crate) fn ask(&mut self, call: Call) -> Reply
+        requires { OwedBy call }
+        ensures fits { Fits call result }
+        ensures opened { self.new.mount.opened ≡ self.old.mount.opened }
+        ensures cause { result ≡ Faulted → self.new.faulted ≡ true }
+        ensures kept { self.old.faulted ≡ true → self.new.faulted ≡ true }
+    {
+        let reply = apply(&mut self.mount, call);
+        self.faulted = self.faulted || is_fault(&reply);
+        reply
+    }
+
+    /// Looks at a container.
+    pub(crate) fn look(&mut self, room: u64, look: Look) -> Result<Answer, Stuck>
+        ensures opened { self.new.mount.opened ≡ self.old.mount.opened }
+        ensures cause { IsErrOf result Stuck.Fault → self.new.faulted ≡ true }
+        ensures kept { self.old.faulted ≡ true → self.new.faulted ≡ true }
+    {
+        match self.ask(Call::Look { room, look }) {
+            Reply::Looked(answer) => Ok(answer),
+            reply => Err(Stuck::of(reply)),
+        }
+    }
+
+    /// Makes the calls of the machine to its end.
+    pub(crate) fn drive<F: Flow + Drop>(&mut self, flow: F) -> Result<F::Out, NoMemory>
+        requires { IsFresh (F.standing flow) }
+        ensures opened { self.new.mount.opened ≡ self.old.mount.opened }
+        ensures kept { self.old.faulted ≡ true → self.new.faulted ≡ true }
+        ensures ends { IfOk result (λ out. (fine : F.Out → Bool) → EndsFrom fine (F.standing flow) → (self.new.faulted ≡ true) ⊎ (fine out ≡ true)) }
+    {
+        let mut flow = flow;
+        while let Some(call) = flow.next()? {
+            let reply = self.ask(call);
+            flow.take(reply)?;
+        }
+        Ok(flow.out())
+    }
+
+    /// The store, after this work.
+    pub(crate) fn into_store(self) -> S
+        ensures store { S.stored result ≡ self.mount.store }
+        ensures cause { self.faulted ≡ true → next_count self.mount.opened.faults ≤ (S.stored result).faults }
+    {
+        let Session { mount, .. } = self;
+        mount.close()
+    }
+}

@@ -1,0 +1,5 @@
+use Rattle.store_laws.proofs.Creating.{create_cases}
+use Rattle.store_laws.proofs.changes.creates_one_file.Goals as goal
+
+pub returns : goal.returns
+returns c = create_cases

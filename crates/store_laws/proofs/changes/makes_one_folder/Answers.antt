@@ -1,0 +1,5 @@
+use Rattle.store_laws.proofs.Folders.{make_folder_cases}
+use Rattle.store_laws.proofs.changes.makes_one_folder.Goals as goal
+
+pub returns : goal.returns
+returns c = make_folder_cases

@@ -1,0 +1,5 @@
+use Rattle.store_laws.proofs.Moving.{replace_cases}
+use Rattle.store_laws.proofs.changes.moves_one_file.Goals as goal
+
+pub returns : goal.returns
+returns c = replace_cases

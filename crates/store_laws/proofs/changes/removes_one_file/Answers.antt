@@ -1,0 +1,5 @@
+use Rattle.store_laws.proofs.Removing.{remove_cases}
+use Rattle.store_laws.proofs.changes.removes_one_file.Goals as goal
+
+pub returns : goal.returns
+returns c = remove_cases

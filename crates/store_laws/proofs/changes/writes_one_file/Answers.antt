@@ -1,0 +1,5 @@
+use Rattle.store_laws.proofs.Writing.{write_cases}
+use Rattle.store_laws.proofs.changes.writes_one_file.Goals as goal
+
+pub returns : goal.returns
+returns c = write_cases

@@ -1,0 +1,5 @@
+use Rattle.store_laws.proofs.Lengthening.{lengthens_told}
+use Rattle.store_laws.proofs.touches.files_only_grow.Goals as goal
+
+pub returns : goal.returns
+returns c = lengthens_told

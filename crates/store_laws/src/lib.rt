@@ -1,0 +1,19 @@
+//! What each step of a store changes of a tree, and what its answer tells of it, path by path and
+//! folder by folder. There is no code in it: it stands on the store's contract alone.
+#![tactic(auto)]
+
+mod answers;
+mod changes;
+mod tells;
+mod touches;
+
+pub use answers::{
+    finding_tells, length_tells, listing_tells, listings_are_one, looks_change_nothing,
+    reading_tells, rooms_tell, syncing_tells,
+};
+pub use changes::{
+    adds_one_room, creates_one_file, cuts_one_file, makes_one_folder, moves_one_file,
+    removes_one_empty_folder, removes_one_file, renames_one_room, writes_one_file,
+};
+pub use tells::{creates_are_made_or_not, told_trees_go_on, writes_are_made_or_in_part};
+pub use touches::{files_only_grow, order_is_kept, steps_change_what_they_name};

@@ -1,0 +1,11 @@
+pub mod Handle
+pub mod Ending
+pub mod Opening
+pub mod Writing
+pub mod Syncing
+pub mod Closing
+pub mod OpeningStages
+pub mod WritingStages
+pub mod SyncingStages
+pub mod ClosingStages
+pub mod Growing

@@ -1,0 +1,9 @@
+mod Rows
+mod Steps
+mod Own
+mod Histories
+mod Machines
+mod Closes
+mod Opens
+mod Counts
+mod Regulars

@@ -1,0 +1,71 @@
+//! The laws of a writer's machines.
+ghost use Rattle.std.specs.Prelude.{◌≡◌, ℕ, List, Result, Ok, true};
+ghost use Rattle.mount_model.specs.declared.row.Row.{Row};
+ghost use Rattle.mount_model.specs.State.{State};
+ghost use Rattle.mount_model.specs.History.{Event, IsLegal, state_after};
+ghost use Rattle.writer_flow.specs.declared.handle.WriterHandle.{WriterHandle};
+ghost use Rattle.writer_flow.specs.declared.handle.WriterOut.{WriterOut};
+ghost use Rattle.flow.specs.declared.trouble.Stuck.{Stuck};
+ghost use Rattle.writer_flow.specs.Opening.{open_program};
+ghost use Rattle.writer_flow.specs.Closing.{close_program};
+ghost use Rattle.writer_flow.specs.Writing.{write_program};
+ghost use Rattle.writer_flow.specs.Syncing.{sync_program};
+ghost use Rattle.mount_model.specs.Regular.{IsRegular};
+ghost use Rattle.writer_laws.specs.Running.{Runs};
+ghost use Rattle.writer_laws.specs.Counting.{entries_of, writes_told, Stays};
+ghost use Rattle.writer_laws.specs.Knowing.{HasRow, Knows, IsLeft, IsSynced, IsClosed, IsOpened};
+
+/// A law: where a handle tells how many entries are in its writer's buffer, the handle that a write, a sync or a close
+/// leaves does so again. The number of a sync, and of a close, is that of all the writer's entries; after a sync that
+/// tells it, they have landed.
+pub fn a_handle_tells_of_its_buffer()
+    ensures write { (caller : ℕ) (handle : WriterHandle) (row : Row) (at : ℕ) (block : List ℕ)
+        (start : State) (events : List Event) (out : WriterOut)
+        → Knows caller handle row start
+        → IsLegal start events
+        → Runs caller (write_program handle at block) events out
+        → IsLeft caller handle out (state_after start events) }
+    ensures sync { (caller : ℕ) (handle : WriterHandle) (row : Row)
+        (start : State) (events : List Event) (out : WriterOut)
+        → Knows caller handle row start
+        → IsLegal start events
+        → Runs caller (sync_program handle) events out
+        → IsSynced caller handle (entries_of row) out (state_after start events) }
+
+    // A close that begins with PutMeta has the number of the sync before.
+    ensures close { (caller : ℕ) (handle : WriterHandle) (row : Row)
+        (start : State) (events : List Event) (out : WriterOut)
+        → Knows caller handle row start
+        → (handle.closing ≡ true → handle.landed ≡ entries_of row)
+        → IsLegal start events
+        → Runs caller (close_program handle) events out
+        → IsClosed caller handle (entries_of row) out (state_after start events) }
+{}
+
+/// A law: an opening that ends with a handle, from a state on whose table is regular, as that of every mount is, leaves
+/// the caller a writer without entries, of whose buffer the handle tells.
+pub fn an_opened_writer_has_no_entries()
+    ensures { (caller : ℕ) (name : List ℕ) (host most : ℕ)
+        (start : State) (events : List Event) (out : Result WriterHandle Stuck) (handle : WriterHandle)
+        → IsRegular start
+        → IsLegal start events
+        → Runs caller (open_program name host most) events out
+        → out ≡ Ok handle
+        → IsOpened caller handle (state_after start events) }
+{}
+
+/// A law: a writer without entries that a caller has in some state, as after it was opened, and that is not taken out,
+/// has as many entries later as writes of it were answered; and that many is the number of a sync that then succeeds.
+pub fn a_sync_counts_every_write()
+    ensures { (caller : ℕ) (handle : WriterHandle) (new row : Row)
+        (start : State) (before during : List Event) (out : WriterOut) (n : ℕ)
+        → HasRow caller handle.writer new start
+        → entries_of new ≡ 0
+        → IsLegal start before
+        → Stays handle.writer before
+        → Knows caller handle row (state_after start before)
+        → IsLegal (state_after start before) during
+        → Runs caller (sync_program handle) during out
+        → out.result ≡ Ok n
+        → n ≡ writes_told handle.writer before }
+{}
