@@ -1,5 +1,5 @@
 //! What a machine is.
-ghost use Rattle.std.specs.Prelude.{◌≡◌, ◌≢◌, ◌<◌, ℕ, IfOk, IfSome, OnOk, IsOk, IsErr};
+ghost use Rattle.std.specs.Prelude.{◌≡◌, ◌≢◌, ◌<◌, ℕ, IfOk, IfSome, OnOk, IsOk, IsErr, Some};
 ghost use Rattle.mount_model.specs.declared.call.Call.{Call as Asked};
 ghost use Rattle.mount_model.specs.declared.reply.Reply.TheVariants.{NoMemory as WantsMemory};
 ghost use Rattle.mount_model.specs.Step.{OwedBy};
@@ -28,6 +28,9 @@ pub trait Flow {
         ensures call { IfOk result (λ call. call ≡ next_of (standing self.old)) }
         ensures owed { IfOk result (λ call. IfSome call OwedBy) }
         ensures rest { OnOk result (rest_of (standing self.new) ≡ rest_of (standing self.old)) }
+
+        // A call that is given again is the same one.
+        ensures again { OnOk result (IfSome (next_of (standing self.new)) (λ call. next_of (standing self.old) ≡ Some call)) }
         ensures left { OnOk result (left self.new ≡ left self.old) }
         ensures memory { frugal → IsOk result };
 

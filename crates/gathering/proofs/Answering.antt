@@ -1,6 +1,5 @@
 -- What a reader answers is the plain file of its cut.
-use Rattle.std.proofs.Common.{◌≡◌, ℕ, ◌+◌, ◌-◌, ◌≤◌, ◌==◌, List, [], ◌∷◌, ◌++◌, length, take, drop, replicate, ap, sym, ◌∙◌, inl, inr, subst, arith, true, false}
-use Rattle.std.specs.Prelude.{if◌then◌else◌}
+use Rattle.std.proofs.Common.{◌≡◌, ℕ, ◌+◌, ◌≤◌, List, [], ◌∷◌, ◌++◌, length, take, drop, replicate, ap, sym, ◌∙◌, inl, inr, subst, arith}
 use Rattle.std.specs.List.{AllByRecursion, All}
 use Rattle.plfs_types.specs.declared.entries.Trunc.{Trunc}
 use Rattle.plain_file.specs.declared.pieces.Piece.{Piece}
@@ -8,47 +7,28 @@ use Rattle.plain_file.specs.File.{slice, HasItsBytes, plain_size}
 use Rattle.plain_file.specs.Shows.{truncs_of}
 use Rattle.plain_file.specs.Runs.{ArePieces, ArePiecesOf}
 use Rattle.plain_file.specs.Size.{size_from}
-use Rattle.plain_file.specs.Logs.{IsLogged, ArePlaced}
+use Rattle.plain_file.specs.Logs.{IsLogged}
 use Rattle.plain_file.proofs.OrderLemmas.{Among}
-use Rattle.plain_file.proofs.RunLemmas.{ArePlaced-of}
 use Rattle.plain_file.proofs.SizeLemmas.{size-from_pieces}
 use Rattle.read_plan.specs.declared.part.Part.{Part}
 use Rattle.read_plan.specs.declared.part.Part.TheVariants.{Hole, From}
 use Rattle.read_plan.specs.Parts.{spelled}
-use Rattle.read_plan.specs.Plan.{hole, part_of, filled, plan_of}
-use Rattle.read_plan.specs.Ranges.{end_of, pieces_in}
+use Rattle.read_plan.specs.Plan.{plan_of}
 use Rattle.read_plan.proofs.PlanLemmas.{spelled-plan}
-use Rattle.read_plan.proofs.RangeLemmas.{ArePlaced-pieces_in}
 use Rattle.mount_model.specs.Paths.{log_path}
 use Rattle.mount_sound.specs.Ledger.{entries_in, content}
 use Rattle.gathering.specs.Moments.{Moment, IsSoundAt, Dropping, Stood, issued_by, Grows}
 use Rattle.gathering.specs.Seen.{Asked, IsSeenCall, IsSeen}
 use Rattle.gathering.specs.Gathering.{Gathered, IsPrefixOf, IsAdmissible}
 use Rattle.gathering.specs.View.{writes_in, changes_in, view, WritersRise, logs_of, IsLogRead, IsAnswer}
+use Rattle.gathering.specs.Parts.{IsOfLog, IsPartOf}
 use Rattle.gathering.proofs.Growing.{grows_trans}
 use Rattle.gathering.proofs.Looking.{read_told}
 use Rattle.gathering.proofs.Fronts.{stood_grows, log_slice}
 use Rattle.gathering.proofs.Gathers.{answers_as}
-use Rattle.gathering.proofs.Viewing.{All-append, entries_of-changes, truncs_of-changes, bytes_all, logged_all, keys_differ}
-use Rattle.gathering.proofs.Members.{among}
-
--- a part's bytes lie within its log
-abbrev pub IsWithinLog : (ℕ → List ℕ) → Part → Type 0
-IsWithinLog logs (Hole len) = Unit {0}
-IsWithinLog logs (From writer at len) = at + len ≤ length (logs writer)
-
-hole_within : (logs : ℕ → List ℕ) (len : ℕ) → AllByRecursion (IsWithinLog logs) (hole len)
-hole_within logs len = elim (len == 0) as (λ b. AllByRecursion (IsWithinLog logs) (if b then [] else Hole len ∷ [])) [ true ↦ tt | false ↦ (tt, tt) ]
-
-filled_within : (logs : ℕ → List ℕ) (from until : ℕ) (pieces : List Piece) → ArePlaced logs pieces → AllByRecursion (IsWithinLog logs) (filled from until pieces)
-filled_within logs from until [] placed = hole_within logs (until - from)
-filled_within logs from until (p ∷ pieces) placed =
-    All-append (IsWithinLog logs) (hole (p.at - from)) (part_of p ∷ filled (p.at + p.len) until pieces) (hole_within logs (p.at - from)) (placed.0, filled_within logs (p.at + p.len) until pieces placed.1)
-
-plan_within : (logs : ℕ → List ℕ) (pieces : List Piece) (size at len : ℕ) → ArePlaced logs pieces → AllByRecursion (IsWithinLog logs) (plan_of pieces size at len)
-plan_within logs pieces size at len placed =
-    let until : ℕ = end_of size at len in
-    filled_within logs at until (pieces_in at until pieces) (ArePlaced-pieces_in logs at until pieces placed)
+use Rattle.gathering.proofs.Viewing.{entries_of-changes, truncs_of-changes, bytes_all, logged_all, keys_differ}
+use Rattle.gathering.proofs.Parts.{plan_within}
+use Rattle.gathering.proofs.Members.{any_found, among}
 
 room_of : (room : ℕ) (cut : List Gathered) (g : Gathered) → WritersRise room cut → Among g cut → g.dropping.room ≡ room
 room_of room [] g rise a = absurd a
@@ -74,15 +54,23 @@ log_read caller start end from next room cut writer at len bytes asked admissibl
     let there : Stood call.before d = stood_grows end call.before d goes (prefix_of start end cut g admissible its).stands in
     sym t.2 ∙ log_slice end call.before call.sound d there.bytes t.0 at len there.is_item goes there.there t.1 (omega (arith, within, ap length log_is)) ∙ ap (λ l. take len (drop at l)) log_is
 
+-- a part lies in what the log of its writer is to have
+in_log : (end : Moment) (room : ℕ) (cut : List Gathered) (writer at len : ℕ) → WritersRise room cut → IsPartOf end cut (From writer at len) → at + len ≤ length (logs_of end room writer)
+in_log end room cut writer at len rise part =
+    let found = any_found (IsOfLog end writer at len) cut part in
+    let d : Dropping = found.0.dropping in
+    let log_is : content (issued_by end d) ≡ logs_of end room writer = ap (λ r. content (end.issued r d.writer)) (room_of room cut found.0 rise found.1) ∙ ap (λ w. content (end.issued room w)) found.2.log_of in
+    omega (arith, found.2.within, ap length log_is)
+
 answer_spelled : (caller : ℕ) (start end from later : Moment) (room : ℕ) (cut : List Gathered) (parts : List Part) (asked : List Asked) (answer : List ℕ) → IsAdmissible start end cut → WritersRise room cut → Grows end from → IsSeen caller from asked later
-    → AllByRecursion (IsWithinLog (logs_of end room)) parts → IsAnswer cut parts asked answer → answer ≡ spelled (logs_of end room) parts
+    → AllByRecursion (IsPartOf end cut) parts → IsAnswer cut parts asked answer → answer ≡ spelled (logs_of end room) parts
 answer_spelled caller start end from later room cut [] [] answer admissible rise grows seen within is = is
 answer_spelled caller start end from later room cut [] (a ∷ asked) answer admissible rise grows seen within is = absurd is
 answer_spelled caller start end from later room cut (Hole len ∷ parts) asked answer admissible rise grows seen within (more, rest, split) =
     split ∙ ap (λ b. replicate len 0 ++ b) (answer_spelled caller start end from later room cut parts asked more admissible rise grows seen within.1 rest)
 answer_spelled caller start end from later room cut (From writer at len ∷ parts) [] answer admissible rise grows seen within is = absurd is
 answer_spelled caller start end from later room cut (From writer at len ∷ parts) (a ∷ asked) answer admissible rise grows (next, call, seen) within (bytes, more, read, rest, split) =
-    let first : bytes ≡ slice (logs_of end room writer) at len = log_read caller start end from next room cut writer at len bytes a admissible rise grows call read within.0 in
+    let first : bytes ≡ slice (logs_of end room writer) at len = log_read caller start end from next room cut writer at len bytes a admissible rise grows call read (in_log end room cut writer at len rise within.0) in
     let on : Grows end next = grows_trans end from next grows (grows_trans from call.before next call.waits call.goes) in
     split ∙ ap (λ b. b ++ more) first ∙ ap (λ b. slice (logs_of end room writer) at len ++ b) (answer_spelled caller start end next later room cut parts asked more admissible rise on seen within.1 rest)
 
@@ -108,6 +96,5 @@ answer_is_slice caller start end from later room cut truncs pieces size at len a
     let are : ArePiecesOf (changes_in end cut truncs) pieces = pieces_of end cut truncs pieces runs in
     let bytes : All HasItsBytes (changes_in end cut truncs) = bytes_all end s room cut truncs rise in
     let logged : All (IsLogged (logs_of end room)) (changes_in end cut truncs) = logged_all end s room cut truncs rise in
-    let placed : ArePlaced (logs_of end room) pieces = ArePlaced-of (changes_in end cut truncs) pieces (logs_of end room) bytes are logged in
-    answer_spelled caller start end from later room cut (plan_of pieces size at len) asked answer admissible rise grows seen (plan_within (logs_of end room) pieces size at len placed) answers
+    answer_spelled caller start end from later room cut (plan_of pieces size at len) asked answer admissible rise grows seen (plan_within end cut truncs pieces size at len s runs) answers
     ∙ spelled-plan (changes_in end cut truncs) (logs_of end room) pieces size at len (keys_differ end s room cut truncs rise) bytes logged are is

@@ -1,7 +1,9 @@
 -- Pieces of a flattened index, merged with those of the tails, are those of all entries of the cut.
-use Rattle.std.proofs.Common.{◌≡◌, ℕ, List, [], ◌∷◌, ◌++◌, take, drop, ap, sym, ◌∙◌, ◌⊎◌, inl, inr, subst}
+use Rattle.std.proofs.Common.{◌≡◌, ℕ, List, [], ◌∷◌, ◌++◌, take, drop, refl, ap, sym, ◌∙◌, ◌⊎◌, inl, inr, subst}
 use Rattle.std.specs.Prelude.{option_map}
+use Rattle.std.specs.List.{All, AllByRecursion}
 use Rattle.std.proofs.lemmas.List.{take-append-drop}
+use Rattle.std.proofs.lemmas.List.Elements.{recursion_from_All}
 use Rattle.plfs_types.specs.declared.entries.Entry.{Entry}
 use Rattle.plain_file.specs.declared.pieces.Piece.{Piece}
 use Rattle.plain_file.specs.Runs.{AreRuns, ArePieces}
@@ -10,20 +12,16 @@ use Rattle.plain_file.proofs.OrderLemmas.{Among}
 use Rattle.plain_file.proofs.SameLemmas.{SameElements, OnePerKey-from_KeysDiffer, newest_at-same}
 use Rattle.plain_file.proofs.MergeLemmas.{ArePieces-merged}
 use Rattle.mount_sound.specs.Ledger.{entries_in}
-use Rattle.gathering.specs.Moments.{Moment, IsSoundAt, issued_by}
+use Rattle.gathering.specs.Moments.{Moment, IsSoundAt}
 use Rattle.gathering.specs.Gathering.{Gathered}
 use Rattle.gathering.specs.View.{writes_in, own_entries, covered_in, tails_in, WritersRise}
-use Rattle.gathering.proofs.Fronts.{entries-append}
 use Rattle.gathering.proofs.Members.{among_left, among_right}
-use Rattle.gathering.proofs.Viewing.{entries_in-take, keys_in}
+use Rattle.gathering.proofs.Viewing.{entries_split, keys_in}
 
 among_either : (x : Entry) (xs ys : List Entry) → Among x (xs ++ ys) → Among x xs ⊎ Among x ys
 among_either x [] ys a = inr a
 among_either x (y ∷ xs) ys (inl e) = inl (inl e)
 among_either x (y ∷ xs) ys (inr a) = elim (among_either x xs ys a) as (λ _. Among x (y ∷ xs) ⊎ Among x ys) [ inl l ↦ inl (inr l) | inr r ↦ inr r ]
-
-entries_split : (end : Moment) (g : Gathered) (cut : List Gathered) → entries_in (writes_in end (g ∷ cut)) ≡ own_entries end g ++ entries_in (writes_in end cut)
-entries_split end g cut = entries-append (take g.count (issued_by end g.dropping)) (writes_in end cut) ∙ ap (λ l. l ++ entries_in (writes_in end cut)) (entries_in-take g.count (issued_by end g.dropping))
 
 to_parts : (end : Moment) (cut : List Gathered) (x : Entry) → Among x (entries_in (writes_in end cut)) → Among x (covered_in end cut) ⊎ Among x (tails_in end cut)
 to_parts end [] x a = absurd a
@@ -72,3 +70,21 @@ flattened_pieces end room cut flat tails merged s rise f t runs says =
       runs = runs;
       shown = λ x. both.shown x ∙ ap (option_map (source_of x)) (sym (newest_at-same (entries_in (writes_in end cut)) (covered_in end cut ++ tails_in end cut) [] [] (OnePerKey-from_KeysDiffer (entries_in (writes_in end cut)) (keys_in end s room cut rise)) (same_entries end cut) (record { to = λ u a. a; back = λ u a. a }) x));
     }
+
+-- ---------- without a flattened index
+
+none_dropped : (es : List Entry) → drop 0 es ≡ es
+none_dropped [] = refl
+none_dropped (e ∷ es) = refl
+
+all_tails : (end : Moment) (cut : List Gathered) → AllByRecursion (λ (g : Gathered). g.covered ≡ 0) cut → tails_in end cut ≡ entries_in (writes_in end cut)
+all_tails end [] none = refl
+all_tails end (g ∷ cut) none =
+    ap (λ n. drop n (own_entries end g) ++ tails_in end cut) none.0
+    ∙ ap (λ l. l ++ tails_in end cut) (none_dropped (own_entries end g))
+    ∙ ap (λ l. own_entries end g ++ l) (all_tails end cut none.1)
+    ∙ sym (entries_split end g cut)
+
+-- Where no entry is covered, the tails are all entries of the cut.
+pub uncovered_tails : (end : Moment) (cut : List Gathered) → All (λ (g : Gathered). g.covered ≡ 0) cut → tails_in end cut ≡ entries_in (writes_in end cut)
+uncovered_tails end cut none = all_tails end cut (recursion_from_All (λ (g : Gathered). g.covered ≡ 0) cut none)

@@ -11,6 +11,7 @@ pub mod Scans
 pub mod Truncates
 pub mod Viewing
 pub mod Readable
+pub mod Parts
 pub mod Answering
 pub mod Placing
 pub mod Shares

@@ -10,7 +10,7 @@ use Rattle.gathering.specs.Moments.{Moment, IsSoundAt, moment_after, Dropping, S
 use Rattle.gathering.specs.Seen.{Asked, asked_in, calls_of, IsSeen}
 use Rattle.gathering.specs.Gathering.{Gathered, IsAdmissible}
 use Rattle.gathering.specs.View.{change_of, cut_off, writes_in, view}
-use Rattle.gathering.specs.Opening.{IsOpening, IsSharedOpening, Answers, HasView}
+use Rattle.gathering.specs.Opening.{IsOpening, IsSharedOpening, ReadsSo, HasView}
 use Rattle.gathering.proofs.Growing.{grows_trans}
 use Rattle.gathering.proofs.Seeing.{seen, seen_split, seen_grows, seen_waits, sound_after, grows_after}
 use Rattle.gathering.proofs.Fronts.{stood_grows}
@@ -77,7 +77,7 @@ opened caller room start gathering listing later cut truncs legal sound opening 
 -- Each answer of who has a view is a slice of its plain file, whatever goes on.
 pub view_answers : (caller room : ℕ) (start end : Moment) (cut : List Gathered) (truncs : List Trunc) (between reading rest : List Event) (at len : ℕ) (answer : List ℕ)
     → IsLegal end.state (between ++ (reading ++ rest)) → IsSoundAt end → HasView start end room cut truncs
-    → Answers end cut truncs at len (calls_of caller reading) answer → answer ≡ slice (view end cut truncs) at len
+    → ReadsSo end cut truncs at len (calls_of caller reading) answer → answer ≡ slice (view end cut truncs) at len
 view_answers caller room start end cut truncs between reading rest at len answer legal s v a =
     let first = legal_first end between (reading ++ rest) legal in
     let last = legal_rest end between (reading ++ rest) legal in
@@ -89,7 +89,7 @@ view_answers caller room start end cut truncs between reading rest at len answer
 -- The same of one who opened a reader, with the file as it is at the history's end.
 pub answers_last : (caller room : ℕ) (start : Moment) (gathering : List Event) (listing : Event) (between reading rest : List Event) (cut : List Gathered) (truncs : List Trunc) (at len : ℕ) (answer : List ℕ)
     → IsLegal start.state (gathering ++ listing ∷ (between ++ (reading ++ rest))) → IsSoundAt start → IsOpening room cut truncs (calls_of caller gathering) (asked_in listing)
-    → Answers (moment_after start gathering) cut truncs at len (calls_of caller reading) answer
+    → ReadsSo (moment_after start gathering) cut truncs at len (calls_of caller reading) answer
     → answer ≡ slice (view (moment_after start (gathering ++ listing ∷ (between ++ (reading ++ rest)))) cut truncs) at len
 answers_last caller room start gathering listing between reading rest cut truncs at len answer legal sound opening a =
     let later : List Event = between ++ (reading ++ rest) in

@@ -2,7 +2,8 @@
 use Rattle.std.proofs.Common.{◌≡◌, ℕ, List, [], ◌∷◌, ◌++◌, refl, ap, sym, ◌∙◌, arith, true, false, nat_eq}
 use Rattle.std.specs.Prelude.{if◌then◌else◌}
 use Rattle.std.proofs.lemmas.Bool.Decides.{nat_tests}
-use Rattle.mount_model.specs.History.{Event, IsLegal}
+use Rattle.mount_model.specs.History.{Event, IsLegal, state_after}
+use Rattle.mount_sound.specs.Issued.{issued}
 use Rattle.gathering.specs.Moments.{Moment, next_moment, moment_after}
 use Rattle.gathering.specs.Seen.{Asked, asked_in, calls_of, IsPlaceOf}
 use Rattle.gathering.proofs.Seeing.{alike}
@@ -20,6 +21,11 @@ legal_rest start (e ∷ first) rest l = legal_rest (next_moment start e) first r
 pub moment-append : (start : Moment) (first rest : List Event) → moment_after start (first ++ rest) ≡ moment_after (moment_after start first) rest
 moment-append start [] rest = refl
 moment-append start (e ∷ first) rest = moment-append (next_moment start e) first rest
+
+-- The moment after events has the state in which they end, and what was issued until then.
+pub follows : (moment : Moment) (events : List Event) → ((moment_after moment events).state ≡ state_after moment.state events) × ((moment_after moment events).issued ≡ issued moment.issued moment.state events)
+follows moment [] = (refl, refl)
+follows moment (e ∷ events) = follows (next_moment moment e) events
 
 -- ---------- places of calls
 

@@ -1,14 +1,15 @@
 -- The entries that a reader gathers are valid, and their bytes determine them.
-use Rattle.std.proofs.Common.{◌≡◌, ℕ, zero, suc, ◌+◌, ◌≤◌, ◌<◌, ◌^◌, List, [], ◌∷◌, take, drop, arith, subst}
+use Rattle.std.proofs.Common.{◌≡◌, ℕ, zero, suc, ◌+◌, ◌≤◌, ◌<◌, ◌^◌, List, [], ◌∷◌, take, drop, inl, inr, arith, subst, sym}
 use Rattle.std.specs.List.{All, AllByRecursion}
+use Rattle.std.proofs.lemmas.Bool.{cases_lt}
 use Rattle.std.proofs.lemmas.List.Elements.{All-from_recursion}
 use Rattle.plfs_types.specs.declared.entries.Entry.{Entry}
 use Rattle.index_entry.specs.Valid.{IsValidEntry}
 use Rattle.index_entry.proofs.Spelled.{valid_fits_places}
 use Rattle.mount_sound.specs.Entries.{AreInOrder, last_stamp, logged}
-use Rattle.mount_sound.specs.Ledger.{entries_in}
-use Rattle.gathering.specs.Moments.{Moment, IsSoundAt, issued_by}
-use Rattle.gathering.specs.Gathering.{Gathered, IsAdmissible}
+use Rattle.mount_sound.specs.Ledger.{Written, entries_in}
+use Rattle.gathering.specs.Moments.{Moment, Dropping, IsSoundAt, issued_by}
+use Rattle.gathering.specs.Gathering.{Gathered}
 use Rattle.gathering.specs.View.{IsReadable, own_entries, FollowsCovered, tails_in}
 use Rattle.gathering.proofs.Viewing.{All-append, All-take, in_order-take}
 
@@ -27,19 +28,27 @@ All-drop P zero (x ∷ xs) a = a
 All-drop P (suc n) [] a = tt
 All-drop P (suc n) (x ∷ xs) a = All-drop P n xs a.1
 
-tails_readable : (start end : Moment) (cut : List Gathered) → IsSoundAt end → IsAdmissible start end cut → AllByRecursion IsReadable (tails_in end cut)
-tails_readable start end [] s a = tt
-tails_readable start end (g ∷ cut) s a =
+-- all entries that a writer issued are, since the id of one that issued any has 64 bits
+issued_readable : (end : Moment) (d : Dropping) → IsSoundAt end → AllByRecursion IsReadable (entries_in (issued_by end d))
+issued_readable end d s =
+    let w = s.sound.writes d.room d.writer in
+    elim (cases_lt d.writer (2 ^ 64)) as (λ _. AllByRecursion IsReadable (entries_in (issued_by end d))) [
+      | inl fits ↦ readable_from d.writer 0 0 (entries_in (issued_by end d)) fits (omega (arith, w.small)) w.in_order
+      | inr above ↦ subst (λ (writes : List Written). AllByRecursion IsReadable (entries_in writes))
+          (sym (s.sound.fresh d.room d.writer (omega (arith, above, s.regular.mount_fits, s.regular.serial_fits)))) tt
+    ]
+
+tails_readable : (end : Moment) (cut : List Gathered) → IsSoundAt end → AllByRecursion IsReadable (tails_in end cut)
+tails_readable end [] s = tt
+tails_readable end (g ∷ cut) s =
     let es : List Entry = entries_in (issued_by end g.dropping) in
-    let w = s.sound.writes g.dropping.room g.dropping.writer in
-    let all : AllByRecursion IsReadable es = readable_from g.dropping.writer 0 0 es a.0.stands.is_item.widths.1 (omega (arith, w.small)) w.in_order in
     All-append IsReadable (drop g.covered (take g.count es)) (tails_in end cut)
-    (All-drop IsReadable g.covered (take g.count es) (All-take IsReadable g.count es all))
-    (tails_readable start end cut s a.1)
+    (All-drop IsReadable g.covered (take g.count es) (All-take IsReadable g.count es (issued_readable end g.dropping s)))
+    (tails_readable end cut s)
 
 -- The entries of a cut can be read from their bytes, and from no other entries.
-pub gathered_readable : (start end : Moment) (cut : List Gathered) → IsSoundAt end → IsAdmissible start end cut → All IsReadable (tails_in end cut)
-gathered_readable start end cut s a = All-from_recursion IsReadable (tails_in end cut) (tails_readable start end cut s a)
+pub gathered_readable : (end : Moment) (cut : List Gathered) → IsSoundAt end → All IsReadable (tails_in end cut)
+gathered_readable end cut s = All-from_recursion IsReadable (tails_in end cut) (tails_readable end cut s)
 
 -- ---------- the rules
 

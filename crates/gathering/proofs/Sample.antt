@@ -23,6 +23,7 @@ use Rattle.mount_model.specs.History.{Event}
 use Rattle.mount_model.specs.State.{State, id_of}
 use Rattle.mount_model.specs.Writing.{wrote, entry_of}
 use Rattle.mount_model.specs.Flushing.{flushed}
+use Rattle.gathering.specs.Example.{no_rooms}
 
 -- ---------- what stands in the store
 
@@ -142,13 +143,10 @@ both_files index log = first_landed (open_file second_writer ∷ index_file seco
 abbrev pub holds : Tree → ℕ → ℕ → Stored
 holds tree acts faults = record { tree = Some tree; acts = acts; faults = faults }
 
-abbrev pub empty : Tree
-empty = record { rooms = [] }
-
 abbrev pub state : Tree → ℕ → ℕ → ℕ → List Row → State
 state tree acts faults serial rows = record {
   store = holds tree acts faults;
-  opened = holds empty 0 0;
+  opened = holds no_rooms 0 0;
   times = None;
   marks = 0;
   mount = 1;

@@ -27,8 +27,8 @@ use Rattle.gathering.specs.Seen.{asked_in, calls_of}
 use Rattle.gathering.specs.Gathering.{Gathered, Gathers}
 use Rattle.gathering.specs.Listing.{IsAmong, IsIndexName, AreDroppingsOf, ListsHostdirs, IsScan}
 use Rattle.gathering.specs.View.{writes_in}
-use Rattle.gathering.specs.Opening.{IsOpening, Answers}
-use Rattle.gathering.specs.Example.{IsBesideTornFlush}
+use Rattle.gathering.specs.Opening.{IsOpening, ReadsSo}
+use Rattle.gathering.specs.Example.{no_rooms, IsBesideTornFlush}
 use Rattle.gathering.proofs.Entries.{among_listed}
 use Rattle.gathering.proofs.Members.{among, is_among, any_found, found_any}
 use Rattle.gathering.proofs.Sample.{first_writer, second_writer, holds, begun}
@@ -40,9 +40,9 @@ use Rattle.gathering.proofs.SampleSteps.{legal}
 no_place : {X : Type 0} (x : X) → None ≡ Some x → ⊥
 no_place x e = cc
 
-abbrev empty_is_sound : IsSoundTree sample.empty
+abbrev empty_is_sound : IsSoundTree no_rooms
 empty_is_sound = record {
-  shaped = empty_shaped sample.empty refl;
+  shaped = empty_shaped no_rooms refl;
   issued = λ number writer. [];
   rooms = λ number room there. absurd (no_place room there);
   writes = λ number writer. no_writes writer;
@@ -54,7 +54,7 @@ empty_is_sound = record {
 abbrev pub start : Moment
 start = record { state = begun; issued = λ number writer. [] }
 
-mounted : IsMounted 0 None (holds sample.empty 0 0) begun
+mounted : IsMounted 0 None (holds no_rooms 0 0) begun
 unfolding digits
 mounted = record {
   roomed = holds sample.unmarked 1 0;
@@ -77,7 +77,7 @@ mounted = record {
 }
 
 start_sound : IsSoundAt start
-start_sound = mounted_sound 0 None (holds sample.empty 0 0) begun sample.empty mounted refl empty_is_sound
+start_sound = mounted_sound 0 None (holds no_rooms 0 0) begun no_rooms mounted refl empty_is_sound
 
 -- ---------- the scan
 
@@ -236,7 +236,7 @@ pieces_are = record {
   shown = λ x. one_shown x (nat_le 0 x && nat_lt x 2);
 }
 
-reads : Answers (moment_after start sample.gathering) cut [] 0 2 (calls_of 3 sample.later) (65 ∷ 66 ∷ [])
+reads : ReadsSo (moment_after start sample.gathering) cut [] 0 2 (calls_of 3 sample.later) (65 ∷ 66 ∷ [])
 reads = record {
   pieces = piece ∷ [];
   size = 2;
@@ -249,6 +249,10 @@ reads = record {
 pub beside_torn_flush : IsBesideTornFlush start sample.gathering sample.lists_truncs sample.later cut
 unfolding digits spelling file_at
 beside_torn_flush = record {
+  opened = holds no_rooms 0 0;
+  empty = refl;
+  mounted = mounted;
+  none_issued = λ number writer. refl;
   sound = start_sound;
   legal = legal;
   torn = found_any _ sample.gathering sample.flush_tears (inr (inr (inr (inr (inr (inr (inr (inr (inr (inr (inr (inr (inr (inr (inr (inl refl)))))))))))))))) (second_writer, refl, refl);

@@ -18,7 +18,7 @@ use Rattle.mount_sound.specs.Entries.{AreInOrder}
 use Rattle.mount_sound.specs.Ledger.{Written, entries_in, content, AreFull}
 use Rattle.gathering.specs.Moments.{Moment, IsSoundAt, issued_by}
 use Rattle.gathering.specs.Gathering.{Gathered, IsAdmissible}
-use Rattle.gathering.specs.View.{change_of, cut_off, writes_in, changes_in, content_of, tails_in, WritersRise, logs_of}
+use Rattle.gathering.specs.View.{change_of, cut_off, writes_in, changes_in, content_of, own_entries, tails_in, WritersRise, logs_of}
 use Rattle.gathering.proofs.Fronts.{entries-append}
 
 -- ---------- entries and truncates of the changes
@@ -44,6 +44,9 @@ entries_in-take zero [] = refl
 entries_in-take zero (w ∷ writes) = refl
 entries_in-take (suc n) [] = refl
 entries_in-take (suc n) (w ∷ writes) = ap (λ l. w.entry ∷ l) (entries_in-take n writes)
+
+pub entries_split : (end : Moment) (g : Gathered) (cut : List Gathered) → entries_in (writes_in end (g ∷ cut)) ≡ own_entries end g ++ entries_in (writes_in end cut)
+entries_split end g cut = entries-append (take g.count (issued_by end g.dropping)) (writes_in end cut) ∙ ap (λ l. l ++ entries_in (writes_in end cut)) (entries_in-take g.count (issued_by end g.dropping))
 
 -- What the reader read of the index droppings is the spelling of its cut's entries, but for the covered ones.
 pub content_is : (start end : Moment) (cut : List Gathered) → IsAdmissible start end cut → content_of cut ≡ spelling_all (tails_in end cut)
@@ -176,7 +179,7 @@ keys_in end s room (g ∷ cut) rise =
     All-weaker (λ (e : Entry). e.writer ≡ g.dropping.writer) (λ (e : Entry). AllByRecursion (λ (d : Entry). same_key e d ≡ false) rest) es
     (λ e is. All-weaker (λ (d : Entry). g.dropping.writer < d.writer) (λ (d : Entry). same_key e d ≡ false) rest (λ d other. writers_apart e d (omega (arith, is, other))) others)
     (owners_all g.dropping.writer 0 0 es order) in
-    subst KeysDiffer (sym (entries-append (take g.count (issued_by end g.dropping)) (writes_in end cut) ∙ ap (λ l. l ++ rest) (entries_in-take g.count (issued_by end g.dropping))))
+    subst KeysDiffer (sym (entries_split end g cut))
     (keys_append es rest (keys_of_writer g.dropping.writer 0 0 es order) (keys_in end s room cut rise.2) cross)
 
 pub keys_differ : (end : Moment) (s : IsSoundAt end) (room : ℕ) (cut : List Gathered) (truncs : List Trunc) → WritersRise room cut → KeysDiffer (entries_of (changes_in end cut truncs))

@@ -1,15 +1,22 @@
 -- A history in which a reader opens while a writer's flush is torn.
-use Rattle.std.specs.Prelude.{◌≡◌, ℕ, List, [], ◌∷◌, ◌++◌, length, map}
+use Rattle.std.specs.Prelude.{◌≡◌, ℕ, List, [], ◌∷◌, ◌++◌, length, map, Some, None}
 use Rattle.std.specs.List.{Any}
+use Rattle.store_api.specs.declared.tree.Tree.{Tree}
+use Rattle.store_api.specs.Acts.{Stored}
 use Rattle.mount_model.specs.declared.call.Call.TheVariants.{Flush}
 use Rattle.mount_model.specs.declared.reply.Reply.TheVariants.{Fault}
+use Rattle.mount_model.specs.Mounting.{IsMounted}
 use Rattle.mount_model.specs.History.{Event, IsLegal}
 use Rattle.mount_sound.specs.Dropping.{bytes_of}
 use Rattle.gathering.specs.Moments.{Moment, IsSoundAt, moment_after, index_then, landed}
 use Rattle.gathering.specs.Seen.{asked_in, calls_of}
 use Rattle.gathering.specs.Gathering.{Gathered}
 use Rattle.gathering.specs.View.{view}
-use Rattle.gathering.specs.Opening.{IsOpening, Answers}
+use Rattle.gathering.specs.Opening.{IsOpening, ReadsSo}
+
+-- the tree of an empty store
+abbrev pub no_rooms : Tree
+no_rooms = record { rooms = [] }
 
 -- so many entries of each writer of the cut have landed
 abbrev pub landed_of : Moment → List Gathered → List ℕ
@@ -22,6 +29,11 @@ lengths_of moment cut = map (λ (g : Gathered). length (bytes_of (index_then mom
 -- The premises of a reader's laws, met by caller 3, which opens room 1. The entry of the first writer is in its cut and
 -- is read later, though the second writer, whose flush was torn, has by then tried again.
 pub record IsBesideTornFlush (start : Moment) (gathering : List Event) (listing : Event) (later : List Event) (cut : List Gathered) : Type 0 where
+  -- the history begins with a mount over an empty store
+  pub opened : Stored
+  pub empty : opened.tree ≡ Some no_rooms
+  pub mounted : IsMounted 0 None opened start.state
+  pub none_issued : (number writer : ℕ) → start.issued number writer ≡ []
   pub sound : IsSoundAt start
   pub legal : IsLegal start.state (gathering ++ listing ∷ later)
   pub torn : Any (λ (e : Event). (writer : ℕ) × (e.ask.call ≡ Flush writer) × (e.reply ≡ Fault)) gathering
@@ -30,5 +42,5 @@ pub record IsBesideTornFlush (start : Moment) (gathering : List Event) (listing 
   pub opens : IsOpening 1 cut [] (calls_of 3 gathering) (asked_in listing)
   pub counts : map (λ (g : Gathered). g.count) cut ≡ 1 ∷ 0 ∷ []
   pub sees : view (moment_after start gathering) cut [] ≡ 65 ∷ 66 ∷ []
-  pub reads : Answers (moment_after start gathering) cut [] 0 2 (calls_of 3 later) (65 ∷ 66 ∷ [])
+  pub reads : ReadsSo (moment_after start gathering) cut [] 0 2 (calls_of 3 later) (65 ∷ 66 ∷ [])
   pub lands : landed_of (moment_after start (gathering ++ listing ∷ later)) cut ≡ 1 ∷ 1 ∷ []

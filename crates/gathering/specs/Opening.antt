@@ -60,7 +60,7 @@ pub record IsSharedOpening (room : ℕ) (cut : List Gathered) (truncs : List Tru
   pub lists : ListsTruncs room truncs listing
 
 -- The calls of one read of so many bytes from there on, with pieces that are those of the cut and the truncates.
-pub record Answers (end : Moment) (cut : List Gathered) (truncs : List Trunc) (at len : ℕ) (calls : List Asked) (answer : List ℕ) : Type 0 where
+pub record ReadsSo (end : Moment) (cut : List Gathered) (truncs : List Trunc) (at len : ℕ) (calls : List Asked) (answer : List ℕ) : Type 0 where
   pub pieces : List Piece
   pub size : ℕ
   pub runs : ArePieces (entries_in (writes_in end cut)) truncs pieces
@@ -79,11 +79,17 @@ pub record HasView (start end : Moment) (room : ℕ) (cut : List Gathered) (trun
 
 -- The places in a history at which a caller's opening of a reader began and at which it listed the truncates, with what
 -- the reader then has.
-pub record IsOpened (caller : ℕ) (start : Moment) (events : List Event) (earlier calls : List Asked) (room : ℕ) (cut : List Gathered) (truncs : List Trunc) : Type 0 where
+pub record HasOpened (caller : ℕ) (start : Moment) (events : List Event) (earlier calls : List Asked) (room : ℕ) (cut : List Gathered) (truncs : List Trunc) : Type 0 where
   pub before : List Event
   pub gathering : List Event
   pub listing : Event
   pub later : List Event
+  -- the gathering begins with the caller's first call of the opening
+  pub first : Event
+  pub more : List Event
+  pub begins : gathering ≡ first ∷ more
+  pub by_caller : first.caller ≡ caller
+  pub listed_by : listing.caller ≡ caller
   pub split : events ≡ before ++ (gathering ++ listing ∷ later)
   pub calls_before : calls_of caller before ≡ earlier
   pub calls_then : calls_of caller gathering ≡ calls

@@ -1,4 +1,4 @@
-//! That the premises of the laws of readers can be met.
+//! That the premises of `reader_opens` and `reader_answers` can be met.
 ghost use Rattle.std.specs.Prelude.{List};
 ghost use Rattle.mount_model.specs.History.{Event};
 ghost use Rattle.gathering.specs.Moments.{Moment};

@@ -4,17 +4,25 @@ ghost use Rattle.plfs_types.specs.declared.names.Path.{Path};
 ghost use Rattle.mount_model.specs.Paths.{log_path};
 ghost use Rattle.mount_model.specs.State.{State};
 ghost use Rattle.mount_model.specs.Step.{Answers};
-ghost use Rattle.mount_model.specs.History.{Event, IsLegal};
+ghost use Rattle.mount_model.specs.History.{Event, IsLegal, state_after};
 ghost use Rattle.mount_model.specs.declared.call.Call.TheVariants.{Flush, Look, SyncIndex};
 ghost use Rattle.mount_model.specs.declared.call.Look.TheVariants.{Read};
 ghost use Rattle.mount_model.specs.declared.reply.Reply.{Reply};
 ghost use Rattle.mount_model.specs.declared.reply.Reply.TheVariants.{Flushed, Synced};
+ghost use Rattle.mount_sound.specs.Issued.{issued};
 ghost use Rattle.gathering.specs.Moments.{Moment, IsSoundAt, next_moment, moment_after, file_then, Dropping, IsNamed, HadTrunc, issued_by, landed, Grows};
 ghost use Rattle.gathering.specs.Seen.{Asked, calls_of, IsSeen, IsPlaceOf};
 ghost use Rattle.gathering.specs.Bounds.{IsOf, LandedAtLeast, AllSpare};
 ghost use Rattle.gathering.specs.Failing.{BytesOrTrouble};
 
-/// A law: later moments of a legal history extend earlier ones.
+/// A law: the moment after events has the state in which they end, and what was issued before them
+/// or in them.
+pub fn moments_follow_histories()
+    ensures { (moment : Moment) (events : List Event) → ((moment_after moment events).state ≡ state_after moment.state events) × ((moment_after moment events).issued ≡ issued moment.issued moment.state events) }
+{}
+
+/// A law: at later moments of a legal history each writer has issued no less, and each file outside
+/// the folder of who is open is there and no shorter.
 pub fn history_grows()
     ensures { (moment : Moment) (events : List Event) → IsLegal moment.state events → IsSoundAt moment → Grows moment (moment_after moment events) }
 {}

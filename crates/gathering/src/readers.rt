@@ -7,9 +7,10 @@ ghost use Rattle.plain_file.specs.File.{plain_size, slice};
 ghost use Rattle.plain_file.specs.Runs.{AreRuns, ArePieces};
 ghost use Rattle.plain_file.specs.Size.{size_from};
 ghost use Rattle.plain_file.specs.Sources.{newer_source, source_at};
+ghost use Rattle.read_plan.specs.Plan.{plan_of};
 ghost use Rattle.mount_model.specs.Paths.{log_path};
 ghost use Rattle.mount_model.specs.State.{State};
-ghost use Rattle.mount_model.specs.Step.{Answers as MountAnswers};
+ghost use Rattle.mount_model.specs.Step.{Answers};
 ghost use Rattle.mount_model.specs.History.{Event, IsLegal};
 ghost use Rattle.mount_model.specs.declared.call.Call.TheVariants.{Look};
 ghost use Rattle.mount_model.specs.declared.call.Look.TheVariants.{Read};
@@ -20,7 +21,8 @@ ghost use Rattle.gathering.specs.Seen.{Asked, asked_in, calls_of, IsSeen};
 ghost use Rattle.gathering.specs.Gathering.{Gathered, Gathers, Share, GatherShares, AreShared, IsPrefixOf, IsAdmissible};
 ghost use Rattle.gathering.specs.Listing.{IsAmong, IsScan, AreFound};
 ghost use Rattle.gathering.specs.View.{FollowsCovered, IsReadable, view, changes_in, writes_in, covered_in, tails_in, WritersRise};
-ghost use Rattle.gathering.specs.Opening.{IsOpening, IsSharedOpening, Answers, HasView, IsOpened};
+ghost use Rattle.gathering.specs.Parts.{IsPartOf};
+ghost use Rattle.gathering.specs.Opening.{IsOpening, IsSharedOpening, ReadsSo, HasView, HasOpened};
 ghost use Rattle.gathering.specs.Bounds.{IsFlushedIn, IsSyncedIn};
 ghost use Rattle.gathering.specs.Failing.{BytesOrTrouble};
 
@@ -58,11 +60,11 @@ pub fn shared_reader_opens()
 
 /// A law: the entries that a reader gathered are valid, and no other entries have their bytes.
 pub fn gathered_entries_are_readable()
-    ensures { (start end : Moment) (cut : List Gathered) → IsSoundAt end → IsAdmissible start end cut → All IsReadable (tails_in end cut) }
+    ensures { (end : Moment) (cut : List Gathered) → IsSoundAt end → All IsReadable (tails_in end cut) }
 {}
 
-/// A law: the entries that a reader gathered of a writer follow the rules of a writer's entries: its
-/// id, rising stamps, and places in the log that go on from each other.
+/// A law: the issued entries that a cut's counts name follow, behind the covered ones, the rules of
+/// a writer's entries: its id, rising stamps, and places in the log that go on from each other.
 pub fn gathered_entries_are_in_order()
     ensures { (end : Moment) (cut : List Gathered) → IsSoundAt end → All (FollowsCovered end) cut }
 {}
@@ -77,7 +79,7 @@ pub fn view_stays()
 pub fn view_is_answered()
     ensures { (caller room : ℕ) (start end : Moment) (cut : List Gathered) (truncs : List Trunc) (between reading rest : List Event) (at len : ℕ) (answer : List ℕ)
         → IsLegal end.state (between ++ (reading ++ rest)) → IsSoundAt end → HasView start end room cut truncs
-        → Answers end cut truncs at len (calls_of caller reading) answer → answer ≡ slice (view end cut truncs) at len }
+        → ReadsSo end cut truncs at len (calls_of caller reading) answer → answer ≡ slice (view end cut truncs) at len }
 {}
 
 /// A law: each answer of an opened reader is a slice of the plain file of its cut and truncates, as
@@ -85,7 +87,7 @@ pub fn view_is_answered()
 pub fn reader_answers()
     ensures { (caller room : ℕ) (start : Moment) (gathering : List Event) (listing : Event) (between reading rest : List Event) (cut : List Gathered) (truncs : List Trunc) (at len : ℕ) (answer : List ℕ)
         → IsLegal start.state (gathering ++ listing ∷ (between ++ (reading ++ rest))) → IsSoundAt start → IsOpening room cut truncs (calls_of caller gathering) (asked_in listing)
-        → Answers (moment_after start gathering) cut truncs at len (calls_of caller reading) answer
+        → ReadsSo (moment_after start gathering) cut truncs at len (calls_of caller reading) answer
         → answer ≡ slice (view (moment_after start (gathering ++ listing ∷ (between ++ (reading ++ rest)))) cut truncs) at len }
 {}
 
@@ -94,7 +96,7 @@ pub fn reader_answers()
 pub fn actor_opens()
     ensures { (caller room : ℕ) (start : Moment) (events : List Event) (earlier : List Asked) (first : Asked) (more : List Asked) (listing : Asked) (rest : List Asked) (cut : List Gathered) (truncs : List Trunc)
         → IsLegal start.state events → IsSoundAt start → calls_of caller events ≡ earlier ++ first ∷ (more ++ listing ∷ rest) → IsOpening room cut truncs (first ∷ more) listing
-        → (o : IsOpened caller start events earlier (first ∷ more) room cut truncs) × (asked_in o.listing ≡ listing) × (calls_of caller o.later ≡ rest) }
+        → (o : HasOpened caller start events earlier (first ∷ more) room cut truncs) × (asked_in o.listing ≡ listing) × (calls_of caller o.later ≡ rest) }
 {}
 
 /// A law: each answer of an actor's reader is a slice of one plain file, that of its cut and
@@ -102,7 +104,7 @@ pub fn actor_opens()
 pub fn actor_reads()
     ensures { (caller room : ℕ) (start : Moment) (events : List Event) (earlier : List Asked) (first : Asked) (more : List Asked) (listing : Asked) (between reading rest : List Asked) (cut : List Gathered) (truncs : List Trunc) (at len : ℕ) (answer : List ℕ)
         → IsLegal start.state events → IsSoundAt start → calls_of caller events ≡ earlier ++ first ∷ (more ++ listing ∷ (between ++ (reading ++ rest))) → IsOpening room cut truncs (first ∷ more) listing
-        → Answers (moment_after start events) cut truncs at len reading answer → answer ≡ slice (view (moment_after start events) cut truncs) at len }
+        → ReadsSo (moment_after start events) cut truncs at len reading answer → answer ≡ slice (view (moment_after start events) cut truncs) at len }
 {}
 
 /// A law: a reader has at least as many of a writer's entries as the writer was told, before the
@@ -139,6 +141,17 @@ pub fn pieces_give_size()
 pub fn open_readers_fail_by_store()
     ensures { (start end moment : Moment) (room : ℕ) (cut : List Gathered) (truncs : List Trunc) (g : Gathered) (caller at len : ℕ) (reply : Reply) (after : State)
         → HasView start end room cut truncs → IsAmong g cut → Grows end moment → IsSoundAt moment → 1 ≤ len → at + len ≤ length (content (issued_by end g.dropping))
-        → MountAnswers moment.state caller (Look g.dropping.room (Read (log_path g.dropping.host g.dropping.writer) at len)) reply after
+        → Answers moment.state caller (Look g.dropping.room (Read (log_path g.dropping.host g.dropping.writer) at len)) reply after
         → BytesOrTrouble (slice (content (issued_by end g.dropping)) at len) moment.state reply after }
+{}
+
+/// A law: each part of a reader's read is a hole, or bytes of the log of a writer of its cut, which
+/// that writer had issued when the cut was made.
+pub fn parts_lie_in_logs()
+    ensures { (end : Moment) (cut : List Gathered) (truncs : List Trunc) (pieces : List Piece) (size at len : ℕ) → IsSoundAt end → ArePieces (entries_in (writes_in end cut)) truncs pieces → All (IsPartOf end cut) (plan_of pieces size at len) }
+{}
+
+/// A law: where no flattened index covers an entry, a reader gathers all entries of its cut.
+pub fn without_covers_all_is_gathered()
+    ensures { (end : Moment) (cut : List Gathered) → All (λ (g : Gathered). g.covered ≡ 0) cut → tails_in end cut ≡ entries_in (writes_in end cut) }
 {}

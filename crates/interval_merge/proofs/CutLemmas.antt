@@ -11,7 +11,7 @@ use Rattle.std.proofs.lemmas.List.Sorted.{All-permutation, IsPermutation-sym}
 use Rattle.plfs_types.specs.declared.entries.Trunc.{Trunc}
 use Rattle.plain_file.proofs.OrderLemmas.{Descends}
 use Rattle.plain_file.proofs.ChangeLemmas.{Descends-from_sort}
-use Rattle.interval_merge.specs.Clip.{limit, StampsFall, lowered, last_size, AreCutsOf}
+use Rattle.interval_merge.specs.Clip.{limit, StampsFall, SizesFall, AreWithin, AreCutsOf}
 use Rattle.interval_merge.proofs.ClipLemmas.{limit-small}
 
 -- the limit below a truncate, and below none
@@ -70,7 +70,12 @@ pub StampsFall-from_sort : (truncs : List Trunc) → IsSortedBy (λ (t u : Trunc
 StampsFall-from_sort truncs up =
     falls truncs (Descends-from_sort (λ (t u : Trunc). nat_cmp t.stamp u.stamp) (on_total (λ (t : Trunc). t.stamp) nat_cmp_total) truncs up)
 
--- the sizes that were lowered tell the limit
+-- sizes that were lowered
+
+-- the truncates, newest first, each with the least of its own size and those before it
+abbrev pub lowered : ℕ → List Trunc → List Trunc
+lowered least [] = []
+lowered least (t ∷ truncs) = record { stamp = t.stamp; size = min least t.size } ∷ lowered (min least t.size) truncs
 
 All-lowered : (n least : ℕ) (truncs : List Trunc) → AllByRecursion (λ (u : Trunc). u.stamp ≤ n) truncs → AllByRecursion (λ (u : Trunc). u.stamp ≤ n) (lowered least truncs)
 All-lowered n least [] all = tt
@@ -80,56 +85,81 @@ StampsFall-lowered : (least : ℕ) (truncs : List Trunc) → StampsFall truncs �
 StampsFall-lowered least [] fall = tt
 StampsFall-lowered least (t ∷ truncs) fall = (All-lowered t.stamp (min least t.size) truncs fall.0, StampsFall-lowered (min least t.size) truncs fall.1)
 
-last_size-lowered : (least stamp : ℕ) (truncs : List Trunc) → least ≤ 2 ^ 40 → StampsFall truncs → last_size least (lowered least truncs) stamp ≡ min least (limit truncs stamp)
-last_size-lowered least stamp [] small fall = omega arith
-last_size-lowered least stamp (t ∷ truncs) small fall =
+lowered-small : (n least : ℕ) (truncs : List Trunc) → least ≤ n → AllByRecursion (λ (u : Trunc). u.size ≤ n) (lowered least truncs)
+lowered-small n least [] small = tt
+lowered-small n least (t ∷ truncs) small = (omega arith, lowered-small n (min least t.size) truncs (omega arith))
+
+SizesFall-lowered : (least : ℕ) (truncs : List Trunc) → SizesFall (lowered least truncs)
+SizesFall-lowered least [] = tt
+SizesFall-lowered least (t ∷ truncs) = (lowered-small (min least t.size) (min least t.size) truncs (omega arith), SizesFall-lowered (min least t.size) truncs)
+
+-- below the least size they have the same limits
+limit-lowered : (least stamp : ℕ) (truncs : List Trunc) → StampsFall truncs → min least (limit (lowered least truncs) stamp) ≡ min least (limit truncs stamp)
+limit-lowered least stamp [] fall = refl
+limit-lowered least stamp (t ∷ truncs) fall =
     let m : ℕ = min least t.size in
+    let first : Trunc = record { stamp = t.stamp; size = m } in
     elim (cases_lt t.stamp stamp) [
-      | inl passed ↦ cond-true (nat_lt t.stamp stamp) least (last_size m (lowered m truncs) stamp) (lt-ltb t.stamp stamp passed)
-          ∙ omega (arith, limit-passed t truncs stamp passed, limit-none t.stamp stamp truncs fall.0 passed)
-      | inr taken ↦ cond-false (nat_lt t.stamp stamp) least (last_size m (lowered m truncs) stamp) (le-ltb t.stamp stamp taken)
-          ∙ last_size-lowered m stamp truncs (omega arith) fall.1
-          ∙ omega (arith, limit-taken t truncs stamp taken)
+      | inl passed ↦ omega (
+        arith,
+        limit-passed t truncs stamp passed,
+        limit-passed first (lowered m truncs) stamp passed,
+        limit-none t.stamp stamp truncs fall.0 passed,
+        limit-none t.stamp stamp (lowered m truncs) (All-lowered t.stamp m truncs fall.0) passed,
+      )
+      | inr taken ↦ omega (arith, limit-taken t truncs stamp taken, limit-taken first (lowered m truncs) stamp taken, limit-lowered m stamp truncs fall.1)
     ]
 
-pub AreCutsOf-lowered : (truncs order cuts : List Trunc) → StampsFall order → ((stamp : ℕ) → limit order stamp ≡ limit truncs stamp) → cuts ≡ lowered (2 ^ 40) order → AreCutsOf truncs cuts
-AreCutsOf-lowered truncs order cuts fall same e =
-    let whole : AreCutsOf truncs (lowered (2 ^ 40) order) = record {
-      fall = StampsFall-lowered (2 ^ 40) order fall;
-      tell = λ stamp. last_size-lowered (2 ^ 40) stamp order (omega arith) fall ∙ omega (arith, limit-small order stamp) ∙ same stamp;
-    } in
-    rw e whole
+pub AreCutsOf-lowered : (order : List Trunc) → StampsFall order → AreCutsOf order (lowered (2 ^ 40) order)
+AreCutsOf-lowered order fall = record {
+  fall = StampsFall-lowered (2 ^ 40) order fall;
+  lower = SizesFall-lowered (2 ^ 40) order;
+  within = lowered-small (2 ^ 40) (2 ^ 40) order (omega arith);
+  limits = λ stamp. omega (arith, limit-lowered (2 ^ 40) stamp order fall, limit-small order stamp, limit-small (lowered (2 ^ 40) order) stamp);
+}
+
+-- cuts of truncates in another order
+pub AreCutsOf-permuted : (truncs order cuts : List Trunc) → ((stamp : ℕ) → limit order stamp ≡ limit truncs stamp) → AreCutsOf order cuts → AreCutsOf truncs cuts
+AreCutsOf-permuted truncs order cuts same c = record {
+  fall = c.fall;
+  lower = c.lower;
+  within = c.within;
+  limits = λ stamp. c.limits stamp ∙ same stamp;
+}
 
 -- a search among cuts
 
-at_most : (n : ℕ) (truncs : List Trunc) (j : ℕ) (d : Trunc) → AllByRecursion (λ (u : Trunc). u.stamp ≤ n) truncs → j < length truncs → (get_or truncs j d).stamp ≤ n
-at_most n [] j d all h = absurd (omega arith)
-at_most n (t ∷ truncs) zero d all h = all.0
-at_most n (t ∷ truncs) (suc j) d all h = at_most n truncs j d all.1 (omega arith)
+at_most : (of : Trunc → ℕ) (n : ℕ) (truncs : List Trunc) (j : ℕ) (d : Trunc) → AllByRecursion (λ (u : Trunc). of u ≤ n) truncs → j < length truncs → of (get_or truncs j d) ≤ n
+at_most of n [] j d all h = absurd (omega arith)
+at_most of n (t ∷ truncs) zero d all h = all.0
+at_most of n (t ∷ truncs) (suc j) d all h = at_most of n truncs j d all.1 (omega arith)
 
 parted : (stamp : ℕ) (cuts : List Trunc) → StampsFall cuts → IsPartitionedBy (λ (t : Trunc). nat_le stamp t.stamp) cuts
 parted stamp [] fall i j d le lt h = absurd (omega arith)
 parted stamp (t ∷ cuts) fall zero zero d le lt h = h
 parted stamp (t ∷ cuts) fall (suc i) zero d le lt h = absurd (omega arith)
 parted stamp (t ∷ cuts) fall zero (suc j) d le lt h =
-    let below : (get_or cuts j d).stamp ≤ t.stamp = at_most t.stamp cuts j d fall.0 (omega arith) in
+    let below : (get_or cuts j d).stamp ≤ t.stamp = at_most (λ (u : Trunc). u.stamp) t.stamp cuts j d fall.0 (omega arith) in
     le-leb stamp t.stamp (omega (arith, leb-true stamp (get_or cuts j d).stamp h))
 parted stamp (t ∷ cuts) fall (suc i) (suc j) d le lt h = parted stamp cuts fall.1 i j d (omega arith) (omega arith) h
 
 pub partitioned : (stamp : ℕ) (cuts : List Trunc) → StampsFall cuts → IsPartitionedBy (λ (t : Trunc). nat_le stamp t.stamp) cuts
 partitioned stamp cuts fall = λ i j d le lt h. parted stamp cuts fall i j d le lt h
 
-pub last_size-none : (stamp size : ℕ) (cuts : List Trunc) → AllWithin (λ (t : Trunc). nat_le stamp t.stamp ≡ false) cuts 0 (length cuts) → last_size size cuts stamp ≡ size
-last_size-none stamp size [] older = refl
-last_size-none stamp size (t ∷ cuts) older =
-    cond-true (nat_lt t.stamp stamp) size (last_size t.size cuts stamp) (lt-ltb t.stamp stamp (leb-false stamp t.stamp (older 0 t (omega arith) (omega arith))))
+pub limit-no_later : (stamp : ℕ) (cuts : List Trunc) → AllWithin (λ (t : Trunc). nat_le stamp t.stamp ≡ false) cuts 0 (length cuts) → limit cuts stamp ≡ 2 ^ 40
+limit-no_later stamp [] older = refl
+limit-no_later stamp (t ∷ cuts) older =
+    limit-passed t cuts stamp (leb-false stamp t.stamp (older 0 t (omega arith) (omega arith)))
+    ∙ limit-no_later stamp cuts (λ k d low high. older (suc k) d (omega arith) (omega arith))
 
-pub last_size-some : (stamp size : ℕ) (cuts : List Trunc) (n : ℕ) (d : Trunc) → AllWithin (λ (t : Trunc). nat_le stamp t.stamp ≡ true) cuts 0 (suc n)
-    → AllWithin (λ (t : Trunc). nat_le stamp t.stamp ≡ false) cuts (suc n) (length cuts) → n < length cuts → last_size size cuts stamp ≡ (get_or cuts n d).size
-last_size-some stamp size [] n d newer older h = absurd (omega arith)
-last_size-some stamp size (t ∷ cuts) zero d newer older h =
-    cond-false (nat_lt t.stamp stamp) size (last_size t.size cuts stamp) (le-ltb t.stamp stamp (leb-true stamp t.stamp (newer 0 t (omega arith) (omega arith))))
-    ∙ last_size-none stamp t.size cuts (λ k e low high. older (suc k) e (omega arith) (omega arith))
-last_size-some stamp size (t ∷ cuts) (suc n) d newer older h =
-    cond-false (nat_lt t.stamp stamp) size (last_size t.size cuts stamp) (le-ltb t.stamp stamp (leb-true stamp t.stamp (newer 0 t (omega arith) (omega arith))))
-    ∙ last_size-some stamp t.size cuts n d (λ k e low high. newer (suc k) e (omega arith) (omega arith)) (λ k e low high. older (suc k) e (omega arith) (omega arith)) (omega arith)
+pub limit-last : (stamp : ℕ) (cuts : List Trunc) (n : ℕ) (d : Trunc) → SizesFall cuts → AreWithin cuts → AllWithin (λ (t : Trunc). nat_le stamp t.stamp ≡ true) cuts 0 (suc n)
+    → AllWithin (λ (t : Trunc). nat_le stamp t.stamp ≡ false) cuts (suc n) (length cuts) → n < length cuts → limit cuts stamp ≡ (get_or cuts n d).size
+limit-last stamp [] n d lower within newer older h = absurd (omega arith)
+limit-last stamp (t ∷ cuts) zero d lower within newer older h =
+    let rest : limit cuts stamp ≡ 2 ^ 40 = limit-no_later stamp cuts (λ k e low high. older (suc k) e (omega arith) (omega arith)) in
+    limit-taken t cuts stamp (leb-true stamp t.stamp (newer 0 t (omega arith) (omega arith))) ∙ omega (arith, rest, within.0)
+limit-last stamp (t ∷ cuts) (suc n) d lower within newer older h =
+    let rest : limit cuts stamp ≡ (get_or cuts n d).size =
+    limit-last stamp cuts n d lower.1 within.1 (λ k e low high. newer (suc k) e (omega arith) (omega arith)) (λ k e low high. older (suc k) e (omega arith) (omega arith)) (omega arith) in
+    let less : (get_or cuts n d).size ≤ t.size = at_most (λ (u : Trunc). u.size) t.size cuts n d lower.0 (omega arith) in
+    limit-taken t cuts stamp (leb-true stamp t.stamp (newer 0 t (omega arith) (omega arith))) ∙ omega (arith, rest, less)

@@ -5,10 +5,10 @@ use Rattle.std.proofs.lemmas.Bool.Decides.{nat_tests}
 use Rattle.plfs_types.specs.declared.entries.Trunc.{Trunc}
 use Rattle.plain_file.specs.declared.pieces.Piece.{Piece}
 use Rattle.plain_file.specs.Sources.{newer_source, Source, source_in, source_at, has_byte}
-use Rattle.plain_file.specs.Runs.{AreRuns, IsPiece, Follows, Joins}
+use Rattle.plain_file.specs.Runs.{AreRuns, IsPiece, Follows, Joins, EndsPast}
 use Rattle.plain_file.specs.Size.{is_later, later}
 use Rattle.plain_file.proofs.RunLemmas.{source_at-here, source_at-past, source_at-before, has-before}
-use Rattle.interval_merge.specs.Sweep.{AllEndBy, Extends, EndsPast, EndsFrom, SaysUntil, IsLeft}
+use Rattle.interval_merge.specs.Sweep.{AllEndBy, Extends, EndsFrom, SaysUntil, IsLeft}
 
 -- truncates
 

@@ -13,17 +13,18 @@ abbrev pub StampsFall : List Trunc → Type 0
 StampsFall [] = Unit {0}
 StampsFall (t ∷ truncs) = AllByRecursion (λ (u : Trunc). u.stamp ≤ t.stamp) truncs × StampsFall truncs
 
--- the truncates, newest first, each with the least of its own size and those before it
-abbrev pub lowered : ℕ → List Trunc → List Trunc
-lowered least [] = []
-lowered least (t ∷ truncs) = record { stamp = t.stamp; size = min least t.size } ∷ lowered (min least t.size) truncs
+-- no truncate has a greater size than one before it
+abbrev pub SizesFall : List Trunc → Type 0
+SizesFall [] = Unit {0}
+SizesFall (t ∷ truncs) = AllByRecursion (λ (u : Trunc). u.size ≤ t.size) truncs × SizesFall truncs
 
--- the size of the last one, newest first, that has this stamp or a later one, or else the one given
-abbrev pub last_size : ℕ → List Trunc → ℕ → ℕ
-last_size size [] stamp = size
-last_size size (t ∷ truncs) stamp = if nat_lt t.stamp stamp then size else last_size t.size truncs stamp
+abbrev pub AreWithin : List Trunc → Type 0
+AreWithin truncs = AllByRecursion (λ (t : Trunc). t.size ≤ 2 ^ 40) truncs
 
--- cuts stand newest first, and the last one of each stamp tells the limit
+-- Cuts stand newest first, no later one allows less, and the limits are those of the truncates. So the last cut with
+-- a stamp or a later one is the limit of that stamp.
 pub record AreCutsOf (truncs cuts : List Trunc) : Type 0 where
   pub fall : StampsFall cuts
-  pub tell : (stamp : ℕ) → last_size (2 ^ 40) cuts stamp ≡ limit truncs stamp
+  pub lower : SizesFall cuts
+  pub within : AreWithin cuts
+  pub limits : (stamp : ℕ) → limit cuts stamp ≡ limit truncs stamp

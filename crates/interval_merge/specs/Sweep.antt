@@ -3,7 +3,7 @@ use Rattle.std.specs.Prelude.{ℕ, ◌+◌, ◌<◌, ◌≤◌, ◌≡◌, List,
 use Rattle.std.specs.List.{AllByRecursion}
 use Rattle.plain_file.specs.declared.pieces.Piece.{Piece}
 use Rattle.plain_file.specs.Sources.{source_at, source_in}
-use Rattle.plain_file.specs.Runs.{AreRuns, IsPiece}
+use Rattle.plain_file.specs.Runs.{AreRuns, EndsPast, IsPiece}
 
 -- all pieces end by this byte
 abbrev pub AllEndBy : ℕ → List Piece → Type 0
@@ -14,11 +14,6 @@ pub record Extends (old : List Piece) (piece : Piece) (new : List Piece) : Type 
   pub runs : AreRuns new
   pub says : (x : ℕ) → source_at new x ≡ source_at (old ++ piece ∷ []) x
   pub ends : AllEndBy (piece.at + piece.len) new
-
--- the first piece, if there is one, ends past this byte
-abbrev pub EndsPast : ℕ → List Piece → Type 0
-EndsPast at [] = Unit {0}
-EndsPast at (p ∷ pieces) = at < p.at + p.len
 
 -- the first piece, if there is one, doesn't end before this byte
 abbrev pub EndsFrom : ℕ → List Piece → Type 0

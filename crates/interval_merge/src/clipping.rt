@@ -5,7 +5,7 @@ ghost use Rattle.plfs_types.specs.declared.entries.Entry.{Entry};
 ghost use Rattle.plfs_types.specs.declared.entries.Trunc.{Trunc};
 ghost use Rattle.plain_file.specs.Sources.{source_at, kept_source};
 ghost use Rattle.plain_file.specs.Runs.{AreRuns, ArePieces};
-ghost use Rattle.interval_merge.specs.Clip.{AreCutsOf, StampsFall, last_size, limit, lowered};
+ghost use Rattle.interval_merge.specs.Clip.{AreCutsOf, AreWithin, SizesFall, StampsFall, limit};
 
 use plain_file::{Piece, PieceList, Pieces};
 use plfs_types::{MAX_SIZE, NoMemory, Trunc};
@@ -50,7 +50,8 @@ fn newest_first(alloc: Global, truncs: &[Trunc]) -> Result<Vec<Trunc>, NoMemory>
 
 /// Each truncate, newest first, with the least of its own size and those before it.
 fn lowered_sizes(alloc: Global, order: &[Trunc]) -> Result<Vec<Trunc>, NoMemory>
-    ensures { IfOk result (λ cuts. cuts.items ≡ lowered (2 ^ 40) order.now) }
+    requires { StampsFall order.now }
+    ensures { IfOk result (λ cuts. AreCutsOf order.now cuts.items) }
 {
     let mut cuts = Vec::new(alloc);
     let mut least = MAX_SIZE;
@@ -106,10 +107,12 @@ fn limit_at(truncs: &[Trunc], cuts: &[Trunc], stamp: u64) -> u64
 
 /// How many of the first cuts have this stamp or a later one.
 fn later_count(cuts: &[Trunc], stamp: u64) -> usize
-    requires { StampsFall cuts.now }
+    requires fall { StampsFall cuts.now }
+    requires lower { SizesFall cuts.now }
+    requires within { AreWithin cuts.now }
     ensures within { result ≤ length cuts.now }
-    ensures no_later { result ≡ 0 → last_size (2 ^ 40) cuts.now stamp ≡ 2 ^ 40 }
-    ensures last_of_later { (d : Trunc) → 0 < result → last_size (2 ^ 40) cuts.now stamp ≡ (slice_index_or cuts.now (result - 1) d).size }
+    ensures no_later { result ≡ 0 → limit cuts.now stamp ≡ 2 ^ 40 }
+    ensures last_of_later { (d : Trunc) → 0 < result → limit cuts.now stamp ≡ (slice_index_or cuts.now (result - 1) d).size }
 {
     cuts.partition_point(|cut| cut.stamp >= stamp)
 }

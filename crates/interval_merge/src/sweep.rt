@@ -3,8 +3,8 @@
 ghost use Rattle.std.specs.Prelude.{◌≡◌, ◌⊎◌, List, ℕ, ◌+◌, ◌-◌, ◌<◌, ◌≤◌, ◌^◌, [], ◌∷◌, ◌++◌, IfOk, None, Option, option_map, option_to_list};
 ghost use Rattle.plfs_types.specs.declared.entries.Entry.{Entry};
 ghost use Rattle.plain_file.specs.Sources.{source_at, source_in, newer_source};
-ghost use Rattle.plain_file.specs.Runs.{AreRuns, ArePieces, IsPiece};
-ghost use Rattle.interval_merge.specs.Sweep.{AllEndBy, Extends, EndsPast, EndsFrom, Holds, SaysUntil, IsLeft};
+ghost use Rattle.plain_file.specs.Runs.{AreRuns, ArePieces, IsPiece, EndsPast};
+ghost use Rattle.interval_merge.specs.Sweep.{AllEndBy, Extends, EndsFrom, Holds, SaysUntil, IsLeft};
 
 use plain_file::{Piece, PieceList, Pieces};
 use plfs_types::{MAX_SIZE, NoMemory};

@@ -18,7 +18,7 @@ use std::io::{self, Write};
 use std::process::ExitCode;
 
 /// Measures, and ends with 0, with 2 where the words are wrong, with 3 for want of memory, or with 4
-/// where the system's clock or output fails.
+/// where `/proc` can't be read, or the system's clock or output fails.
 fn main(rt: HostRuntime) -> ExitCode {
     let Some(task) = asked(&rt) else {
         let _ = io::writer(&rt).write_all(USAGE);

@@ -40,7 +40,7 @@ impl From<io::Error> for Failure {
 
 /// Merges the entries of the task, clips the pieces by many and by few truncates, plans reads of them and
 /// of as many pieces of uneven lengths, and prints what came of it.
-pub fn measure(rt: &HostRuntime, task: &Task) -> Result<(), Failure> {
+pub(crate) fn measure(rt: &HostRuntime, task: &Task) -> Result<(), Failure> {
     let writers = writers(rt.alloc(), task)?;
     let start = rt.thread_cpu_time()?;
     let whole = merged(rt.alloc(), writers.as_slice())?;

@@ -30,7 +30,7 @@ pub struct Writer {
 
 /// The entries of all writers: block n of the file is of the writer n modulo their number, and has the
 /// stamp n + 1. There are fewer writers where an entry could be no piece.
-pub fn writers(alloc: Global, task: &Task) -> Result<Vec<Writer>, NoMemory> {
+pub(crate) fn writers(alloc: Global, task: &Task) -> Result<Vec<Writer>, NoMemory> {
     let mut writers = Vec::new(alloc);
     for writer in 0..task.writers {
         let entries = entries_of(alloc, task, writer)?;
@@ -78,9 +78,10 @@ fn has_piece(entry: &Entry) -> bool
     piece.is_valid()
 }
 
-/// So many truncates at equal distances through the stamps of `count` blocks. Each cuts off the
-/// second half of the block that was written last before it.
-pub fn truncates(alloc: Global, count: u64, many: u64) -> Result<Vec<Trunc>, NoMemory> {
+/// So many truncates spread over the stamps of `count` blocks. Each cuts off the second half of the
+/// block of its stamp; where there are more truncates than blocks, some have one stamp or come before
+/// all blocks.
+pub(crate) fn truncates(alloc: Global, count: u64, many: u64) -> Result<Vec<Trunc>, NoMemory> {
     let mut truncates = Vec::new(alloc);
     for i in 0..many {
         let stamp = i.saturating_add(1).saturating_mul(count) / many.max(1);

@@ -7,12 +7,12 @@ use read_plan::Part;
 pub const START: u64 = 0xcbf2_9ce4_8422_2325;
 
 /// The checksum with one number more.
-pub fn with(sum: u64, number: u64) -> u64 {
+pub(crate) fn with(sum: u64, number: u64) -> u64 {
     (sum ^ number).wrapping_mul(0x100_0000_01b3)
 }
 
 /// The checksum of the pieces, field by field.
-pub fn of_pieces(pieces: &[Piece]) -> u64 {
+pub(crate) fn of_pieces(pieces: &[Piece]) -> u64 {
     let mut sum = START;
     for piece in pieces {
         sum = with(sum, piece.at);
@@ -25,7 +25,7 @@ pub fn of_pieces(pieces: &[Piece]) -> u64 {
 }
 
 /// The checksum with the parts of a read.
-pub fn with_parts(before: u64, parts: &[Part]) -> u64 {
+pub(crate) fn with_parts(before: u64, parts: &[Part]) -> u64 {
     let mut sum = before;
     for part in parts {
         match part {
@@ -41,7 +41,7 @@ pub fn with_parts(before: u64, parts: &[Part]) -> u64 {
 }
 
 /// The bytes of the pieces.
-pub fn bytes_of(pieces: &[Piece]) -> u64 {
+pub(crate) fn bytes_of(pieces: &[Piece]) -> u64 {
     let mut bytes = 0u64;
     for piece in pieces {
         bytes = bytes.saturating_add(piece.len);
@@ -50,7 +50,7 @@ pub fn bytes_of(pieces: &[Piece]) -> u64 {
 }
 
 /// The next of a fixed row of numbers that look like chance, each below 2^31.
-pub fn next_of(seed: &mut u64) -> u64 {
+pub(crate) fn next_of(seed: &mut u64) -> u64 {
     *seed = seed
         .wrapping_mul(6364136223846793005)
         .wrapping_add(1442695040888963407);

@@ -7,7 +7,7 @@ use plfs_types::NoMemory;
 use std::alloc::Global;
 
 /// So many pieces one behind the other, each of its own write and of 1 byte up to two blocks.
-pub fn uneven(alloc: Global, count: u64) -> Result<Pieces, NoMemory> {
+pub(crate) fn uneven(alloc: Global, count: u64) -> Result<Pieces, NoMemory> {
     let mut list = PieceList::new(alloc);
     let mut seed = 1983;
     let mut at = 0u64;

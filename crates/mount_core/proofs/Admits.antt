@@ -11,7 +11,7 @@ use Rattle.mount_model.specs.State.{State}
 use Rattle.mount_model.specs.Entering.{entered, enter_check, next_id}
 use Rattle.mount_model.specs.Regular.{IsCounted, IsDrawn, AreAscending}
 use Rattle.mount_core.specs.Roll.{Roll, IsRegularRoll, bare}
-use Rattle.mount_core.specs.Admitting.{with_next, with_writers, IsNext, IsNewcomer}
+use Rattle.mount_core.specs.Admitting.{with_next, with_writers, IsNextId, IsNewcomer}
 use Rattle.mount_core.proofs.Rows.{ascending_push}
 
 pub drawn_later : (roll : Roll) (id : ℕ) → IsDrawn (bare roll) id → IsDrawn (bare (with_next roll)) id
@@ -84,7 +84,7 @@ entered_counted state caller room host capacity host_fits few = record {
   written = inl (refl, refl, refl);
 }
 
-pub newcomer : (old new : Roll) (id caller room host capacity : ℕ) → IsNext room old id new → host < 2 ^ 32 → capacity ≤ 4096 → IsNewcomer new (entered (bare old) caller room host capacity)
+pub newcomer : (old new : Roll) (id caller room host capacity : ℕ) → IsNextId room old id new → host < 2 ^ 32 → capacity ≤ 4096 → IsNewcomer new (entered (bare old) caller room host capacity)
 newcomer old new id caller room host capacity next host_fits few =
     subst (λ (r : Roll). IsNewcomer r (entered (bare old) caller room host capacity)) (sym next.left) (record {
       counted = entered_counted (bare old) caller room host capacity host_fits few;

@@ -11,7 +11,7 @@ use Rattle.mount_model.specs.Leaving.{closed}
 use Rattle.mount_model.specs.Flooring.{floored}
 use Rattle.mount_model.specs.Flushing.{flushed}
 use Rattle.mount_model.specs.Writing.{wrote, entry_of}
-use Rattle.mount_core.specs.Writable.{IsFine, IsStampFor}
+use Rattle.mount_core.specs.Writable.{MayTake, IsStampFor}
 
 pub at_stage_counted : (stage : Stage) (row : Row) → IsCounted row → IsCounted (at_stage stage row)
 at_stage_counted stage row c = record { host_fits = c.host_fits; cap_fits = c.cap_fits; within_cap = c.within_cap; valid = c.valid; entries = c.entries; stored_fits = c.stored_fits; end_fits = c.end_fits; last_fits = c.last_fits; floor_fits = c.floor_fits; written = c.written }
@@ -25,10 +25,10 @@ floored_counted floor row fits c = record { host_fits = c.host_fits; cap_fits = 
 pub flushed_counted : (row : Row) → IsCounted row → IsCounted (flushed row)
 flushed_counted row c = record { host_fits = c.host_fits; cap_fits = c.cap_fits; within_cap = omega arith; valid = All-nil IsValidEntry; entries = omega (arith, c.entries); stored_fits = c.stored_fits; end_fits = c.end_fits; last_fits = c.last_fits; floor_fits = c.floor_fits; written = c.written }
 
-pub entry_valid : (stamp : ℕ) (row : Row) (at len : ℕ) → IsFine row at len → IsStampFor row stamp → IsValidEntry (entry_of stamp row at len)
+pub entry_valid : (stamp : ℕ) (row : Row) (at len : ℕ) → MayTake row at len → IsStampFor row stamp → IsValidEntry (entry_of stamp row at len)
 entry_valid stamp row at len fine stamped = record { not_empty = fine.some; near = fine.near; stamped = omega (arith, stamped.later); stamp_fits = stamped.fits }
 
-pub wrote_counted : (stamp : ℕ) (row : Row) (at len : ℕ) → IsFine row at len → IsStampFor row stamp → IsCounted row → IsCounted (wrote stamp row at len)
+pub wrote_counted : (stamp : ℕ) (row : Row) (at len : ℕ) → MayTake row at len → IsStampFor row stamp → IsCounted row → IsCounted (wrote stamp row at len)
 wrote_counted stamp row at len fine stamped c =
     let more = length_push row.pending.entries (entry_of stamp row at len) in
     record {

@@ -4,7 +4,7 @@ use Rattle.std.specs.Prelude.{if◌then◌else◌, ◌||◌, nat_le, nat_lt}
 use Rattle.std.proofs.lemmas.Bool.Decides.{nat_tests}
 use Rattle.mount_model.specs.declared.row.Row.{Row}
 use Rattle.mount_model.specs.Writing.{write_check}
-use Rattle.mount_core.specs.Writable.{IsFine}
+use Rattle.mount_core.specs.Writable.{MayTake}
 
 if_none : {A : Type 0} (b : Bool) (x : A) (o : Option A) → (if b then Some x else o) ≡ None → (b ≡ false) × (o ≡ None)
 if_none true x o e = absurd (cc)
@@ -20,7 +20,7 @@ not_below a b e = grind (arith, nat_tests)
 not_at_most : (a b : ℕ) → nat_le a b ≡ false → b < a
 not_at_most a b e = grind (arith, nat_tests)
 
-pub fine : (row : Row) (at len : ℕ) → 1 ≤ len → write_check row at len ≡ None → IsFine row at len
+pub fine : (row : Row) (at len : ℕ) → 1 ≤ len → write_check row at len ≡ None → MayTake row at len
 fine row at len some e =
     let by_size = if_none (nat_lt (2 ^ 40) (at + len) || nat_lt (2 ^ 56) (row.stored + len)) _ _ e in
     let sizes = neither (nat_lt (2 ^ 40) (at + len)) (nat_lt (2 ^ 56) (row.stored + len)) by_size.0 in

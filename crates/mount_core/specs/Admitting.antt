@@ -18,7 +18,7 @@ abbrev pub with_writers : List Row → Roll → Roll
 with_writers rows roll = record roll { table = record roll.table { writers = rows } }
 
 -- the next serial was drawn, whose id is above those of all writers
-pub record IsNext (room : ℕ) (old : Roll) (id : ℕ) (new : Roll) : Type 0 where
+pub record IsNextId (room : ℕ) (old : Roll) (id : ℕ) (new : Roll) : Type 0 where
   pub granted : enter_check (bare old) room ≡ None
   pub apart : room ≢ old.marks
   pub id_is : id ≡ next_id (bare old)

@@ -9,7 +9,7 @@ use Rattle.mount_model.specs.Paths.{Name, marks_name, marks_folder, mark_name}
 use Rattle.mount_core.specs.declared.scanning.Listing.TheVariants.{Marks}
 use Rattle.mount_core.specs.declared.trouble.MountTrouble.{MountTrouble}
 use Rattle.mount_core.specs.declared.trouble.MountTrouble.TheVariants.{Damaged, Spent, NoMarks, Fault, NoMemory}
-use Rattle.mount_core.specs.Scanning.{IsGreatest, IsLeastOther}
+use Rattle.mount_core.specs.Scanning.{IsGreatest, IsLeastUnmarked}
 
 abbrev pub marks_step : Step
 marks_step = make_room marks_name (marks_folder ∷ []) []
@@ -58,7 +58,7 @@ pub record FailsAt (step : Step) (isnt : Told → Type 0) (old : Stored) (troubl
 -- the names leave no next mark: one of them is none, or the last one is among them
 abbrev pub LeavesNone : List Name → MountTrouble → Type 0
 LeavesNone names trouble =
-    ((file : Name) × IsLeastOther Marks names file × (trouble ≡ Damaged file))
+    ((file : Name) × IsLeastUnmarked names file × (trouble ≡ Damaged file))
     ⊎ (IsGreatest Marks names (2 ^ 32 - 1) × (trouble ≡ Spent))
 
 -- the next mark is the one behind the greatest

@@ -30,6 +30,14 @@ pub record IsLeastOther (listing : Listing) (names : List Name) (name : Name) : 
   pub foreign : HasNone listing name
   pub least : All (λ other. HasNone listing other → slice_cmp nat_cmp name other ≢ Greater) names
 
+-- the name is no mark
+abbrev pub IsUnmarked : Name → Type 0
+IsUnmarked name = HasNone Marks name
+
+-- of these names the least one in byte order that is no mark
+abbrev pub IsLeastUnmarked : List Name → Name → Type 0
+IsLeastUnmarked names name = IsLeastOther Marks names name
+
 -- what is known of names that were read: their greatest number, or the least other one
 abbrev pub IsScanned : Listing → List Name → ℕ → Option Name → Type 0
 IsScanned listing names greatest other = MatchOption other (IsGreatest listing names greatest) (IsLeastOther listing names)

@@ -3,7 +3,7 @@ use Rattle.std.specs.Prelude.{ℕ, ◌+◌, ◌-◌, ◌^◌, ◌≤◌, ◌<◌
 use Rattle.mount_model.specs.declared.row.Row.{Row}
 
 -- the writer's numbers leave room for so many bytes from this place on
-pub record IsFine (row : Row) (at len : ℕ) : Type 0 where
+pub record MayTake (row : Row) (at len : ℕ) : Type 0 where
   pub some : 1 ≤ len
   pub near : at + len ≤ 2 ^ 40
   pub small : row.stored + len ≤ 2 ^ 56

@@ -6,7 +6,7 @@ ghost use Rattle.mount_model.specs.Making.{Makes};
 ghost use Rattle.mount_model.specs.Paths.{openhosts as openhosts_name, open_path as open_path_of};
 ghost use Rattle.mount_model.specs.Entering.{enter_check as enter_refusal, enter_outcome, Enters};
 ghost use Rattle.mount_core.specs.Roll.{bare};
-ghost use Rattle.mount_core.specs.Admitting.{IsNext, IsNewcomer, IsAdmitted, IsTurnedAway, with_writers};
+ghost use Rattle.mount_core.specs.Admitting.{IsNextId, IsNewcomer, IsAdmitted, IsTurnedAway, with_writers};
 ghost use Rattle.mount_core.specs.Settling.{IsSettled};
 
 use crate::mount::Mount;
@@ -26,7 +26,7 @@ const SERIALS: u64 = 1 << 32;
 impl Roster {
     /// Draws the next serial, and gives its id.
     fn draw(&mut self, room: u64) -> Result<u64, Refusal>
-        ensures ok { IfOk result (λ id. IsNext room self.old id self.new) }
+        ensures ok { IfOk result (λ id. IsNextId room self.old id self.new) }
         ensures refused { IfErr result (λ why. enter_refusal (bare self.old) room ≡ Some why) }
         ensures kept { OnErr result (self.new ≡ self.old) }
     {

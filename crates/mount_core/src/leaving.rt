@@ -39,7 +39,8 @@ fn exit_check(row: &Row) -> Option<Refusal>
 }
 
 impl Roster {
-    /// Settles the making of the metadata dropping at this path: from then on the writer may only leave.
+    /// Settles the making of the metadata dropping at this path: from then on it may only close, whatever the act
+    /// told but want of memory.
     fn closed(&mut self, place: usize, at: &Path, told: Result<Answer, Trouble>) -> Reply
         requires within { place < length self.old.table.writers }
         requires of_writer { AtPlace self.old.table place (λ row. at.now ≡ record { folder = metadata; file = meta_file row }) }

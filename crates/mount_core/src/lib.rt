@@ -1,8 +1,9 @@
 //! The code of the mount: the table of its writers, and the calls, each of which is a check and at most one act.
 //!
 //! It owns what lies in memory while a store is mounted. Contracts see a mount as a `State` of `mount_model`, and
-//! each call is proved to be a step of that crate's relation. It stands on `mount_model`, on the contracts of stores
-//! and clocks, and on the names of what a container holds.
+//! each call is proved to be a step of that crate's relation, which keeps a fine state fine (`mount_sound`). A mount
+//! is an object of `turn_object`, so that threads can use it in turn. The crate stands on these, on the contracts of
+//! stores and clocks, on the buffer of a writer's entries, and on the names of what a container holds.
 #![tactic(auto)]
 
 mod apply;
@@ -26,4 +27,5 @@ mod trouble;
 mod writing;
 
 pub use mount::Mount;
+pub use mount_model::{Ask, Call, Look, Refusal, Reply};
 pub use trouble::MountTrouble;

@@ -134,7 +134,7 @@ fn draw_mark<S: Store>(store: &mut S) -> Result<Mark, MountTrouble>
 }
 
 impl<S: Store + Drop, C: Clock + Drop> Mount<S, C> {
-    /// Mounts the store, under a number that no mount of it had before.
+    /// Mounts the store, under the number behind its greatest mark.
     ///
     /// It makes three acts: it makes the room of the marks, where there is none, lists the marks, and puts the
     /// next one. After a trouble the store is as the acts left it that were made. `Damaged` comes exactly where a

@@ -8,7 +8,7 @@ ghost use Rattle.mount_model.specs.Writing.{wrote};
 ghost use Rattle.mount_model.specs.Flushing.{flushed};
 ghost use Rattle.mount_model.specs.Leaving.{closed};
 ghost use Rattle.mount_core.specs.Roll.{new_roll, with_table, IsRegularRoll};
-ghost use Rattle.mount_core.specs.Writable.{IsFine, IsStampFor};
+ghost use Rattle.mount_core.specs.Writable.{MayTake, IsStampFor};
 ghost use Rattle.mount_core.specs.Stages.{allowed};
 ghost use Rattle.mount_core.specs.Standing.{AtPlace};
 
@@ -129,7 +129,7 @@ impl Roster {
     /// Keeps the entry of a write of so many bytes from the logical place `at` on.
     pub(crate) fn keep_entry(&mut self, place: usize, stamp: u64, at: u64, len: u64)
         requires within { place < length self.old.table.writers }
-        requires fine { AtPlace self.old.table place (λ row. IsFine row at len) }
+        requires fine { AtPlace self.old.table place (λ row. MayTake row at len) }
         requires stamped { AtPlace self.old.table place (λ row. IsStampFor row stamp) }
         ensures { AtPlace self.old.table place (λ row. self.new ≡ with_table (put (wrote stamp row at len) self.old.table) self.old) }
     {

@@ -4,7 +4,7 @@ ghost use Rattle.mount_model.specs.Making.{Makes, UnlessRefused};
 ghost use Rattle.mount_model.specs.Paths.{log_path as log_path_of};
 ghost use Rattle.mount_model.specs.Writing.{write_check as write_refusal, stamp_at as stamp_of, write_step, write_outcome, WritesAt, Writes};
 ghost use Rattle.mount_core.specs.Settling.{IsSettled};
-ghost use Rattle.mount_core.specs.Writable.{IsFine, IsStampFor};
+ghost use Rattle.mount_core.specs.Writable.{MayTake, IsStampFor};
 ghost use Rattle.mount_core.specs.Standing.{AtPlace};
 
 use crate::mount::Mount;
@@ -65,7 +65,7 @@ impl Roster {
         told: Result<Answer, Trouble>,
     ) -> Reply
         requires within { place < length self.old.table.writers }
-        requires fine { AtPlace self.old.table place (λ row. IsFine row at len) }
+        requires fine { AtPlace self.old.table place (λ row. MayTake row at len) }
         requires stamped { AtPlace self.old.table place (λ row. IsStampFor row stamp) }
         requires of_writer { AtPlace self.old.table place (λ row. log.now ≡ log_path_of row.host row.id) }
         ensures { AtPlace self.old.table place (λ row. IsSettled (write_outcome stamp row at len self.old.table told) self.old result self.new) }
@@ -107,7 +107,7 @@ impl<S: Store + Drop, C: Clock + Drop> Mount<S, C> {
 
     fn write_now(&mut self, place: usize, at: u64, bytes: &[u8]) -> Reply
         requires within { place < length self.old.table.writers }
-        requires fine { AtPlace self.old.table place (λ row. IsFine row at (length bytes.now)) }
+        requires fine { AtPlace self.old.table place (λ row. MayTake row at (length bytes.now)) }
         ensures { AtPlace self.old.table place (λ row. WritesAt row at bytes.now self.old result self.new) }
     {
         let time = self.clock.now();
@@ -117,7 +117,7 @@ impl<S: Store + Drop, C: Clock + Drop> Mount<S, C> {
     /// Writes the bytes, stamped by that time.
     fn log(&mut self, place: usize, time: u64, at: u64, bytes: &[u8]) -> Reply
         requires within { place < length self.old.table.writers }
-        requires fine { AtPlace self.old.table place (λ row. IsFine row at (length bytes.now)) }
+        requires fine { AtPlace self.old.table place (λ row. MayTake row at (length bytes.now)) }
         ensures { AtPlace self.old.table place (λ row. Makes (write_step row bytes.now) (write_outcome (stamp_of time row) row at (length bytes.now) self.old.table) self.old result self.new) }
     {
         let row = self.roster.row(place);

@@ -10,35 +10,35 @@ use std::process::Abort;
 use std::test::Fail;
 use store_memory::{Fail as Planned, FailList, MemoryStore};
 
-pub fn name(rt: &impl Abort, text: &str) -> Name {
+pub(crate) fn name(rt: &impl Abort, text: &str) -> Name {
     Name::from_bytes(text.as_bytes()).expect(rt, "a short name")
 }
 
-pub fn logical(rt: &impl Abort, text: &str) -> LogicalName {
+pub(crate) fn logical(rt: &impl Abort, text: &str) -> LogicalName {
     LogicalName::read(text.as_bytes()).expect(rt, "a logical name")
 }
 
 // A store without rooms whose act of this number fails, and leaves so many bytes of a write.
-pub fn failing(alloc: Global, act: u64, part: u64) -> Result<MemoryStore, NoMemory> {
+pub(crate) fn failing(alloc: Global, act: u64, part: u64) -> Result<MemoryStore, NoMemory> {
     let mut fails = FailList::new(alloc);
     fails.push(Planned { act, part })?;
     MemoryStore::new(alloc, fails)
 }
 
 // A store without rooms that never fails.
-pub fn sound(alloc: Global) -> Result<MemoryStore, NoMemory> {
+pub(crate) fn sound(alloc: Global) -> Result<MemoryStore, NoMemory> {
     MemoryStore::new(alloc, FailList::new(alloc))
 }
 
 // A clock that stays at 10.
-pub fn clock(alloc: Global) -> Result<ListClock, NoMemory> {
+pub(crate) fn clock(alloc: Global) -> Result<ListClock, NoMemory> {
     let mut times = ClockList::new(alloc);
     times.push(10)?;
     Ok(ListClock::new(times))
 }
 
 // The bytes `ABCD`.
-pub fn block(rt: &impl Abort, alloc: Global) -> Result<Block, Fail> {
+pub(crate) fn block(rt: &impl Abort, alloc: Global) -> Result<Block, Fail> {
     match Block::new(Bytes::copy(alloc, b"ABCD".as_slice())?) {
         Ok(block) => Ok(block),
         Err(_failed) => {
@@ -48,7 +48,7 @@ pub fn block(rt: &impl Abort, alloc: Global) -> Result<Block, Fail> {
     }
 }
 
-pub fn asks(call: Call) -> Ask
+pub(crate) fn asks(call: Call) -> Ask
     requires { OwedBy call }
     ensures { IsOwed result }
 {
@@ -56,7 +56,7 @@ pub fn asks(call: Call) -> Ask
 }
 
 // The mount's answer to a caller, asked once more where the store failed.
-pub fn answer(mount: &mut Mount<MemoryStore, ListClock>, ask: &Ask) -> Reply
+pub(crate) fn answer(mount: &mut Mount<MemoryStore, ListClock>, ask: &Ask) -> Reply
     requires { IsOwed ask.now }
 {
     match mount.apply(1, ask) {
@@ -66,7 +66,7 @@ pub fn answer(mount: &mut Mount<MemoryStore, ListClock>, ask: &Ask) -> Reply
 }
 
 // The store, mounted; it is tried once more where the store failed.
-pub fn mounted(
+pub(crate) fn mounted(
     rt: &impl Abort,
     alloc: Global,
     store: MemoryStore,
@@ -87,7 +87,7 @@ pub fn mounted(
 }
 
 // The number of the container `f`, which is made.
-pub fn container(rt: &impl Abort, mount: &mut Mount<MemoryStore, ListClock>) -> u64 {
+pub(crate) fn container(rt: &impl Abort, mount: &mut Mount<MemoryStore, ListClock>) -> u64 {
     let make = asks(Call::MakeContainer {
         name: logical(rt, "f"),
     });

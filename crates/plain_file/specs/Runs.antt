@@ -26,6 +26,11 @@ abbrev pub Follows : Piece → List Piece → Type 0
 Follows p [] = Unit {0}
 Follows p (q ∷ pieces) = (p.at + p.len ≤ q.at) × (Joins p q → ⊥)
 
+-- the first piece, if there is one, ends past this byte
+abbrev pub EndsPast : ℕ → List Piece → Type 0
+EndsPast at [] = Unit {0}
+EndsPast at (p ∷ pieces) = at < p.at + p.len
+
 -- pieces in order that share no byte, of which no two neighbours are joinable
 abbrev pub AreRuns : List Piece → Type 0
 AreRuns [] = Unit {0}

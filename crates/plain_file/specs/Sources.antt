@@ -1,9 +1,9 @@
 -- Where each byte of a file comes from: the key of a write, and a place in its writer's log.
 use Rattle.std.specs.Prelude.{ℕ, ◌+◌, ◌-◌, ◌&&◌, ◌||◌, ◌==◌, nat_lt, nat_le, Bool, if◌then◌else◌, List, [], ◌∷◌, Option, None, Some}
-use Rattle.std.specs.List.{list_all}
 use Rattle.plfs_types.specs.declared.entries.Entry.{Entry}
 use Rattle.plfs_types.specs.declared.entries.Trunc.{Trunc}
 use Rattle.plain_file.specs.declared.pieces.Piece.{Piece}
+use Rattle.plain_file.specs.Newest.{outlasts}
 
 pub record Source : Type 0 where
   pub stamp : ℕ
@@ -35,4 +35,4 @@ newer_source (Some s) (Some t) = if nat_lt s.stamp t.stamp || (s.stamp == t.stam
 -- the source of byte x, unless a truncate took the byte away
 abbrev pub kept_source : List Trunc → ℕ → Option Source → Option Source
 kept_source truncs x None = None
-kept_source truncs x (Some s) = if list_all (λ (t : Trunc). nat_lt x t.size || nat_lt t.stamp s.stamp) truncs then Some s else None
+kept_source truncs x (Some s) = if outlasts truncs x s.stamp then Some s else None

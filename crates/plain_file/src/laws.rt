@@ -13,14 +13,14 @@ ghost use Rattle.plain_file.specs.Runs.{AreRuns, ArePieces, ArePiecesOf};
 ghost use Rattle.plain_file.specs.Logs.{ArePlaced, IsLogged, logged_byte};
 ghost use Rattle.plain_file.specs.Size.{size_from};
 
-/// Each byte of the plain file is that of the newest write that shows there, or 0 where none does,
-/// and none shows past the end.
+/// Where no two writes have one key and each has as many bytes as it says, each byte of the plain file
+/// is that of the newest write that shows there, or 0 where none does, and none shows past the end.
 pub fn newest_shows()
     ensures { (changes : List Change) → KeysDiffer (entries_of changes) → All HasItsBytes changes
         → ShowsNewest changes (plain changes) }
 {}
 
-/// There is one list of pieces for the same entries and truncates.
+/// Two lists of pieces for the same entries and truncates are the same list.
 pub fn pieces_are_one()
     ensures { (entries : List Entry) (truncs : List Trunc) (some others : List Piece)
         → ArePieces entries truncs some → ArePieces entries truncs others → some ≡ others }

@@ -1,3 +1,4 @@
+mod Calls
 mod CourseLemmas
 mod Driving
 mod Machines

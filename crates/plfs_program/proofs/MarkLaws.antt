@@ -14,7 +14,8 @@ use Rattle.std.proofs.lemmas.Str.Parse.{IsNumeralModel, numerals_by_value, tells
 use Rattle.store_api.specs.Step.{Name}
 use Rattle.mount_model.specs.Paths.{mark_name}
 use Rattle.mount_model.specs.Mounting.{IsGreatestMark}
-use Rattle.plfs_program.specs.Mounting.{IsForeign, IsLeastForeign, AreSpent, AreDamagedAt, HaveNext}
+use Rattle.mount_core.specs.Scanning.{IsUnmarked, IsLeastUnmarked}
+use Rattle.plfs_program.specs.Mounting.{AreSpent, AreDamagedAt, HaveNext}
 
 own : IsNumeralModel (AllDigits 10) (digits_value 10)
 own = numerals_by_value (AllDigits 10) tells_digits
@@ -36,10 +37,10 @@ above_greatest name greatest number (other, some, below, named) is above fits =
 of_found : (P Q : Name → Type 0) (names : List Name) → All P names → Any Q names → (name : Name) × P name × Q name
 of_found P Q names all any = (any.1, All-contains P names any.1 all (any.0, any.2, any.3), any.4)
 
-none_foreign : (names : List Name) (greatest : ℕ) (name : Name) → greatest < 2 ^ 32 → IsGreatestMark names greatest → IsLeastForeign names name → ⊥
+none_foreign : (names : List Name) (greatest : ℕ) (name : Name) → greatest < 2 ^ 32 → IsGreatestMark names greatest → IsLeastUnmarked names name → ⊥
 none_foreign names greatest name fits all least =
     let (other, (n, some, below, named), is) = of_found (IsUpTo greatest) (λ x. x ≡ name) names all.marks least.there in
-    least.foreign n (record { named = sym is ∙ named; positive = some; fits = omega arith })
+    least.foreign n (some, omega arith, sym is ∙ named)
 
 pub spent_or_next : (marks : Option (List Name)) → AreSpent marks → HaveNext marks → ⊥
 spent_or_next None spent next = spent
@@ -64,10 +65,10 @@ tied a b Less Less ab ba reverse r_not s_not = absurd (cc)
 tied a b Less Equal ab ba reverse r_not s_not = absurd (cc)
 tied a b Less Greater ab ba reverse r_not s_not = absurd (s_not refl)
 
-not_after : (names : List Name) (a b : Name) → IsLeastForeign names a → IsLeastForeign names b → slice_cmp nat_cmp a b ≢ Greater
+not_after : (names : List Name) (a b : Name) → IsLeastUnmarked names a → IsLeastUnmarked names b → slice_cmp nat_cmp a b ≢ Greater
 not_after names a b first second =
-    let (name, least, is) = of_found (λ other. IsForeign other → slice_cmp nat_cmp a other ≢ Greater) (λ x. x ≡ b) names first.least second.there in
-    let P : Name → Type 0 = λ x. IsForeign x → slice_cmp nat_cmp a x ≢ Greater in
+    let (name, least, is) = of_found (λ other. IsUnmarked other → slice_cmp nat_cmp a other ≢ Greater) (λ x. x ≡ b) names first.least second.there in
+    let P : Name → Type 0 = λ x. IsUnmarked x → slice_cmp nat_cmp a x ≢ Greater in
     subst P is least second.foreign
 
 pub one_name : (marks : Option (List Name)) (a b : Name) → AreDamagedAt a marks → AreDamagedAt b marks → a ≡ b

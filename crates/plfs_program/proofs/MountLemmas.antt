@@ -24,16 +24,19 @@ use Rattle.script_lang.specs.declared.line.Line.{Line}
 use Rattle.script_lang.specs.declared.line.Outcome.{Outcome}
 use Rattle.script_lang.specs.declared.script.Numbered.{Numbered}
 use Rattle.mount_model.specs.Making.{Told}
+use Rattle.mount_model.specs.Paths.{marks_name, marks_folder}
 use Rattle.mount_model.specs.State.{State}
 use Rattle.mount_model.specs.Mounting.{IsGreatestMark, IsMounted}
 use Rattle.mount_core.specs.declared.trouble.MountTrouble.{MountTrouble}
 use Rattle.mount_core.specs.declared.trouble.MountTrouble.TheVariants as trouble
 use Rattle.mount_core.specs.Opening.{marks_step, list_step, mark_step, room_told, names_told, made_told, trouble_of, LeavesNone, FailsToMount, no_room, no_names, no_next, no_mark}
 use Rattle.mount_core.proofs.Scans.{mark_known}
-use Rattle.plfs_program.specs.Mounting.{marks_room, mounts, listed_in, listed_or_none, listed_at, listed_marks, IsLeastForeign, AreSpent, AreDamagedAt, HaveNext, BreaksOff, fault, spent, damaged, unmounted_of, IsUnmounted}
+use Rattle.plfs_program.specs.Calling.{IsRun}
+use Rattle.plfs_program.specs.Mounting.{listed_in, listed_or_none, listed_at, listed_marks, AreSpent, AreDamagedAt, AreWhy, HaveNext, unmounted_of, IsUnmounted}
 use Rattle.script_lang.specs.declared.line.Outcome.TheVariants as of
 use Rattle.script_lang.specs.declared.line.Why.TheVariants.{MountsSpent}
-use Rattle.plfs_program.specs.Lines.{AreLinesOf, unmounted, mounted, AreInTurn, has_line, is_fault}
+use Rattle.plfs_program.specs.Lines.{AreLinesOf, unmounted, mounted, AreInTurn}
+use Rattle.plfs_program.specs.Outcomes.{has_line, is_fault}
 use Rattle.plfs_program.proofs.ListingLemmas.{of_listed}
 use Rattle.plfs_program.proofs.MarkLaws.{IsUpTo, above_greatest}
 
@@ -78,7 +81,7 @@ set_found (y ∷ ys) (suc i) x is = ap (λ l. y ∷ l) (set_found ys i x is)
 -- ---- the room of the marks is found or made
 
 abbrev is_marks_room : Room → Bool
-is_marks_room room = same_name room.name marks_room
+is_marks_room room = same_name room.name marks_name
 
 -- the room that was told lists what the tree listed before
 record Finds (tree : Tree) (e : Effect) : Type 0 where
@@ -88,11 +91,11 @@ record Finds (tree : Tree) (e : Effect) : Type 0 where
 same_number : (a b : ℕ) → Some a ≡ Some b → a ≡ b
 same_number a b e = cc
 
-finds_where : (tree : Tree) (number : Option ℕ) → number_of tree marks_room ≡ number → Finds tree (room_made tree (new_room marks_room (mounts ∷ []) []) number)
+finds_where : (tree : Tree) (number : Option ℕ) → number_of tree marks_name ≡ number → Finds tree (room_made tree (new_room marks_name (marks_folder ∷ []) []) number)
 finds_where tree None is =
-    let made : Tree = record { rooms = tree.rooms ++ new_room marks_room (mounts ∷ []) [] ∷ [] } in
+    let made : Tree = record { rooms = tree.rooms ++ new_room marks_name (marks_folder ∷ []) [] ∷ [] } in
     let listed : listed_at made (length tree.rooms) ≡ listed_marks tree =
-    ap (λ r. option_and_then listed_in r) (slice_get_last tree.rooms (new_room marks_room (mounts ∷ []) [])) ∙ sym (ap listed_or_none (find_nowhere is_marks_room tree.rooms is)) in
+    ap (λ r. option_and_then listed_in r) (slice_get_last tree.rooms (new_room marks_name (marks_folder ∷ []) [])) ∙ sym (ap listed_or_none (find_nowhere is_marks_room tree.rooms is)) in
     record {
       tells = λ room told. subst (λ n. listed_at made n ≡ listed_marks tree) (same_number (length tree.rooms) room told) listed;
       some = λ none. cc;
@@ -106,7 +109,7 @@ finds_where tree (Some i) is =
     }
 
 finds : (tree : Tree) → Finds tree (effect tree marks_step)
-finds tree = finds_where tree (number_of tree marks_room) refl
+finds tree = finds_where tree (number_of tree marks_name) refl
 
 -- ---- the marks are listed
 
@@ -118,22 +121,22 @@ record Lists (tree : Tree) (n : ℕ) (e : Effect) : Type 0 where
 same_names : (a b : List Name) → Some a ≡ Some b → a ≡ b
 same_names a b e = cc
 
-lists_where : (tree : Tree) (n : ℕ) (room : Room) (has : Bool) → rooms.has_folder room mounts ≡ has → slice_get tree.rooms n ≡ Some room
-    → Lists tree n (room_after tree n (if has then rooms.stays room (Names (rooms.listing room mounts)) else rooms.stays room NoFolder))
+lists_where : (tree : Tree) (n : ℕ) (room : Room) (has : Bool) → rooms.has_folder room marks_folder ≡ has → slice_get tree.rooms n ≡ Some room
+    → Lists tree n (room_after tree n (if has then rooms.stays room (Names (rooms.listing room marks_folder)) else rooms.stays room NoFolder))
 lists_where tree n room true has is =
-    let listed : listed_at tree n ≡ Some (rooms.listing room mounts) = ap (λ r. option_and_then listed_in r) is ∙ ap (λ h. if h then Some (rooms.listing room mounts) else None) has in
+    let listed : listed_at tree n ≡ Some (rooms.listing room marks_folder) = ap (λ r. option_and_then listed_in r) is ∙ ap (λ h. if h then Some (rooms.listing room marks_folder) else None) has in
     record {
-      tells = λ names told. (ap (λ rs. record { rooms = rs }) (set_found tree.rooms n room is), listed ∙ ap (λ ns. Some ns) (same_names (rooms.listing room mounts) names told));
+      tells = λ names told. (ap (λ rs. record { rooms = rs }) (set_found tree.rooms n room is), listed ∙ ap (λ ns. Some ns) (same_names (rooms.listing room marks_folder) names told));
       other = λ none. absurd (cc);
     }
 lists_where tree n room false has is = record {
   tells = λ names told. absurd (cc);
-  other = λ none. ap (λ r. option_and_then listed_in r) is ∙ ap (λ h. if h then Some (rooms.listing room mounts) else None) has;
+  other = λ none. ap (λ r. option_and_then listed_in r) is ∙ ap (λ h. if h then Some (rooms.listing room marks_folder) else None) has;
 }
 
-lists_in : (tree : Tree) (n : ℕ) (room : Option Room) → slice_get tree.rooms n ≡ room → Lists tree n (or_no_room tree n (λ r. rooms.folder_listed r mounts) room)
+lists_in : (tree : Tree) (n : ℕ) (room : Option Room) → slice_get tree.rooms n ≡ room → Lists tree n (or_no_room tree n (λ r. rooms.folder_listed r marks_folder) room)
 lists_in tree n None is = record { tells = λ names told. absurd (cc); other = λ none. ap (λ r. option_and_then listed_in r) is }
-lists_in tree n (Some room) is = lists_where tree n room (rooms.has_folder room mounts) refl is
+lists_in tree n (Some room) is = lists_where tree n room (rooms.has_folder room marks_folder) refl is
 
 lists : (tree : Tree) (n : ℕ) → Lists tree n (effect tree (list_step n))
 lists tree n = lists_in tree n (slice_get tree.rooms n) refl
@@ -148,30 +151,30 @@ both_pass true true is = (refl, refl)
 both_pass true false is = cc
 both_pass false b is = cc
 
-not_there : (room : Room) (names : List Name) (greatest number place : ℕ) → rooms.listing room mounts ≡ names → IsGreatestMark names greatest → greatest < number → number < 2 ^ 32
-    → rooms.place_of room mounts (decimal number) ≡ Some place → ⊥
+not_there : (room : Room) (names : List Name) (greatest number place : ℕ) → rooms.listing room marks_folder ≡ names → IsGreatestMark names greatest → greatest < number → number < 2 ^ 32
+    → rooms.place_of room marks_folder (decimal number) ≡ Some place → ⊥
 not_there room names greatest number place listed is above fits found =
-    let (inside, passes, first) = position-Some (rooms.is_at mounts (decimal number)) room.files place nobody found in
+    let (inside, passes, first) = position-Some (rooms.is_at marks_folder (decimal number)) room.files place nobody found in
     let (in_folder, named) = both_pass _ _ passes in
     let P : List Name → Type 0 = λ ns. AllByRecursion (IsUpTo greatest) ns in
-    let mark = of_listed (IsUpTo greatest) room mounts place nobody (subst P (sym listed) (recursion_from_All (IsUpTo greatest) names is.marks)) inside in_folder in
+    let mark = of_listed (IsUpTo greatest) room marks_folder place nobody (subst P (sym listed) (recursion_from_All (IsUpTo greatest) names is.marks)) inside in_folder in
     above_greatest _ greatest number mark (same_text _ (decimal number) (sym named)) above fits
 
-made_where_new : (room : Room) (name : Name) (place : Option ℕ) → ((i : ℕ) → place ≡ Some i → ⊥) → (rooms.made_if_absent room mounts name place).answer ≡ Made
+made_where_new : (room : Room) (name : Name) (place : Option ℕ) → ((i : ℕ) → place ≡ Some i → ⊥) → (rooms.made_if_absent room marks_folder name place).answer ≡ Made
 made_where_new room name None new = refl
 made_where_new room name (Some i) new = absurd (new i refl)
 
-created_where : (room : Room) (name : Name) (names : List Name) (has : Bool) → (if has then Some (rooms.listing room mounts) else None) ≡ Some names
-    → (rooms.listing room mounts ≡ names → (rooms.made_if_absent room mounts name (rooms.place_of room mounts name)).answer ≡ Made)
-    → (if has then rooms.made_if_absent room mounts name (rooms.place_of room mounts name) else rooms.stays room NoFolder).answer ≡ Made
+created_where : (room : Room) (name : Name) (names : List Name) (has : Bool) → (if has then Some (rooms.listing room marks_folder) else None) ≡ Some names
+    → (rooms.listing room marks_folder ≡ names → (rooms.made_if_absent room marks_folder name (rooms.place_of room marks_folder name)).answer ≡ Made)
+    → (if has then rooms.made_if_absent room marks_folder name (rooms.place_of room marks_folder name) else rooms.stays room NoFolder).answer ≡ Made
 created_where room name names true is made = made cc
 created_where room name names false is made = cc
 
 created_in : (tree : Tree) (n : ℕ) (name : Name) (names : List Name) (room : Option Room) → option_and_then listed_in room ≡ Some names
-    → ((r : Room) → rooms.listing r mounts ≡ names → (rooms.made_if_absent r mounts name (rooms.place_of r mounts name)).answer ≡ Made)
-    → (or_no_room tree n (λ r. rooms.file_created r mounts name) room).answer ≡ Made
+    → ((r : Room) → rooms.listing r marks_folder ≡ names → (rooms.made_if_absent r marks_folder name (rooms.place_of r marks_folder name)).answer ≡ Made)
+    → (or_no_room tree n (λ r. rooms.file_created r marks_folder name) room).answer ≡ Made
 created_in tree n name names None is made = cc
-created_in tree n name names (Some room) is made = created_where room name names (rooms.has_folder room mounts) is (made room)
+created_in tree n name names (Some room) is made = created_where room name names (rooms.has_folder room marks_folder) is (made room)
 
 creates : (tree : Tree) (n number greatest : ℕ) (names : List Name) → listed_at tree n ≡ Some names → IsGreatestMark names greatest → greatest < number → number < 2 ^ 32 → (effect tree (mark_step n number)).answer ≡ Made
 creates tree n number greatest names listed all above fits =
@@ -192,14 +195,6 @@ goes_on step old new tree answer is made =
     record { after = g.0; told = g.1; does = g.2 }
 
 -- ---- what the marks say
-
--- the listed marks are why the mounting ended so
-abbrev AreWhy : Option (List Name) → MountTrouble → Type 0
-AreWhy marks (trouble.Damaged file) = AreDamagedAt file marks
-AreWhy marks trouble.NoMarks = AreDamagedAt [] marks
-AreWhy marks trouble.Spent = AreSpent marks
-AreWhy marks trouble.Fault = Unit {0}
-AreWhy marks trouble.NoMemory = Unit {0}
 
 -- where the act told no answer of its own, it is the store's trouble
 failing : (marks : Option (List Name)) (told : Told) (why : MountTrouble) → why ≡ trouble_of told → ((answer : Answer) → told ≡ Ok answer → AreWhy marks trouble.NoMarks) → AreWhy marks why
@@ -263,18 +258,12 @@ mark_is_made tree room mount greatest listed left names (Err other) answer is ma
 -- ---- names that leave no next mark
 
 why_none : (names : List Name) (why : MountTrouble) → LeavesNone names why → AreWhy (Some names) why
-why_none names why (inl (file, least, is)) =
-    let found : IsLeastForeign names file = record {
-      there = least.there;
-      foreign = λ n m. least.foreign n (m.positive, m.fits, m.named);
-      least = λ k d less foreign. least.least k d less (λ n h. foreign n (record { named = h.2; positive = h.0; fits = h.1 }));
-    } in
-    subst (AreWhy (Some names)) (sym is) found
+why_none names why (inl (file, least, is)) = subst (AreWhy (Some names)) (sym is) least
 why_none names why (inr (known, is)) = subst (AreWhy (Some names)) (sym is) (mark_known names (2 ^ 32 - 1) known)
 
 -- ---- why a mounting fails over a told tree
 
-why_fails : (opened left : Stored) (why : MountTrouble) → FailsToMount opened why left → (tree : Tree) → opened.tree ≡ Some tree → AreWhy (listed_marks tree) why
+pub why_fails : (opened left : Stored) (why : MountTrouble) → FailsToMount opened why left → (tree : Tree) → opened.tree ≡ Some tree → AreWhy (listed_marks tree) why
 why_fails opened left why (no_room failed) tree is =
     failing (listed_marks tree) failed.told why failed.cause (λ answer told. absurd (room_is_told tree opened left failed.told answer is failed.made told failed.other))
 why_fails opened left why (no_names roomed room tells failed) tree is =
@@ -291,21 +280,6 @@ why_fails opened left why (no_mark roomed listed room names mount tells lists_th
     failing (listed_marks tree) failed.told why failed.cause (λ answer told.
     absurd (mark_is_made r.after room mount next.greatest listed left names failed.told answer l.0 failed.made told l.1 (mark_known names next.greatest next.found) (omega (arith, next.next)) next.fits failed.other))
 
-if_some : (o : Option Tree) (P : Tree → Type 0) → ((tree : Tree) → o ≡ Some tree → P tree) → IfSome o P
-if_some None P each = tt
-if_some (Some tree) P each = each tree refl
-
-breaks_off : (told : Option Tree) (why : MountTrouble) (outcome : Outcome) → ((tree : Tree) → told ≡ Some tree → AreWhy (listed_marks tree) why) → unmounted_of why ≡ Some outcome → BreaksOff told outcome
-breaks_off told (trouble.Damaged file) outcome each is = damaged file (cc) (if_some told (λ tree. AreDamagedAt file (listed_marks tree)) each)
-breaks_off told trouble.NoMarks outcome each is = damaged [] (cc) (if_some told (λ tree. AreDamagedAt [] (listed_marks tree)) each)
-breaks_off told trouble.Spent outcome each is = spent (cc) (if_some told (λ tree. AreSpent (listed_marks tree)) each)
-breaks_off told trouble.Fault outcome each is = fault (cc)
-breaks_off told trouble.NoMemory outcome each is = cc
-
--- the line of a mounting that broke off is right
-pub unmounted_lines : (opened left : Stored) (why : MountTrouble) (statements : List Numbered) (lines : List Line) → FailsToMount opened why left → IsUnmounted why lines → AreLinesOf opened.tree statements lines
-unmounted_lines opened left why statements lines failed (outcome, is, only) = unmounted outcome only (breaks_off opened.tree why outcome (why_fails opened left why failed) is)
-
 -- ---- a mounting that drew a number
 
 made_here : (tree : Tree) (opened : Stored) (new : State) (roomed : Stored) → opened.tree ≡ Some tree
@@ -313,30 +287,28 @@ made_here : (tree : Tree) (opened : Stored) (new : State) (roomed : Stored) → 
 made_here tree opened new roomed is (inl made) = roomed_as tree opened roomed new.marks (Ok (Number new.marks)) is made refl
 made_here tree opened new roomed is (inr made) = roomed_as tree opened roomed new.marks (Ok (Old new.marks)) is made refl
 
-has_next : (serial : ℕ) (times : Option (List ℕ)) (opened : Stored) (new : State) → IsMounted serial times opened new → (tree : Tree) → opened.tree ≡ Some tree → HaveNext (listed_marks tree)
+pub has_next : (serial : ℕ) (times : Option (List ℕ)) (opened : Stored) (new : State) → IsMounted serial times opened new → (tree : Tree) → opened.tree ≡ Some tree → HaveNext (listed_marks tree)
 has_next serial times opened new m tree is =
     let r = made_here tree opened new m.roomed is m.made in
     let l = listed_as r.after new.marks m.roomed m.listed m.names r.told m.lists in
     let less : m.greatest < 2 ^ 32 - 1 = omega (arith, m.next, m.fits) in
     subst HaveNext (sym l.1 ∙ r.listed) (m.greatest, m.found, less)
 
--- the lines of the statements are right
-pub mounted_lines : (serial : ℕ) (times : Option (List ℕ)) (opened : Stored) (new : State) (statements : List Numbered) (lines : List Line) → IsMounted serial times opened new → AreInTurn statements lines → AreLinesOf opened.tree statements lines
-mounted_lines serial times opened new statements lines m in_turn = mounted (if_some opened.tree (λ tree. HaveNext (listed_marks tree)) (has_next serial times opened new m)) in_turn
+-- ---- the lines, where memory wasn't refused
 
--- ---- the same of what may have been refused memory
+pub all_mounted : {E : Type 0} (times : Option (List ℕ)) (before after : Stored) (statements : List Numbered) (result : Result (List Line) E) → IsRun times before after → IfOk result (AreInTurn statements)
+    → IfOk result (AreLinesOf times before after statements)
+all_mounted times before after statements (Ok lines) run in_turn = mounted run in_turn
+all_mounted times before after statements (Err e) run in_turn = tt
 
-pub all_mounted : {E : Type 0} (serial : ℕ) (times : Option (List ℕ)) (opened : Stored) (new : State) (statements : List Numbered) (result : Result (List Line) E) → IsMounted serial times opened new → IfOk result (AreInTurn statements) → IfOk result (AreLinesOf opened.tree statements)
-all_mounted serial times opened new statements (Ok lines) m in_turn = mounted_lines serial times opened new statements lines m in_turn
-all_mounted serial times opened new statements (Err e) m in_turn = tt
-
-pub all_unmounted : {E : Type 0} (opened left : Stored) (why : MountTrouble) (statements : List Numbered) (result : Result (List Line) E) → FailsToMount opened why left → IfOk result (IsUnmounted why) → IfOk result (AreLinesOf opened.tree statements)
-all_unmounted opened left why statements (Ok lines) failed only = unmounted_lines opened left why statements lines failed only
-all_unmounted opened left why statements (Err e) failed only = tt
+pub all_unmounted : {E : Type 0} (times : Option (List ℕ)) (before after : Stored) (why : MountTrouble) (statements : List Numbered) (result : Result (List Line) E) → FailsToMount before why after → IfOk result (IsUnmounted why)
+    → IfOk result (AreLinesOf times before after statements)
+all_unmounted times before after why statements (Ok lines) failed only = unmounted why failed only
+all_unmounted times before after why statements (Err e) failed only = tt
 
 by_trouble : (why : MountTrouble) (outcome : Outcome) (R : Type 0) → unmounted_of why ≡ Some outcome → (why ≡ trouble.Fault → R) → (is_fault outcome || false) ≡ true → R
-by_trouble (trouble.Damaged file) outcome R is cause bad = let same : outcome ≡ of.Damaged mounts file 0 = cc in absurd (let wrong : false ≡ true = ap (λ o. is_fault o || false) (sym same) ∙ bad in cc)
-by_trouble trouble.NoMarks outcome R is cause bad = let same : outcome ≡ of.Damaged mounts [] 0 = cc in absurd (let wrong : false ≡ true = ap (λ o. is_fault o || false) (sym same) ∙ bad in cc)
+by_trouble (trouble.Damaged file) outcome R is cause bad = let same : outcome ≡ of.Damaged marks_folder file 0 = cc in absurd (let wrong : false ≡ true = ap (λ o. is_fault o || false) (sym same) ∙ bad in cc)
+by_trouble trouble.NoMarks outcome R is cause bad = let same : outcome ≡ of.Damaged marks_folder [] 0 = cc in absurd (let wrong : false ≡ true = ap (λ o. is_fault o || false) (sym same) ∙ bad in cc)
 by_trouble trouble.Spent outcome R is cause bad = let same : outcome ≡ of.Refused MountsSpent = cc in absurd (let wrong : false ≡ true = ap (λ o. is_fault o || false) (sym same) ∙ bad in cc)
 by_trouble trouble.Fault outcome R is cause bad = cause refl
 by_trouble trouble.NoMemory outcome R is cause bad = absurd (cc)

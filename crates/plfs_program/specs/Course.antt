@@ -13,7 +13,9 @@ use Rattle.report_text.specs.Text.{text_of}
 use Rattle.plfs_program.specs.Built.{IsBuiltScript, is_built}
 use Rattle.plfs_program.specs.Faults.{fault_line}
 use Rattle.plfs_program.specs.Input.{IsWholeInput}
-use Rattle.plfs_program.specs.Lines.{AreLinesOf, has_line, is_fault, status_of}
+use Rattle.plfs_program.specs.Calling.{Leaves}
+use Rattle.plfs_program.specs.Lines.{AreLinesOf}
+use Rattle.plfs_program.specs.Outcomes.{has_line, is_fault, status_of}
 use Rattle.plfs_program.specs.Output.{IsPrinted, IsCutOff}
 
 -- the words of the one command that is built
@@ -26,15 +28,16 @@ usage_line = codes "usage: plfs ROOT run|play|gen N|cat NAME|stat NAME|map NAME|
 abbrev pub unbuilt_line : List ℕ
 unbuilt_line = codes "script 0 unbuilt\n"
 
--- the sink and the store before and after
+-- the clock's times to come, and the sink and the store before and after
 pub record Ends : Type 0 where
+  pub times : Option (List ℕ)
   pub taking : Taking
   pub taking_after : Taking
   pub stored : Stored
   pub stored_after : Option Stored
 
-abbrev pub ends_of : Taking → Taking → Stored → Option Stored → Ends
-ends_of taking taking_after stored stored_after = record { taking = taking; taking_after = taking_after; stored = stored; stored_after = stored_after }
+abbrev pub ends_of : Option (List ℕ) → Taking → Taking → Stored → Option Stored → Ends
+ends_of times taking taking_after stored stored_after = record { times = times; taking = taking; taking_after = taking_after; stored = stored; stored_after = stored_after }
 
 -- no act was made
 abbrev pub IsUntouched : Ends → Type 0
@@ -44,16 +47,21 @@ IsUntouched e = e.stored_after ≡ Some e.stored
 abbrev pub IsSaid : List ℕ → Ends → Type 0
 IsSaid line e = IsPrinted line e.taking e.taking_after ⊎ IsCutOff line e.taking e.taking_after
 
--- there is no line for a fault that isn't the store's own
-abbrev pub HasCause : List Line → Ends → Type 0
-HasCause lines e = (after : Stored) × (e.stored_after ≡ Some after) × (has_line is_fault lines ≡ true → HasRisen e.stored.faults after.faults)
-
--- the bytes are a script that is played so far, and these are the lines of its statements
+-- The bytes are a script that is played so far, and these are the lines of its statements. There is none for a fault that
+-- isn't the store's own.
 pub record IsPlayedAs (bytes : List ℕ) (lines : List Line) (e : Ends) : Type 0 where
   pub statements : List Numbered
   pub built : IsBuiltScript bytes statements
-  pub in_turn : AreLinesOf e.stored.tree statements lines
-  pub cause : HasCause lines e
+  pub after : Stored
+  pub left : e.stored_after ≡ Some after
+  pub in_turn : AreLinesOf e.times e.stored after statements lines
+  pub cause : has_line is_fault lines ≡ true → HasRisen e.stored.faults after.faults
+
+-- memory was refused from the mounting on, and the store is as the mounting or the mount's calls left it
+pub record IsLeft (e : Ends) : Type 0 where
+  pub after : Stored
+  pub left : e.stored_after ≡ Some after
+  pub lawful : Leaves e.times e.stored after
 
 -- What becomes of an input of these bytes, one way for each kind of end, with its status. Memory was refused before the
 -- mounting where it is starved, and from the mounting on where it is exhausted.
@@ -65,7 +73,7 @@ pub data InputCourse (bytes : List ℕ) (e : Ends) (status : ℕ) : Type 0 where
   played : (lines : List Line) → IsPlayedAs bytes lines e → IsPrinted (text_of lines) e.taking e.taking_after → status ≡ status_of lines → InputCourse bytes e status
   cut_off : (lines : List Line) → IsPlayedAs bytes lines e → IsCutOff (text_of lines) e.taking e.taking_after → status ≡ 6 → InputCourse bytes e status
   starved : IsUntouched e → e.taking_after ≡ e.taking → status ≡ 3 → InputCourse bytes e status
-  exhausted : (statements : List Numbered) → IsBuiltScript bytes statements → e.taking_after ≡ e.taking → status ≡ 3 → InputCourse bytes e status
+  exhausted : (statements : List Numbered) → IsBuiltScript bytes statements → IsLeft e → e.taking_after ≡ e.taking → status ≡ 3 → InputCourse bytes e status
 
 -- the input was read to its end, or to one byte past the limit of a script, and these are its bytes
 abbrev pub IsInput : List ℕ → Given → Given → Type 0

@@ -1,4 +1,6 @@
+pub mod Answered
 pub mod Built
+pub mod Calling
 pub mod Course
 pub mod Ending
 pub mod Entries
@@ -7,5 +9,6 @@ pub mod Input
 pub mod Lines
 pub mod Logged
 pub mod Mounting
+pub mod Outcomes
 pub mod Output
 pub mod Stuck

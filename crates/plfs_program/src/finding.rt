@@ -8,6 +8,7 @@ use edge_io::Clock;
 use mount_model::{Call, Look, Reply};
 use plfs_types::{LogicalName, Name, NameList, Path, Trunc, TruncList};
 use std::alloc::Global;
+use std::collections::BTreeSet;
 use store_api::{Answer, Store};
 
 /// The index dropping of a writer.
@@ -23,7 +24,7 @@ pub(crate) fn find<S: Store + Drop, C: Clock + Drop>(
     name: &LogicalName,
 ) -> Result<u64, Stuck>
     ensures cause { IsErrOf result Stuck.Fault → session.new.faulted ≡ true }
-    ensures opened { session.new.mount.opened ≡ session.old.mount.opened }
+    ensures start { session.new.start.value ≡ session.old.start.value }
 {
     match session.ask(Call::Find { name: *name }) {
         Reply::Room { room } => Ok(room),
@@ -39,7 +40,7 @@ fn names<S: Store + Drop, C: Clock + Drop>(
     folder: Name,
 ) -> Result<NameList, Stuck>
     ensures cause { IsErrOf result Stuck.Fault → session.new.faulted ≡ true }
-    ensures opened { session.new.mount.opened ≡ session.old.mount.opened }
+    ensures start { session.new.start.value ≡ session.old.start.value }
 {
     match session.look(room, look)? {
         Answer::Names(names) => Ok(names),
@@ -54,7 +55,7 @@ fn list<S: Store + Drop, C: Clock + Drop>(
     folder: Name,
 ) -> Result<NameList, Stuck>
     ensures cause { IsErrOf result Stuck.Fault → session.new.faulted ≡ true }
-    ensures opened { session.new.mount.opened ≡ session.old.mount.opened }
+    ensures start { session.new.start.value ≡ session.old.start.value }
 {
     names(session, room, Look::List { folder }, folder)
 }
@@ -65,7 +66,7 @@ fn check_flats<S: Store + Drop, C: Clock + Drop>(
     room: u64,
 ) -> Result<(), Stuck>
     ensures cause { IsErrOf result Stuck.Fault → session.new.faulted ≡ true }
-    ensures opened { session.new.mount.opened ≡ session.old.mount.opened }
+    ensures start { session.new.start.value ≡ session.old.start.value }
 {
     let folder = flats();
     let names = list(session, room, folder)?;
@@ -101,7 +102,7 @@ fn top<S: Store + Drop, C: Clock + Drop>(
     room: u64,
 ) -> Result<NameList, Stuck>
     ensures cause { IsErrOf result Stuck.Fault → session.new.faulted ≡ true }
-    ensures opened { session.new.mount.opened ≡ session.old.mount.opened }
+    ensures start { session.new.start.value ≡ session.old.start.value }
 {
     let names = names(session, room, Look::Top, Name::empty())?;
     check_top(names.as_slice())?;
@@ -134,8 +135,14 @@ fn check_top(names: &[Name]) -> Result<(), Stuck>
     Ok(())
 }
 
-// Adds the index droppings of one folder. Each other name but a log's is damage.
-fn add_droppings(folder: Name, names: &[Name], droppings: &mut Vec<Dropping>) -> Result<(), Stuck>
+// Adds the index droppings of one folder. Each other name but a log's is damage, and so is a second dropping of a
+// writer.
+fn add_droppings(
+    folder: Name,
+    names: &[Name],
+    writers: &mut BTreeSet<u64>,
+    droppings: &mut Vec<Dropping>,
+) -> Result<(), Stuck>
     ensures { IsErrOf result Stuck.Fault → ⊥ }
 {
     for name in names {
@@ -144,7 +151,12 @@ fn add_droppings(folder: Name, names: &[Name], droppings: &mut Vec<Dropping>) ->
             file: *name,
         };
         match read(&path) {
-            Some(Item::Index { host, writer }) => droppings.push(Dropping { writer, host })?,
+            Some(Item::Index { host, writer }) => {
+                if !writers.insert(writer)? {
+                    return Err(damaged(&path));
+                }
+                droppings.push(Dropping { writer, host })?;
+            }
             Some(Item::Log { .. }) => {}
             _ => return Err(damaged(&path)),
         }
@@ -159,16 +171,17 @@ pub(crate) fn droppings<S: Store + Drop, C: Clock + Drop>(
     room: u64,
 ) -> Result<Vec<Dropping>, Stuck>
     ensures cause { IsErrOf result Stuck.Fault → session.new.faulted ≡ true }
-    ensures opened { session.new.mount.opened ≡ session.old.mount.opened }
+    ensures start { session.new.start.value ≡ session.old.start.value }
 {
     check_flats(session, room)?;
     let top = top(session, room)?;
+    let mut writers = BTreeSet::new(alloc);
     let mut droppings = Vec::new(alloc);
     for host in 0..32 {
         let folder = hostdir(host);
         if top.as_slice().contains(&folder) {
             let names = list(session, room, folder)?;
-            add_droppings(folder, names.as_slice(), &mut droppings)?;
+            add_droppings(folder, names.as_slice(), &mut writers, &mut droppings)?;
         }
     }
     droppings.sort()?;
@@ -199,7 +212,7 @@ pub(crate) fn truncates<S: Store + Drop, C: Clock + Drop>(
     room: u64,
 ) -> Result<TruncList, Stuck>
     ensures cause { IsErrOf result Stuck.Fault → session.new.faulted ≡ true }
-    ensures opened { session.new.mount.opened ≡ session.old.mount.opened }
+    ensures start { session.new.start.value ≡ session.old.start.value }
 {
     let names = list(session, room, truncs())?;
     let mut found = Vec::new(alloc);

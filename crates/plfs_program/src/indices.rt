@@ -114,7 +114,7 @@ fn whole_entries<S: Store + Drop, C: Clock + Drop>(
     path: &Path,
 ) -> Result<u64, Stuck>
     ensures cause { IsErrOf result Stuck.Fault → session.new.faulted ≡ true }
-    ensures opened { session.new.mount.opened ≡ session.old.mount.opened }
+    ensures start { session.new.start.value ≡ session.old.start.value }
 {
     match session.look(room, Look::Length { path: *path })? {
         Answer::Number { value } => Ok(value / 40),
@@ -132,7 +132,7 @@ fn read_index<S: Store + Drop, C: Clock + Drop>(
     requires { AreFound dropping.writer 0 found.old.items }
     ensures found { IfOk result (λ far. AreFound dropping.writer far.stamp found.new.items) }
     ensures cause { IsErrOf result Stuck.Fault → session.new.faulted ≡ true }
-    ensures opened { session.new.mount.opened ≡ session.old.mount.opened }
+    ensures start { session.new.start.value ≡ session.old.start.value }
 {
     let path = print(&Item::Index {
         host: dropping.host,
@@ -167,7 +167,7 @@ fn read_piece<S: Store + Drop, C: Clock + Drop>(
     requires found { AreFound dropping.writer far.stamp found.old.items }
     ensures found { IfOk result (λ new. AreFound dropping.writer new.stamp found.new.items) }
     ensures cause { IsErrOf result Stuck.Fault → session.new.faulted ≡ true }
-    ensures opened { session.new.mount.opened ≡ session.old.mount.opened }
+    ensures start { session.new.start.value ≡ session.old.start.value }
 {
     let at = far.count.saturating_mul(40);
     let len = (whole - far.count).saturating_mul(40).min(PIECE);
@@ -207,13 +207,13 @@ pub(crate) fn entries<S: Store + Drop, C: Clock + Drop>(
 ) -> Result<Vec<Found>, Stuck>
     ensures found { IfOk result (λ found. AreReplayable found.items) }
     ensures cause { IsErrOf result Stuck.Fault → session.new.faulted ≡ true }
-    ensures opened { session.new.mount.opened ≡ session.old.mount.opened }
+    ensures start { session.new.start.value ≡ session.old.start.value }
 {
     let mut found = Vec::new(alloc);
     let mut last: Option<u64> = None;
     for dropping in droppings {
         if !comes_after(last, dropping.writer) {
-            // A second index dropping of one writer is a foreign name.
+            // No listing gives two of one writer.
             return Err(damaged_at(*dropping, 0));
         }
         let far = read_index(session, room, *dropping, &mut found)?;

@@ -15,5 +15,5 @@ mod session;
 mod stuck;
 mod top;
 
-pub use laws::marks_decide;
+pub use laws::{a_run_leaves_a_sound_tree, marks_are_why, marks_decide};
 pub use top::{Ended, USAGE, plfs, single};

@@ -27,7 +27,7 @@ fn read_log<S: Store + Drop, C: Clock + Drop>(
 ) -> Result<Bytes, Stuck>
     ensures bytes { IfOk result (λ bytes. length bytes ≡ found.now.entry.len) }
     ensures cause { IsErrOf result Stuck.Fault → session.new.faulted ≡ true }
-    ensures opened { session.new.mount.opened ≡ session.old.mount.opened }
+    ensures start { session.new.start.value ≡ session.old.start.value }
 {
     let entry = found.entry;
     let path = print(&Item::Log {
@@ -64,7 +64,7 @@ fn add_writes<S: Store + Drop, C: Clock + Drop>(
     requires near { AllByRecursion IsNear found.now }
     ensures logged { OnOk result (AreLogged (entries_in found.now) changes.new) }
     ensures cause { IsErrOf result Stuck.Fault → session.new.faulted ≡ true }
-    ensures opened { session.new.mount.opened ≡ session.old.mount.opened }
+    ensures start { session.new.start.value ≡ session.old.start.value }
 {
     for write in found {
         let bytes = read_log(session, room, write)?;
@@ -104,7 +104,7 @@ pub(crate) fn changes<S: Store + Drop, C: Clock + Drop>(
     ensures within { IfOk result (λ changes. All (EndsWithin (2 ^ 24)) changes) }
     ensures keys { IfOk result (λ changes. KeysDiffer (entries_of changes)) }
     ensures cause { IsErrOf result Stuck.Fault → session.new.faulted ≡ true }
-    ensures opened { session.new.mount.opened ≡ session.old.mount.opened }
+    ensures start { session.new.start.value ≡ session.old.start.value }
 {
     let mut changes = ChangeList::new(alloc);
     add_writes(session, room, found, &mut changes)?;

@@ -1,8 +1,11 @@
 //! The statements of a script, one after the other.
-ghost use Rattle.std.specs.Prelude.{◌≡◌, ◌||◌, true, false, All, Some, IfOk, IsErrOf};
+ghost use Rattle.std.specs.Prelude.{◌≡◌, ◌⊎◌, ◌||◌, ℕ, true, false, List, All, Some, Ok, IfOk, IsErrOf};
 ghost use Rattle.plfs_program.specs.Ending.{ends_well};
 ghost use Rattle.report_text.specs.Text.{ListsLogicalNames, HaveText};
-ghost use Rattle.plfs_program.specs.Lines.{IsPlayed, IsAnswer, AreInTurn, is_fault, is_damage, has_line};
+ghost use Rattle.plain_file.specs.File.{slice};
+ghost use Rattle.plfs_program.specs.Answered.{IsAnswerTo, IsReaderOf, IsWritten, MaySee, is_trouble};
+ghost use Rattle.plfs_program.specs.Lines.{IsPlayed, IsAnswer, AreInTurn};
+ghost use Rattle.plfs_program.specs.Outcomes.{is_fault, is_damage, has_line};
 ghost use Rattle.plfs_program.specs.Stuck.{outcome_of};
 
 use crate::reading::{Sight, look, read};
@@ -34,9 +37,10 @@ fn open_writer<S: Store + Drop, C: Clock + Drop>(
     actor: &mut Actor,
     name: &LogicalName,
 ) -> Result<Outcome, Stuck>
-    ensures outcome { IfOk result IsAnswer }
+    ensures answer { IfOk result (λ outcome. (writer : ℕ) × (outcome ≡ Outcome.Opened writer)) }
+    ensures reader { actor.new.reader ≡ actor.old.reader }
     ensures cause { IsErrOf result Stuck.Fault → session.new.faulted ≡ true }
-    ensures opened { session.new.mount.opened ≡ session.old.mount.opened }
+    ensures start { session.new.start.value ≡ session.old.start.value }
 {
     if actor.writer.is_some() {
         return Err(Stuck::Refused(Why::AlreadyOpen));
@@ -55,7 +59,8 @@ fn open_writer<S: Store + Drop, C: Clock + Drop>(
 impl Actor {
     // Keeps what a machine left of the writer, and answers its number.
     fn keep(&mut self, out: WriterOut) -> Result<u64, Stuck>
-        ensures { IsErrOf result Stuck.Fault → ends_well out ≡ false }
+        ensures cause { IsErrOf result Stuck.Fault → ends_well out ≡ false }
+        ensures reader { self.new.reader ≡ self.old.reader }
     {
         self.writer = out.handle;
         match out.result {
@@ -83,17 +88,22 @@ fn write<S: Store + Drop, C: Clock + Drop>(
     at: u64,
     bytes: &[u8],
 ) -> Result<Outcome, Stuck>
-    ensures outcome { IfOk result IsAnswer }
+    ensures answer { IfOk result (IsWritten at bytes.now) }
+    ensures reader { actor.new.reader ≡ actor.old.reader }
     ensures cause { IsErrOf result Stuck.Fault → session.new.faulted ≡ true }
-    ensures opened { session.new.mount.opened ≡ session.old.mount.opened }
+    ensures start { session.new.start.value ≡ session.old.start.value }
 {
     let handle = actor.open_handle()?;
-    let Ok(block) = Block::new(Bytes::copy(alloc, bytes)?) else {
+    if bytes.is_empty() {
         return Ok(Outcome::Wrote {
             at,
             len: 0,
             stamp: None,
         });
+    }
+    let Ok(block) = Block::new(Bytes::copy(alloc, bytes)?) else {
+        // No script is long enough for so many bytes.
+        return Err(Stuck::Refused(Why::TooFar));
     };
     let out = session.drive(WriteFlow::new(handle, at, block))?;
     let stamp = actor.keep(out)?;
@@ -109,9 +119,10 @@ fn sync<S: Store + Drop, C: Clock + Drop>(
     session: &mut Session<S, C>,
     actor: &mut Actor,
 ) -> Result<Outcome, Stuck>
-    ensures outcome { IfOk result IsAnswer }
+    ensures answer { IfOk result (λ outcome. (landed : ℕ) × (outcome ≡ Outcome.Synced landed)) }
+    ensures reader { actor.new.reader ≡ actor.old.reader }
     ensures cause { IsErrOf result Stuck.Fault → session.new.faulted ≡ true }
-    ensures opened { session.new.mount.opened ≡ session.old.mount.opened }
+    ensures start { session.new.start.value ≡ session.old.start.value }
 {
     let handle = actor.open_handle()?;
     let out = session.drive(SyncFlow::new(handle))?;
@@ -124,9 +135,10 @@ fn close<S: Store + Drop, C: Clock + Drop>(
     session: &mut Session<S, C>,
     actor: &mut Actor,
 ) -> Result<Outcome, Stuck>
-    ensures outcome { IfOk result IsAnswer }
+    ensures answer { IfOk result (λ outcome. (landed : ℕ) × (outcome ≡ Outcome.Closed landed)) }
+    ensures reader { actor.new.reader ≡ actor.old.reader }
     ensures cause { IsErrOf result Stuck.Fault → session.new.faulted ≡ true }
-    ensures opened { session.new.mount.opened ≡ session.old.mount.opened }
+    ensures start { session.new.start.value ≡ session.old.start.value }
 {
     let Some(handle) = actor.writer else {
         return Err(Stuck::Refused(Why::NotOpen));
@@ -143,9 +155,10 @@ fn open_reader<S: Store + Drop, C: Clock + Drop>(
     actor: &mut Actor,
     name: &LogicalName,
 ) -> Result<Outcome, Stuck>
-    ensures outcome { IfOk result IsAnswer }
+    ensures answer { IfOk result (λ outcome. (file : List ℕ) × (actor.new.reader ≡ Some file) × IsReaderOf file outcome) }
+    ensures reader { (file : List ℕ) → MaySee actor.new.reader file → MaySee actor.old.reader file }
     ensures cause { IsErrOf result Stuck.Fault → session.new.faulted ≡ true }
-    ensures opened { session.new.mount.opened ≡ session.old.mount.opened }
+    ensures start { session.new.start.value ≡ session.old.start.value }
 {
     if actor.reader.is_some() {
         return Err(Stuck::Refused(Why::AlreadyOpen));
@@ -163,7 +176,7 @@ fn open_reader<S: Store + Drop, C: Clock + Drop>(
 
 // Reads from the reader.
 fn read_from(alloc: Global, actor: &Actor, at: u64, len: u64) -> Result<Outcome, Stuck>
-    ensures outcome { IfOk result IsAnswer }
+    ensures answer { IfOk result (λ outcome. (file : List ℕ) × (actor.now.reader ≡ Some file) × (outcome ≡ Outcome.Read at (slice file at len))) }
     ensures no_fault { IsErrOf result Stuck.Fault → ⊥ }
 {
     let Some(content) = &actor.reader else {
@@ -171,6 +184,27 @@ fn read_from(alloc: Global, actor: &Actor, at: u64, len: u64) -> Result<Outcome,
     };
     let content = read(alloc, content.as_slice(), at, len)?;
     Ok(Outcome::Read { at, content })
+}
+
+// Writes what the statement has.
+fn write_data<S: Store + Drop, C: Clock + Drop>(
+    alloc: Global,
+    session: &mut Session<S, C>,
+    actor: &mut Actor,
+    at: u64,
+    content: &Data,
+) -> Result<Outcome, Stuck>
+    requires { IsPlayed (Statement.Write at content.now) }
+    ensures answer { IfOk result (λ outcome. (file : List ℕ) → IsAnswerTo file (Statement.Write at content.now) outcome) }
+    ensures reader { actor.new.reader ≡ actor.old.reader }
+    ensures cause { IsErrOf result Stuck.Fault → session.new.faulted ≡ true }
+    ensures start { session.new.start.value ≡ session.old.start.value }
+{
+    match content {
+        Data::Text(bytes) => write(alloc, session, actor, at, bytes.as_slice()),
+        Data::Hex(bytes) => write(alloc, session, actor, at, bytes.as_slice()),
+        _ => unreachable!(),
+    }
 }
 
 // Makes one statement.
@@ -181,16 +215,14 @@ fn make<S: Store + Drop, C: Clock + Drop>(
     statement: &Statement,
 ) -> Result<Outcome, Stuck>
     requires { IsPlayed statement.now }
-    ensures outcome { IfOk result IsAnswer }
+    ensures answer { IfOk result (λ outcome. (file : List ℕ) → MaySee actor.new.reader file → IsAnswerTo file statement.now outcome) }
+    ensures reader { (file : List ℕ) → MaySee actor.new.reader file → MaySee actor.old.reader file }
     ensures cause { IsErrOf result Stuck.Fault → session.new.faulted ≡ true }
-    ensures opened { session.new.mount.opened ≡ session.old.mount.opened }
+    ensures start { session.new.start.value ≡ session.old.start.value }
 {
     match statement {
         Statement::Open { name } => open_writer(session, actor, name),
-        Statement::Write {
-            at,
-            content: Data::Text(bytes) | Data::Hex(bytes),
-        } => write(alloc, session, actor, *at, bytes.as_slice()),
+        Statement::Write { at, content } => write_data(alloc, session, actor, *at, content),
         Statement::Sync => sync(session, actor),
         Statement::Close => close(session, actor),
         Statement::Ropen { name, .. } => open_reader(alloc, session, actor, name),
@@ -204,6 +236,7 @@ pub(crate) fn trouble_of(stuck: Stuck) -> Result<Outcome, NoMemory>
     ensures text { IfOk result ListsLogicalNames }
     ensures fault { IfOk result (λ outcome. is_fault outcome ≡ true → stuck ≡ Stuck.Fault) }
     ensures exact { IfOk result (λ outcome. outcome_of stuck ≡ Some outcome) }
+    ensures trouble { IfOk result (λ outcome. is_trouble outcome ≡ true) }
 {
     match stuck {
         Stuck::Refused(why) => Ok(Outcome::Refused { why }),
@@ -226,6 +259,7 @@ fn outcome_of(made: Result<Outcome, Stuck>) -> Result<Outcome, NoMemory>
     requires { IfOk made IsAnswer }
     ensures text { IfOk result ListsLogicalNames }
     ensures fault { IfOk result (λ outcome. is_fault outcome ≡ true → IsErrOf made Stuck.Fault) }
+    ensures says { IfOk result (λ outcome. (made ≡ Ok outcome) ⊎ (is_trouble outcome ≡ true)) }
 {
     match made {
         Ok(outcome) => Ok(outcome),
@@ -250,7 +284,7 @@ pub(crate) fn play<S: Store + Drop, C: Clock + Drop>(
     ensures in_turn { IfOk result (λ lines. AreInTurn statements.now lines) }
     ensures text { IfOk result HaveText }
     ensures cause { IfOk result (λ lines. has_line is_fault lines ≡ true → session.new.faulted ≡ true) }
-    ensures opened { session.new.mount.opened ≡ session.old.mount.opened }
+    ensures start { session.new.start.value ≡ session.old.start.value }
 {
     let mut actor = Actor {
         writer: None,

@@ -28,7 +28,7 @@ pub(crate) fn look<S: Store + Drop, C: Clock + Drop>(
     name: &LogicalName,
 ) -> Result<Sight, Stuck>
     ensures cause { IsErrOf result Stuck.Fault → session.new.faulted ≡ true }
-    ensures opened { session.new.mount.opened ≡ session.old.mount.opened }
+    ensures start { session.new.start.value ≡ session.old.start.value }
 {
     let room = find(session, name)?;
     let droppings = droppings(alloc, session, room)?;

@@ -4,7 +4,9 @@ ghost use Rattle.plfs_types.specs.Counts.{next_count};
 ghost use Rattle.mount_model.specs.declared.reply.Reply.TheVariants.{Fault as Faulted};
 ghost use Rattle.mount_model.specs.Step.{OwedBy};
 ghost use Rattle.mount_model.specs.Replies.{Fits, HasItsCause};
+ghost use Rattle.mount_model.specs.State.{State};
 ghost use Rattle.flow.specs.Standing.{IsFresh};
+ghost use Rattle.plfs_program.specs.Calling.{GoesOn};
 ghost use Rattle.plfs_program.specs.Ending.{EndsFrom};
 
 use crate::stuck::Stuck;
@@ -13,6 +15,7 @@ use flow::Flow;
 use mount_core::Mount;
 use mount_model::{Ask, Call, Look, Reply};
 use plfs_types::NoMemory;
+use std::snapshot::Snapshot;
 use store_api::{Answer, Store};
 
 /// The one actor's number as a caller.
@@ -21,17 +24,20 @@ const CALLER: u64 = 0;
 /// A mount that an actor uses, and whether its store has failed since it was mounted.
 #[derive(Drop)]
 pub(crate) struct Session<S: Store + Drop, C: Clock + Drop> {
+    // The mount as it was at first. It takes no memory.
+    start: Snapshot<Mount<S, C>>,
     mount: Mount<S, C>,
     faulted: bool,
-    ghost never_falls: { mount.opened.faults ≤ mount.store.faults },
-    ghost cause: { faulted ≡ true → next_count mount.opened.faults ≤ mount.store.faults },
+    ghost called: { ∥ GoesOn start.value mount ∥₁ },
+    ghost never_falls: { start.value.opened.faults ≤ mount.store.faults },
+    ghost cause: { faulted ≡ true → next_count start.value.opened.faults ≤ mount.store.faults },
 }
 
 // Makes the one actor's call.
 fn apply<S: Store + Drop, C: Clock + Drop>(mount: &mut Mount<S, C>, call: Call) -> Reply
     requires { OwedBy call }
     ensures fits { Fits call result }
-    ensures opened { mount.new.opened ≡ mount.old.opened }
+    ensures goes_on { (start : State) → GoesOn start mount.old → GoesOn start mount.new }
     ensures faults { HasItsCause mount.old mount.new result }
 {
     let ask = Ask { call, stop: None };
@@ -49,9 +55,11 @@ impl<S: Store + Drop, C: Clock + Drop> Session<S, C> {
     /// A mount whose store has not failed yet.
     pub(crate) fn new(mount: Mount<S, C>) -> Self
         requires { mount.opened.faults ≤ mount.store.faults }
-        ensures { result.mount ≡ mount }
+        ensures { result.start.value ≡ mount }
     {
+        let start = Snapshot::of(&mount);
         Session {
+            start,
             mount,
             faulted: false,
         }
@@ -61,7 +69,7 @@ impl<S: Store + Drop, C: Clock + Drop> Session<S, C> {
     pub(crate) fn ask(&mut self, call: Call) -> Reply
         requires { OwedBy call }
         ensures fits { Fits call result }
-        ensures opened { self.new.mount.opened ≡ self.old.mount.opened }
+        ensures start { self.new.start.value ≡ self.old.start.value }
         ensures cause { result ≡ Faulted → self.new.faulted ≡ true }
         ensures kept { self.old.faulted ≡ true → self.new.faulted ≡ true }
     {
@@ -72,7 +80,7 @@ impl<S: Store + Drop, C: Clock + Drop> Session<S, C> {
 
     /// Looks at a container.
     pub(crate) fn look(&mut self, room: u64, look: Look) -> Result<Answer, Stuck>
-        ensures opened { self.new.mount.opened ≡ self.old.mount.opened }
+        ensures start { self.new.start.value ≡ self.old.start.value }
         ensures cause { IsErrOf result Stuck.Fault → self.new.faulted ≡ true }
         ensures kept { self.old.faulted ≡ true → self.new.faulted ≡ true }
     {
@@ -85,7 +93,7 @@ impl<S: Store + Drop, C: Clock + Drop> Session<S, C> {
     /// Makes the calls of the machine to its end.
     pub(crate) fn drive<F: Flow + Drop>(&mut self, flow: F) -> Result<F::Out, NoMemory>
         requires { IsFresh (F.standing flow) }
-        ensures opened { self.new.mount.opened ≡ self.old.mount.opened }
+        ensures start { self.new.start.value ≡ self.old.start.value }
         ensures kept { self.old.faulted ≡ true → self.new.faulted ≡ true }
         ensures ends { IfOk result (λ out. (fine : F.Out → Bool) → EndsFrom fine (F.standing flow) → (self.new.faulted ≡ true) ⊎ (fine out ≡ true)) }
     {
@@ -100,7 +108,7 @@ impl<S: Store + Drop, C: Clock + Drop> Session<S, C> {
     /// The store, after this work.
     pub(crate) fn into_store(self) -> S
         ensures store { S.stored result ≡ self.mount.store }
-        ensures cause { self.faulted ≡ true → next_count self.mount.opened.faults ≤ (S.stored result).faults }
+        ensures cause { self.faulted ≡ true → next_count self.start.value.opened.faults ≤ (S.stored result).faults }
     {
         let Session { mount, .. } = self;
         mount.close()

@@ -1,5 +1,5 @@
 //! The whole of a run: words, input, script, mount, work, output, status.
-ghost use Rattle.std.specs.Prelude.{◌≡◌, ◌≢◌, ◌⊎◌, ◌∷◌, ℕ, List, [], true, Some, All, IfOk, option_map};
+ghost use Rattle.std.specs.Prelude.{◌≡◌, ◌≢◌, ◌⊎◌, ◌∷◌, ℕ, List, [], true, Option, Some, All, IfOk, option_map};
 ghost use Rattle.std.specs.Bool.{OnTrue, OnFalse};
 ghost use Rattle.plfs_types.specs.Counts.{HasRisen};
 ghost use Rattle.script_lang.specs.Faults.{HasFault};
@@ -7,8 +7,11 @@ ghost use Rattle.script_lang.specs.Grammar.{IsScript};
 ghost use Rattle.report_text.specs.Text.{text_of, HaveText};
 ghost use Rattle.plfs_program.specs.Built.{IsBuiltScript};
 ghost use Rattle.plfs_program.specs.Course.{Course, InputCourse, ends_of, play_words};
-ghost use Rattle.plfs_program.specs.Lines.{AreLinesOf, IsPlayed, has_line, is_fault, is_damage, is_refusal, status_of};
-ghost use Rattle.plfs_program.specs.Mounting.{mounts, unmounted_of, IsUnmounted};
+ghost use Rattle.plfs_program.specs.Calling.{Leaves};
+ghost use Rattle.plfs_program.specs.Lines.{AreLinesOf, IsPlayed};
+ghost use Rattle.plfs_program.specs.Outcomes.{has_line, is_fault, is_damage, is_refusal, status_of};
+ghost use Rattle.mount_model.specs.Paths.{marks_folder};
+ghost use Rattle.plfs_program.specs.Mounting.{unmounted_of, IsUnmounted};
 ghost use Rattle.plfs_program.specs.Output.{IsPrinted, IsCutOff};
 
 use crate::built::built;
@@ -119,7 +122,7 @@ fn unmounted(trouble: MountTrouble) -> Result<Outcome, NoMemory>
 
 // A file among the marks is damaged.
 fn damaged_marks(file: Name) -> Outcome
-    ensures { result ≡ Outcome.Damaged mounts file 0 }
+    ensures { result ≡ Outcome.Damaged marks_folder file 0 }
 {
     Outcome::Damaged {
         folder: Name::from_bytes(b"mounts").unwrap(),
@@ -153,7 +156,8 @@ fn work<S: Store + Drop, C: Clock + Drop>(
     statements: &[Numbered],
 ) -> Worked<S>
     requires { All (λ s. IsPlayed s.statement) statements.now }
-    ensures in_turn { IfOk result.lines (AreLinesOf (S.stored store).tree statements.now) }
+    ensures left { Leaves (C.times clock) (S.stored store) (S.stored result.store) }
+    ensures in_turn { IfOk result.lines (AreLinesOf (C.times clock) (S.stored store) (S.stored result.store) statements.now) }
     ensures text { IfOk result.lines HaveText }
     ensures cause { IfOk result.lines (λ lines. has_line is_fault lines ≡ true → HasRisen (S.stored store).faults (S.stored result.store).faults) }
 {
@@ -199,7 +203,7 @@ fn play_statements<S: Store + Drop, C: Clock + Drop, O: Sink>(
     clock: C,
 ) -> Ended<S>
     requires { All (λ s. IsPlayed s.statement) statements.now }
-    ensures { (bytes : List ℕ) → IsBuiltScript bytes statements.now → InputCourse bytes (ends_of (O.taking out.old) (O.taking out.new) (S.stored store) (option_map S.stored result.store)) result.status }
+    ensures { (bytes : List ℕ) → IsBuiltScript bytes statements.now → InputCourse bytes (ends_of (C.times clock) (O.taking out.old) (O.taking out.new) (S.stored store) (option_map S.stored result.store)) result.status }
 {
     let Worked { store, lines } = work(alloc, store, clock, statements);
     let Ok(lines) = lines else {
@@ -234,7 +238,7 @@ fn end_faulty<S: Store, O: Sink>(
     out: &mut O,
     store: S,
 ) -> Ended<S>
-    ensures { (bytes : List ℕ) → HasFault bytes (record { line = line; kind = kind }) → InputCourse bytes (ends_of (O.taking out.old) (O.taking out.new) (S.stored store) (option_map S.stored result.store)) result.status }
+    ensures { (bytes : List ℕ) (times : Option (List ℕ)) → HasFault bytes (record { line = line; kind = kind }) → InputCourse bytes (ends_of times (O.taking out.old) (O.taking out.new) (S.stored store) (option_map S.stored result.store)) result.status }
 {
     let Ok(text) = fault_line(alloc, line, kind) else {
         return starved(store);
@@ -254,7 +258,7 @@ fn play_script<S: Store + Drop, C: Clock + Drop, O: Sink>(
     store: S,
     clock: C,
 ) -> Ended<S>
-    ensures { (bytes : List ℕ) → IsScript bytes script.now → InputCourse bytes (ends_of (O.taking out.old) (O.taking out.new) (S.stored store) (option_map S.stored result.store)) result.status }
+    ensures { (bytes : List ℕ) → IsScript bytes script.now → InputCourse bytes (ends_of (C.times clock) (O.taking out.old) (O.taking out.new) (S.stored store) (option_map S.stored result.store)) result.status }
 {
     let Some(statements) = built(script) else {
         say(out, UNBUILT);
@@ -274,7 +278,7 @@ fn play_input<S: Store + Drop, C: Clock + Drop, O: Sink>(
     store: S,
     clock: C,
 ) -> Ended<S>
-    ensures { InputCourse bytes.now (ends_of (O.taking out.old) (O.taking out.new) (S.stored store) (option_map S.stored result.store)) result.status }
+    ensures { InputCourse bytes.now (ends_of (C.times clock) (O.taking out.old) (O.taking out.new) (S.stored store) (option_map S.stored result.store)) result.status }
 {
     match Script::read(alloc, bytes) {
         Ok(script) => play_script(alloc, &script, out, store, clock),
@@ -290,13 +294,16 @@ fn play_input<S: Store + Drop, C: Clock + Drop, O: Sink>(
 /// one phase without written turns. Its statements are `open`, `sync`, `close`, `ropen` with one worker, `write` of a
 /// text or of hexadecimal digits at a place of at most 2^23, and `read` of at most 2^20 bytes from a place of at most
 /// 2^23. Every other valid script prints `script 0 unbuilt`, a script with a fault prints `script`, the fault's line
-/// and its kind, and all other words print the usage line. A fault or damage is the last line. What the lines say of
-/// the file is not in the contract.
+/// and its kind, and all other words print the usage line.
 ///
-/// A mounting that breaks off is line 0 alone: a fault, `refused mounts-spent`, or damage in `mounts`. Over a store that
-/// told its tree before, refused says that all names listed in `mounts` are marks and the greatest is 2^32 - 1; damaged
-/// names the first that is no mark, or nothing where the room of the marks lacks that folder; and the statements are
-/// played only where all are marks and a number is left. `marks_decide` says that these exclude each other.
+/// Each line is its statement's: it gives the answer that a statement of this kind has, or tells of a refusal, a fault or
+/// damage, of which the last two end the script. All that the reader tells is of one file: its size, and each read's
+/// bytes. What that file is, and when a statement is refused, is not in the contract.
+///
+/// What is left of the store is what a mount's legal calls made of it, or where the mounting broke off. That is line 0
+/// alone: a fault, `refused mounts-spent`, or damage in `mounts`. `marks_are_why` says what a told tree's marks have to do
+/// with it, `marks_decide` that its answers exclude each other, and `a_run_leaves_a_sound_tree` that a mount's calls leave a
+/// sound tree where there was one.
 pub fn single<S: Store + Drop, C: Clock + Drop, I: Source, O: Sink>(
     alloc: Global,
     words: &[Word],
@@ -305,7 +312,7 @@ pub fn single<S: Store + Drop, C: Clock + Drop, I: Source, O: Sink>(
     store: S,
     clock: C,
 ) -> Ended<S>
-    ensures { Course words.now (I.given input.old) (I.given input.new) (ends_of (O.taking out.old) (O.taking out.new) (S.stored store) (option_map S.stored result.store)) result.status }
+    ensures { Course words.now (I.given input.old) (I.given input.new) (ends_of (C.times clock) (O.taking out.old) (O.taking out.new) (S.stored store) (option_map S.stored result.store)) result.status }
 {
     if !is_play(words) {
         say(out, USAGE);
@@ -335,7 +342,7 @@ pub fn plfs<R: Threads + Wait, S: Store + Drop, C: Clock + Drop, I: Source, O: S
     clock: C,
     _gate: &G,
 ) -> Ended<S>
-    ensures { Course words.now (I.given input.old) (I.given input.new) (ends_of (O.taking out.old) (O.taking out.new) (S.stored store) (option_map S.stored result.store)) result.status }
+    ensures { Course words.now (I.given input.old) (I.given input.new) (ends_of (C.times clock) (O.taking out.old) (O.taking out.new) (S.stored store) (option_map S.stored result.store)) result.status }
 {
     single(alloc, words, input, out, store, clock)
 }

@@ -27,7 +27,7 @@ pub struct Setup<'a> {
 }
 
 /// `play` of a script at the time 10, where nothing fails.
-pub fn playing(script: &[u8]) -> Setup<'_> {
+pub(crate) fn playing(script: &[u8]) -> Setup<'_> {
     Setup {
         word: "play",
         script,
@@ -43,7 +43,7 @@ fn numbers(alloc: Global, of: &[u64]) -> Result<CallList, NoMemory> {
 }
 
 /// Runs it over this store.
-pub fn run_on(alloc: Global, store: MemoryStore, setup: Setup<'_>) -> Result<Run, NoMemory> {
+pub(crate) fn run_on(alloc: Global, store: MemoryStore, setup: Setup<'_>) -> Result<Run, NoMemory> {
     let mut words = Vec::new(alloc);
     words.push(Word::copy(alloc, setup.word)?)?;
     let script = Bytes::copy(alloc, setup.script)?;
@@ -60,19 +60,19 @@ pub fn run_on(alloc: Global, store: MemoryStore, setup: Setup<'_>) -> Result<Run
 }
 
 /// Runs it over an empty store.
-pub fn run_fresh(alloc: Global, setup: Setup<'_>) -> Result<Run, NoMemory> {
+pub(crate) fn run_fresh(alloc: Global, setup: Setup<'_>) -> Result<Run, NoMemory> {
     let store = MemoryStore::new(alloc, FailList::new(alloc))?;
     run_on(alloc, store, setup)
 }
 
 /// The run ends so.
-pub fn ends(rt: &impl Abort, run: &Run, status: u8, output: &str) {
+pub(crate) fn ends(rt: &impl Abort, run: &Run, status: u8, output: &str) {
     assert_eq!(rt; run.status, status);
     assert_eq!(rt; run.output.as_slice(), output.as_bytes());
 }
 
 /// A script of the one actor, after its declaration, ends so at the time 10.
-pub fn plays(
+pub(crate) fn plays(
     rt: &impl Abort,
     alloc: Global,
     script: &str,

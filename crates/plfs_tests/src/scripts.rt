@@ -1,6 +1,6 @@
 //! Scripts with their lines.
 use crate::runs::{Setup, ends, playing, plays, run_fresh, run_on};
-use container_layout::hostdir;
+use container_layout::{hostdir, truncs};
 use plfs_types::Name;
 use std::test::Fail;
 use store_api::{Answer, Step, Store};
@@ -124,5 +124,42 @@ fn a_bad_entry_is_damage(rt: HostRuntime) -> Result<(), Fail> {
         7,
         "2 damaged hostdir.0/index.0.4294967297 0\n",
     );
+    Ok(())
+}
+
+#[test]
+fn a_second_dropping_of_a_writer_is_damage(rt: HostRuntime) -> Result<(), Fail> {
+    let first = run_fresh(rt.alloc(), playing(HELLO.as_bytes()))?;
+    let mut store = first.store.ok_or("no store")?;
+    let folder = hostdir(1);
+    let second = Step::Create {
+        room: 1,
+        folder,
+        file: Name::from_bytes(b"index.1.4294967297").ok_or("a long name")?,
+    };
+    assert!(rt;
+        matches!(
+            store.act(&Step::MakeFolder { room: 1, folder }),
+            Ok(Answer::Made)
+        )
+    );
+    assert!(rt; matches!(store.act(&second), Ok(Answer::Made)));
+    let run = run_on(rt.alloc(), store, playing(b"actor a\na ropen f\n"))?;
+    ends(&rt, &run, 7, "2 damaged hostdir.1/index.1.4294967297 0\n");
+    Ok(())
+}
+
+#[test]
+fn a_file_past_2_to_24_bytes_is_not_read(rt: HostRuntime) -> Result<(), Fail> {
+    let first = run_fresh(rt.alloc(), playing(HELLO.as_bytes()))?;
+    let mut store = first.store.ok_or("no store")?;
+    let truncate = Step::Create {
+        room: 1,
+        folder: truncs(),
+        file: Name::from_bytes(b"99.16777217").ok_or("a long name")?,
+    };
+    assert!(rt; matches!(store.act(&truncate), Ok(Answer::Made)));
+    let second = run_on(rt.alloc(), store, playing(b"actor a\na ropen f\n"))?;
+    ends(&rt, &second, 3, "");
     Ok(())
 }

@@ -140,6 +140,24 @@ fn edges_of_reads(rt: HostRuntime) -> Result<(), Fail> {
 }
 
 #[test]
+fn a_write_of_no_bytes_does_nothing(rt: HostRuntime) -> Result<(), Fail> {
+    ends(
+        &rt,
+        rt.alloc(),
+        "a open f\na write 3 hex:\na write 3 text:\na sync\na ropen f\na read 0 9\n",
+        0,
+        "2 open 4294967297\n3 wrote 3 0 -\n4 wrote 3 0 -\n5 synced 0\n6 reader 0 cut - trunc -\n7 read 0 -\n",
+    )?;
+    ends(
+        &rt,
+        rt.alloc(),
+        "a write 3 hex:\n",
+        1,
+        "2 refused not-open\n",
+    )
+}
+
+#[test]
 fn refusals(rt: HostRuntime) -> Result<(), Fail> {
     for (statements, output) in [
         ("a read 0 5\n", "2 refused not-open\n"),

@@ -4,10 +4,10 @@ use Rattle.std.specs.List.{AllByRecursion, AllWithin}
 use Rattle.std.proofs.lemmas.Bool.{cases_lt, cond-true, cond-false, le-ltb, lt-ltb}
 use Rattle.plain_file.specs.declared.pieces.Piece.{Piece}
 use Rattle.plain_file.specs.Sources.{has_byte, source_in, source_at}
-use Rattle.plain_file.specs.Runs.{AreRuns}
+use Rattle.plain_file.specs.Runs.{AreRuns, EndsPast}
 use Rattle.plain_file.specs.Logs.{ArePlaced}
 use Rattle.plain_file.proofs.RunLemmas.{Starts, Starts-after, has-before, source_at-here, source_at-past}
-use Rattle.read_plan.specs.Ranges.{meets, cut, pieces_in, EndsPast}
+use Rattle.read_plan.specs.Ranges.{meets, cut, pieces_in}
 
 -- runs
 

@@ -1,11 +1,11 @@
 -- The parts that were planned so far, and one step more.
 use Rattle.std.proofs.Common.{◌≡◌, ℕ, ◌+◌, ◌-◌, ◌<◌, ◌≤◌, min, max, List, [], ◌∷◌, ◌++◌, ap, ◌∙◌, sym, subst, arith, append_assoc}
 use Rattle.plain_file.specs.declared.pieces.Piece.{Piece}
-use Rattle.plain_file.specs.Runs.{AreRuns}
+use Rattle.plain_file.specs.Runs.{AreRuns, EndsPast}
 use Rattle.plain_file.proofs.RunLemmas.{Starts}
 use Rattle.read_plan.specs.declared.part.Part.{Part}
 use Rattle.read_plan.specs.declared.part.Part.TheVariants.{From}
-use Rattle.read_plan.specs.Ranges.{cut, pieces_in, EndsPast}
+use Rattle.read_plan.specs.Ranges.{cut, pieces_in}
 use Rattle.read_plan.specs.Plan.{part_of, hole, filled}
 use Rattle.read_plan.proofs.RangeLemmas.{Lies, EndsPast-next, pieces_in-met, pieces_in-after}
 

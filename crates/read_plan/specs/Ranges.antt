@@ -1,5 +1,5 @@
 -- The pieces of a range of a file, which goes from byte `at` up to byte `until`.
-use Rattle.std.specs.Prelude.{ℕ, ◌+◌, ◌-◌, ◌<◌, min, max, nat_lt, Bool, List, [], ◌∷◌, filter, map}
+use Rattle.std.specs.Prelude.{ℕ, ◌+◌, ◌-◌, min, max, nat_lt, Bool, List, filter, map}
 use Rattle.plain_file.specs.declared.pieces.Piece.{Piece}
 
 -- where a read of `len` bytes from `at` on ends in a file of this size
@@ -23,8 +23,3 @@ cut at until p = record {
 -- the pieces that meet the range, in order, each cut to it
 abbrev pub pieces_in : ℕ → ℕ → List Piece → List Piece
 pieces_in at until pieces = map (cut at until) (filter (meets at until) pieces)
-
--- the first piece, if there is one, ends past this byte
-abbrev pub EndsPast : ℕ → List Piece → Type 0
-EndsPast at [] = Unit {0}
-EndsPast at (p ∷ pieces) = at < p.at + p.len

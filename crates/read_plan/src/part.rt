@@ -5,7 +5,7 @@ use plfs_types::Sequence;
 /// A part of what is read.
 #[derive(Clone, Copy, Debug, PartialEq, Eq)]
 pub enum Part {
-    /// So many zeros, where nothing was written.
+    /// So many zeros, where no write shows.
     Hole {
         /// Their number.
         len: u64,

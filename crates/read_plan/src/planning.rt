@@ -5,10 +5,10 @@ ghost use Rattle.plain_file.specs.declared.changes.Change.{Change};
 ghost use Rattle.plain_file.specs.File.{plain, plain_size, slice, HasItsBytes};
 ghost use Rattle.plain_file.specs.Keys.{KeysDiffer};
 ghost use Rattle.plain_file.specs.Shows.{entries_of};
-ghost use Rattle.plain_file.specs.Runs.{AreRuns, ArePiecesOf};
+ghost use Rattle.plain_file.specs.Runs.{AreRuns, ArePiecesOf, EndsPast};
 ghost use Rattle.plain_file.specs.Logs.{IsLogged};
 ghost use Rattle.read_plan.specs.Parts.{part_len, is_logged, AreHolesApart, spelled};
-ghost use Rattle.read_plan.specs.Ranges.{end_of, pieces_in, EndsPast};
+ghost use Rattle.read_plan.specs.Ranges.{end_of, pieces_in};
 ghost use Rattle.read_plan.specs.Plan.{part_of, hole, filled, plan_of};
 
 use crate::part::{Part, PartList};
@@ -20,7 +20,7 @@ use std::alloc::Global;
 /// The parts of a read of `len` bytes from byte `at` on, of a file of `size` bytes with these
 /// pieces. They end where the file ends, so there are none at and past its end. It takes time for
 /// the pieces that meet the range, and to find the first of them, at worst for the logarithm of the
-/// number of all. Any range is taken, and `NoMemory` comes only where memory is refused.
+/// number of all. Any range is taken.
 pub fn plan(
     alloc: Global,
     pieces: &Pieces,

@@ -6,8 +6,8 @@
 //! than the processor's caches.
 
 ghost use Rattle.std.specs.Prelude.{◌≡◌, ℕ, ◌+◌, ◌-◌, ◌<◌, ◌≤◌, ◌↔◌, IsTrue, length, drop};
-ghost use Rattle.plain_file.specs.Runs.{AreRuns};
-ghost use Rattle.read_plan.specs.Ranges.{pieces_in, EndsPast};
+ghost use Rattle.plain_file.specs.Runs.{AreRuns, EndsPast};
+ghost use Rattle.read_plan.specs.Ranges.{pieces_in};
 ghost use Rattle.read_plan.specs.Brackets.{IsBracket};
 
 use plain_file::Piece;

@@ -133,7 +133,7 @@ why_again MountsSpent h = refl
 
 -- ---- the outcome by its first word
 
-by_first : (word rest : List ℕ) → list_all (λ b. not (b == 32)) word ≡ true → outcome_at (word ++ 32 ∷ rest) ≡ told_at word rest
+pub by_first : (word rest : List ℕ) → list_all (λ b. not (b == 32)) word ≡ true → outcome_at (word ++ 32 ∷ rest) ≡ told_at word rest
 unfolding outcome_at by_words
 by_first word rest whole = rw (cut-at 32 word rest (avoids_word 32 word whole)) refl
 

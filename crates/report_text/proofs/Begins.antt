@@ -11,7 +11,7 @@ use Rattle.report_text.proofs.Texts.{by_recursion}
 use Rattle.script_lang.specs.declared.line.Line.{Line}
 use Rattle.report_text.specs.declared.trouble.Trouble.{Trouble}
 use Rattle.report_text.specs.declared.trouble.Trouble.TheVariants.{Bad, NoMemory}
-use Rattle.report_text.specs.Text.{text_of, text_of_line, body_of_line, ListsLogicalNames, HaveText}
+use Rattle.report_text.specs.Text.{text_of, text_of_line, body_of_line}
 use Rattle.report_text.specs.Widths.{IsLine}
 use Rattle.report_text.specs.Reading.{OnlyGives, Fails, cut}
 use Rattle.report_text.proofs.Cuts.{cut-at}
@@ -44,20 +44,17 @@ never_bad view NoMemory y is h = cc
 abbrev pub seen : Line × Bor (List ℕ) → Line × List ℕ
 seen q = (q.0, q.1.now)
 
-text_not_empty : (line : Line) (others : List ℕ) → length (text_of_line line ++ others) ≡ 0 → ⊥
+pub text_not_empty : (line : Line) (others : List ℕ) → length (text_of_line line ++ others) ≡ 0 → ⊥
 text_not_empty line others e = omega (arith, length-append (text_of_line line) others, length-append (body_of_line line) (10 ∷ []))
 
 -- how far the lines of the bytes were read
 pub record Progress (bytes : List ℕ) (lines : List Line) (rest : List ℕ) : Type 0 where
   pub parts : bytes ≡ text_of lines ++ rest
-  pub logical : HaveText lines
+  pub fit : All IsLine lines
   pub continues : (all : List Line) → AllByRecursion IsLine all → bytes ≡ text_of all → Continues lines rest all
 
-abbrev HasNames : Line → Type 0
-HasNames line = ListsLogicalNames line.outcome
-
 pub progress_starts : (bytes : List ℕ) → Progress bytes [] bytes
-progress_starts bytes = record { parts = refl; logical = All-nil HasNames; continues = λ all h is. record { more = all; joined = refl; more_fit = h; left = is } }
+progress_starts bytes = record { parts = refl; fit = All-nil IsLine; continues = λ all h is. record { more = all; joined = refl; more_fit = h; left = is } }
 
 abbrev pub LineAndRest : Type 0
 LineAndRest = Line × List ℕ
@@ -81,13 +78,13 @@ goes_on lines rest line others all (l ∷ more) only some joined fit left =
     let same = only l (text_of more) fit.0 left in
     record { more = more; joined = joined ∙ sym (append_assoc lines (l ∷ []) more) ∙ ap (λ (x : Line). (lines ++ x ∷ []) ++ more) (sym same.0); more_fit = fit.1; left = same.1 }
 
-pub progress_step : (bytes : List ℕ) (lines : List Line) (rest : List ℕ) (line : Line) (others : List ℕ) → Progress bytes lines rest → 0 < length rest → ListsLogicalNames line.outcome → rest ≡ text_of_line line ++ others
+pub progress_step : (bytes : List ℕ) (lines : List Line) (rest : List ℕ) (line : Line) (others : List ℕ) → Progress bytes lines rest → 0 < length rest → IsLine line → rest ≡ text_of_line line ++ others
     → ((l : Line) (o : List ℕ) → IsLine l → rest ≡ text_of_line l ++ o → Same line others l o) → Progress bytes (lines ++ line ∷ []) others
-progress_step bytes lines rest line others h some names is only = record {
+progress_step bytes lines rest line others h some line_fits is only = record {
   parts =
       h.parts ∙ ap (λ (x : List ℕ). text_of lines ++ x) is
       ∙ sym (ap (λ (x : List ℕ). x ++ others) (flat_map-append text_of_line lines (line ∷ []) ∙ ap (λ (x : List ℕ). text_of lines ++ x) (append-nil (text_of_line line))) ∙ append_assoc (text_of lines) (text_of_line line) others);
-  logical = All-push HasNames lines line h.logical names;
+  fit = All-push IsLine lines line h.fit line_fits;
   continues = λ all fit spelled. let k = h.continues all fit spelled in goes_on lines rest line others all k.more only some k.joined k.more_fit k.left;
 }
 
@@ -102,10 +99,10 @@ breaks_only bytes lines rest h some never all fit is =
     let k = h.continues all (by_recursion IsLine all fit) is in no_rest rest k.more never some k.more_fit k.left
 
 pub breaks_first : (bytes : List ℕ) (lines : List Line) (rest : List ℕ) → Progress bytes lines rest → 0 < length rest → ((l : Line) (o : List ℕ) → IsLine l → rest ≡ text_of_line l ++ o → ⊥) → BreaksAt bytes (length lines + 1)
-breaks_first bytes lines rest h some never = record { front = lines; rest = rest; parts = h.parts; front_fits = h.logical; place = refl; some_left = some; no_line = never }
+breaks_first bytes lines rest h some never = record { front = lines; rest = rest; parts = h.parts; front_fits = h.fit; place = refl; some_left = some; no_line = never }
 
-pub all_printed : (bytes : List ℕ) (lines : List Line) (rest : List ℕ) → Progress bytes lines rest → length rest ≡ 0 → HaveText lines × (bytes ≡ text_of lines)
-all_printed bytes lines [] h none = (h.logical, h.parts ∙ append-nil (text_of lines))
+pub all_printed : (bytes : List ℕ) (lines : List Line) (rest : List ℕ) → Progress bytes lines rest → length rest ≡ 0 → All IsLine lines × (bytes ≡ text_of lines)
+all_printed bytes lines [] h none = (h.fit, h.parts ∙ append-nil (text_of lines))
 all_printed bytes lines (b ∷ rest) h none = absurd (omega arith)
 
 ends_there : (read : List Line) (rest : List ℕ) (all : List Line) → length rest ≡ 0 → Continues read rest all → read ≡ all

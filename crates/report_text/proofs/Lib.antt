@@ -1,7 +1,10 @@
 pub mod Again
 pub mod AgainOutcomes
 pub mod Begins
+pub mod Breaks
 pub mod Cuts
+pub mod Fits
+pub mod FitsOutcomes
 pub mod Joined
 pub mod Lines
 pub mod Loops

@@ -22,7 +22,7 @@ use Rattle.report_text.proofs.Texts.{by_append, Above, avoids_below, lower, numb
 use Rattle.report_text.proofs.Again.{number_field_again, IsWord, counts_word, shares_word, truncs_word, ids_word, names_word, place_plain, piece_above}
 use Rattle.report_text.proofs.AgainOutcomes.{outcome_again}
 
-body_leads : (n : ℕ) (o : Outcome) → spaced (decimal n ∷ words_of o) ≡ decimal n ++ 32 ∷ text_of_outcome o
+pub body_leads : (n : ℕ) (o : Outcome) → spaced (decimal n ∷ words_of o) ≡ decimal n ++ 32 ∷ text_of_outcome o
 body_leads number (Opened w) = refl
 body_leads number (Wrote at len stamp) = refl
 body_leads number (Synced n) = refl

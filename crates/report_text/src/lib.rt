@@ -5,6 +5,7 @@
 
 mod fields;
 mod items;
+mod laws;
 mod outcomes;
 mod printing;
 mod reading;
@@ -14,6 +15,7 @@ mod reading_outcomes;
 mod trouble;
 mod words;
 
+pub use laws::{lines_break_nowhere, one_break};
 pub use printing::print;
 pub use reading::read;
 pub use trouble::ReportTrouble;

@@ -5,7 +5,7 @@ ghost use Rattle.script_lang.specs.declared.line.Line.{Line};
 ghost use Rattle.report_text.specs.Read.{AreRead, IsTroubleOf};
 ghost use Rattle.report_text.specs.Reading.{Gives, OnlyGives};
 ghost use Rattle.report_text.specs.ReadingOutcomes.{line_at};
-ghost use Rattle.report_text.specs.Text.{text_of, text_of_line, body_of_line, ListsLogicalNames, HaveText};
+ghost use Rattle.report_text.specs.Text.{text_of, text_of_line, body_of_line, ListsLogicalNames};
 ghost use Rattle.report_text.specs.Widths.{IsLine};
 
 use crate::fields::{cut, number_field};
@@ -20,7 +20,7 @@ use std::alloc::Global;
 /// that is none, from 1; `NoMemory` where memory was refused.
 pub fn read(alloc: Global, bytes: &[u8]) -> Result<Lines, ReportTrouble>
     // What is read is printed so.
-    ensures found { IfOk result (λ lines. HaveText lines × (bytes.now ≡ text_of lines)) }
+    ensures found { IfOk result (λ lines. All IsLine lines × (bytes.now ≡ text_of lines)) }
     // What is printed so is read, unless memory is refused.
     ensures only { (lines : List Line) → All IsLine lines → bytes.now ≡ text_of lines → AreRead result lines }
     ensures first { IfErr result (IsTroubleOf bytes.now) }
@@ -50,7 +50,7 @@ fn first_line<'a>(
     bytes: &'a [u8],
     scratch: &mut Vec<u8>,
 ) -> Result<(Line, &'a [u8]), Trouble>
-    ensures found { IfOk result (λ p. ListsLogicalNames p.0.outcome × (bytes.now ≡ text_of_line p.0 ++ p.1.now)) }
+    ensures found { IfOk result (λ p. IsLine p.0 × (bytes.now ≡ text_of_line p.0 ++ p.1.now)) }
     ensures only { (line : Line) (others : List ℕ) → IsLine line → bytes.now ≡ text_of_line line ++ others → OnlyGives {Y = Line × List ℕ} (λ p. (p.0, p.1.now)) result (line, others) }
     ensures shorter { IfOk result (λ p. length p.1.now < length bytes.now) }
 {
@@ -61,7 +61,7 @@ fn first_line<'a>(
 
 // The line of these bytes, without its line feed.
 fn line(alloc: Global, body: &[u8], scratch: &mut Vec<u8>) -> Result<Line, Trouble>
-    ensures found { IfOk result (λ line. ListsLogicalNames line.outcome × (body.now ≡ body_of_line line)) }
+    ensures found { IfOk result (λ line. IsLine line × (body.now ≡ body_of_line line)) }
     ensures only { (line : Line) → IsLine line → body.now ≡ body_of_line line → OnlyGives (λ line. line) result line }
 {
     let read = loose_line(alloc, body)?;

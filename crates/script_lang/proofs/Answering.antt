@@ -1,23 +1,14 @@
 -- What is read step by step is answered by the grammar.
-use Rattle.std.proofs.Common.{◌≡◌, ℕ, false, List, [], ◌∷◌, Some, Result, Ok, Err, refl, inl, inr, ap}
-use Rattle.std.specs.Prelude.{All, ◌≢◌, ◌+◌, ◌≤◌, ◌^◌, IfOk, IfErr}
-use Rattle.std.proofs.lemmas.List.Elements.{recursion_from_All}
-use Rattle.script_lang.specs.declared.meaning.Meaning.TheVariants.{Says}
-use Rattle.script_lang.specs.declared.script.ActorDecl.{ActorDecl}
+use Rattle.std.proofs.Common.{◌≡◌, ℕ, List, Result, Ok, Err, refl, inl, inr, ap}
+use Rattle.std.specs.Prelude.{IfOk, IfErr}
 use Rattle.script_lang.specs.declared.script.Script.{Script}
-use Rattle.script_lang.specs.declared.script.Statement.{Statement}
 use Rattle.script_lang.specs.declared.trouble.ScriptTrouble.{ScriptTrouble}
 use Rattle.script_lang.specs.declared.trouble.ScriptTrouble.TheVariants as trouble
-use Rattle.script_lang.specs.ActorNames.{IsKeyword, place_of}
 use Rattle.script_lang.specs.Faults.{Fault, HasFault}
-use Rattle.script_lang.specs.Grammar.{IsScript, read_length}
-use Rattle.script_lang.specs.Lines.{saying}
+use Rattle.script_lang.specs.Grammar.{IsScript}
 use Rattle.script_lang.specs.Scripts.{Answers, script_of}
-use Rattle.script_lang.specs.Spelling.{Spells}
-use Rattle.script_lang.specs.Spoken.{spoken}
 use Rattle.script_lang.specs.Told.{IsTroubleOf, IsAnswer}
 use Rattle.script_lang.proofs.ExactLemmas.{script_so, script_is, fault_so, fault_is}
-use Rattle.script_lang.proofs.MeaningLemmas.{other_at}
 
 pub told_script : (bytes : List ℕ) (answer : Result Script ScriptTrouble) → Answers answer (script_of bytes) → IfOk answer (IsScript bytes)
 told_script bytes (Ok script) is = script_so bytes script is
@@ -40,11 +31,3 @@ fault_told bytes (Err (trouble.Fault line kind)) is fault there =
     let same : ◌≡◌ {A = Fault} (record { line = line; kind = kind }) fault = cc in
     inl (ap (λ (f : Fault). Err (trouble.Fault f.line f.kind)) same)
 fault_told bytes (Err trouble.NoMemory) is fault there = inr refl
-
-pub written_so : (actors : List ActorDecl) (actor : List ℕ) (place reads sum : ℕ) (made : Statement) (words : List (List ℕ)) → (IsKeyword actor → ⊥) → All (λ word. word ≢ []) words → saying actors reads (spoken (actor ∷ words)) ≡ Ok (Says place made sum) → (place_of actors actor ≡ Some place) × Spells made words × (sum ≡ reads + read_length made) × (sum ≤ 2 ^ 28)
-written_so actors actor place reads sum made words free full is =
-    let says = other_at actors false reads actor (place_of actors actor) words (Says place made sum) free (recursion_from_All (λ word. word ≢ []) words full) refl is in
-    let states = says.0 in
-    let whose : actor ≡ states.whose = let split = states.split in cc in
-    let behind : words ≡ states.behind = let split = states.split in cc in
-    (rw whose states.declared, rw behind states.spelled, says.1, says.2)

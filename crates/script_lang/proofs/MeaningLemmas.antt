@@ -18,7 +18,6 @@ use Rattle.script_lang.specs.Phases.{Turns, States}
 use Rattle.script_lang.specs.Lines.{is_refused, declared, declaration, beginning, turns_at, turning, within_reads, says_by, says_at, saying, meaning_of}
 use Rattle.script_lang.specs.Numbers.{number_in}
 use Rattle.script_lang.specs.Reading.{◌>>=◌}
-use Rattle.script_lang.specs.Spelling.{Spells}
 use Rattle.script_lang.specs.Spoken.{spoken}
 use Rattle.script_lang.specs.Verbs.{verb_of, has_words}
 use Rattle.script_lang.proofs.DeclarationLemmas.{accepted, line_of, short_line, long_line, declared_so, declared_again}
@@ -149,7 +148,7 @@ module _ (actors : List ActorDecl) (begun : Bool) (reads : ℕ) where
           let spelled = spells v arguments found.0 limits.0 limits.1 full found.1 in
           rw (← found.2) (record { whose = whose; behind = word ∷ arguments; free = free; declared = there; split = refl; spelled = rw (verb_word word v known) spelled }, refl, found.3)
 
-  pub other_at : (whose : List ℕ) (found : Option ℕ) (behind : List (List ℕ)) (said : Meaning) → (IsKeyword whose → ⊥) → Full behind → place_of actors whose ≡ found → says_at found reads (spoken (whose ∷ behind)) ≡ Ok said → Says actors begun reads (whose ∷ behind) said
+  other_at : (whose : List ℕ) (found : Option ℕ) (behind : List (List ℕ)) (said : Meaning) → (IsKeyword whose → ⊥) → Full behind → place_of actors whose ≡ found → says_at found reads (spoken (whose ∷ behind)) ≡ Ok said → Says actors begun reads (whose ∷ behind) said
   other_at whose None behind said free full there is = cc
   other_at whose (Some place) [] said free full there is = cc
   other_at whose (Some place) (word ∷ arguments) said free full there is = verb_said whose word arguments place (verb_of word) said free full.1 there refl (by (suc (suc (length arguments)) == 1) (two_up (length arguments)) is)
@@ -187,14 +186,6 @@ module _ (actors : List ActorDecl) (begun : Bool) (reads : ℕ) where
 
   verb_again : (whose : List ℕ) (arguments : List (List ℕ)) (place : ℕ) (v : Verb) → (IsKeyword whose → ⊥) → place_of actors whose ≡ Some place → meaning_of actors begun reads (spoken (whose ∷ word_of v ∷ arguments)) ≡ cond (has_words v (suc (suc (length arguments)))) (reading v arguments >>= (λ made. within_reads place made (reads + read_length made))) (Err kinds.Count)
   verb_again whose arguments place v free there = of_other actors begun reads whose (word_of v ∷ arguments) free ∙ rw (there, verb_known v, two_up (length arguments)) refl
-
-  pub saying_again : (whose : List ℕ) (words : List (List ℕ)) (place : ℕ) (made : Statement) → place_of actors whose ≡ Some place → Spells made words → saying actors reads (spoken (whose ∷ words)) ≡ within_reads place made (reads + read_length made)
-  saying_again whose words place made there spelled =
-      let read = read_of made words spelled in
-      let does = read.does in
-      let counts = read.counts in
-      let reads_so = read.reads_so in
-      ap (λ ws. saying actors reads (spoken (whose ∷ ws))) read.split ∙ rw (there, verb_known does, two_up (length read.arguments), counts, reads_so) refl
 
   statement_again : (words : List (List ℕ)) (place : ℕ) (made : Statement) → States actors words place made → reads + read_length made ≤ 2 ^ 28 → meaning_of actors begun reads (spoken words) ≡ Ok (meaning.Says place made (reads + read_length made))
   statement_again words place made states few =

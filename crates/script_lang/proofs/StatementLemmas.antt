@@ -11,7 +11,6 @@ use Rattle.script_lang.specs.declared.trouble.Kind.{Kind}
 use Rattle.script_lang.specs.declared.verb.Verb.{Verb}
 use Rattle.script_lang.specs.declared.verb.Verb.TheVariants as verb
 use Rattle.script_lang.specs.Data.{data_in}
-use Rattle.script_lang.specs.Forms.{number}
 use Rattle.script_lang.specs.Names.{file_name}
 use Rattle.script_lang.specs.Numbers.{number_in, number_or}
 use Rattle.script_lang.specs.Reading.{◌>>=◌}
@@ -95,10 +94,6 @@ two_read : {A B : Type 0} (r : Result A Kind) (s : Result B Kind) (f : A → B �
 two_read (Ok x) (Ok y) f made is = let same : f x y ≡ made = cc in (x, y, refl, refl, same)
 two_read (Ok x) (Err kind) f made is = cc
 two_read (Err kind) s f made is = cc
-
--- a number below 2^64
-at_most : (n : ℕ) → n ≤ 2 ^ 64 - 1 → n < 2 ^ 64
-at_most n most = omega arith
 
 both_words : (w : List ℕ) {a b c d : List ℕ} → a ≡ c → b ≡ d → w ∷ a ∷ b ∷ [] ≡ w ∷ c ∷ d ∷ []
 both_words w ha hb = rw (ha, hb) refl

@@ -21,20 +21,6 @@ word_differs a b other = by (is_word a b) refl
     by false is = is
     by true is = absurd (other (same_word a b is))
 
-keyword_found : (a b c : Bool) → (a || b || c) ≡ true → (a ≡ true) ⊎ (b ≡ true) ⊎ (c ≡ true)
-keyword_found true b c is = inl refl
-keyword_found false true c is = inr (inl refl)
-keyword_found false false true is = inr (inr refl)
-keyword_found false false false is = cc
-
-pub keyword : (word : List ℕ) → is_keyword word ≡ true → IsKeyword word
-keyword word is =
-    elim (keyword_found (is_word word (codes "actor")) (is_word word (codes "phase")) (is_word word (codes "turn")) is) [
-      | inl actor ↦ inl (same_word word (codes "actor") actor)
-      | inr (inl phase) ↦ inr (inl (same_word word (codes "phase") phase))
-      | inr (inr turn) ↦ inr (inr (same_word word (codes "turn") turn))
-    ]
-
 none_of : (a b c : Bool) → a ≡ false → b ≡ false → c ≡ false → (a || b || c) ≡ false
 none_of a b c ha hb hc = rw (ha, hb, hc) refl
 

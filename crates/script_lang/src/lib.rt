@@ -1,5 +1,5 @@
 //! Scripts, what they have their actors do, and the lines that tell what became of each statement. It stands on
-//! the shared values alone.
+//! the shared values, on `indexmap` for the actors and on `hex` for data.
 #![tactic(auto)]
 
 mod cast;
@@ -23,7 +23,7 @@ pub use script::{
     ActorDecl, ActorList, Data, Numbered, Phase, PhaseList, Script, Statement, StatementList,
     TurnList, Turned,
 };
-pub use spelling::{scripts_are_told_apart, statements_are_read_again};
+pub use spelling::{scripts_are_told_apart, statements_are_told_apart};
 pub use trouble::{Kind, ScriptTrouble};
 
 #[cfg(test)]

@@ -8,9 +8,9 @@ use plfs_types::{
 pub enum Why {
     /// There is no such file.
     NoFile,
-    /// A live holder has the file.
+    /// The folder that names its open writers is away; for a recovery: a live holder has the file.
     Held,
-    /// Writers have the file open, this host and writer before the others.
+    /// Writers stand in its folder of open writers; this is the least entry in byte order.
     Busy { host: u32, writer: u64 },
     /// A file has the new name.
     Exists,

@@ -1,12 +1,13 @@
 //! Why bytes are no script.
 use std::alloc::{AllocError, AllocFailed};
 
-/// A kind of fault, in the order in which a line is looked at.
+/// A kind of fault, in the order in which a line is looked at: `Number`, `Name` and `Data` have one place in it,
+/// where the leftmost argument decides, and `Long` comes before all others.
 #[derive(Clone, Copy, Debug, PartialEq, Eq)]
 pub enum Kind {
     /// A word is empty.
     Spaces,
-    /// An actor is not declared, or its declaration is malformed, doubled, late or one too many.
+    /// An actor is not declared, or a declaration has a malformed or doubled name, is late or is one too many.
     Actor,
     /// There is no such statement.
     Word,

@@ -1,22 +1,74 @@
 //! The files that are open: those that were used last, each with its length.
+ghost use Rattle.std.specs.Prelude.{◌≡◌};
+ghost use Rattle.std.specs.Map.{remove_entry};
+ghost use Rattle.store_folder.specs.Keys.{same_file};
+ghost use Rattle.store_folder.specs.Places.{held_at};
+
 use crate::failure::Failure;
 use crate::held::Held;
-use crate::paths::part;
 use lru::LruCache;
 use plfs_types::Name;
 use std::alloc::Global;
+use std::hash::{Hash, Hasher};
 use std::num::NonZeroUsize;
 
 /// The most files that are open between two acts.
 const MOST_OPEN: usize = 256;
 
-/// The open files by room number, folder and name. A room's number stays as it is renamed, and so does the key.
-#[derive(Drop)]
-pub struct OpenFiles {
-    files: LruCache<String, Held>,
+/// A file by the number of its room, its folder, which is empty at the top, and its name.
+/// A room's number stays as it is renamed, and so does the key.
+#[derive(Clone, Copy)]
+pub struct FileKey {
+    pub room: u64,
+    pub folder: Name,
+    pub file: Name,
 }
 
-impl OpenFiles {
+impl PartialEq for FileKey {
+    ghost use Rattle.std.proofs.Common.{rules};
+    ghost use Rattle.std.specs.Cmp.Rules.{comparing};
+    ghost use Rattle.store_folder.specs.Keys.{same_file};
+
+    ghost eq = { same_file };
+
+    ghost laws = { Prim.search (comparing, rules) };
+
+    fn eq(&self, other: &FileKey) -> bool {
+        self.room == other.room && self.folder == other.folder && self.file == other.file
+    }
+}
+
+impl Eq for FileKey {
+    ghost use Rattle.std.proofs.Common.{rules};
+    ghost use Rattle.std.specs.Cmp.Rules.{comparing};
+
+    ghost laws = { Prim.search (comparing, rules) };
+}
+
+impl Hash for FileKey {
+    ghost use Rattle.std.specs.Prelude.{◌++◌};
+    ghost use Rattle.std.proofs.Common.{rules};
+    ghost use Rattle.std.specs.Cmp.Rules.{hashing};
+    ghost use Rattle.std.specs.Hash as fed;
+
+    ghost hash_input = { λ key. fed.u64 key.room ++ fed.slice fed.u8 key.folder ++ fed.slice fed.u8 key.file };
+
+    ghost respects_eq = { Prim.search (hashing, rules) };
+
+    fn hash<H: Hasher>(&self, state: &mut H) {
+        self.room.hash(state);
+        self.folder.bytes().hash(state);
+        self.file.bytes().hash(state);
+    }
+}
+
+/// The open files by their keys.
+#[derive(Drop)]
+pub struct OpenFiles<F> {
+    files: LruCache<FileKey, Held<F>>,
+}
+
+impl<F: Drop> OpenFiles<F> {
     /// No open file.
     pub fn new(alloc: Global) -> Result<Self, Failure> {
         let most = NonZeroUsize::new(MOST_OPEN).unwrap_or(NonZeroUsize::MIN);
@@ -26,23 +78,16 @@ impl OpenFiles {
     }
 
     /// Takes the file out, if it is open.
-    pub fn take(&mut self, key: &String) -> Option<Held> {
-        self.files.pop(key.as_str())
+    pub fn take(&mut self, key: &FileKey) -> Option<Held<F>>
+        ensures held { result ≡ held_at self.old key.now }
+        ensures rest { self.new.files.entries ≡ remove_entry (same_file key.now) self.old.files.entries }
+    {
+        self.files.pop(key)
     }
 
     /// Keeps the file open, and closes the one that was not used for longest where there are too many.
     /// Where memory is refused the file is closed.
-    pub fn keep(&mut self, key: String, held: Held) {
+    pub fn keep(&mut self, key: FileKey, held: Held<F>) {
         let _ = self.files.put(key, held);
     }
-}
-
-/// The key of a file. It fails where a name is no part of a path; the empty folder is the top.
-pub fn key_of(alloc: Global, room: u64, folder: &Name, file: &Name) -> Result<String, Failure> {
-    let file = part(file)?;
-    if folder.bytes().is_empty() {
-        return Ok(format!(in alloc; "{room}//{file}")?);
-    }
-    let folder = part(folder)?;
-    Ok(format!(in alloc; "{room}/{folder}/{file}")?)
 }

@@ -1,5 +1,10 @@
 //! What a store keeps of its folder, and each step's way to the system.
-use crate::cache::OpenFiles;
+ghost use Rattle.std.specs.Prelude.{◌≡◌, true, IfSome};
+ghost use Rattle.store_api.specs.Step.{step_of};
+ghost use Rattle.store_folder.specs.Places.{file_of, ActsWhereOpen};
+
+use crate::cache::{FileKey, OpenFiles};
+use crate::calls::FileCalls;
 use crate::failure::Failure;
 use plfs_types::{Name, Word};
 use std::alloc::Global;
@@ -14,21 +19,23 @@ impl<R: Files<File = File> + AllocGlobal + Clone + Drop> System for R {}
 
 /// A real folder with its rooms and the files that are open.
 #[derive(Drop)]
-pub struct Disk<R> {
+pub struct Disk<R, C, F> {
     pub(crate) rt: R,
+    pub(crate) calls: C,
     pub(crate) alloc: Global,
     pub(crate) root: String,
     // The names of the rooms by their numbers, once ROOT was listed.
     pub(crate) rooms: Vec<Name>,
     pub(crate) is_numbered: bool,
-    pub(crate) open: OpenFiles,
+    pub(crate) open: OpenFiles<F>,
 }
 
-impl<R: System> Disk<R> {
+impl<R: System, C: FileCalls<File = F> + Drop, F: Drop> Disk<R, C, F> {
     /// The folder of this path. It touches nothing.
-    pub fn new(rt: R, alloc: Global, root: &Word) -> Result<Self, Failure> {
+    pub fn new(rt: R, calls: C, alloc: Global, root: &Word) -> Result<Self, Failure> {
         Ok(Disk {
             rt,
+            calls,
             alloc,
             root: String::from_str(alloc, root.as_str())?,
             rooms: Vec::new(alloc),
@@ -38,7 +45,9 @@ impl<R: System> Disk<R> {
     }
 
     /// Makes one step, and numbers the rooms before the first.
-    pub fn make(&mut self, step: &Step<'_>) -> Result<Answer, Failure> {
+    pub fn make(&mut self, step: &Step<'_>) -> Result<Answer, Failure>
+        ensures open_file { self.old.is_numbered ≡ true → IfSome (file_of (step_of step.now)) (λ key. ActsWhereOpen self.old key (C.log self.old.calls) (C.log self.new.calls) (step_of step.now) result) }
+    {
         self.number_rooms()?;
         match *step {
             Step::Rooms => self.room_names(),
@@ -57,7 +66,9 @@ impl<R: System> Disk<R> {
     }
 
     // Makes a step that names a file.
-    fn make_at_file(&mut self, step: &Step<'_>) -> Result<Answer, Failure> {
+    fn make_at_file(&mut self, step: &Step<'_>) -> Result<Answer, Failure>
+        ensures open_file { IfSome (file_of (step_of step.now)) (λ key. ActsWhereOpen self.old key (C.log self.old.calls) (C.log self.new.calls) (step_of step.now) result) }
+    {
         match *step {
             Step::Create { room, folder, file } => self.create(room, &folder, &file),
             Step::Remove { room, folder, file } => self.remove(room, &folder, &file),
@@ -67,28 +78,29 @@ impl<R: System> Disk<R> {
                 from,
                 to,
             } => self.replace(room, &folder, &from, &to),
-            Step::Length { room, folder, file } => self.length(room, &folder, &file),
-            Step::ReadAt {
+            Step::Length { room, folder, file }
+            | Step::ReadAt {
                 room,
                 folder,
                 file,
-                at,
-                len,
-            } => self.read_at(room, &folder, &file, at, len),
-            Step::WriteAt {
+                ..
+            }
+            | Step::WriteAt {
                 room,
                 folder,
                 file,
-                at,
-                bytes,
-            } => self.write_at(room, &folder, &file, at, bytes),
-            Step::Cut {
+                ..
+            }
+            | Step::Cut {
                 room,
                 folder,
                 file,
-                len,
-            } => self.cut(room, &folder, &file, len),
-            Step::Sync { room, folder, file } => self.sync(room, &folder, &file),
+                ..
+            }
+            | Step::Sync { room, folder, file } => self.act_at(
+                &FileKey { room, folder, file },
+                step,
+            ),
             _ => Err(Failure::Failed),
         }
     }

@@ -6,7 +6,7 @@ use std::io;
 /// Why a step came to no answer.
 #[derive(Clone, Copy, Debug, PartialEq, Eq)]
 pub enum Failure {
-    /// The system failed, or no name of the system can stand for a name of the step.
+    /// The system failed, or a name of the step or of a listing can't be taken.
     Failed,
     /// Memory was refused before the step did anything.
     NoMemory,

@@ -1,21 +1,24 @@
 //! The steps of files.
-ghost use Rattle.std.specs.Prelude.{◌≡◌, ◌⊎◌, ◌≤◌, length, Ok, IfOk, IfErr};
+ghost use Rattle.std.specs.Prelude.{◌≡◌, ◌⊎◌, ◌≤◌, ◌<◌, length, Ok, IfOk, IfErr, IfSome};
+ghost use Rattle.store_api.specs.Step.{step_of};
+ghost use Rattle.store_folder.specs.Places.{held_at, ActsWhereOpen};
 
-use crate::cache::key_of;
+use crate::cache::FileKey;
+use crate::calls::FileCalls;
 use crate::disk::{Disk, System};
 use crate::failure::Failure;
 use crate::folders::{Spot, is_without_folder, sync_folder};
 use crate::held::Held;
 use crate::paths::{join, part};
 use plfs_types::Name;
-use std::fs::{self, File, OpenOptions};
+use std::fs::{self, File};
 use std::io::{self, ErrorKind};
-use store_api::Answer;
+use store_api::{Answer, Step};
 
-/// A file that a step asks for: open, with its key among the open files, or what is answered where it isn't there.
+/// A file that a step asks for: open, or what is answered where it isn't there.
 #[derive(Drop)]
-pub enum Found {
-    There { key: String, held: Held },
+pub enum Found<F> {
+    There(Held<F>),
     Not(Answer),
 }
 
@@ -27,6 +30,14 @@ fn not_found<R: System>(rt: &R, spot: &Spot, error: &io::Error) -> Result<Answer
     if error.kind() != ErrorKind::NotFound {
         return Err(Failure::Failed);
     }
+    absent(rt, spot)
+}
+
+// What is answered where there is no such file: it is absent, or its folder is.
+fn absent<R: System>(rt: &R, spot: &Spot) -> Result<Answer, Failure>
+    ensures answer { IfOk result (λ answer. (answer ≡ Answer.NoFolder) ⊎ (answer ≡ Answer.Absent)) }
+    ensures failed { IfErr result (λ failure. failure ≡ Failure.Failed) }
+{
     if is_without_folder(rt, spot)? {
         Ok(Answer::NoFolder)
     } else {
@@ -39,7 +50,7 @@ fn is_file<R: System>(rt: &R, path: &str) -> io::Result<bool> {
     Ok(fs::metadata(rt, path)?.is_file())
 }
 
-impl<R: System> Disk<R> {
+impl<R: System, C: FileCalls<File = F>, F: Drop> Disk<R, C, F> {
     /// Adds an empty file, and syncs its name.
     pub fn create(&self, room: u64, folder: &Name, file: &Name) -> Result<Answer, Failure>
         ensures no_room { length self.now.rooms.items ≤ room → result ≡ Ok Answer.NoRoom }
@@ -74,8 +85,7 @@ impl<R: System> Disk<R> {
             return Ok(Answer::NoRoom);
         };
         let path = join(self.alloc, spot.folder.as_str(), part(file)?)?;
-        let key = key_of(self.alloc, room, folder, file)?;
-        self.open.take(&key);
+        self.let_go(room, folder, file);
         match fs::remove_file(&self.rt, path.as_str()) {
             Ok(()) => {
                 sync_folder(&self.rt, spot.folder.as_str())?;
@@ -100,7 +110,8 @@ impl<R: System> Disk<R> {
         };
         let old = join(self.alloc, spot.folder.as_str(), part(from)?)?;
         let new = join(self.alloc, spot.folder.as_str(), part(to)?)?;
-        self.let_go(room, folder, from, to)?;
+        self.let_go(room, folder, from);
+        self.let_go(room, folder, to);
         match is_file(&self.rt, old.as_str()) {
             Ok(true) => {}
             Ok(false) => return Err(Failure::Failed),
@@ -114,137 +125,48 @@ impl<R: System> Disk<R> {
         Ok(Answer::Made)
     }
 
-    fn let_go(&mut self, room: u64, folder: &Name, a: &Name, b: &Name) -> Result<(), Failure> {
-        let first = key_of(self.alloc, room, folder, a)?;
-        let second = key_of(self.alloc, room, folder, b)?;
-        self.open.take(&first);
-        self.open.take(&second);
-        Ok(())
+    // Closes the file, if it is open.
+    fn let_go(&mut self, room: u64, folder: &Name, file: &Name) {
+        let (folder, file) = (*folder, *file);
+        self.open.take(&FileKey { room, folder, file });
     }
 
     // The file, from among the open ones where it is.
-    fn find(&mut self, room: u64, folder: &Name, file: &Name) -> Result<Found, Failure>
-        ensures no_room { length self.old.rooms.items ≤ room → result ≡ Ok (Found.Not Answer.NoRoom) }
+    fn find(&mut self, key: &FileKey) -> Result<Found<F>, Failure>
+        ensures no_room { length self.old.rooms.items ≤ key.now.room → result ≡ Ok (Found.Not Answer.NoRoom) }
+        ensures open_file { key.now.room < length self.old.rooms.items → IfSome (held_at self.old.open key.now) (λ held. result ≡ Ok (Found.There held)) }
+        ensures no_call { key.now.room < length self.old.rooms.items → IfSome (held_at self.old.open key.now) (λ _. C.log self.new.calls ≡ C.log self.old.calls) }
     {
-        if room as usize >= self.rooms.len() {
+        if key.room as usize >= self.rooms.len() {
             return Ok(Found::Not(Answer::NoRoom));
         }
-        let key = key_of(self.alloc, room, folder, file)?;
-        match self.open.take(&key) {
-            Some(held) => Ok(Found::There { key, held }),
-            None => self.open_file(room, folder, file, key),
+        match self.open.take(key) {
+            Some(held) => Ok(Found::There(held)),
+            None => self.open_file(key),
         }
     }
 
-    fn open_file(
-        &self,
-        room: u64,
-        folder: &Name,
-        file: &Name,
-        key: String,
-    ) -> Result<Found, Failure> {
-        let Some(spot) = self.spot(room, folder)? else {
+    fn open_file(&mut self, key: &FileKey) -> Result<Found<F>, Failure> {
+        let Some(spot) = self.spot(key.room, &key.folder)? else {
             return Ok(Found::Not(Answer::NoRoom));
         };
-        let path = join(self.alloc, spot.folder.as_str(), part(file)?)?;
-        let opened = OpenOptions::new()
-            .read(true)
-            .write(true)
-            .open(&self.rt, path.as_str());
-        match opened {
-            Ok(file) => Ok(Found::There {
-                key,
-                held: Held::new(file)?,
-            }),
-            Err(error) => Ok(Found::Not(not_found(&self.rt, &spot, &error)?)),
+        let path = join(self.alloc, spot.folder.as_str(), part(&key.file)?)?;
+        match self.calls.open(&self.rt, path.as_str())? {
+            Some(file) => Ok(Found::There(Held::new(&mut self.calls, file)?)),
+            None => Ok(Found::Not(absent(&self.rt, &spot)?)),
         }
     }
 
-    /// The length of a file.
-    pub fn length(&mut self, room: u64, folder: &Name, file: &Name) -> Result<Answer, Failure>
-        ensures no_room { length self.old.rooms.items ≤ room → result ≡ Ok Answer.NoRoom }
+    /// Makes a step on an open file. After a failure the file is closed, so that its length is asked again.
+    pub fn act_at(&mut self, key: &FileKey, step: &Step<'_>) -> Result<Answer, Failure>
+        ensures no_room { length self.old.rooms.items ≤ key.now.room → result ≡ Ok Answer.NoRoom }
+        ensures open_file { ActsWhereOpen self.old key.now (C.log self.old.calls) (C.log self.new.calls) (step_of step.now) result }
     {
-        match self.find(room, folder, file)? {
+        match self.find(key)? {
             Found::Not(answer) => Ok(answer),
-            Found::There { key, held } => {
-                let answer = held.length();
-                self.open.keep(key, held);
-                Ok(answer)
-            }
-        }
-    }
-
-    /// Reads at most `len` bytes from `at` on.
-    pub fn read_at(
-        &mut self,
-        room: u64,
-        folder: &Name,
-        file: &Name,
-        at: u64,
-        len: u64,
-    ) -> Result<Answer, Failure>
-        ensures no_room { length self.old.rooms.items ≤ room → result ≡ Ok Answer.NoRoom }
-    {
-        match self.find(room, folder, file)? {
-            Found::Not(answer) => Ok(answer),
-            Found::There { key, held } => {
-                let answer = held.read_at(self.alloc, at, len)?;
-                self.open.keep(key, held);
-                Ok(answer)
-            }
-        }
-    }
-
-    /// Writes the bytes from `at` on. After a failure the file is closed, so that its length is asked again.
-    pub fn write_at(
-        &mut self,
-        room: u64,
-        folder: &Name,
-        file: &Name,
-        at: u64,
-        bytes: &[u8],
-    ) -> Result<Answer, Failure>
-        ensures no_room { length self.old.rooms.items ≤ room → result ≡ Ok Answer.NoRoom }
-    {
-        match self.find(room, folder, file)? {
-            Found::Not(answer) => Ok(answer),
-            Found::There { key, mut held } => {
-                let answer = held.write_at(at, bytes)?;
-                self.open.keep(key, held);
-                Ok(answer)
-            }
-        }
-    }
-
-    /// Cuts a file to `len` bytes. After a failure the file is closed, so that its length is asked again.
-    pub fn cut(
-        &mut self,
-        room: u64,
-        folder: &Name,
-        file: &Name,
-        len: u64,
-    ) -> Result<Answer, Failure>
-        ensures no_room { length self.old.rooms.items ≤ room → result ≡ Ok Answer.NoRoom }
-    {
-        match self.find(room, folder, file)? {
-            Found::Not(answer) => Ok(answer),
-            Found::There { key, mut held } => {
-                let answer = held.cut(len)?;
-                self.open.keep(key, held);
-                Ok(answer)
-            }
-        }
-    }
-
-    /// Syncs a file.
-    pub fn sync(&mut self, room: u64, folder: &Name, file: &Name) -> Result<Answer, Failure>
-        ensures no_room { length self.old.rooms.items ≤ room → result ≡ Ok Answer.NoRoom }
-    {
-        match self.find(room, folder, file)? {
-            Found::Not(answer) => Ok(answer),
-            Found::There { key, held } => {
-                let answer = held.sync()?;
-                self.open.keep(key, held);
+            Found::There(mut held) => {
+                let answer = held.act(&mut self.calls, self.alloc, step)?;
+                self.open.keep(*key, held);
                 Ok(answer)
             }
         }

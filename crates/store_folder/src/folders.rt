@@ -62,7 +62,7 @@ fn no_folder<R: System>(rt: &R, spot: &Spot) -> Result<Answer, Failure>
     }
 }
 
-impl<R: System> Disk<R> {
+impl<R: System, C, F> Disk<R, C, F> {
     /// The folder's paths, or None where there is no room of this number.
     pub fn spot(&self, room: u64, folder: &Name) -> Result<Option<Spot>, Failure>
         ensures absent { length self.now.rooms.items ≤ room → result ≡ Ok None }

@@ -1,89 +1,105 @@
 //! An open file with its length.
-ghost use Rattle.std.specs.Prelude.{◌≡◌, ◌+◌, ◌-◌, ◌^◌, ◌≤◌, ◌<◌, min, max, length, Ok, IfOk, IfErr};
-ghost use Rattle.store_folder.specs.Answers.{HasBytes};
+ghost use Rattle.std.specs.Prelude.{◌≡◌, IfOk};
+ghost use Rattle.store_api.specs.Step.{step_of};
+ghost use Rattle.store_folder.specs.OpenFiles.{Holds, ReadsOpen, WritesOpen, CutsOpen, SyncsOpen, ActsOpen, written, cut_to, held_after};
 
+use crate::calls::FileCalls;
 use crate::failure::Failure;
 use plfs_types::Bytes;
 use std::alloc::Global;
-use std::fs::File;
-use std::os::unix::fs::FileExt;
-use store_api::Answer;
+use store_api::{Answer, Step};
 
 /// An open file, and its length in bytes. Nothing but the store changes it while it is open.
 #[derive(Drop)]
-pub struct Held {
-    file: File,
+pub struct Held<F> {
+    file: F,
     len: u64,
 }
 
-impl Held {
+impl<F: Drop> Held<F> {
     /// An open file, whose length is asked of the system. It fails where this is no plain file.
-    pub fn new(file: File) -> Result<Held, Failure>
-        ensures { IfErr result (λ failure. failure ≡ Failure.Failed) }
+    pub fn new<C: FileCalls<File = F>>(calls: &mut C, file: F) -> Result<Held<F>, Failure>
+        ensures { Holds file (C.log calls.old) (C.log calls.new) result }
     {
-        let found = file.metadata()?;
-        if !found.is_file() {
-            return Err(Failure::Failed);
-        }
-        let len = found.len();
+        let len = calls.length(&file)?;
         Ok(Held { file, len })
     }
 
-    /// The length, in bytes.
-    pub fn length(&self) -> Answer
-        ensures { result ≡ Answer.Number self.now.len }
+    /// Makes a step on this file.
+    pub fn act<C: FileCalls<File = F>>(
+        &mut self,
+        calls: &mut C,
+        alloc: Global,
+        step: &Step<'_>,
+    ) -> Result<Answer, Failure>
+        ensures acts { ActsOpen self.old (C.log calls.old) (C.log calls.new) (step_of step.now) result }
+        ensures after { IfOk result (λ answer. self.new ≡ held_after self.old (step_of step.now) answer) }
     {
-        Answer::Number { value: self.len }
+        match *step {
+            Step::Length { .. } => Ok(Answer::Number { value: self.len }),
+            Step::ReadAt { at, len, .. } => self.read_at(calls, alloc, at, len),
+            Step::WriteAt { at, bytes, .. } => self.write_at(calls, at, bytes),
+            Step::Cut { len, .. } => self.cut(calls, len),
+            Step::Sync { .. } => self.sync(calls),
+            _ => Err(Failure::Failed),
+        }
     }
 
-    /// At most `len` bytes from `at` on, none past the end.
-    pub fn read_at(&self, alloc: Global, at: u64, len: u64) -> Result<Answer, Failure>
-        ensures { IfOk result (HasBytes (min (self.now.len - at) len)) }
+    // At most `len` bytes from `at` on, none past the end.
+    fn read_at<C: FileCalls<File = F>>(
+        &self,
+        calls: &mut C,
+        alloc: Global,
+        at: u64,
+        len: u64,
+    ) -> Result<Answer, Failure>
+        ensures { ReadsOpen self.now (C.log calls.old) (C.log calls.new) at len result }
     {
         let left = self.len.saturating_sub(at).min(len);
-        let mut bytes = Vec::from_elem(alloc, 0u8, left as usize)?;
-        if left > 0 {
-            self.file.read_exact_at(bytes.as_mut_slice(), at)?;
+        if left == 0 {
+            return Ok(Answer::Bytes(Bytes::new(alloc)));
         }
+        let mut bytes = Vec::from_elem(alloc, 0u8, left as usize)?;
+        calls.read_exact_at(&self.file, bytes.as_mut_slice(), at)?;
         Ok(Answer::Bytes(Bytes::from_vec(bytes)))
     }
 
-    /// Writes the bytes from `at` on, in one call of the system where that takes them all.
-    pub fn write_at(&mut self, at: u64, bytes: &[u8]) -> Result<Answer, Failure>
-        ensures beyond { self.old.len < at → result ≡ Ok Answer.Beyond }
-        ensures made { at ≤ self.old.len → IfOk result (λ answer. answer ≡ Answer.Made) }
-        ensures longer { at ≤ self.old.len → IfOk result (λ _. self.new.len ≡ max self.old.len (min (at + length bytes.now) (2 ^ 64 - 1))) }
-        ensures failed { IfErr result (λ failure. failure ≡ Failure.Failed) }
+    // Writes the bytes from `at` on.
+    fn write_at<C: FileCalls<File = F>>(
+        &mut self,
+        calls: &mut C,
+        at: u64,
+        bytes: &[u8],
+    ) -> Result<Answer, Failure>
+        ensures acts { WritesOpen self.old (C.log calls.old) (C.log calls.new) at bytes.now result }
+        ensures after { IfOk result (λ answer. self.new ≡ written self.old at bytes.now answer) }
     {
         if at > self.len {
             return Ok(Answer::Beyond);
         }
-        self.file.write_all_at(bytes, at)?;
+        calls.write_all_at(&self.file, bytes, at)?;
         self.len = self.len.max(at.saturating_add(bytes.len() as u64));
         Ok(Answer::Made)
     }
 
-    /// Keeps the first `len` bytes.
-    pub fn cut(&mut self, len: u64) -> Result<Answer, Failure>
-        ensures beyond { self.old.len < len → result ≡ Ok Answer.Beyond }
-        ensures made { len ≤ self.old.len → IfOk result (λ answer. answer ≡ Answer.Made) }
-        ensures shorter { len ≤ self.old.len → IfOk result (λ _. self.new.len ≡ len) }
-        ensures failed { IfErr result (λ failure. failure ≡ Failure.Failed) }
+    // Keeps the first `len` bytes.
+    fn cut<C: FileCalls<File = F>>(&mut self, calls: &mut C, len: u64) -> Result<Answer, Failure>
+        ensures acts { CutsOpen self.old (C.log calls.old) (C.log calls.new) len result }
+        ensures after { IfOk result (λ answer. self.new ≡ cut_to self.old len answer) }
     {
         if len > self.len {
             return Ok(Answer::Beyond);
         }
-        self.file.set_len(len)?;
+        calls.set_length(&self.file, len)?;
         self.len = len;
         Ok(Answer::Made)
     }
 
-    /// Syncs the file's bytes and its length.
-    pub fn sync(&self) -> Result<Answer, Failure>
-        ensures made { IfOk result (λ answer. answer ≡ Answer.Made) }
-        ensures failed { IfErr result (λ failure. failure ≡ Failure.Failed) }
+    // Syncs the file's bytes and its length.
+    fn sync<C: FileCalls<File = F>>(&self, calls: &mut C) -> Result<Answer, Failure>
+        ensures { SyncsOpen self.now (C.log calls.old) (C.log calls.new) result }
     {
-        self.file.sync_all()?;
+        calls.sync(&self.file)?;
         Ok(Answer::Made)
     }
 }

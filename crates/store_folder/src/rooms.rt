@@ -1,5 +1,5 @@
 //! The steps of whole rooms.
-ghost use Rattle.std.specs.Prelude.{◌≡◌, ◌≤◌, ◌<◌, length, position, Some, None, Ok, IsSome, IfSome, IfOk};
+ghost use Rattle.std.specs.Prelude.{◌≡◌, ◌≤◌, ◌<◌, length, position, true, Some, None, Ok, IsSome, IfSome, IfOk};
 ghost use Rattle.store_api.specs.Names.{same_name};
 ghost use Rattle.store_api.specs.Effect.{number_or_absent};
 
@@ -20,9 +20,12 @@ fn place_of(rooms: &[Name], name: &Name) -> Option<usize>
     rooms.iter().position(|room| *room == *name)
 }
 
-impl<R: System> Disk<R> {
+impl<R: System, C, F> Disk<R, C, F> {
     /// Numbers the rooms of ROOT in byte order of their names, unless that was done.
-    pub fn number_rooms(&mut self) -> Result<(), Failure> {
+    pub fn number_rooms(&mut self) -> Result<(), Failure>
+        ensures done { self.old.is_numbered ≡ true → result ≡ Ok tt }
+        ensures same { self.old.is_numbered ≡ true → self.new ≡ self.old }
+    {
         if self.is_numbered {
             return Ok(());
         }

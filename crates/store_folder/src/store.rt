@@ -6,10 +6,12 @@ ghost use Rattle.store_api.specs.Acts.{Acts};
 ghost use Rattle.store_folder.specs.Counting.{untold, CountsFaults};
 ghost use Rattle.store_folder.specs.Stored.{stored_of};
 
+use crate::calls::SystemCalls;
 use crate::disk::{Disk, System};
 use crate::failure::Failure;
 use plfs_types::{NoMemory, Word};
 use std::alloc::Global;
+use std::fs::File;
 use store_api::{Answer, Step, Store, Trouble};
 
 /// How many acts were answered otherwise than by want of memory, and how many of these the system failed.
@@ -23,7 +25,7 @@ struct Counts {
 /// A backing store on the folder ROOT of the system, which is its own while it lives. It tells no tree.
 #[derive(Drop)]
 pub struct FolderStore<R> {
-    disk: Disk<R>,
+    disk: Disk<R, SystemCalls, File>,
     counts: Counts,
 }
 
@@ -34,7 +36,7 @@ impl<R: System> FolderStore<R> {
     pub fn open(rt: R, alloc: Global, root: &Word) -> Result<Self, NoMemory>
         ensures fresh { IfOk result (λ store. stored_of store ≡ untold 0 0) }
     {
-        match Disk::new(rt, alloc, root) {
+        match Disk::new(rt, SystemCalls, alloc, root) {
             Ok(disk) => Ok(FolderStore {
                 disk,
                 counts: Counts { acts: 0, faults: 0 },
@@ -63,8 +65,9 @@ impl<R> FolderStore<R> {
 impl<R: System> Store for FolderStore<R> {
     ghost stored = { λ store. stored_of store };
 
-    /// Makes one step, and answers it. `Fault` comes exactly where the system failed the step, or where a name of
-    /// the step can name nothing in a folder: the count of faults rose by one then, and in no other act.
+    /// Makes one step, and answers it. `Fault` comes where the system failed the step, where a name of the step
+    /// can't stand in a path or can't be a room's, or where a listed name is no text in UTF-8 or longer than 96
+    /// bytes. At a `Fault` the count of faults rises by one, up to 2^64 - 1, and in no other act.
     fn act(&mut self, step: &Step<'_>) -> Result<Answer, Trouble>
         ensures told { Acts (step_of step.now) (stored_of self.old) (stored_of self.new) result }
         ensures counted { CountsFaults (stored_of self.old) (stored_of self.new) result }

@@ -223,6 +223,19 @@ fn a_folder_goes_once_it_is_empty(rt: HostRuntime) -> Result<(), Fail> {
 }
 
 #[test]
+fn a_removed_file_is_absent_though_it_was_open(rt: HostRuntime) -> Result<(), Fail> {
+    let mut store = fresh(rt, "store_folder_removed")?;
+    assert!(rt; is_made(create(&mut store, "log")));
+    assert!(rt; is_made(write(&mut store, "log", 0, b"old")));
+    assert!(rt; is_made(remove(&mut store, "log")));
+    assert!(rt; matches!(read(&mut store, "log"), Ok(Answer::Absent)));
+    assert!(rt; is_made(create(&mut store, "log")));
+    assert!(rt; has_bytes(read(&mut store, "log"), b""));
+    fs::remove_dir_all(&rt, "store_folder_removed")?;
+    Ok(())
+}
+
+#[test]
 fn another_store_sees_what_the_first_wrote(rt: HostRuntime) -> Result<(), Fail> {
     let mut store = fresh(rt, "store_folder_again")?;
     assert!(rt; is_made(create(&mut store, "log")));

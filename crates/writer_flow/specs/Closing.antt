@@ -13,7 +13,7 @@ use Rattle.writer_flow.specs.Handle.{closing}
 use Rattle.writer_flow.specs.Ending.{gone, failed}
 use Rattle.writer_flow.specs.Syncing.{sync_program}
 
--- it is gone where it left, or its leaving failed
+-- it is gone where Exit was made, or faulted
 abbrev pub if_left : WriterHandle → Reply → Program Call WriterOut
 if_left handle Done = done (gone (Ok handle.landed))
 if_left handle Fault = done (gone (Err stuck.Fault))

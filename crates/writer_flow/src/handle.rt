@@ -24,7 +24,7 @@ pub struct WriterHandle {
 /// The writer after a write, a sync or a close, and the stamp or the landed count.
 #[derive(Clone, Copy, PartialEq, Eq)]
 pub struct WriterOut {
-    /// None where it was closed, or where its leaving failed.
+    /// None exactly after a close whose Exit was made or faulted.
     pub handle: Option<WriterHandle>,
     pub result: Result<u64, Stuck>,
 }

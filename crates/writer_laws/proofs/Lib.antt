@@ -7,3 +7,4 @@ mod Closes
 mod Opens
 mod Counts
 mod Regulars
+mod Waits

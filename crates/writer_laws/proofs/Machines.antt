@@ -21,18 +21,23 @@ use Rattle.writer_flow.specs.Syncing.{if_synced, syncs_index, flushes_and_syncs,
 use Rattle.writer_laws.specs.Running.{Runs}
 use Rattle.writer_laws.specs.Counting.{entries_of}
 use Rattle.writer_laws.specs.Knowing.{HasRow, Knows, IsLeft, IsSynced}
+use Rattle.writer_laws.specs.Waiting.{IsOn}
 use Rattle.writer_laws.proofs.Steps.{step_kept}
-use Rattle.writer_laws.proofs.Own.{sync_log_own, sync_index_own, flush_own, FlushedOwn, write_own, WroteOwn, stays_other}
+use Rattle.writer_laws.proofs.Own.{sync_log_own, sync_index_own, flush_own, FlushedOwn, write_own, WroteOwn, stays_spared}
 
 -- handles of one writer, both closing or neither
 abbrev Alike : WriterHandle → WriterHandle → Type 0
 Alike first handle = (first.writer ≡ handle.writer) × (handle.closing ≡ first.closing)
 
+-- only a call of its caller on it changes the row
+pub spared_keeps : (me w : ℕ) (row : Row) (start : State) (event : Event) → (event.caller ≡ me → IsOn w event.ask.call → ⊥) → HasRow me w row start → Answers start event.caller event.ask.call event.reply event.after → HasRow me w row event.after
+spared_keeps me w row start event spared h a =
+    let k = step_kept me w row start event.caller event.ask.call event.reply event.after h a (stays_spared me w row start event.caller event.ask.call event.reply event.after spared h a) in
+    subst (λ r. HasRow me w r event.after) (k.spared spared) k.has
+
 -- another caller's call leaves the very row
 pub other_keeps : (me w : ℕ) (row : Row) (start : State) (event : Event) → event.caller ≢ me → HasRow me w row start → Answers start event.caller event.ask.call event.reply event.after → HasRow me w row event.after
-other_keeps me w row start event other h a =
-    let k = step_kept me w row start event.caller event.ask.call event.reply event.after h a (stays_other me w row start event.caller event.ask.call event.reply event.after other h a) in
-    subst (λ r. HasRow me w r event.after) (k.others other) k.has
+other_keeps me w row start event other h a = spared_keeps me w row start event (λ mine on. other mine) h a
 
 -- The program's next call was made, from a state in which the row is as before.
 pub record Reached {R : Type 0} (me w : ℕ) (row : Row) (q : Call) (k : Reply → Program Call R) (last : State) (out : R) : Type 0 where

@@ -141,7 +141,7 @@ opened_so : (me w most : ℕ) (row : Row) (start : State) (events : List Event) 
 opened_so me w most row start events out handle h none e l r =
     let f = finished me w row (Ok (opened w most)) start events out h l r in
     let is : opened w most ≡ handle = same_ok (opened w most) handle out f.1 e in
-    subst (λ x. IsOpened me x (state_after start events)) is (record { row = row; knows = record { has = f.0; pending = omega arith }; none = none })
+    subst (λ x. IsOpened me x (state_after start events)) is (record { row = row; knows = record { has = f.0; pending = omega arith }; none = none; fresh = refl })
 
 -- this program leaves the writer open and empty, where it ends with a handle
 abbrev Opens : ℕ → ℕ → Opening → Type 0

@@ -17,6 +17,7 @@ use Rattle.mount_model.specs.Step.{Answers}
 use Rattle.plfs_types.specs.declared.entries.Entry.{Entry}
 use Rattle.writer_laws.specs.Counting.{wrote, entries_of, StaysAt}
 use Rattle.writer_laws.specs.Knowing.{HasRow}
+use Rattle.writer_laws.specs.Waiting.{IsOn}
 use Rattle.writer_laws.proofs.Rows.{row_of_id, row_of-put, held_row, some_eq}
 use Rattle.writer_laws.proofs.Steps.{on_writer, unless_refused, flush_table, sync_log_table, sync_index_table, write_table, meta_table, exit_table}
 
@@ -206,14 +207,14 @@ exit_own me w row old rep new h a not_done not_fault = elim (on_writer me is_liv
   ]
 ]
 
--- no other caller takes the writer out
-pub stays_other : (me w : ℕ) (row : Row) (old : State) (caller : ℕ) (c : Call) (rep : Reply) (new : State) → caller ≢ me → HasRow me w row old → Answers old caller c rep new → StaysAt w c rep
-stays_other me w row old caller (call.Exit id) reply.Done new other h a = λ is. elim (on_writer caller is_live id old reply.Done new (λ r. UnlessRefused (exit_check r) old reply.Done new (Makes (exit_step r) (exit_outcome r old.table) old reply.Done new)) a) as (λ _. ⊥) [
+-- only a call of its caller on it takes the writer out
+pub stays_spared : (me w : ℕ) (row : Row) (old : State) (caller : ℕ) (c : Call) (rep : Reply) (new : State) → (caller ≡ me → IsOn w c → ⊥) → HasRow me w row old → Answers old caller c rep new → StaysAt w c rep
+stays_spared me w row old caller (call.Exit id) reply.Done new spared h a = λ is. elim (on_writer caller is_live id old reply.Done new (λ r. UnlessRefused (exit_check r) old reply.Done new (Makes (exit_step r) (exit_outcome r old.table) old reply.Done new)) a) as (λ _. ⊥) [
   | inl refused ↦ let f = refused.0 in absurd (cc)
   | inr (r, e, u) ↦
       let f = held_row caller is_live (row_of id old.table.writers) r e in
       let same : r ≡ row = some_eq r row (row_of w old.table.writers) (subst (λ i. row_of i old.table.writers ≡ Some r) is f.0) h.there in
-      other (sym f.1 ∙ ap (λ (x : Row). x.owner) same ∙ h.owned)
+      spared (sym f.1 ∙ ap (λ (x : Row). x.owner) same ∙ h.owned) is
 ]
-stays_other me w row old caller (call.Exit id) rep new other h a = tt
-stays_other me w row old caller c rep new other h a = tt
+stays_spared me w row old caller (call.Exit id) rep new spared h a = tt
+stays_spared me w row old caller c rep new spared h a = tt

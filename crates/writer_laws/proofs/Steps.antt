@@ -32,32 +32,34 @@ use Rattle.mount_model.specs.Step.{Answers}
 use Rattle.plfs_types.specs.declared.entries.Entry.{Entry}
 use Rattle.writer_laws.specs.Counting.{wrote, wrote_by, entries_of, StaysAt}
 use Rattle.writer_laws.specs.Knowing.{HasRow}
+use Rattle.writer_laws.specs.Waiting.{IsOn}
 use Rattle.writer_laws.proofs.Rows.{row_of_id, row_of_other-with_row, row_of-put, row_of_other-without_row, row_of-added, held_row, match_cases, some_eq}
 
--- the writer's row after a call: so many entries more, and the very row where another made the call
-pub record Kept (me w : ℕ) (row : Row) (caller told : ℕ) (new : State) : Type 0 where
+-- the writer's row after a call, which is on the writer where `on` holds: so many entries more, and the very row where it
+-- isn't its caller's call on it
+pub record Kept (me w : ℕ) (row : Row) (caller told : ℕ) (on : Type 0) (new : State) : Type 0 where
   pub after : Row
   pub has : HasRow me w after new
   pub total : entries_of after ≡ entries_of row + told
-  pub others : caller ≢ me → after ≡ row
+  pub spared : (caller ≡ me → on → ⊥) → after ≡ row
 
 -- the table is as it was
-pub kept_same : (me w : ℕ) (row : Row) (caller told : ℕ) (old new : State) → HasRow me w row old → new.table ≡ old.table → told ≡ 0 → Kept me w row caller told new
+pub kept_same : {on : Type 0} (me w : ℕ) (row : Row) (caller told : ℕ) (old new : State) → HasRow me w row old → new.table ≡ old.table → told ≡ 0 → Kept me w row caller told on new
 kept_same me w row caller told old new h e t = record {
   after = row;
   has = record { there = subst (λ (s : Table). row_of w s.writers ≡ Some row) (sym e) h.there; owned = h.owned };
   total = omega arith;
-  others = λ other. refl;
+  spared = λ apart. refl;
 }
 
 -- a row was put in place of the caller's writer's
 pub kept_put : (me w : ℕ) (row : Row) (caller told : ℕ) (old new : State) (stages : Stage → Bool) (id : ℕ) (r x : Row) → HasRow me w row old → writer_of caller stages id old.table.writers ≡ Some r → x.id ≡ r.id → x.owner ≡ r.owner → new.table ≡ put x old.table
-    → (id ≡ w → entries_of x ≡ entries_of r + told) → (id ≢ w → told ≡ 0) → Kept me w row caller told new
+    → (id ≡ w → entries_of x ≡ entries_of r + told) → (id ≢ w → told ≡ 0) → Kept me w row caller told (id ≡ w) new
 kept_put me w row caller told old new stages id r x h e same_id same_owner t own other =
     let f = held_row caller stages (row_of id old.table.writers) r e in
     let x_id : x.id ≡ id = same_id ∙ row_of_id id old.table.writers r f.0 in
     let rows : new.table.writers ≡ with_row x old.table.writers = ap (λ (s : Table). s.writers) t in
-    elim (cases_eq id w) as (λ _. Kept me w row caller told new) [
+    elim (cases_eq id w) as (λ _. Kept me w row caller told (id ≡ w) new) [
       | inl is ↦
           let same : r ≡ row = some_eq r row (row_of w old.table.writers) (subst (λ i. row_of i old.table.writers ≡ Some r) is f.0) h.there in
           let at : row_of x.id old.table.writers ≡ Some r = subst (λ i. row_of i old.table.writers ≡ Some r) (sym x_id) f.0 in
@@ -67,13 +69,13 @@ kept_put me w row caller told old new stages id r x h e same_id same_owner t own
             after = x;
             has = record { there = stands; owned = same_owner ∙ mine };
             total = own is ∙ ap (λ (y : Row). entries_of y + told) same;
-            others = λ away. absurd (away (sym f.1 ∙ mine));
+            spared = λ apart. absurd (apart (sym f.1 ∙ mine) is);
           }
       | inr away ↦ record {
         after = row;
         has = record { there = subst (λ rs. row_of w rs ≡ Some row) (sym rows) (row_of_other-with_row x old.table.writers w (λ s. away (sym (s ∙ x_id))) ∙ h.there); owned = h.owned };
         total = let none : told ≡ 0 = other away in omega arith;
-        others = λ o. refl;
+        spared = λ apart. refl;
       }
     ]
 
@@ -153,8 +155,8 @@ exit_table row table told = inr (inr refl)
 
 -- ---- calls
 
-kept_plain : (me w : ℕ) (row : Row) (caller : ℕ) (old new : State) (stages : Stage → Bool) (id : ℕ) (r x : Row) → HasRow me w row old → writer_of caller stages id old.table.writers ≡ Some r → x.id ≡ r.id → x.owner ≡ r.owner → entries_of x ≡ entries_of r → (new.table ≡ put x old.table) ⊎ (new.table ≡ old.table) → Kept me w row caller 0 new
-kept_plain me w row caller old new stages id r x h e same_id same_owner same_entries turned = elim turned as (λ _. Kept me w row caller 0 new) [
+kept_plain : (me w : ℕ) (row : Row) (caller : ℕ) (old new : State) (stages : Stage → Bool) (id : ℕ) (r x : Row) → HasRow me w row old → writer_of caller stages id old.table.writers ≡ Some r → x.id ≡ r.id → x.owner ≡ r.owner → entries_of x ≡ entries_of r → (new.table ≡ put x old.table) ⊎ (new.table ≡ old.table) → Kept me w row caller 0 (id ≡ w) new
+kept_plain me w row caller old new stages id r x h e same_id same_owner same_entries turned = elim turned as (λ _. Kept me w row caller 0 (id ≡ w) new) [
   | inl t ↦ kept_put me w row caller 0 old new stages id r x h e same_id same_owner t (λ is. omega arith) (λ away. refl)
   | inr t ↦ kept_same me w row caller 0 old new h t refl
 ]
@@ -166,14 +168,14 @@ floor_table r table (Ok (Names names)) rep after o = elim o as (λ _. ((floor : 
 ]
 floor_table r table told rep after o = inr o.1
 
-floors_kept : (me w : ℕ) (row : Row) (caller id : ℕ) (old : State) (rep : Reply) (new : State) (r : Row) → HasRow me w row old → writer_of caller (only stage.Entered) id old.table.writers ≡ Some r → FloorsRow r old rep new → Kept me w row caller 0 new
-floors_kept me w row caller id old rep new r h e f = elim (floor_table r old.table f.told rep new.table f.outcome) as (λ _. Kept me w row caller 0 new) [
+floors_kept : (me w : ℕ) (row : Row) (caller id : ℕ) (old : State) (rep : Reply) (new : State) (r : Row) → HasRow me w row old → writer_of caller (only stage.Entered) id old.table.writers ≡ Some r → FloorsRow r old rep new → Kept me w row caller 0 (id ≡ w) new
+floors_kept me w row caller id old rep new r h e f = elim (floor_table r old.table f.told rep new.table f.outcome) as (λ _. Kept me w row caller 0 (id ≡ w) new) [
   | inl (floor, t) ↦ kept_plain me w row caller old new (only stage.Entered) id r (floored floor r) h e refl refl refl (inl t)
   | inr t ↦ kept_same me w row caller 0 old new h t refl
 ]
 
-builds_kept : (me w : ℕ) (row : Row) (caller id : ℕ) (old : State) (rep : Reply) (new : State) (stages : Stage → Bool) (step : Row → Step) (s : Stage) (folder file : Row → Name) → HasRow me w row old → OnWriter caller stages id old rep new (λ r. Makes (step r) (build_outcome s (folder r) (file r) r old.table) old rep new) → Kept me w row caller 0 new
-builds_kept me w row caller id old rep new stages step s folder file h o = elim (on_writer caller stages id old rep new (λ r. Makes (step r) (build_outcome s (folder r) (file r) r old.table) old rep new) o) as (λ _. Kept me w row caller 0 new) [
+builds_kept : (me w : ℕ) (row : Row) (caller id : ℕ) (old : State) (rep : Reply) (new : State) (stages : Stage → Bool) (step : Row → Step) (s : Stage) (folder file : Row → Name) → HasRow me w row old → OnWriter caller stages id old rep new (λ r. Makes (step r) (build_outcome s (folder r) (file r) r old.table) old rep new) → Kept me w row caller 0 (id ≡ w) new
+builds_kept me w row caller id old rep new stages step s folder file h o = elim (on_writer caller stages id old rep new (λ r. Makes (step r) (build_outcome s (folder r) (file r) r old.table) old rep new) o) as (λ _. Kept me w row caller 0 (id ≡ w) new) [
   | inl refused ↦ kept_same me w row caller 0 old new h (table_of old new refused.1) refl
   | inr (r, e, m) ↦
       let t = made_table (step r) (build_outcome s (folder r) (file r) r old.table) old rep new m in
@@ -196,11 +198,11 @@ other_by id w n o = let t : nat_eq id w ≡ false = grind (arith, nat_tests) in 
 length_more : (xs : List Entry) (x : Entry) → length (xs ++ x ∷ []) ≡ length xs + 1
 length_more xs x = length-append xs (x ∷ [])
 
-writes_row_kept : (me w : ℕ) (row : Row) (caller id at : ℕ) (bytes : List ℕ) (old : State) (rep : Reply) (new : State) (r : Row) → HasRow me w row old → writer_of caller (only stage.Open) id old.table.writers ≡ Some r → WritesAt r at bytes old rep new → Kept me w row caller (if nat_eq id w then wrote rep else 0) new
+writes_row_kept : (me w : ℕ) (row : Row) (caller id at : ℕ) (bytes : List ℕ) (old : State) (rep : Reply) (new : State) (r : Row) → HasRow me w row old → writer_of caller (only stage.Open) id old.table.writers ≡ Some r → WritesAt r at bytes old rep new → Kept me w row caller (if nat_eq id w then wrote rep else 0) (id ≡ w) new
 writes_row_kept me w row caller id at bytes old rep new r h e f =
     let stamp : ℕ = stamp_at f.time r in
     let t : new.table ≡ (write_outcome stamp r at (length bytes) old.table f.makes.told).table = ap (λ (s : State). s.table) f.makes.after in
-    elim (write_table stamp r at (length bytes) old.table f.makes.told) as (λ _. Kept me w row caller (if nat_eq id w then wrote rep else 0) new) [
+    elim (write_table stamp r at (length bytes) old.table f.makes.told) as (λ _. Kept me w row caller (if nat_eq id w then wrote rep else 0) (id ≡ w) new) [
       | inl (said, is) ↦
           let one : wrote rep ≡ 1 = subst (λ x. wrote x ≡ 1) (sym (f.makes.answered ∙ said)) refl in
           kept_put me w row caller (if nat_eq id w then wrote rep else 0) old new (only stage.Open) id r (with_write stamp r at (length bytes)) h e refl refl (t ∙ is)
@@ -211,21 +213,21 @@ writes_row_kept me w row caller id at bytes old rep new r h e f =
           kept_same me w row caller (if nat_eq id w then wrote rep else 0) old new h (t ∙ is) (none_by id w (wrote rep) none)
     ]
 
-flushes_row_kept : (me w : ℕ) (row : Row) (caller id : ℕ) (old : State) (rep : Reply) (new : State) (r : Row) → HasRow me w row old → writer_of caller (only stage.Open) id old.table.writers ≡ Some r → (entries : List Entry) → FlushesRow r entries old rep new → Kept me w row caller 0 new
+flushes_row_kept : (me w : ℕ) (row : Row) (caller id : ℕ) (old : State) (rep : Reply) (new : State) (r : Row) → HasRow me w row old → writer_of caller (only stage.Open) id old.table.writers ≡ Some r → (entries : List Entry) → FlushesRow r entries old rep new → Kept me w row caller 0 (id ≡ w) new
 flushes_row_kept me w row caller id old rep new r h e [] f = kept_same me w row caller 0 old new h (table_of old new f.1) refl
 flushes_row_kept me w row caller id old rep new r h e (x ∷ xs) f =
     let t = made_table (flush_step r) (flush_outcome r old.table) old rep new f in
-    elim (flush_table r old.table f.told) as (λ _. Kept me w row caller 0 new) [
+    elim (flush_table r old.table f.told) as (λ _. Kept me w row caller 0 (id ≡ w) new) [
       | inl (said, is) ↦ kept_plain me w row caller old new (only stage.Open) id r (flushed r) h e refl refl (omega arith) (inl (t ∙ is))
       | inr (said, is) ↦ kept_same me w row caller 0 old new h (t ∙ is) refl
     ]
 
-puts_row_kept : (me w : ℕ) (row : Row) (caller id : ℕ) (old : State) (rep : Reply) (new : State) (r : Row) (step : Step) → HasRow me w row old → writer_of caller may_close id old.table.writers ≡ Some r → Makes step (put_meta_outcome r old.table) old rep new → Kept me w row caller 0 new
+puts_row_kept : (me w : ℕ) (row : Row) (caller id : ℕ) (old : State) (rep : Reply) (new : State) (r : Row) (step : Step) → HasRow me w row old → writer_of caller may_close id old.table.writers ≡ Some r → Makes step (put_meta_outcome r old.table) old rep new → Kept me w row caller 0 (id ≡ w) new
 puts_row_kept me w row caller id old rep new r step h e m =
     let t = made_table step (put_meta_outcome r old.table) old rep new m in
-    elim (meta_table r old.table m.told) as (λ _. Kept me w row caller 0 new) [
+    elim (meta_table r old.table m.told) as (λ _. Kept me w row caller 0 (id ≡ w) new) [
       | inl is ↦ kept_plain me w row caller old new may_close id r (closed r) h e refl refl refl (inl (t ∙ is))
-      | inr rest ↦ elim rest as (λ _. Kept me w row caller 0 new) [
+      | inr rest ↦ elim rest as (λ _. Kept me w row caller 0 (id ≡ w) new) [
         | inl is ↦ kept_plain me w row caller old new may_close id r (closing r) h e refl refl refl (inl (t ∙ is))
         | inr is ↦ kept_same me w row caller 0 old new h (t ∙ is) refl
       ]
@@ -234,10 +236,10 @@ puts_row_kept me w row caller id old rep new r step h e m =
 left_other : (id w : ℕ) (rep : Reply) → rep ≡ reply.Done → StaysAt w (call.Exit id) rep → id ≢ w
 left_other id w rep e s = subst (λ x. StaysAt w (call.Exit id) x) e s
 
-exits_row_kept : (me w : ℕ) (row : Row) (caller id : ℕ) (old : State) (rep : Reply) (new : State) (r : Row) (step : Step) → HasRow me w row old → writer_of caller is_live id old.table.writers ≡ Some r → Makes step (exit_outcome r old.table) old rep new → StaysAt w (call.Exit id) rep → Kept me w row caller 0 new
+exits_row_kept : (me w : ℕ) (row : Row) (caller id : ℕ) (old : State) (rep : Reply) (new : State) (r : Row) (step : Step) → HasRow me w row old → writer_of caller is_live id old.table.writers ≡ Some r → Makes step (exit_outcome r old.table) old rep new → StaysAt w (call.Exit id) rep → Kept me w row caller 0 (id ≡ w) new
 exits_row_kept me w row caller id old rep new r step h e m stays =
     let t = made_table step (exit_outcome r old.table) old rep new m in
-    elim (exit_table r old.table m.told) as (λ _. Kept me w row caller 0 new) [
+    elim (exit_table r old.table m.told) as (λ _. Kept me w row caller 0 (id ≡ w) new) [
       | inl (said, is) ↦
           let away : id ≢ w = left_other id w rep (m.answered ∙ said) stays in
           let r_id : r.id ≡ id = row_of_id id old.table.writers r (held_row caller is_live (row_of id old.table.writers) r e).0 in
@@ -246,27 +248,27 @@ exits_row_kept me w row caller id old rep new r step h e m stays =
             after = row;
             has = record { there = subst (λ rs. row_of w rs ≡ Some row) (sym rows) (row_of_other-without_row r.id old.table.writers w (λ s. away (sym (s ∙ r_id))) ∙ h.there); owned = h.owned };
             total = omega arith;
-            others = λ o. refl;
+            spared = λ apart. refl;
           }
-      | inr rest ↦ elim rest as (λ _. Kept me w row caller 0 new) [
+      | inr rest ↦ elim rest as (λ _. Kept me w row caller 0 (id ≡ w) new) [
         | inl (failed, is) ↦ kept_plain me w row caller old new is_live id r (at_stage stage.Dead r) h e refl refl refl (inl (t ∙ is))
         | inr is ↦ kept_same me w row caller 0 old new h (t ∙ is) refl
       ]
     ]
 
-enters_kept : (me w : ℕ) (row : Row) (caller room host most : ℕ) (old : State) (rep : Reply) (new : State) → HasRow me w row old → EntersAs caller room host most old rep new → Kept me w row caller 0 new
-enters_kept me w row caller room host most old rep new h f = elim f.does as (λ _. Kept me w row caller 0 new) [
+enters_kept : (me w : ℕ) (row : Row) (caller room host most : ℕ) (old : State) (rep : Reply) (new : State) → HasRow me w row old → EntersAs caller room host most old rep new → Kept me w row caller 0 ⊥ new
+enters_kept me w row caller room host most old rep new h f = elim f.does as (λ _. Kept me w row caller 0 ⊥ new) [
   | inl m ↦
       let mine : Row = entered old caller room host most in
       let t : new.table ≡ (enter_outcome mine old.table m.told).table = ap (λ (s : State). s.table) m.after in
-      elim (enter_table mine old.table m.told) as (λ _. Kept me w row caller 0 new) [
+      elim (enter_table mine old.table m.told) as (λ _. Kept me w row caller 0 ⊥ new) [
         | inl (said, is) ↦
             let rows : new.table.writers ≡ old.table.writers ++ mine ∷ [] = ap (λ (s : Table). s.writers) t ∙ is in
             record {
               after = row;
               has = record { there = subst (λ rs. row_of w rs ≡ Some row) (sym rows) (row_of-added w old.table.writers mine row h.there); owned = h.owned };
               total = omega arith;
-              others = λ o. refl;
+              spared = λ apart. refl;
             }
         | inr (said, is) ↦ kept_same me w row caller 0 old new h (t ∙ is) refl
       ]
@@ -274,55 +276,55 @@ enters_kept me w row caller room host most old rep new h f = elim f.does as (λ 
 ]
 
 -- Whoever calls what, the caller's writer stays, with one entry more exactly where a write of it was answered Wrote.
-pub step_kept : (me w : ℕ) (row : Row) (old : State) (caller : ℕ) (c : Call) (rep : Reply) (new : State) → HasRow me w row old → Answers old caller c rep new → StaysAt w c rep → Kept me w row caller (wrote_by w c rep) new
+pub step_kept : (me w : ℕ) (row : Row) (old : State) (caller : ℕ) (c : Call) (rep : Reply) (new : State) → HasRow me w row old → Answers old caller c rep new → StaysAt w c rep → Kept me w row caller (wrote_by w c rep) (IsOn w c) new
 step_kept me w row old caller call.Greet rep new h a s = kept_same me w row caller 0 old new h (table_of old new a.1) refl
 step_kept me w row old caller (call.Find name) rep new h a s = kept_same me w row caller 0 old new h (ap (λ (x : State). x.table) a.makes.after ∙ find_table old.table a.makes.told) refl
 step_kept me w row old caller (call.MakeContainer name) rep new h a s = kept_same me w row caller 0 old new h (ap (λ (x : State). x.table) a.makes.after ∙ make_table old.table a.makes.told) refl
 step_kept me w row old caller call.Rooms rep new h a s = kept_same me w row caller 0 old new h (ap (λ (x : State). x.table) a.after) refl
-step_kept me w row old caller (call.Look room look) rep new h a s = elim (unless_refused (room_check old room) old rep new (Makes (look_step room look) (look_outcome look old) old rep new) a) as (λ _. Kept me w row caller 0 new) [
+step_kept me w row old caller (call.Look room look) rep new h a s = elim (unless_refused (room_check old room) old rep new (Makes (look_step room look) (look_outcome look old) old rep new) a) as (λ _. Kept me w row caller 0 ⊥ new) [
   | inl (why, refused) ↦ kept_same me w row caller 0 old new h (table_of old new refused.1) refl
   | inr m ↦ kept_same me w row caller 0 old new h (ap (λ (x : State). x.table) m.after) refl
 ]
-step_kept me w row old caller (call.Enter room host most) rep new h a s = elim (unless_refused (enter_check old room) old rep new (EntersAs caller room host most old rep new) a) as (λ _. Kept me w row caller 0 new) [
+step_kept me w row old caller (call.Enter room host most) rep new h a s = elim (unless_refused (enter_check old room) old rep new (EntersAs caller room host most old rep new) a) as (λ _. Kept me w row caller 0 ⊥ new) [
   | inl (why, refused) ↦ kept_same me w row caller 0 old new h (table_of old new refused.1) refl
   | inr f ↦ enters_kept me w row caller room host most old rep new h f
 ]
-step_kept me w row old caller (call.Floor id) rep new h a s = elim (on_writer caller (only stage.Entered) id old rep new (λ r. FloorsRow r old rep new) a) as (λ _. Kept me w row caller 0 new) [
+step_kept me w row old caller (call.Floor id) rep new h a s = elim (on_writer caller (only stage.Entered) id old rep new (λ r. FloorsRow r old rep new) a) as (λ _. Kept me w row caller 0 (id ≡ w) new) [
   | inl refused ↦ kept_same me w row caller 0 old new h (table_of old new refused.1) refl
   | inr (r, e, f) ↦ floors_kept me w row caller id old rep new r h e f
 ]
 step_kept me w row old caller (call.MakeHostdir id) rep new h a s = builds_kept me w row caller id old rep new (only stage.Floored) hostdir_step stage.Housed (λ r. hostdir_of r.host) (λ r. []) h a
 step_kept me w row old caller (call.MakeIndex id) rep new h a s = builds_kept me w row caller id old rep new (only stage.Housed) index_step stage.Indexed (λ r. hostdir_of r.host) (λ r. (index_path r.host r.id).file) h a
 step_kept me w row old caller (call.MakeLog id) rep new h a s = builds_kept me w row caller id old rep new (only stage.Indexed) log_step stage.Open (λ r. hostdir_of r.host) (λ r. (log_path r.host r.id).file) h a
-step_kept me w row old caller (call.Write id at block) rep new h a s = elim (on_writer caller (only stage.Open) id old rep new (λ r. UnlessRefused (write_check r at (length block)) old rep new (WritesAt r at block old rep new)) a) as (λ _. Kept me w row caller (if nat_eq id w then wrote rep else 0) new) [
+step_kept me w row old caller (call.Write id at block) rep new h a s = elim (on_writer caller (only stage.Open) id old rep new (λ r. UnlessRefused (write_check r at (length block)) old rep new (WritesAt r at block old rep new)) a) as (λ _. Kept me w row caller (if nat_eq id w then wrote rep else 0) (id ≡ w) new) [
   | inl refused ↦ kept_same me w row caller _ old new h (table_of old new refused.1) (none_by id w (wrote rep) (refused_nothing NotOpen old new rep refused))
-  | inr (r, e, u) ↦ elim (unless_refused (write_check r at (length block)) old rep new (WritesAt r at block old rep new) u) as (λ _. Kept me w row caller (if nat_eq id w then wrote rep else 0) new) [
+  | inr (r, e, u) ↦ elim (unless_refused (write_check r at (length block)) old rep new (WritesAt r at block old rep new) u) as (λ _. Kept me w row caller (if nat_eq id w then wrote rep else 0) (id ≡ w) new) [
     | inl (why, refused) ↦ kept_same me w row caller _ old new h (table_of old new refused.1) (none_by id w (wrote rep) (refused_nothing why old new rep refused))
     | inr f ↦ writes_row_kept me w row caller id at block old rep new r h e f
   ]
 ]
-step_kept me w row old caller (call.Flush id) rep new h a s = elim (on_writer caller (only stage.Open) id old rep new (λ r. FlushesRow r r.pending.entries old rep new) a) as (λ _. Kept me w row caller 0 new) [
+step_kept me w row old caller (call.Flush id) rep new h a s = elim (on_writer caller (only stage.Open) id old rep new (λ r. FlushesRow r r.pending.entries old rep new) a) as (λ _. Kept me w row caller 0 (id ≡ w) new) [
   | inl refused ↦ kept_same me w row caller 0 old new h (table_of old new refused.1) refl
   | inr (r, e, f) ↦ flushes_row_kept me w row caller id old rep new r h e r.pending.entries f
 ]
-step_kept me w row old caller (call.SyncLog id) rep new h a s = elim (on_writer caller (only stage.Open) id old rep new (λ r. Makes (sync_log_step r) (sync_log_outcome r old.table) old rep new) a) as (λ _. Kept me w row caller 0 new) [
+step_kept me w row old caller (call.SyncLog id) rep new h a s = elim (on_writer caller (only stage.Open) id old rep new (λ r. Makes (sync_log_step r) (sync_log_outcome r old.table) old rep new) a) as (λ _. Kept me w row caller 0 (id ≡ w) new) [
   | inl refused ↦ kept_same me w row caller 0 old new h (table_of old new refused.1) refl
   | inr (r, e, m) ↦ kept_same me w row caller 0 old new h (ap (λ (x : State). x.table) m.after ∙ sync_log_table r old.table m.told) refl
 ]
-step_kept me w row old caller (call.SyncIndex id) rep new h a s = elim (on_writer caller (only stage.Open) id old rep new (λ r. Makes (sync_index_step r) (sync_index_outcome r old.table) old rep new) a) as (λ _. Kept me w row caller 0 new) [
+step_kept me w row old caller (call.SyncIndex id) rep new h a s = elim (on_writer caller (only stage.Open) id old rep new (λ r. Makes (sync_index_step r) (sync_index_outcome r old.table) old rep new) a) as (λ _. Kept me w row caller 0 (id ≡ w) new) [
   | inl refused ↦ kept_same me w row caller 0 old new h (table_of old new refused.1) refl
   | inr (r, e, m) ↦ kept_same me w row caller 0 old new h (ap (λ (x : State). x.table) m.after ∙ (sync_index_table r old.table m.told).1) refl
 ]
-step_kept me w row old caller (call.PutMeta id) rep new h a s = elim (on_writer caller may_close id old rep new (λ r. UnlessRefused (put_meta_check r) old rep new (Makes (put_meta_step r) (put_meta_outcome r old.table) old rep new)) a) as (λ _. Kept me w row caller 0 new) [
+step_kept me w row old caller (call.PutMeta id) rep new h a s = elim (on_writer caller may_close id old rep new (λ r. UnlessRefused (put_meta_check r) old rep new (Makes (put_meta_step r) (put_meta_outcome r old.table) old rep new)) a) as (λ _. Kept me w row caller 0 (id ≡ w) new) [
   | inl refused ↦ kept_same me w row caller 0 old new h (table_of old new refused.1) refl
-  | inr (r, e, u) ↦ elim (unless_refused (put_meta_check r) old rep new (Makes (put_meta_step r) (put_meta_outcome r old.table) old rep new) u) as (λ _. Kept me w row caller 0 new) [
+  | inr (r, e, u) ↦ elim (unless_refused (put_meta_check r) old rep new (Makes (put_meta_step r) (put_meta_outcome r old.table) old rep new) u) as (λ _. Kept me w row caller 0 (id ≡ w) new) [
     | inl (why, refused) ↦ kept_same me w row caller 0 old new h (table_of old new refused.1) refl
     | inr m ↦ puts_row_kept me w row caller id old rep new r (put_meta_step r) h e m
   ]
 ]
-step_kept me w row old caller (call.Exit id) rep new h a s = elim (on_writer caller is_live id old rep new (λ r. UnlessRefused (exit_check r) old rep new (Makes (exit_step r) (exit_outcome r old.table) old rep new)) a) as (λ _. Kept me w row caller 0 new) [
+step_kept me w row old caller (call.Exit id) rep new h a s = elim (on_writer caller is_live id old rep new (λ r. UnlessRefused (exit_check r) old rep new (Makes (exit_step r) (exit_outcome r old.table) old rep new)) a) as (λ _. Kept me w row caller 0 (id ≡ w) new) [
   | inl refused ↦ kept_same me w row caller 0 old new h (table_of old new refused.1) refl
-  | inr (r, e, u) ↦ elim (unless_refused (exit_check r) old rep new (Makes (exit_step r) (exit_outcome r old.table) old rep new) u) as (λ _. Kept me w row caller 0 new) [
+  | inr (r, e, u) ↦ elim (unless_refused (exit_check r) old rep new (Makes (exit_step r) (exit_outcome r old.table) old rep new) u) as (λ _. Kept me w row caller 0 (id ≡ w) new) [
     | inl (why, refused) ↦ kept_same me w row caller 0 old new h (table_of old new refused.1) refl
     | inr m ↦ exits_row_kept me w row caller id old rep new r (exit_step r) h e m s
   ]

@@ -1,5 +1,5 @@
 -- What a caller knows of its writer.
-use Rattle.std.specs.Prelude.{◌≡◌, ℕ, length, true, Some, Ok}
+use Rattle.std.specs.Prelude.{◌≡◌, ℕ, length, true, false, Some, Ok}
 use Rattle.mount_model.specs.declared.row.Row.{Row}
 use Rattle.mount_model.specs.Table.{row_of}
 use Rattle.mount_model.specs.State.{State}
@@ -57,8 +57,9 @@ pub record IsClosed (caller : ℕ) (first : WriterHandle) (count : ℕ) (out : W
   pub stays : (left : WriterHandle) → out.handle ≡ Some left → StaysOpen caller first left count state
   pub number : (n : ℕ) → out.result ≡ Ok n → n ≡ count
 
--- a writer was opened, and has no entries
+-- a writer was opened: it has no entries, and its metadata dropping was not asked for
 pub record IsOpened (caller : ℕ) (handle : WriterHandle) (state : State) : Type 0 where
   pub row : Row
   pub knows : Knows caller handle row state
   pub none : entries_of row ≡ 0
+  pub fresh : handle.closing ≡ false

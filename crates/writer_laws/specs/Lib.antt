@@ -1,3 +1,4 @@
 pub mod Running
 pub mod Counting
 pub mod Knowing
+pub mod Waiting

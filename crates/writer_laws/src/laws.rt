@@ -14,6 +14,7 @@ ghost use Rattle.mount_model.specs.Regular.{IsRegular};
 ghost use Rattle.writer_laws.specs.Running.{Runs};
 ghost use Rattle.writer_laws.specs.Counting.{entries_of, writes_told, Stays};
 ghost use Rattle.writer_laws.specs.Knowing.{HasRow, Knows, IsLeft, IsSynced, IsClosed, IsOpened};
+ghost use Rattle.writer_laws.specs.Waiting.{LetsBe};
 
 /// A law: where a handle tells how many entries are in its writer's buffer, the handle that a write, a sync or a close
 /// leaves does so again. The number of a sync, and of a close, is that of all the writer's entries; after a sync that
@@ -42,8 +43,18 @@ pub fn a_handle_tells_of_its_buffer()
         → IsClosed caller handle (entries_of row) out (state_after start events) }
 {}
 
+/// A law: while its caller makes no call on a writer, whatever else it calls and whatever others do, the handle goes on
+/// telling of the writer's buffer.
+pub fn a_handle_waits()
+    ensures { (caller : ℕ) (handle : WriterHandle) (row : Row) (start : State) (events : List Event)
+        → Knows caller handle row start
+        → IsLegal start events
+        → LetsBe caller handle.writer events
+        → Knows caller handle row (state_after start events) }
+{}
+
 /// A law: an opening that ends with a handle, from a state on whose table is regular, as that of every mount is, leaves
-/// the caller a writer without entries, of whose buffer the handle tells.
+/// the caller a writer without entries, of whose buffer the handle tells, and whose metadata dropping was not asked for.
 pub fn an_opened_writer_has_no_entries()
     ensures { (caller : ℕ) (name : List ℕ) (host most : ℕ)
         (start : State) (events : List Event) (out : Result WriterHandle Stuck) (handle : WriterHandle)

@@ -1,5 +1,5 @@
 use Rattle.std.proofs.Common.{◌≡◌, ◌++◌, ◌^◌, drop}
-use Rattle.interval_merge.specs.Clip.{lowered}
+use Rattle.interval_merge.proofs.CutLemmas.{lowered}
 use Rattle.interval_merge.proofs.clipping.lowered_sizes.Given as goal
 
 abbrev pub invariant-loop-trunc : goal.invariant-loop-trunc

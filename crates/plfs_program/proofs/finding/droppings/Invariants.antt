@@ -2,4 +2,4 @@ use Rattle.std.proofs.Common.{◌≡◌}
 use Rattle.plfs_program.proofs.finding.droppings.Given as goal
 
 abbrev pub invariant-loop-host : goal.invariant-loop-host
-invariant-loop-host g l = l.session.mount.opened ≡ l.fn.session.mount.opened
+invariant-loop-host g l = l.session.start.value ≡ l.fn.session.start.value

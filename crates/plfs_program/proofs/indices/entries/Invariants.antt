@@ -5,5 +5,5 @@ use Rattle.plfs_program.proofs.indices.entries.Given as goal
 abbrev pub invariant-loop-dropping : goal.invariant-loop-dropping
 invariant-loop-dropping g l = record {
   found : AreSoFar l.last l.found.items;
-  opened : l.session.mount.opened ≡ l.fn.session.mount.opened;
+  start : l.session.start.value ≡ l.fn.session.start.value;
 }

@@ -5,5 +5,5 @@ use Rattle.plfs_program.proofs.indices.read_index.Given as goal
 abbrev pub invariant-loop : goal.invariant-loop
 invariant-loop g l = record {
   found : AreFound l.dropping.writer l.far.stamp l.found.items;
-  opened : l.session.mount.opened ≡ l.fn.session.mount.opened;
+  start : l.session.start.value ≡ l.fn.session.start.value;
 }

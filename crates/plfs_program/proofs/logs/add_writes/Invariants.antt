@@ -6,5 +6,5 @@ use Rattle.plfs_program.proofs.logs.add_writes.Given as goal
 abbrev pub invariant-loop-write : goal.invariant-loop-write
 invariant-loop-write g l = record {
   logged : AreLogged (entries_in (take l.write-index l.found)) l.changes;
-  opened : l.session.mount.opened ≡ l.fn.session.mount.opened;
+  start : l.session.start.value ≡ l.fn.session.start.value;
 }

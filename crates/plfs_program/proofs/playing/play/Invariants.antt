@@ -4,6 +4,6 @@ use Rattle.plfs_program.proofs.playing.play.Given as goal
 
 abbrev pub invariant-loop-numbered : goal.invariant-loop-numbered
 invariant-loop-numbered g l = record {
-  played : ArePlayed l.statements l.numbered-index l.lines;
-  opened : l.session.mount.opened ≡ l.fn.session.mount.opened;
+  played : ArePlayed l.statements l.actor.reader l.numbered-index l.lines;
+  start : l.session.start.value ≡ l.fn.session.start.value;
 }

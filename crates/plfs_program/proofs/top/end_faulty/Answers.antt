@@ -5,7 +5,7 @@ use Rattle.plfs_program.proofs.CourseLemmas.{said_as}
 use Rattle.plfs_program.proofs.top.end_faulty.Goals as goal
 
 pub returns : goal.returns
-returns g c bytes reads =
-    let e : Ends = ends_of (g.O.Sink.taking c.args.out.now) (g.O.Sink.taking c.say.new.out) (g.S.Store.stored c.args.store) (Some (g.S.Store.stored c.args.store)) in
+returns g c bytes times reads =
+    let e : Ends = ends_of times (g.O.Sink.taking c.args.out.now) (g.O.Sink.taking c.say.new.out) (g.S.Store.stored c.args.store) (Some (g.S.Store.stored c.args.store)) in
     faulty (record { line = c.args.line; kind = c.args.kind }) reads refl
     (said_as (fault_line c.args.line c.args.kind) c.deref.result.now e (c.deref.ensures.value ∙ c.in-Ok.ensures) c.say.ensures) refl

@@ -8,4 +8,4 @@ returns-in-Ok g c = c.play_script.ensures c.args.bytes.now c.in-Ok.ensures.scrip
 pub returns-in-Err-Fault : goal.returns-in-Err-Fault
 returns-in-Err-Fault g c =
     let failed : IsTroubleOf c.args.bytes.now (Fault c.in-Err-Fault.line c.in-Err-Fault.kind) = rw c.in-Err-Fault.field-0-is at c.in-Err-Fault.ensures.fault in
-    c.end_faulty.ensures c.args.bytes.now failed
+    c.end_faulty.ensures c.args.bytes.now (g.C.Clock.times c.args.clock) failed

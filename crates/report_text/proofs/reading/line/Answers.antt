@@ -6,6 +6,7 @@ use Rattle.script_lang.specs.declared.line.Line.{Line}
 use Rattle.report_text.specs.Text.{ListsLogicalNames, body_of_line}
 use Rattle.report_text.specs.ReadingOutcomes.{line_at}
 use Rattle.report_text.proofs.Begins.{err_only}
+use Rattle.report_text.proofs.FitsOutcomes.{line_fits}
 use Rattle.report_text.proofs.Lines.{line_again}
 use Rattle.report_text.proofs.reading.line.Goals as goal
 
@@ -27,6 +28,14 @@ returns-then-ne-clause-only c line h is =
     let printed : c.append_body.new.out.items ≡ body_of_line c.in_ok-read.read = rw (c.in_ok-append_body.ensures, c.clear.ensures.items) refl in
     let spelled : c.as_slice.result.now ≡ c.args.body.now = c.as_slice.ensures.value ∙ printed ∙ ap body_of_line same ∙ sym is in
     absurd (search (rules, spelled, c.if-ne.ensures))
+
+pub returns-clause-found : goal.returns-clause-found
+returns-clause-found c =
+    let printed : c.append_body.new.out.items ≡ body_of_line c.in_ok-read.read = rw (c.in_ok-append_body.ensures, c.clear.ensures.items) refl in
+    let spelled : c.as_slice.result.now ≡ body_of_line c.in_ok-read.read = c.as_slice.ensures.value ∙ printed in
+    let same : c.args.body.now ≡ body_of_line c.in_ok-read.read = search (rules, spelled, c.if-ne.ensures) in
+    let yes : c.lists_logical_names.result ≡ true = grind (arith, nat_tests) in
+    (line_fits c.in_ok-read.read (ap line_at (sym same) ∙ c.in_ok-read.ensures) (c.lists_logical_names.ensures.0 yes), same)
 
 pub returns-clause-only : goal.returns-clause-only
 returns-clause-only c line h is = same_Some c.in_ok-read.read line (sym c.in_ok-read.ensures ∙ ap line_at is ∙ line_again line h)

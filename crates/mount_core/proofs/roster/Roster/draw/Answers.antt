@@ -3,7 +3,7 @@ use Rattle.std.specs.List.{All}
 use Rattle.mount_model.specs.declared.row.Row.{Row}
 use Rattle.mount_model.specs.Entering.{next_id}
 use Rattle.mount_core.specs.Roll.{Roll, bare}
-use Rattle.mount_core.specs.Admitting.{IsNext, with_next}
+use Rattle.mount_core.specs.Admitting.{IsNextId, with_next}
 use Rattle.mount_core.specs.contracts.roster.Roster.{the_view}
 use Rattle.mount_core.proofs.Admits.{next_keeps, granted, next_above}
 use Rattle.mount_core.proofs.roster.Roster.draw.Goals as goal
@@ -15,7 +15,7 @@ pub returns-clause-ok : goal.returns-clause-ok
 returns-clause-ok c =
     let roll = the_view c.self.inside in
     let is : next_id (bare roll) ≡ c.from.result * 2 ^ 32 + c.from-2.result = omega arith in
-    subst (λ (r : Roll). IsNext c.args.room r (c.from.result * 2 ^ 32 + c.from-2.result) (with_next roll)) c.self.view_is (record {
+    subst (λ (r : Roll). IsNextId c.args.room r (c.from.result * 2 ^ 32 + c.from-2.result) (with_next roll)) c.self.view_is (record {
       granted = granted roll c.args.room c.if-room-self.false (omega arith);
       apart = c.if-room-self.false;
       id_is = sym is;

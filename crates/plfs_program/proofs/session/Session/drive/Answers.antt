@@ -5,7 +5,7 @@ use Rattle.plfs_program.proofs.session.Session.drive.Goals as goal
 pub loop-flow-preserved : goal.loop-flow-preserved
 loop-flow-preserved g c = record {
   fresh = taken_fresh (g.F.Flow.standing c.next.new.self) (g.F.Flow.standing c.take.new.self) c.ask-reply.result c.in_ok-take.ensures.goes_on;
-  opened = c.ask-reply.ensures.opened ∙ c.loop-flow.invariant.opened;
+  start = c.ask-reply.ensures.start ∙ c.loop-flow.invariant.start;
   kept = λ e. c.ask-reply.ensures.kept (c.loop-flow.invariant.kept e);
   ends = λ fine e. driven fine (g.F.Flow.standing c.loop-flow.flow) (g.F.Flow.standing c.next.new.self) (g.F.Flow.standing c.take.new.self) c.in_ok-call.field-0 c.in-Some.call c.ask-reply.result c.loop-flow.self.faulted
       c.ask-reply.new.self.faulted c.loop-flow.invariant.fresh c.in_ok-call.ensures.call c.in-Some.is c.in_ok-call.ensures.rest c.in_ok-take.ensures.goes_on c.ask-reply.ensures.fits

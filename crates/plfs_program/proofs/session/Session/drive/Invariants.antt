@@ -6,7 +6,7 @@ use Rattle.plfs_program.proofs.session.Session.drive.Given as goal
 abbrev pub invariant-loop-flow : goal.invariant-loop-flow
 invariant-loop-flow g l = record {
   fresh : IsFresh (g.F.Flow.standing l.flow);
-  opened : l.self.mount.opened ≡ l.fn.self.mount.opened;
+  start : l.self.start.value ≡ l.fn.self.start.value;
   kept : l.fn.self.faulted ≡ true → l.self.faulted ≡ true;
   ends : (fine : g.row.F-Out.Denot → Bool) → EndsFrom fine (g.F.Flow.standing l.fn.flow) → (l.self.faulted ≡ true) ⊎ EndsFrom fine (g.F.Flow.standing l.flow);
 }

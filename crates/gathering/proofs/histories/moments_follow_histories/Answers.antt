@@ -1,0 +1,5 @@
+use Rattle.gathering.proofs.Placing.{follows}
+use Rattle.gathering.proofs.histories.moments_follow_histories.Goals as goal
+
+pub returns : goal.returns
+returns c = follows

@@ -1,0 +1,8 @@
+-- Keys of open files.
+use Rattle.std.specs.Prelude.{Bool, ◌&&◌, nat_eq}
+use Rattle.std.specs.Cmp.Lexicographic.{pointwise}
+use Rattle.store_folder.specs.declared.cache.FileKey.{FileKey}
+
+-- two keys name one file
+abbrev pub same_file : FileKey → FileKey → Bool
+same_file a b = nat_eq a.room b.room && (pointwise nat_eq a.folder b.folder && pointwise nat_eq a.file b.file)
