@@ -1,6 +1,7 @@
 -- Bounds on what has landed: what a flush or a sync told, and what was issued at the last flush.
-use Rattle.std.proofs.Common.{◌≡◌, ℕ, ◌≤◌, false, List, [], ◌∷◌, length, Option, Some, None, refl, ap, sym, ◌∙◌, inl, inr, subst, arith}
-use Rattle.std.specs.Prelude.{Ok, Err, MatchOption}
+use Rattle.std.proofs.Common.{◌≡◌, ℕ, ◌≤◌, ◌<◌, ◌^◌, true, false, nat_eq, List, [], ◌∷◌, ◌++◌, length, min, Option, Some, None, refl, ap, sym, ◌∙◌, ◌⊎◌, inl, inr, subst, arith, length-append}
+use Rattle.std.specs.Prelude.{Ok, Err, MatchOption, ◌&&◌, if◌then◌else◌}
+use Rattle.std.proofs.lemmas.Bool.Decides.{nat_tests}
 use Rattle.std.specs.List.{Any}
 use Rattle.plfs_types.specs.declared.entries.Entry.{Entry}
 use Rattle.plfs_types.specs.declared.entries.Trunc.{Trunc}
@@ -9,22 +10,30 @@ use Rattle.store_api.specs.declared.step.Answer.TheVariants.{Made, NoRoom, NoFol
 use Rattle.store_api.specs.declared.store.Trouble.TheVariants.{Fault, NoMemory}
 use Rattle.store_laws.specs.Files.{file_at}
 use Rattle.plain_file.proofs.OrderLemmas.{Among}
-use Rattle.mount_model.specs.declared.call.Call.TheVariants.{Flush, SyncIndex}
+use Rattle.mount_model.specs.declared.call.Call.TheVariants.{Write, Flush, SyncIndex}
+use Rattle.mount_model.specs.declared.call.Call.{Call}
 use Rattle.mount_model.specs.declared.reply.Reply.{Reply}
-use Rattle.mount_model.specs.declared.reply.Reply.TheVariants.{Flushed, Synced}
+use Rattle.mount_model.specs.declared.reply.Reply.TheVariants.{Wrote, Flushed, Synced}
 use Rattle.mount_model.specs.declared.reply.Refusal.TheVariants.{NotOpen}
 use Rattle.mount_model.specs.declared.row.Row.{Row}
 use Rattle.mount_model.specs.declared.row.Stage.TheVariants as stage
-use Rattle.mount_model.specs.Paths.{index_path, trunc_path}
+use Rattle.mount_model.specs.Paths.{open_path, index_path, trunc_path}
 use Rattle.mount_model.specs.State.{State, Table}
 use Rattle.mount_model.specs.Table.{row_of, with_row, writer_of, only, rank}
-use Rattle.mount_model.specs.Making.{Told, Makes, OnWriter, Refuses}
-use Rattle.mount_model.specs.Flushing.{flushed, flush_outcome, FlushesRow, sync_index_step, sync_index_outcome}
+use Rattle.mount_model.specs.Making.{Told, Makes, OnWriter, Refuses, UnlessRefused}
+use Rattle.mount_model.specs.Writing.{write_check, WritesAt}
+use Rattle.mount_model.specs.Flushing.{flushed, flush_outcome, FlushesRow, index_synced, sync_index_step, sync_index_outcome}
 use Rattle.mount_model.specs.Step.{Answers, IsStep}
 use Rattle.mount_model.specs.History.{Event, IsLegal}
-use Rattle.mount_sound.specs.Ledger.{entries_in}
-use Rattle.mount_sound.specs.Dropping.{bytes_of}
-use Rattle.mount_sound.specs.Kept.{Begins, IsKept}
+use Rattle.mount_sound.specs.Ledger.{Written, entries_in, Ledger}
+use Rattle.mount_sound.specs.Issued.{with_write, written_by, noted, issued_after}
+use Rattle.mount_sound.proofs.Growing.{call_issues}
+use Rattle.index_entry.specs.Spelling.{spelling_all}
+use Rattle.index_entry.proofs.Spelled.{length-spelling_all}
+use Rattle.store_laws.proofs.Overwriting.{prefix_length}
+use Rattle.store_api.specs.declared.tree.Room.{Room}
+use Rattle.mount_sound.specs.Dropping.{bytes_of, IsWriter}
+use Rattle.mount_sound.specs.Kept.{Begins, IsAtStage, IsKept}
 use Rattle.mount_sound.proofs.Frames.{Fits}
 use Rattle.mount_sound.proofs.Making.{all_fit}
 use Rattle.mount_sound.proofs.Stages.{live_stage}
@@ -39,11 +48,12 @@ use Rattle.gathering.specs.Opening.{HasView}
 use Rattle.gathering.proofs.Acting.{at_most_one_act}
 use Rattle.gathering.proofs.Growing.{grows_refl, trunc_grows}
 use Rattle.gathering.proofs.Seeing.{sound_next, grows_after}
-use Rattle.gathering.proofs.Fronts.{stood_grows, landed_issued}
+use Rattle.gathering.proofs.Fronts.{stood_grows, stands, length-entries, landed_issued}
 use Rattle.gathering.proofs.Gathers.{landed_grows}
 use Rattle.gathering.proofs.Members.{any_found, found_any}
 use Rattle.gathering.proofs.Answering.{prefix_of}
 use Rattle.gathering.proofs.Listings.{not_top}
+use Rattle.gathering.proofs.Left.{open_row, issues_or_not, open_within}
 use Rattle.gathering.proofs.Sparing.{Same, call_same, spares_index, spares_trunc}
 
 -- ---------- what the table counts has landed
@@ -66,7 +76,7 @@ row_landed m s row held ready =
     let fits : Fits row = all_fit m.state s.regular row.id row held in
     record {
       stands = record { is_item = record { in_range = tt; widths = (fits.host, fits.id) }; bytes = there.0; there = sym file ∙ there.1 };
-      counted = subst (λ f. row.landed ≤ whole (bytes_of f)) file (kept_landed row.landed (entries_in (m.issued row.room row.id)) (file_at p.0 (index_path row.host row.id)) k.index);
+      counted = subst (λ f. row.landed ≤ min (whole (bytes_of f)) (length (m.issued row.room row.id))) file (omega (arith, kept_landed row.landed (entries_in (m.issued row.room row.id)) (file_at p.0 (index_path row.host row.id)) k.index, k.numbers.landed, length-entries (m.issued row.room row.id)));
     }
 
 -- ---------- rows after a flush and a sync
@@ -96,23 +106,13 @@ flushed_row old new row writer n (x ∷ entries) is held ready f =
     let put : row_of row.id (with_row (flushed row) old.table.writers) ≡ Some (flushed row) = row_of-with_row (flushed row) old.table.writers row (subst (λ w. row_of w old.table.writers ≡ Some row) (sym is) held) in
     record { row = flushed row; stands = ap (row_of writer) rows ∙ subst (λ w. row_of w (with_row (flushed row) old.table.writers) ≡ Some (flushed row)) is put; counted = sym t.1; ready = ready }
 
--- a call on an open writer that wasn't refused
-open_row : {R : Type 0} (caller writer : ℕ) (old : State) (reply : Reply) (new : State) (does : Row → Type 0) → OnWriter caller (only stage.Open) writer old reply new does
-    → (Refuses NotOpen old reply new → R) → ((row : Row) → row.id ≡ writer → row_of writer old.table.writers ≡ Some row → rank row.stage ≡ 4 → does row → R) → R
-open_row {R} caller writer old reply new does f refused each = elim (match_cases (writer_of caller (only stage.Open) writer old.table.writers) (Refuses NotOpen old reply new) does f) as (λ _. R) [
-  | inl (none, r) ↦ refused r
-  | inr (row, held, done) ↦
-      let h = is_held caller (only stage.Open) writer old.table.writers row held in
-      each row h.is h.found (at_only stage.Open row.stage h.staged) done
-]
-
 flush_row : (old : State) (caller writer n : ℕ) (new : State) → Answers old caller (Flush writer) (Flushed n) new → CallTold new writer n
 flush_row old caller writer n new f =
     open_row caller writer old (Flushed n) new (λ row. FlushesRow row row.pending.entries old (Flushed n) new) f
     (λ r. absurd (let e = r.0 in cc))
     (λ row is held ready does. flushed_row old new row writer n row.pending.entries is held ready does)
 
-sync_told : (row : Row) (table : Table) (told : Told) (n : ℕ) → Synced n ≡ (sync_index_outcome row table told).reply → ((sync_index_outcome row table told).table ≡ table) × (n ≡ row.landed)
+sync_told : (row : Row) (table : Table) (told : Told) (n : ℕ) → Synced n ≡ (sync_index_outcome row table told).reply → ((sync_index_outcome row table told).table ≡ record table { writers = with_row (index_synced row) table.writers }) × (n ≡ row.landed)
 sync_told row table (Ok Made) n e = (refl, cc)
 sync_told row table (Ok NoRoom) n e = absurd (cc)
 sync_told row table (Ok NoFolder) n e = absurd (cc)
@@ -126,7 +126,9 @@ sync_row old caller writer n new f =
     (λ r. absurd (let e = r.0 in cc))
     (λ row is held ready does.
     let t = sync_told row old.table does.told n does.answered in
-    record { row = row; stands = ap (λ (s : State). row_of writer s.table.writers) does.after ∙ ap (λ (b : Table). row_of writer b.writers) t.0 ∙ held; counted = sym t.1; ready = ready })
+    let rows : new.table.writers ≡ with_row (index_synced row) old.table.writers = ap (λ (s : State). s.table.writers) does.after ∙ ap (λ (b : Table). b.writers) t.0 in
+    let put : row_of row.id (with_row (index_synced row) old.table.writers) ≡ Some (index_synced row) = row_of-with_row (index_synced row) old.table.writers row (subst (λ w. row_of w old.table.writers ≡ Some row) (sym is) held) in
+    record { row = index_synced row; stands = ap (row_of writer) rows ∙ subst (λ w. row_of w (with_row (index_synced row) old.table.writers) ≡ Some (index_synced row)) is put; counted = sym t.1; ready = ready })
 
 -- ---------- what a flush or a sync told has landed
 
@@ -204,16 +206,24 @@ step_spares m s e d named spares step =
     (λ act is. spares_index m s e.ask.call act d named spares is)
     (at_most_one_act m.state e.caller e.ask.call e.reply e.after step.answers)
 
+-- nothing has landed where the dropping is as it was
+step_lands_none : (m : Moment) (e : Event) (d : Dropping) → IsNamed d → IsSoundAt m → Answers m.state e.caller e.ask.call e.reply e.after → index_then (next_moment m e) d ≡ index_then m d → landed (next_moment m e) d ≡ landed m d
+step_lands_none m e d named s a same = elim (issues_or_not m.issued m.state e.caller e.ask.call e.reply e.after d.room d.writer a) as (λ _. landed (next_moment m e) d ≡ landed m d) [
+  | inl none ↦ omega (arith, ap (λ o. whole (bytes_of o)) same, ap length none)
+  | inr o ↦
+      let more = call_issues m.issued m.state e.ask.call e.reply d.room d.writer in
+      omega (arith, ap (λ f. whole (bytes_of f)) same, open_within m s d (index_then m d) named o refl, ap length more.1, length-append (issued_by m d) more.0)
+]
+
 landed_stays : (m : Moment) (events : List Event) (d : Dropping) → IsNamed d → IsLegal m.state events → IsSoundAt m → AllSpare events d → landed (moment_after m events) d ≡ landed m d
 landed_stays m [] d named legal s spare = refl
 landed_stays m (e ∷ events) d named legal s spare =
     landed_stays (next_moment m e) events d named legal.2 (sound_next m e events legal s) spare.1
-    ∙ ap (λ o. whole (bytes_of o)) (step_spares m s e d named spare.0 legal.1)
+    ∙ step_lands_none m e d named s legal.1.answers (step_spares m s e d named spare.0 legal.1)
 
 -- no more has landed than was issued
-landed_within : (m : Moment) (s : IsSoundAt m) (d : Dropping) (file : Option (List ℕ)) → IsNamed d → index_then m d ≡ file → whole (bytes_of file) ≤ length (issued_by m d)
-landed_within m s d None named e = omega arith
-landed_within m s d (Some bytes) named e = landed_issued m m s d bytes named (grows_refl m) e
+landed_within : (m : Moment) (s : IsSoundAt m) (d : Dropping) (file : Option (List ℕ)) → IsNamed d → index_then m d ≡ file → landed m d ≤ length (issued_by m d)
+landed_within m s d file named e = omega arith
 
 -- No more of a writer has landed than it had issued when it last was flushed.
 pub landed_most : (m : Moment) (events : List Event) (d : Dropping) → IsNamed d → IsLegal m.state events → IsSoundAt m → AllSpare events d → landed (moment_after m events) d ≤ length (issued_by m d)

@@ -20,6 +20,7 @@ use Rattle.mount_model.specs.Mounting.{IsMounted}
 use Rattle.mount_shape.proofs.Held.{empty_shaped}
 use Rattle.mount_sound.specs.Sound.{IsSoundTree}
 use Rattle.mount_sound.specs.Ledger.{entries_in}
+use Rattle.mount_sound.specs.There.{entry_in}
 use Rattle.mount_sound.proofs.Landing.{no_writes}
 use Rattle.mount_sound.proofs.Mounting.{mounted_sound}
 use Rattle.gathering.specs.Moments.{Moment, IsSoundAt, moment_after, Dropping}
@@ -169,37 +170,48 @@ second_gathered = record { dropping = second_dropping; covered = 0; count = 0; c
 abbrev pub cut : List Gathered
 cut = first_gathered ∷ second_gathered ∷ []
 
-gathers_first : Gathers first_gathered (asked_in sample.asks_first ∷ asked_in sample.reads_first ∷ [])
+gathers_first : Gathers first_gathered (asked_in sample.asks_first ∷ asked_in sample.asks_first_log ∷ asked_in sample.reads_first ∷ [])
+unfolding spelling entry_in
 gathers_first = record {
   named = record { in_range = tt; widths = (omega arith, omega arith) };
   first = asked_in sample.asks_first;
+  second = asked_in sample.asks_first_log;
   reads = asked_in sample.reads_first ∷ [];
   calls = refl;
   told = 40;
+  log = 2;
+  read = sample.first_bytes;
   length = record { call = refl; reply = refl };
-  count = refl;
-  covered = omega arith;
+  log_length = record { call = refl; reply = inl refl };
   bytes = (40, sample.first_bytes, [], record { call = refl; reply = refl }, omega arith, (refl, refl), sym (append-nil sample.first_bytes));
+  covered = refl;
+  count = refl;
+  content = refl;
 }
 
-gathers_second : Gathers second_gathered (asked_in sample.asks_second ∷ [])
+gathers_second : Gathers second_gathered (asked_in sample.asks_second ∷ asked_in sample.asks_second_log ∷ [])
 gathers_second = record {
   named = record { in_range = tt; widths = (omega arith, omega arith) };
   first = asked_in sample.asks_second;
+  second = asked_in sample.asks_second_log;
   reads = [];
   calls = refl;
   told = 20;
+  log = 2;
+  read = [];
   length = record { call = refl; reply = refl };
-  count = refl;
-  covered = omega arith;
+  log_length = record { call = refl; reply = inl refl };
   bytes = (refl, refl);
+  covered = refl;
+  count = refl;
+  content = refl;
 }
 
 opens : IsOpening 1 cut [] (calls_of 3 sample.gathering) (asked_in sample.lists_truncs)
 opens = record {
   earlier = [];
   scan = asked_in sample.lists_top ∷ asked_in sample.lists_folder ∷ [];
-  entries = asked_in sample.asks_first ∷ asked_in sample.reads_first ∷ asked_in sample.asks_second ∷ [];
+  entries = asked_in sample.asks_first ∷ asked_in sample.asks_first_log ∷ asked_in sample.reads_first ∷ asked_in sample.asks_second ∷ asked_in sample.asks_second_log ∷ [];
   split = refl;
   droppings = both;
   scans = scans;
@@ -210,11 +222,11 @@ opens = record {
   };
   gathered = cut;
   gathers = (
-    asked_in sample.asks_first ∷ asked_in sample.reads_first ∷ [],
-    asked_in sample.asks_second ∷ [],
+    asked_in sample.asks_first ∷ asked_in sample.asks_first_log ∷ asked_in sample.reads_first ∷ [],
+    asked_in sample.asks_second ∷ asked_in sample.asks_second_log ∷ [],
     refl,
     gathers_first,
-    (asked_in sample.asks_second ∷ [], [], refl, gathers_second, refl),
+    (asked_in sample.asks_second ∷ asked_in sample.asks_second_log ∷ [], [], refl, gathers_second, refl),
   );
   has = All-from_recursion (λ (g : Gathered). IsAmong g cut) cut (is_among cut first_gathered (inl refl), (is_among cut second_gathered (inr (inl refl)), tt));
   lists = record { names = []; lists = record { call = refl; reply = refl }; told = record { rise = tt; named = All-from_recursion _ [] tt; all = λ t any. absurd (let f = any_found _ [] any in f.1) } };

@@ -115,25 +115,33 @@ asks_first : IsAnswered sample.lists_folder.after sample.asks_first
 unfolding digits spelling
 asks_first = does (sample.both_files sample.torn sample.second_log) (sample.both_files sample.torn sample.second_log) 20 1 2 _ _ _ (Number 40) refl
 
-reads_first : IsAnswered sample.asks_first.after sample.reads_first
+asks_first_log : IsAnswered sample.asks_first.after sample.asks_first_log
 unfolding digits spelling
-reads_first = does (sample.both_files sample.torn sample.second_log) (sample.both_files sample.torn sample.second_log) 21 1 2 _ _ _ (Bytes sample.first_bytes) refl
+asks_first_log = does (sample.both_files sample.torn sample.second_log) (sample.both_files sample.torn sample.second_log) 21 1 2 _ _ _ (Number 2) refl
+
+reads_first : IsAnswered sample.asks_first_log.after sample.reads_first
+unfolding digits spelling
+reads_first = does (sample.both_files sample.torn sample.second_log) (sample.both_files sample.torn sample.second_log) 22 1 2 _ _ _ (Bytes sample.first_bytes) refl
 
 asks_second : IsAnswered sample.reads_first.after sample.asks_second
 unfolding digits spelling
-asks_second = does (sample.both_files sample.torn sample.second_log) (sample.both_files sample.torn sample.second_log) 22 1 2 _ _ _ (Number 20) refl
+asks_second = does (sample.both_files sample.torn sample.second_log) (sample.both_files sample.torn sample.second_log) 23 1 2 _ _ _ (Number 20) refl
 
-lists_truncs : IsAnswered sample.asks_second.after sample.lists_truncs
+asks_second_log : IsAnswered sample.asks_second.after sample.asks_second_log
 unfolding digits spelling
-lists_truncs = does (sample.both_files sample.torn sample.second_log) (sample.both_files sample.torn sample.second_log) 23 1 2 _ _ _ (Names []) refl
+asks_second_log = does (sample.both_files sample.torn sample.second_log) (sample.both_files sample.torn sample.second_log) 24 1 2 _ _ _ (Number 2) refl
+
+lists_truncs : IsAnswered sample.asks_second_log.after sample.lists_truncs
+unfolding digits spelling
+lists_truncs = does (sample.both_files sample.torn sample.second_log) (sample.both_files sample.torn sample.second_log) 25 1 2 _ _ _ (Names []) refl
 
 flushes_second : IsAnswered sample.lists_truncs.after sample.flushes_second
 unfolding digits spelling
-flushes_second = does (sample.both_files sample.torn sample.second_log) (sample.both_files sample.second_bytes sample.second_log) 24 1 2 _ _ _ Made refl
+flushes_second = does (sample.both_files sample.torn sample.second_log) (sample.both_files sample.second_bytes sample.second_log) 26 1 2 _ _ _ Made refl
 
 reads_log : IsAnswered sample.flushes_second.after sample.reads_log
 unfolding digits spelling
-reads_log = does (sample.both_files sample.second_bytes sample.second_log) (sample.both_files sample.second_bytes sample.second_log) 25 1 2 _ _ _ (Bytes sample.first_log) refl
+reads_log = does (sample.both_files sample.second_bytes sample.second_log) (sample.both_files sample.second_bytes sample.second_log) 27 1 2 _ _ _ (Bytes sample.first_log) refl
 
 -- a call that is answered so is a step, where its caller owes nothing but that it isn't broken off
 abbrev IsStepOf : State → Event → Type 0
@@ -200,17 +208,25 @@ legal = (
                                     step sample.lists_folder.after sample.asks_first refl asks_first,
                                     (
                                       record { goes_on = refl; call = tt },
-                                      step sample.asks_first.after sample.reads_first refl reads_first,
+                                      step sample.asks_first.after sample.asks_first_log refl asks_first_log,
+                                      (
+                                      record { goes_on = refl; call = tt },
+                                      step sample.asks_first_log.after sample.reads_first refl reads_first,
                                       (
                                         record { goes_on = refl; call = tt },
                                         step sample.reads_first.after sample.asks_second refl asks_second,
                                         (
                                           record { goes_on = refl; call = tt },
-                                          step sample.asks_second.after sample.lists_truncs refl lists_truncs,
+                                          step sample.asks_second.after sample.asks_second_log refl asks_second_log,
+                                          (
+                                          record { goes_on = refl; call = tt },
+                                          step sample.asks_second_log.after sample.lists_truncs refl lists_truncs,
                                           (
                                             record { goes_on = refl; call = tt },
                                             step sample.lists_truncs.after sample.flushes_second refl flushes_second,
                                             (record { goes_on = refl; call = tt }, step sample.flushes_second.after sample.reads_log refl reads_log, tt),
+                                    ),
+                                    ),
                                           ),
                                         ),
                                       ),

@@ -7,6 +7,7 @@ use Rattle.mount_model.specs.History.{Event, IsLegal}
 use Rattle.mount_sound.proofs.Steps.{step_keeps}
 use Rattle.gathering.specs.Moments.{Moment, IsSoundAt, next_moment, moment_after, Grows}
 use Rattle.gathering.specs.Seen.{Asked, asked_in, calls_of, IsSeen}
+use Rattle.gathering.proofs.Left.{left_stays}
 use Rattle.gathering.proofs.Growing.{step_grows, grows_refl, grows_trans}
 
 pub alike : (a b : ℕ) → nat_eq a b ≡ true → a ≡ b
@@ -21,7 +22,7 @@ sound_after m [] legal sound = sound
 sound_after m (e ∷ rest) legal sound = sound_after (next_moment m e) rest legal.2 (sound_next m e rest legal sound)
 
 pub grows_next : (m : Moment) (e : Event) (rest : List Event) → IsLegal m.state (e ∷ rest) → IsSoundAt m → Grows m (next_moment m e)
-grows_next m e rest legal sound = step_grows m e sound.shape.tree sound.shape.told legal.1
+grows_next m e rest legal sound = step_grows m e sound.shape.tree sound.shape.told legal.1 (left_stays m e sound legal.1)
 
 -- Later moments of a legal history extend earlier ones.
 pub grows_after : (m : Moment) (events : List Event) → IsLegal m.state events → IsSoundAt m → Grows m (moment_after m events)

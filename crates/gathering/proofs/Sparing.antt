@@ -9,7 +9,7 @@ use Rattle.container_layout.proofs.Places.{same_items, elsewhere}
 use Rattle.store_api.specs.declared.tree.Room.{Room}
 use Rattle.store_api.specs.declared.tree.Tree.{Tree}
 use Rattle.store_api.specs.Room.{is_top}
-use Rattle.store_api.specs.Step.{Step, make_room, rename_room, make_folder, remove_folder, create, remove, replace, write_at, cut}
+use Rattle.store_api.specs.Step.{Step, make_room, rename_room, make_folder, remove_folder, create, remove, replace, write_at, cut, sync}
 use Rattle.store_laws.specs.Changes.{with_room, RoomMade}
 use Rattle.store_laws.specs.Differ.{is_listed}
 use Rattle.store_laws.specs.Files.{file_at}
@@ -18,7 +18,7 @@ use Rattle.store_laws.specs.Tells.{Tells}
 use Rattle.store_laws.proofs.Answering.{look_told}
 use Rattle.store_laws.proofs.Keeping.{other_room, each_with_added}
 use Rattle.store_laws.proofs.Naming.{path_eq}
-use Rattle.store_laws.proofs.Telling.{acts_told, create_told, remove_told, replace_told, write_told, cut_told, make_folder_told, remove_folder_told, make_room_told, rename_room_told}
+use Rattle.store_laws.proofs.Telling.{acts_told, create_told, remove_told, replace_told, write_told, cut_told, sync_told, make_folder_told, remove_folder_told, make_room_told, rename_room_told}
 use Rattle.store_laws.proofs.Touching.{keeps_rooms}
 use Rattle.mount_model.specs.declared.call.Call.{Call}
 use Rattle.mount_model.specs.declared.call.Call.TheVariants.{Greet, Find, MakeContainer, Rooms, Look, Enter, Floor, MakeHostdir, MakeIndex, MakeLog, Write, Flush, SyncLog, SyncIndex, PutMeta, Exit}
@@ -104,6 +104,10 @@ bare_room (cut k folder file len) tree told after n path room t below none e = e
   | inl c ↦ absurd (absent_still tree after k n c.room c.new room c.has_room c.gives none e)
   | inr same ↦ absurd (absent_same tree after n room same none e)
 ]
+bare_room (sync k folder file) tree told after n path room t below none e = elim (sync_told k (record { folder = folder; file = file }) tree told after t).either as (λ _. file_at room path ≡ None) [
+  | inl c ↦ absurd (absent_still tree after k n c.room c.new room c.has_room c.gives none e)
+  | inr same ↦ absurd (absent_same tree after n room same none e)
+]
 bare_room step tree told after n path room t below none e = absurd (absent_same tree after n room (look_told step tree told after tt t) none e)
 
 -- ---------- files that the act doesn't name
@@ -131,10 +135,10 @@ call_same old new call tree n path e below spared (inr one) =
 -- ---------- index droppings
 
 -- what a step names, the act that it is names
-as_its_act : {step act : Step} (n : ℕ) (path : Path) → step ≡ act → NamesFile step n path → NamesFile act n path
+pub as_its_act : {step act : Step} (n : ℕ) (path : Path) → step ≡ act → NamesFile step n path → NamesFile act n path
 as_its_act n path is names = subst (λ s. NamesFile s n path) is names
 
-first_byte : (a b : List ℕ) → a ≡ b → get_or a 0 0 ≡ get_or b 0 0
+pub first_byte : (a b : List ℕ) → a ≡ b → get_or a 0 0 ≡ get_or b 0 0
 first_byte a b e = ap (λ (l : List ℕ). get_or l 0 0) e
 
 one_writer : (h w host writer : ℕ) → IsItem (Index h w) → IsItem (Index host writer) → (index_path h w).folder ≡ (index_path host writer).folder → (index_path h w).file ≡ (index_path host writer).file → w ≡ writer

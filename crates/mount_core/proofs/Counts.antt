@@ -19,6 +19,9 @@ at_stage_counted stage row c = record { host_fits = c.host_fits; cap_fits = c.ca
 pub closed_counted : (row : Row) → IsCounted row → IsCounted (closed row)
 closed_counted row c = record { host_fits = c.host_fits; cap_fits = c.cap_fits; within_cap = c.within_cap; valid = c.valid; entries = c.entries; stored_fits = c.stored_fits; end_fits = c.end_fits; last_fits = c.last_fits; floor_fits = c.floor_fits; written = c.written }
 
+pub marked_counted : (log index : ℕ) (row : Row) → IsCounted row → IsCounted (record row { log_mark = log; index_mark = index })
+marked_counted log index row c = record { host_fits = c.host_fits; cap_fits = c.cap_fits; within_cap = c.within_cap; valid = c.valid; entries = c.entries; stored_fits = c.stored_fits; end_fits = c.end_fits; last_fits = c.last_fits; floor_fits = c.floor_fits; written = c.written }
+
 pub floored_counted : (floor : ℕ) (row : Row) → floor < 2 ^ 63 → IsCounted row → IsCounted (floored floor row)
 floored_counted floor row fits c = record { host_fits = c.host_fits; cap_fits = c.cap_fits; within_cap = c.within_cap; valid = c.valid; entries = c.entries; stored_fits = c.stored_fits; end_fits = c.end_fits; last_fits = c.last_fits; floor_fits = fits; written = c.written }
 

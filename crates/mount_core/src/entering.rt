@@ -81,6 +81,8 @@ impl Roster {
             stored: 0,
             end: 0,
             landed: 0,
+            log_mark: 0,
+            index_mark: 0,
             pending,
             has_meta: false,
             stage: Stage::Entered,

@@ -20,7 +20,7 @@ use store_api::{Answer, Step, Store, Trouble};
 fn put_meta_check(row: &Row) -> Option<Refusal>
     ensures { result ≡ put_meta_refusal row.now }
 {
-    if row.pending.pending() > 0 {
+    if row.pending.pending() > 0 || row.log_mark != row.stored || row.index_mark != row.landed {
         Some(Refusal::NotFlushed)
     } else {
         None
@@ -85,7 +85,7 @@ impl Roster {
 }
 
 impl<S: Store + Drop, C: Clock + Drop> Mount<S, C> {
-    /// Makes the metadata dropping of the caller's writer, which has nothing pending.
+    /// Makes the metadata dropping of the caller's writer, which has nothing pending or unsynced.
     pub(crate) fn put_meta(&mut self, caller: u64, writer: u64) -> Reply
         ensures { PutsMeta caller writer self.old result self.new }
     {

@@ -5,7 +5,7 @@ ghost use Rattle.mount_model.specs.State.{put, take_out};
 ghost use Rattle.mount_model.specs.Regular.{IsCounted};
 ghost use Rattle.mount_model.specs.Flooring.{floored};
 ghost use Rattle.mount_model.specs.Writing.{wrote};
-ghost use Rattle.mount_model.specs.Flushing.{flushed};
+ghost use Rattle.mount_model.specs.Flushing.{flushed, log_synced, index_synced};
 ghost use Rattle.mount_model.specs.Leaving.{closed};
 ghost use Rattle.mount_core.specs.Roll.{new_roll, with_table, IsRegularRoll};
 ghost use Rattle.mount_core.specs.Writable.{MayTake, IsStampFor};
@@ -124,6 +124,26 @@ impl Roster {
         let row = &mut self.writers[place];
         row.has_meta = true;
         row.stage = Stage::Closing;
+    }
+
+    /// Notes that all that the writer at this place stored is synced.
+    pub(crate) fn set_log_synced(&mut self, place: usize)
+        requires { place < length self.old.table.writers }
+        ensures { AtPlace self.old.table place (λ row. self.new ≡ with_table (put (log_synced row) self.old.table) self.old) }
+    {
+        let row = &mut self.writers[place];
+        row.log_mark = row.stored;
+    }
+
+    /// Notes that all entries that landed of the writer at this place are synced: how many they are.
+    pub(crate) fn set_index_synced(&mut self, place: usize) -> u64
+        requires { place < length self.old.table.writers }
+        ensures count { AtPlace self.old.table place (λ row. result ≡ row.landed) }
+        ensures left { AtPlace self.old.table place (λ row. self.new ≡ with_table (put (index_synced row) self.old.table) self.old) }
+    {
+        let row = &mut self.writers[place];
+        row.index_mark = row.landed;
+        row.landed
     }
 
     /// Keeps the entry of a write of so many bytes from the logical place `at` on.

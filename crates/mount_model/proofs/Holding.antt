@@ -76,8 +76,8 @@ module _ (old : State) (reply : Reply) (new : State) where
   answers_keep caller (Write writer at block) a = by_writer caller _ writer _ a (λ row u. by_check _ _ u (λ (w : WritesAt row at block old reply new).
       by_act _ _ (timed w.times old) (table.write_table (KeepsHolders old.table) old.table (same old.table) (stamp_at w.time row) row at _ (record { holders = refl; flattenings = refl })) w.makes))
   answers_keep caller (Flush writer) a = by_writer caller _ writer _ a (λ row. flushing row row.pending.entries)
-  answers_keep caller (SyncLog writer) a = by_writer caller _ writer _ a (λ row. by_act _ _ old (table.sync_log_table (KeepsHolders old.table) old.table (same old.table) row))
-  answers_keep caller (SyncIndex writer) a = by_writer caller _ writer _ a (λ row. by_act _ _ old (table.sync_index_table (KeepsHolders old.table) old.table (same old.table) row))
+  answers_keep caller (SyncLog writer) a = by_writer caller _ writer _ a (λ row. by_act _ _ old (table.sync_log_table (KeepsHolders old.table) old.table (same old.table) row (record { holders = refl; flattenings = refl })))
+  answers_keep caller (SyncIndex writer) a = by_writer caller _ writer _ a (λ row. by_act _ _ old (table.sync_index_table (KeepsHolders old.table) old.table (same old.table) row (record { holders = refl; flattenings = refl })))
   answers_keep caller (PutMeta writer) a = by_writer caller _ writer _ a (λ row u. by_check _ _ u
       (by_act _ _ old (table.put_meta_table (KeepsHolders old.table) old.table (same old.table) row (record { holders = refl; flattenings = refl }) (record { holders = refl; flattenings = refl }))))
   answers_keep caller (Exit writer) a = by_writer caller _ writer _ a (λ row u. by_check _ _ u

@@ -20,12 +20,12 @@ use Rattle.mount_model.specs.Entering.{EntersAs, enter_check, entered}
 use Rattle.mount_model.specs.Flooring.{FloorsRow, FloorOutcome, floored}
 use Rattle.mount_model.specs.Writing.{WritesAt, write_check, wrote, stamp_at}
 use Rattle.mount_model.specs.Building.{build_outcome}
-use Rattle.mount_model.specs.Flushing.{FlushesRow, flushed}
+use Rattle.mount_model.specs.Flushing.{FlushesRow, flushed, log_synced, index_synced}
 use Rattle.mount_model.specs.Leaving.{closed, closing}
 use Rattle.mount_model.specs.Step.{Answers, IsStep, OwedBy, IsOwed}
 use Rattle.mount_model.specs.Regular.{IsCounted, IsRegular}
 use Rattle.mount_model.proofs.Deciding.{IsHeld, on_writer, unless_refused, may_enter, may_write}
-use Rattle.mount_model.proofs.Ranges.{counted_entered, counted_staged, counted_closed, counted_floored, counted_flushed, counted_wrote, floor_fits}
+use Rattle.mount_model.proofs.Ranges.{counted_entered, counted_staged, counted_marked, counted_closed, counted_floored, counted_flushed, counted_wrote, floor_fits}
 use Rattle.mount_model.proofs.Rows.{AreRegularFor, rows_of, regular_of, regular_row, regular_put, regular_taken, regular_drawn, regular_pushed}
 use Rattle.mount_model.proofs.Outcomes as table
 
@@ -134,8 +134,8 @@ module _ (old : State) (regular : IsRegular old) (reply : Reply) (new : State) w
   answers_regular caller (MakeLog writer) owed a = by_writer caller _ writer _ a (λ row held. build_regular caller writer _ _ _ _ _ row held)
   answers_regular caller (Write writer at block) owed a = by_writer caller _ writer _ a (λ row held u. by_check _ _ u (write_regular caller writer at block _ row held))
   answers_regular caller (Flush writer) owed a = by_writer caller _ writer _ a (λ row held. flush_regular caller writer _ row held row.pending.entries)
-  answers_regular caller (SyncLog writer) owed a = by_writer caller _ writer _ a (λ row held m. makes_regular _ _ old reply new regular (table.sync_log_table (AreRegularFor old) old.table kept row) m)
-  answers_regular caller (SyncIndex writer) owed a = by_writer caller _ writer _ a (λ row held m. makes_regular _ _ old reply new regular (table.sync_index_table (AreRegularFor old) old.table kept row) m)
+  answers_regular caller (SyncLog writer) owed a = by_writer caller _ writer _ a (λ row held m. makes_regular _ _ old reply new regular (table.sync_log_table (AreRegularFor old) old.table kept row (put_regular old writer row (log_synced row) regular caller _ held refl refl (counted_marked row.stored row.index_mark row))) m)
+  answers_regular caller (SyncIndex writer) owed a = by_writer caller _ writer _ a (λ row held m. makes_regular _ _ old reply new regular (table.sync_index_table (AreRegularFor old) old.table kept row (put_regular old writer row (index_synced row) regular caller _ held refl refl (counted_marked row.log_mark row.landed row))) m)
   answers_regular caller (PutMeta writer) owed a = by_writer caller _ writer _ a (λ row held u. by_check _ _ u (λ none m. makes_regular _ _ old reply new regular
       (table.put_meta_table (AreRegularFor old) old.table kept row
       (put_regular old writer row (closed row) regular caller _ held refl refl (counted_closed row))

@@ -46,6 +46,20 @@ counted_staged stage row c = record {
   written = c.written;
 }
 
+pub counted_marked : (log index : ℕ) (row : Row) → IsCounted row → IsCounted (record row { log_mark = log; index_mark = index })
+counted_marked log index row c = record {
+  host_fits = c.host_fits;
+  cap_fits = c.cap_fits;
+  within_cap = c.within_cap;
+  valid = c.valid;
+  entries = c.entries;
+  stored_fits = c.stored_fits;
+  end_fits = c.end_fits;
+  last_fits = c.last_fits;
+  floor_fits = c.floor_fits;
+  written = c.written;
+}
+
 pub counted_closed : (row : Row) → IsCounted row → IsCounted (closed row)
 counted_closed row c = record {
   host_fits = c.host_fits;

@@ -34,6 +34,8 @@ entered old caller room host cap = record {
   stored = 0;
   end = 0;
   landed = 0;
+  log_mark = 0;
+  index_mark = 0;
   pending = record { entries = []; capacity = cap };
   has_meta = false;
   stage = stage.Entered;

@@ -38,8 +38,12 @@ Flushes caller writer old reply new = OnWriter caller (only stage.Open) writer o
 abbrev pub sync_log_step : Row → Step
 sync_log_step row = sync row.room (hostdir_of row.host) (log_path row.host row.id).file
 
+-- the writer once all that it stored is kept
+abbrev pub log_synced : Row → Row
+log_synced row = record row { log_mark = row.stored }
+
 abbrev pub sync_log_outcome : Row → Table → Told → Outcome
-sync_log_outcome row table (Ok Made) = says Done table
+sync_log_outcome row table (Ok Made) = says Done (put (log_synced row) table)
 sync_log_outcome row table told = says (otherwise (hostdir_of row.host) (log_path row.host row.id).file told) table
 
 abbrev pub SyncsLog : ℕ → ℕ → State → Reply → State → Type 0
@@ -49,8 +53,12 @@ SyncsLog caller writer old reply new = OnWriter caller (only stage.Open) writer 
 abbrev pub sync_index_step : Row → Step
 sync_index_step row = sync row.room (hostdir_of row.host) (index_path row.host row.id).file
 
+-- the writer once all that landed is kept
+abbrev pub index_synced : Row → Row
+index_synced row = record row { index_mark = row.landed }
+
 abbrev pub sync_index_outcome : Row → Table → Told → Outcome
-sync_index_outcome row table (Ok Made) = says (Synced row.landed) table
+sync_index_outcome row table (Ok Made) = says (Synced row.landed) (put (index_synced row) table)
 sync_index_outcome row table told = says (otherwise (hostdir_of row.host) (index_path row.host row.id).file told) table
 
 abbrev pub SyncsIndex : ℕ → ℕ → State → Reply → State → Type 0

@@ -1,5 +1,5 @@
 -- A writer leaves: its metadata dropping is made, and its entry in the folder of who has the container open goes.
-use Rattle.std.specs.Prelude.{ℕ, length, nat_lt, ◌&&◌, not, true, Option, Some, None, Ok, Err, if◌then◌else◌}
+use Rattle.std.specs.Prelude.{ℕ, length, nat_lt, ◌==◌, ◌&&◌, ◌||◌, not, true, Option, Some, None, Ok, Err, if◌then◌else◌}
 use Rattle.store_api.specs.declared.step.Answer.TheVariants.{Made, Old}
 use Rattle.store_api.specs.declared.store.Trouble.TheVariants as trouble
 use Rattle.store_api.specs.Step.{Step, create, remove}
@@ -14,8 +14,10 @@ use Rattle.mount_model.specs.Table.{may_close, is_live, at_stage}
 use Rattle.mount_model.specs.State.{State, Table, put, take_out}
 use Rattle.mount_model.specs.Making.{Told, Outcome, says, otherwise, Makes, OnWriter, UnlessRefused}
 
+-- entries wait, or what it wrote would be lost with the power
 abbrev pub put_meta_check : Row → Option Refusal
-put_meta_check row = if nat_lt 0 (length row.pending.entries) then Some NotFlushed else None
+put_meta_check row =
+    if nat_lt 0 (length row.pending.entries) || not (row.log_mark == row.stored) || not (row.index_mark == row.landed) then Some NotFlushed else None
 
 -- the name has the writer's greatest end, its bytes and its last stamp
 abbrev pub meta_file : Row → Name

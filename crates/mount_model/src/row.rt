@@ -40,7 +40,11 @@ pub struct Row {
     pub end: u64,
     /// How many of its entries are in its index dropping.
     pub landed: u64,
-    /// Its entries after those.
+    /// How many bytes its log had as it was last synced, or 0.
+    pub log_mark: u64,
+    /// How many of its entries were in its index dropping as that was last synced, or 0.
+    pub index_mark: u64,
+    /// Its entries after those that landed.
     pub pending: Buffer,
     /// Whether its metadata dropping is there.
     pub has_meta: bool,

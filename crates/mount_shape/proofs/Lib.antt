@@ -5,3 +5,4 @@ pub mod Acting
 pub mod Steps
 pub mod Mounts
 pub mod Held
+pub mod Losing

@@ -37,7 +37,7 @@ use Rattle.mount_shape.specs.Marks.{HasMark}
 use Rattle.mount_shape.specs.Shape.{IsDrawnBy, HasShape}
 use Rattle.mount_shape.proofs.Items.{id_fits, open_is_at, index_is_at, log_is_at, meta_is_at, open_apart, hostdir_is_folder}
 use Rattle.mount_shape.proofs.Trees.{IsShapedFor, shape_of, has_shape, shape_later, own_drawn}
-use Rattle.mount_shape.proofs.Acting.{look_shape, create_shape, write_shape, remove_shape, make_folder_shape, make_room_shape}
+use Rattle.mount_shape.proofs.Acting.{look_shape, create_shape, write_shape, sync_shape, remove_shape, make_folder_shape, make_room_shape}
 
 shape_as : (old new : State) → HasShape old → new ≡ old → HasShape new
 shape_as old new s e = subst HasShape (sym e) s
@@ -152,6 +152,16 @@ module _ (old : State) (regular : IsRegular old) (shape : HasShape old) (reply :
   flushed_shape row r [] f = shape_as old new shape f.1
   flushed_shape row r (first ∷ rest) f = flush_shape row r _ f
 
+  sync_log_shape : (row : Row) → IsRegularRow old.mount old.serial old.marks row → (outcome : Told → Outcome) → Makes (sync_log_step row) outcome old reply new → HasShape new
+  sync_log_shape row r outcome m = makes_shape _ outcome old reply new shape.tree shape.told
+      (λ told after t. sync_shape (last_id old) (last_id old) old.marks old.mount shape.tree (omega arith) kept told after
+      row.room (log_path row.host row.id) (Log row.host row.id) r.apart (log_is_at row.host row.id r.counted.host_fits (row_fits row r)) (λ b. tt) (row_drawn row r) t) m
+
+  sync_index_shape : (row : Row) → IsRegularRow old.mount old.serial old.marks row → (outcome : Told → Outcome) → Makes (sync_index_step row) outcome old reply new → HasShape new
+  sync_index_shape row r outcome m = makes_shape _ outcome old reply new shape.tree shape.told
+      (λ told after t. sync_shape (last_id old) (last_id old) old.marks old.mount shape.tree (omega arith) kept told after
+      row.room (index_path row.host row.id) (Index row.host row.id) r.apart (index_is_at row.host row.id r.counted.host_fits (row_fits row r)) (λ b. tt) (row_drawn row r) t) m
+
   meta_shape : (row : Row) → IsRegularRow old.mount old.serial old.marks row → (outcome : Told → Outcome) → Makes (put_meta_step row) outcome old reply new → HasShape new
   meta_shape row r outcome m = makes_shape _ outcome old reply new shape.tree shape.told
       (λ told after t. create_shape (last_id old) (last_id old) old.marks old.mount shape.tree (omega arith) kept told after
@@ -176,8 +186,8 @@ module _ (old : State) (regular : IsRegular old) (shape : HasShape old) (reply :
   answers_shape caller (MakeLog writer) a = by_writer caller _ writer _ a (λ row r. log_shape row r _)
   answers_shape caller (Write writer at block) a = by_writer caller _ writer _ a (λ row r u. by_check _ _ u (λ none. written_shape at block row r))
   answers_shape caller (Flush writer) a = by_writer caller _ writer _ a (λ row r. flushed_shape row r row.pending.entries)
-  answers_shape caller (SyncLog writer) a = by_writer caller _ writer _ a (λ row r m. by_look (sync_log_step row) _ tt m)
-  answers_shape caller (SyncIndex writer) a = by_writer caller _ writer _ a (λ row r m. by_look (sync_index_step row) _ tt m)
+  answers_shape caller (SyncLog writer) a = by_writer caller _ writer _ a (λ row r. sync_log_shape row r _)
+  answers_shape caller (SyncIndex writer) a = by_writer caller _ writer _ a (λ row r. sync_index_shape row r _)
   answers_shape caller (PutMeta writer) a = by_writer caller _ writer _ a (λ row r u. by_check _ _ u (λ none. meta_shape row r _))
   answers_shape caller (Exit writer) a = by_writer caller _ writer _ a (λ row r u. by_check _ _ u (λ none. exit_shape row r _))
 

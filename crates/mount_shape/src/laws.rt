@@ -2,6 +2,7 @@
 ghost use Rattle.std.specs.Prelude.{◌≡◌, ℕ, List, [], Option, Some};
 ghost use Rattle.store_api.specs.declared.tree.Tree.{Tree};
 ghost use Rattle.store_api.specs.Acts.{Stored};
+ghost use Rattle.store_api.specs.Loss.{Loses};
 ghost use Rattle.mount_model.specs.declared.call.Ask.{Ask};
 ghost use Rattle.mount_model.specs.declared.reply.Reply.{Reply};
 ghost use Rattle.mount_model.specs.State.{State};
@@ -30,4 +31,9 @@ pub fn shape_lasts()
 /// The tree that a mount leaves has the right shape for the next one.
 pub fn a_left_tree_is_shaped()
     ensures { (state : State) (shape : HasShape state) → IsShapedTree (IsOfMark shape.tree) shape.tree }
+{}
+
+/// A tree of the right shape has it after a loss of power.
+pub fn a_lost_tree_is_shaped()
+    ensures { (tree new : Tree) → Loses tree new → IsShapedTree (IsOfMark tree) tree → IsShapedTree (IsOfMark new) new }
 {}

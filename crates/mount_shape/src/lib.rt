@@ -6,4 +6,4 @@
 
 mod laws;
 
-pub use laws::{a_left_tree_is_shaped, an_empty_tree_is_shaped, mounting_has_shape, shape_lasts};
+pub use laws::{a_left_tree_is_shaped, a_lost_tree_is_shaped, an_empty_tree_is_shaped, mounting_has_shape, shape_lasts};

@@ -1,5 +1,5 @@
 -- Entering a writer keeps soundness.
-use Rattle.std.proofs.Common.{◌≡◌, ◌<◌, ◌+◌, ◌^◌, ℕ, List, [], ◌∷◌, ◌++◌, Option, Some, None, refl, sym, ◌∙◌, ◌⊎◌, inl, inr, subst, arith}
+use Rattle.std.proofs.Common.{◌≡◌, ◌<◌, ◌+◌, ◌^◌, ℕ, List, [], ◌∷◌, ◌++◌, length, Option, Some, None, refl, sym, ◌∙◌, ◌⊎◌, inl, inr, subst, arith}
 use Rattle.std.specs.Prelude.{slice_get, MatchOption, Ok}
 use Rattle.container_layout.specs.declared.items.Item.{Item}
 use Rattle.container_layout.specs.declared.items.Item.TheVariants.{Access, OpenHost, Meta, Trunc, Flat, TmpFlat, Index, Log}
@@ -28,7 +28,7 @@ use Rattle.mount_shape.proofs.Held.{item_held}
 use Rattle.mount_shape.proofs.Items.{id_fits}
 use Rattle.mount_sound.specs.Items.{HasItemOf}
 use Rattle.mount_sound.specs.Ledger.{Ledger}
-use Rattle.mount_sound.specs.Dropping.{IsDropping, IsWriter}
+use Rattle.mount_sound.specs.Dropping.{log_bytes, IsDropping, IsWriter}
 use Rattle.mount_sound.specs.Kept.{Begins, IsKept}
 use Rattle.mount_sound.specs.Sound.{AreSound}
 use Rattle.mount_sound.proofs.Items.{SameButItem, same_but_item, owner, is_index, is_open, same_for, same_truncates}
@@ -93,18 +93,21 @@ new_writer host id room new h i n b = record {
   one_host = one_host_kept (OpenHost host id) host id room new refl b (λ other has. absurd (no_items room id other n has));
   landed = 0;
   within = omega arith;
-  index = no_file_landed (file_at new (index_path host id)) 0 (IsDropping [] 0) (no_index host id room new h i n b) refl;
+  index = no_file_landed (file_at new (index_path host id)) 0 (IsDropping id [] 0 (length (log_bytes new host id))) (no_index host id room new h i n b) refl;
   log = tt;
   left = λ gone some. absurd (omega arith);
   told = λ last bytes stamp inside has. absurd (no_items room id host n (inr (inr (had_meta_but (OpenHost host id) host id room new (λ l c t e. cc) b (record { last = last; bytes = bytes; stamp = stamp; content = inside; has = has })))));
+  settled = λ m. absurd (no_items room id host n (inr (inr (had_meta_but (OpenHost host id) host id room new (λ l c t e. cc) b m))));
   beside = λ stamp size inside has. inl tt;
 }
 
 new_kept : (old : State) (caller number host most : ℕ) (room new : Room) → host < 2 ^ 32 → next_id old < 2 ^ 64 → IsNew room (next_id old) → SameButItem (OpenHost host (next_id old)) room new → file_at new (open_path host (next_id old)) ≡ Some [] → IsKept new (entered old caller number host most) []
 new_kept old caller number host most room new h i n b now = record {
   in_order = tt;
-  numbers = record { stored = refl; last = refl; end = refl; landed = omega arith; pending = refl };
+  numbers = record { stored = refl; last = refl; end = refl; landed = omega arith; pending = refl; log_mark = omega arith; index_mark = omega arith };
   index = no_file_landed (file_at new (index_path host (next_id old))) 0 (Begins [] 0) (no_index host (next_id old) room new h i n b) refl;
+  log_kept = omega arith;
+  index_kept = omega arith;
   alive = λ live. record {
     opened = now;
     unopened = λ early. refl;

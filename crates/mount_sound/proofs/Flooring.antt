@@ -71,8 +71,10 @@ floored_holds : (room : Room) (row : Row) (floor : ℕ) (names : List Name) (iss
 floored_holds room row floor names issued at k a o are f = record {
   kept = record {
     in_order = order_of_none row.id floor (entries_in issued) (a.unopened (omega arith));
-    numbers = record { stored = k.numbers.stored; last = k.numbers.last; end = k.numbers.end; landed = k.numbers.landed; pending = k.numbers.pending };
+    numbers = record { stored = k.numbers.stored; last = k.numbers.last; end = k.numbers.end; landed = k.numbers.landed; pending = k.numbers.pending; log_mark = k.numbers.log_mark; index_mark = k.numbers.index_mark };
     index = k.index;
+    log_kept = k.log_kept;
+    index_kept = k.index_kept;
     alive = λ live. record {
       opened = a.opened;
       unopened = λ early. a.unopened (omega arith);

@@ -12,14 +12,14 @@ use Rattle.store_laws.specs.Prefix.{IsPrefix}
 use Rattle.store_laws.proofs.Overwriting.{prefix_trans}
 use Rattle.mount_model.specs.declared.row.Row.{Row}
 use Rattle.mount_model.specs.Paths.{index_path}
-use Rattle.mount_sound.specs.Entries.{AreInOrder, logged}
+use Rattle.mount_sound.specs.Entries.{AreInOrder, logged, last_stamp}
 use Rattle.mount_sound.specs.Ledger.{Written, entries_in, content, AreFull, AreWritesOf, Ledger}
-use Rattle.mount_sound.specs.Dropping.{log_bytes, IsDropping, IsToldOf, AreBeside, IsWriter}
+use Rattle.mount_sound.specs.Dropping.{log_bytes, EndPast, IsDropping, IsSettled, IsToldOf, AreBeside, IsWriter}
 use Rattle.mount_sound.specs.Sound.{AreSoundRooms}
 
 -- ---- the first writes
 
-entries_take : (n : ℕ) (issued : List Written) → entries_in (take n issued) ≡ take n (entries_in issued)
+pub entries_take : (n : ℕ) (issued : List Written) → entries_in (take n issued) ≡ take n (entries_in issued)
 entries_take zero [] = refl
 entries_take zero (w ∷ issued) = refl
 entries_take (suc n) [] = refl
@@ -41,13 +41,13 @@ content_take zero (w ∷ issued) = tt
 content_take (suc n) [] = tt
 content_take (suc n) (w ∷ issued) = prefix_same w.bytes (content (take n issued)) (content issued) (content_take n issued)
 
-in_order_take : (m writer last offset : ℕ) (es : List Entry) → AreInOrder writer last offset es → AreInOrder writer last offset (take m es)
+pub in_order_take : (m writer last offset : ℕ) (es : List Entry) → AreInOrder writer last offset es → AreInOrder writer last offset (take m es)
 in_order_take zero writer last offset [] o = tt
 in_order_take zero writer last offset (e ∷ es) o = tt
 in_order_take (suc m) writer last offset [] o = tt
 in_order_take (suc m) writer last offset (e ∷ es) o = (o.0, in_order_take m writer e.stamp (offset + e.len) es o.1)
 
-logged_take : (m : ℕ) (es : List Entry) → logged (take m es) ≤ logged es
+pub logged_take : (m : ℕ) (es : List Entry) → logged (take m es) ≤ logged es
 logged_take zero [] = omega arith
 logged_take zero (e ∷ es) = omega arith
 logged_take (suc m) [] = omega arith
@@ -71,11 +71,20 @@ no_writes writer = record { in_order = tt; full = tt; small = omega arith }
 
 -- ---- what has landed of a writer's writes
 
-dropping_take : (issued : List Written) (landed : ℕ) (file : Option (List ℕ)) → MatchOption file (landed ≡ 0) (IsDropping issued landed) → take landed (entries_in (take landed issued)) ≡ take landed (entries_in issued) → MatchOption file (landed ≡ 0) (IsDropping (take landed issued) landed)
-dropping_take issued landed None m e = m
-dropping_take issued landed (Some bytes) m e = record { tail = m.tail; spelled = m.spelled ∙ ap (λ es. spelling_all es ++ m.tail) (sym e); torn = m.torn }
+dropping_take : (writer : ℕ) (issued : List Written) (landed log : ℕ) (file : Option (List ℕ)) → landed ≤ length issued → MatchOption file (landed ≡ 0) (IsDropping writer issued landed log) → take landed (entries_in (take landed issued)) ≡ take landed (entries_in issued) → MatchOption file (landed ≡ 0) (IsDropping writer (take landed issued) landed log)
+dropping_take writer issued landed log None within m e = m
+dropping_take writer issued landed log (Some bytes) within m e = record {
+  more = m.more;
+  tail = m.tail;
+  spelled = m.spelled ∙ ap (λ es. spelling_all (es ++ m.more) ++ m.tail) (sym e);
+  torn = m.torn;
+  in_order = subst (λ es. AreInOrder writer (last_stamp 0 es) (logged es) m.more) (sym e) m.in_order;
+  few = omega (arith, m.few, ap logged e);
+  past = subst (λ es. EndPast log (logged es) m.more) (sym e) m.past;
+  behind = inr (sym (length-take-le landed issued within));
+}
 
-landed_entries : (landed : ℕ) (issued : List Written) → take landed (entries_in (take landed issued)) ≡ take landed (entries_in issued)
+pub landed_entries : (landed : ℕ) (issued : List Written) → take landed (entries_in (take landed issued)) ≡ take landed (entries_in issued)
 landed_entries landed issued = ap (λ es. take landed es) (entries_take landed issued) ∙ take_twice landed (entries_in issued)
 
 pub landed_writer : (room : Room) (writer : ℕ) (issued : List Written) (w : IsWriter room writer issued) → IsWriter room writer (take w.landed issued)
@@ -87,10 +96,11 @@ landed_writer room writer issued w =
       one_host = w.one_host;
       landed = w.landed;
       within = omega (arith, length-take-le w.landed issued w.within);
-      index = dropping_take issued w.landed (file_at room (index_path w.host writer)) w.index (landed_entries w.landed issued);
+      index = dropping_take writer issued w.landed (length (log_bytes room w.host writer)) (file_at room (index_path w.host writer)) w.within w.index (landed_entries w.landed issued);
       log = prefix_trans (content (take w.landed issued)) (content issued) (log_bytes room w.host writer) (content_take w.landed issued) w.log;
       left = w.left;
       told = λ last bytes stamp inside h. subst (IsToldOf last bytes stamp) same (w.told last bytes stamp inside h);
+      settled = λ m. subst (IsSettled room w.host writer) same (w.settled m);
       beside = λ stamp size inside h. subst (AreBeside stamp) same (w.beside stamp size inside h);
     }
 

@@ -12,7 +12,6 @@ use Rattle.mount_model.specs.declared.row.Row.{Row}
 use Rattle.mount_model.specs.declared.row.Stage.TheVariants as stage
 use Rattle.mount_model.specs.declared.reply.Reply.{Reply}
 use Rattle.mount_model.specs.Finding.{find_outcome, Finds, NamesRooms}
-use Rattle.mount_model.specs.Flushing.{sync_log_step, sync_log_outcome, SyncsLog, sync_index_step, sync_index_outcome, SyncsIndex}
 use Rattle.mount_model.specs.Looking.{room_check, look_step, look_outcome, Looks}
 use Rattle.mount_model.specs.Making.{Told, Outcome, Makes}
 use Rattle.mount_model.specs.Paths.{Name}
@@ -57,23 +56,3 @@ rooms_keep issued old reply new f a =
     let same : t.0 ≡ a.tree = look_told all_rooms a.tree f.told t.0 tt t.2 in
     let after : IsAccounted issued (record old { store = new.store }) = record { tree = a.tree; told = t.1 ∙ ap (λ x. Some x) same; right = a.right } in
     subst (IsAccounted issued) (sym f.after) after
-
-log_rows : (row : Row) (table : Table) (told : Told) → (sync_log_outcome row table told).table ≡ table
-log_rows row table (Ok Made) = refl
-log_rows row table told = refl
-
--- Syncing a log keeps soundness.
-pub sync_log_keeps : (issued : Ledger) (old : State) (caller writer : ℕ) (reply : Reply) (new : State) → SyncsLog caller writer old reply new → IsAccounted issued old → IsAccounted issued new
-sync_log_keeps issued old caller writer reply new f a =
-    on_writer issued old caller (only stage.Open) writer reply new (λ row. Makes (sync_log_step row) (sync_log_outcome row old.table) old reply new) f a
-    (λ row stands at makes. looks_keep issued (sync_log_step row) (sync_log_outcome row old.table) old reply new tt (log_rows row old.table) makes a)
-
-index_rows : (row : Row) (table : Table) (told : Told) → (sync_index_outcome row table told).table ≡ table
-index_rows row table (Ok Made) = refl
-index_rows row table told = refl
-
--- Syncing an index dropping keeps soundness.
-pub sync_index_keeps : (issued : Ledger) (old : State) (caller writer : ℕ) (reply : Reply) (new : State) → SyncsIndex caller writer old reply new → IsAccounted issued old → IsAccounted issued new
-sync_index_keeps issued old caller writer reply new f a =
-    on_writer issued old caller (only stage.Open) writer reply new (λ row. Makes (sync_index_step row) (sync_index_outcome row old.table) old reply new) f a
-    (λ row stands at makes. looks_keep issued (sync_index_step row) (sync_index_outcome row old.table) old reply new tt (index_rows row old.table) makes a)

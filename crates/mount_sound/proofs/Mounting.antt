@@ -58,6 +58,7 @@ mark_apart item mount = λ folder file. mark_folder_apart item folder
 same_but_mark : (mount q : ℕ) (room new : Room) → SameButFile (mark_path mount) room new → SameFor q room new
 same_but_mark mount q room new s = record {
   owned = λ item is o. s.files (path_of item) (mark_apart item mount);
+  kepts = λ item is o. s.kepts (path_of item) (mark_apart item mount);
   truncates = λ stamp size is. s.files (path_of (Trunc stamp size)) (mark_apart (Trunc stamp size) mount);
   folders = λ folder there. has_folder_same room new folder s.folders ∙ there;
 }

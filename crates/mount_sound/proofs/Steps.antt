@@ -24,7 +24,8 @@ use Rattle.mount_sound.proofs.Entering.{enter_keeps}
 use Rattle.mount_sound.proofs.Closing.{meta_keeps}
 use Rattle.mount_sound.proofs.Leaving.{exit_keeps}
 use Rattle.mount_sound.proofs.NewRooms.{container_keeps}
-use Rattle.mount_sound.proofs.Looking.{look_keeps, find_keeps, rooms_keep, sync_log_keeps, sync_index_keeps}
+use Rattle.mount_sound.proofs.Looking.{look_keeps, find_keeps, rooms_keep}
+use Rattle.mount_sound.proofs.Syncing.{sync_log_keeps, sync_index_keeps}
 
 -- whatever a call answers, what was issued then accounts for what is there
 pub answers_keep : (l : Ledger) (old : State) (caller : ℕ) (call : Call) (reply : Reply) (new : State) → IsRegular old → HasShape old → Answers old caller call reply new → IsAccounted l old → IsAccounted (issued_after l old call reply) new
@@ -40,8 +41,8 @@ answers_keep l old caller (MakeIndex writer) reply new r s f a = index_keeps l o
 answers_keep l old caller (MakeLog writer) reply new r s f a = log_keeps l old caller writer reply new r f a
 answers_keep l old caller (Write writer at block) reply new r s f a = write_keeps l old caller writer at block reply new r f a
 answers_keep l old caller (Flush writer) reply new r s f a = flush_keeps l old caller writer reply new r f a
-answers_keep l old caller (SyncLog writer) reply new r s f a = sync_log_keeps l old caller writer reply new f a
-answers_keep l old caller (SyncIndex writer) reply new r s f a = sync_index_keeps l old caller writer reply new f a
+answers_keep l old caller (SyncLog writer) reply new r s f a = sync_log_keeps l old caller writer reply new r f a
+answers_keep l old caller (SyncIndex writer) reply new r s f a = sync_index_keeps l old caller writer reply new r f a
 answers_keep l old caller (PutMeta writer) reply new r s f a = meta_keeps l old caller writer reply new r f a
 answers_keep l old caller (Exit writer) reply new r s f a = exit_keeps l old caller writer reply new r f a
 

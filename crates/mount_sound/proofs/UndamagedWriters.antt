@@ -19,13 +19,13 @@ use Rattle.store_api.specs.Step.{list_folder, sync}
 use Rattle.store_laws.specs.Files.{file_at}
 use Rattle.store_laws.specs.Differ.{is_listed}
 use Rattle.store_laws.specs.Prefix.{IsPrefix}
-use Rattle.store_laws.specs.Says.{WhyNoFolderMade, WhyNotCreated, WhyNoFile, ListTells, SyncTells}
+use Rattle.store_laws.specs.Says.{WhyNoFolderMade, WhyNotCreated, WhyNoFile, ListTells}
 use Rattle.store_laws.specs.Tells.{Tells}
 use Rattle.store_laws.specs.There.{LacksFolder, HoldsFile, EndsBefore, ListsFolder}
-use Rattle.store_laws.proofs.Answering.{list_tells, sync_tells, look_answered}
+use Rattle.store_laws.proofs.Answering.{list_tells, look_answered}
 use Rattle.store_laws.proofs.Naming.{name_refl}
 use Rattle.store_laws.proofs.Overwriting.{prefix_length}
-use Rattle.store_laws.proofs.Telling.{acts_told, create_told, remove_told, make_folder_told, write_refused}
+use Rattle.store_laws.proofs.Telling.{acts_told, create_told, remove_told, make_folder_told, sync_told, write_refused}
 use Rattle.mount_model.specs.declared.reply.Reply.{Reply}
 use Rattle.mount_model.specs.declared.row.Row.{Row}
 use Rattle.mount_model.specs.declared.row.Stage.{Stage}
@@ -267,14 +267,10 @@ flush_shows issued old s caller writer reply new f =
     writer_shows caller (only stage.Open) writer old reply new (λ row. FlushesRow row row.pending.entries old reply new) f
     (λ row held d. flush_row old s.shape.tree row row.pending.entries reply new s.shape.told (droppings issued old s caller writer row held) d)
 
-sync_why : (tree : Tree) (n : ℕ) (path : Path) (answer : Answer) → SyncTells tree n path answer → (answer ≡ Made → ⊥) → WhyNoFile tree n path answer
-sync_why tree n path Made says unmade = absurd (unmade refl)
-sync_why tree n path answer says unmade = says
-
 sync_other : (tree : Tree) (n : ℕ) (path : Path) (told : Told) (after : Tree) → Tells (sync n path.folder path.file) tree told after → IsThere tree n path → (answer : Answer) → told ≡ Ok answer → (answer ≡ Made → ⊥) → ShowsNoDamage (otherwise path.folder path.file (Ok answer))
 sync_other tree n path told after t i answer is unmade =
     file_other tree n path answer path.folder path.file
-    (sync_why tree n path answer (look_answered (sync n path.folder path.file) tree (SyncTells tree n path) (sync_tells tree n path) answer after (subst (λ x. Tells (sync n path.folder path.file) tree x after) is t)).1 unmade) i
+    ((sync_told n path tree told after t).stays answer is unmade).1 i
 
 log_reply : (row : Row) (table : Table) (told : Told) → ((answer : Answer) → told ≡ Ok answer → (answer ≡ Made → ⊥) → ShowsNoDamage (otherwise (hostdir_of row.host) (log_path row.host row.id).file (Ok answer))) → ShowsNoDamage (sync_log_outcome row table told).reply
 log_reply row table (Ok Made) other = tt

@@ -6,7 +6,7 @@ use Rattle.container_layout.specs.declared.items.Item.TheVariants.{Trunc}
 use Rattle.container_layout.specs.Paths.{hostdir_of}
 use Rattle.store_api.specs.declared.tree.Room.{Room}
 use Rattle.store_api.specs.Room.{has_folder}
-use Rattle.store_laws.specs.Files.{file_at}
+use Rattle.store_laws.specs.Files.{file_at, kept_at}
 use Rattle.store_laws.specs.Prefix.{IsPrefix}
 use Rattle.mount_model.specs.declared.row.Row.{Row}
 use Rattle.mount_model.specs.declared.row.Stage.TheVariants.{Closing}
@@ -28,6 +28,8 @@ pub record AreItsNumbers (row : Row) (issued : List Entry) : Type 0 where
   pub end : row.end ≡ greatest_end issued
   pub landed : row.landed ≤ length issued
   pub pending : row.pending.entries ≡ drop row.landed issued
+  pub log_mark : row.log_mark ≤ row.stored
+  pub index_mark : row.index_mark ≤ row.landed
 
 -- What is there of a live writer, by its stage.
 pub record IsAtStage (room : Room) (row : Row) (issued : List Entry) : Type 0 where
@@ -38,7 +40,7 @@ pub record IsAtStage (room : Room) (row : Row) (issued : List Entry) : Type 0 wh
   pub indexed : 3 ≤ rank row.stage → (bytes : List ℕ) × (file_at room (index_path row.host row.id) ≡ Some bytes)
   pub logged : 4 ≤ rank row.stage → (bytes : List ℕ) × (file_at room (log_path row.host row.id) ≡ Some bytes)
   -- a metadata dropping comes last
-  pub closing : HasMeta room row.host row.id → (row.stage ≡ Closing) × (row.pending.entries ≡ [])
+  pub closing : HasMeta room row.host row.id → (row.stage ≡ Closing) × (row.pending.entries ≡ []) × (row.log_mark ≡ row.stored) × (row.index_mark ≡ row.landed)
   pub has_meta : row.has_meta ≡ true → HasMeta room row.host row.id
 
 -- What a room holds of a writer of the table, live or dead.
@@ -47,4 +49,7 @@ pub record IsKept (room : Room) (row : Row) (issued : List Written) : Type 0 whe
   pub in_order : AreInOrder row.id row.floor 0 (entries_in issued)
   pub numbers : AreItsNumbers row (entries_in issued)
   pub index : MatchOption (file_at room (index_path row.host row.id)) (row.landed ≡ 0) (Begins (entries_in issued) row.landed)
+  -- no loss of power takes what was synced
+  pub log_kept : row.log_mark ≤ kept_at room (log_path row.host row.id)
+  pub index_kept : 40 * row.index_mark ≤ kept_at room (index_path row.host row.id)
   pub alive : is_live row.stage ≡ true → IsAtStage room row (entries_in issued)

@@ -2,9 +2,12 @@ pub mod Entries
 pub mod Ledger
 pub mod Items
 pub mod Dropping
+pub mod Fitting
 pub mod Kept
 pub mod Sound
 pub mod Issued
 pub mod Growing
+pub mod Losing
 pub mod Landed
+pub mod There
 pub mod Damage

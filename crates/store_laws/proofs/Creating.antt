@@ -11,7 +11,7 @@ use Rattle.store_api.specs.Effect.{Effect, effect, room_after}
 use Rattle.store_laws.specs.Changes.{Created}
 use Rattle.store_laws.specs.Says.{WhyNotCreated}
 use Rattle.store_laws.specs.Outcomes.{ChangesOrStays}
-use Rattle.store_laws.proofs.Rooms.{file_at_found, file_at_none, with_new_file_now, with_new_file_others, with_new_file_differs}
+use Rattle.store_laws.proofs.Rooms.{file_at_found, file_at_none, with_new_file_now, with_new_file_kept, with_new_file_others, with_new_file_differs}
 use Rattle.store_laws.proofs.Searches.{find_unplaced}
 use Rattle.store_laws.proofs.Entering.{placed_file, room_cases, folder_cases, stays_in}
 
@@ -33,6 +33,7 @@ by_place tree n path room e there None at =
         folder = there;
         none = file_at_none room path none;
         now = with_new_file_now room path file none refl;
+        kept = with_new_file_kept room path file none refl;
         others = with_new_file_others room path file refl;
         differ = with_new_file_differs room path file none refl;
         gives = refl;

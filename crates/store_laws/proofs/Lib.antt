@@ -7,6 +7,7 @@ pub mod Entering
 pub mod Creating
 pub mod Writing
 pub mod Removing
+pub mod Syncing
 pub mod Folders
 pub mod ByteOrder
 pub mod Listings
@@ -18,6 +19,9 @@ pub mod Answering
 pub mod Overwriting
 pub mod Keeping
 pub mod Touching
+pub mod Losing
+pub mod Common
+pub mod Sparing
 pub mod Lengthening
 pub mod OrderKept
 pub mod Listed

@@ -1,3 +1,4 @@
 pub mod Broken
 pub mod InRoom
+pub mod Lost
 pub mod MemoryStore

@@ -1,5 +1,5 @@
 -- The parts of a store in memory.
-use Rattle.std.specs.Prelude.{ℕ, ◌==◌, Option, Some, List, find}
+use Rattle.std.specs.Prelude.{ℕ, nat_lt, ◌==◌, Bool, false, Option, Some, None, List, find}
 use Rattle.store_api.specs.declared.tree.Tree.{Tree}
 use Rattle.store_api.specs.Acts.{Stored}
 use Rattle.store_memory.specs.declared.store.Fail.{Fail}
@@ -24,6 +24,14 @@ fails_of store = store.fails
 -- the first planned fault of the act that comes next
 abbrev pub next_fail : MemoryStore → Option Fail
 next_fail store = find (λ fail. fail.act == store.acts) store.fails
+
+abbrev pub is_past : ℕ → Option ℕ → Bool
+is_past acts None = false
+is_past acts (Some last) = nat_lt last acts
+
+-- whether its power is off
+abbrev pub is_off : MemoryStore → Bool
+is_off store = is_past store.acts store.last
 
 -- what contracts of a store see of it
 abbrev pub stored_in : MemoryStore → Stored

@@ -5,10 +5,12 @@
 #![tactic(auto)]
 
 mod listing;
+mod losing;
 mod perform;
 mod room;
 mod store;
 
+pub use losing::{Keep, KeepList};
 pub use store::{Fail, FailList, MemoryStore};
 pub use store_api::{File, FileList, Room, RoomList, Tree};
 

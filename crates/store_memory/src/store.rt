@@ -1,11 +1,12 @@
 //! The store: a tree, planned faults, and counts of acts and faults.
-ghost use Rattle.std.specs.Prelude.{◌≡◌, ◌==◌, ℕ, [], List, Option, Some, None, find, OnOk, OnErr, IfOk, IsErrOf, IsSomeAnd};
+ghost use Rattle.std.specs.Prelude.{◌≡◌, ◌==◌, ℕ, [], ◌∷◌, true, false, List, Option, Some, None, find, OnOk, OnErr, IfOk, IsErrOf, IsSomeAnd};
 ghost use Rattle.store_api.specs.Step.{step_of};
 ghost use Rattle.store_api.specs.Effect.{effect};
 ghost use Rattle.plfs_types.specs.Counts.{next_count};
 ghost use Rattle.store_api.specs.Acts.{Acts};
 ghost use Rattle.store_memory.specs.Broken.{broken_off};
 
+use crate::losing::{KeepList, lose};
 use crate::perform::perform;
 use plfs_types::{NoMemory, Sequence};
 use std::alloc::Global;
@@ -28,12 +29,16 @@ pub struct MemoryStore {
     alloc: Global,
     tree: Tree,
     fails: FailList,
+    // the last act before its power is off, where that is planned
+    last: Option<u64>,
     acts: u64,
     faults: u64,
 }
 
 impl MemoryStore {
     ghost use Rattle.store_memory.specs.MemoryStore.{tree_in, acts_of, faults_of, fails_of, next_fail};
+    ghost use Rattle.store_memory.specs.Lost.{lost};
+    ghost use Rattle.store_api.specs.Loss.{Loses};
 
     /// A store without rooms, with these planned faults.
     pub fn new(alloc: Global, fails: FailList) -> Result<MemoryStore, NoMemory>
@@ -52,6 +57,7 @@ impl MemoryStore {
     pub fn with_tree(alloc: Global, tree: Tree, fails: FailList) -> MemoryStore
         ensures tree { tree_in result ≡ tree }
         ensures planned { fails_of result ≡ fails }
+        ensures on { result.last ≡ None }
         ensures acts { acts_of result ≡ 0 }
         ensures faults { faults_of result ≡ 0 }
     {
@@ -59,9 +65,42 @@ impl MemoryStore {
             alloc,
             tree,
             fails,
+            last: None,
             acts: 0,
             faults: 0,
         }
+    }
+
+    /// A store without rooms whose power goes off in the act of this number: of that the first `part` bytes of a write
+    /// are left, and any other step was not made at part 0, and else whole. Each later act fails and changes nothing.
+    pub fn off(alloc: Global, act: u64, part: u64) -> Result<MemoryStore, NoMemory>
+        ensures empty { IfOk result (λ store. (tree_in store).rooms ≡ []) }
+        ensures planned { IfOk result (λ store. fails_of store ≡ record { act = act; part = part } ∷ []) }
+        ensures last { IfOk result (λ store. store.last ≡ Some act) }
+        ensures acts { IfOk result (λ store. acts_of store ≡ 0) }
+        ensures faults { IfOk result (λ store. faults_of store ≡ 0) }
+    {
+        let mut fails = FailList::new(alloc);
+        fails.push(Fail { act, part })?;
+        let mut store = MemoryStore::new(alloc, fails)?;
+        store.last = Some(act);
+        Ok(store)
+    }
+
+    /// What a loss of power leaves: of each file its kept bytes, and of those that are wanted so many more. No fault
+    /// is planned, and the counts are 0. It takes no memory.
+    pub fn lose(self, keeps: KeepList) -> MemoryStore
+        ensures loses { Loses (tree_in self) (tree_in result) }
+        ensures exactly { tree_in result ≡ lost keeps (tree_in self) }
+        ensures unplanned { fails_of result ≡ [] }
+        ensures on { result.last ≡ None }
+        ensures acts { acts_of result ≡ 0 }
+        ensures faults { faults_of result ≡ 0 }
+    {
+        let alloc = self.alloc;
+        let mut tree = self.tree;
+        lose(keeps.as_slice(), &mut tree);
+        MemoryStore::with_tree(alloc, tree, FailList::new(alloc))
     }
 
     /// What the store holds.
@@ -83,6 +122,20 @@ impl MemoryStore {
         ensures { result ≡ faults_of self.now }
     {
         self.faults
+    }
+}
+
+impl MemoryStore {
+    ghost use Rattle.store_memory.specs.MemoryStore.{is_off};
+
+    // Whether its power is off.
+    fn is_off(&self) -> bool
+        ensures { result ≡ is_off self.now }
+    {
+        match self.last {
+            None => false,
+            Some(last) => last < self.acts,
+        }
     }
 }
 
@@ -130,7 +183,7 @@ fn break_off(alloc: Global, tree: &mut Tree, step: &Step<'_>, part: u64) -> Resu
 }
 
 impl Store for MemoryStore {
-    ghost use Rattle.store_memory.specs.MemoryStore.{tree_in, acts_of, faults_of, fails_of, next_fail, stored_in};
+    ghost use Rattle.store_memory.specs.MemoryStore.{tree_in, acts_of, faults_of, fails_of, next_fail, is_off, stored_in};
 
     ghost stored = { λ store. stored_in store };
 
@@ -141,10 +194,12 @@ impl Store for MemoryStore {
 
         ensures made { IfOk result (λ answer. effect (tree_in self.old) (step_of step.now) ≡ record { tree = tree_in self.new; answer = answer }) }
         ensures made_counted { OnOk result (acts_of self.new ≡ next_count (acts_of self.old)) }
+        ensures power_on { OnOk result (is_off self.old ≡ false) }
         ensures no_fault_planned { OnOk result (next_fail self.old ≡ None) }
         ensures no_fault_counted { OnOk result (faults_of self.new ≡ faults_of self.old) }
 
-        ensures fault_planned { IsErrOf result Trouble.Fault → IsSomeAnd (next_fail self.old) (λ fail.
+        ensures off { is_off self.old ≡ true → tree_in self.new ≡ tree_in self.old }
+        ensures fault_planned { IsErrOf result Trouble.Fault → is_off self.old ≡ false → IsSomeAnd (next_fail self.old) (λ fail.
             tree_in self.new ≡ broken_off (tree_in self.old) (step_of step.now) fail.part) }
         ensures act_counted { IsErrOf result Trouble.Fault → acts_of self.new ≡ next_count (acts_of self.old) }
         ensures fault_counted { IsErrOf result Trouble.Fault → faults_of self.new ≡ next_count (faults_of self.old) }
@@ -152,6 +207,10 @@ impl Store for MemoryStore {
         ensures no_memory { IsErrOf result Trouble.NoMemory → self.new ≡ self.old }
         ensures plan_kept { fails_of self.new ≡ fails_of self.old }
     {
+        if self.is_off() {
+            (self.acts, self.faults) = (self.acts.saturating_add(1), self.faults.saturating_add(1));
+            return Err(Trouble::Fault);
+        }
         let Some(fail) = fail_at(self.fails.as_slice(), self.acts) else {
             let Ok(answer) = perform(self.alloc, &mut self.tree, step) else {
                 return Err(Trouble::NoMemory);

@@ -207,6 +207,7 @@ fn flats(alloc: Global, room: Name, from: Name, to: Name, folder: Name) -> Resul
             file: to,
         },
         bytes: Bytes::copy(alloc, b"old")?,
+        kept: 3,
     })?;
     files.push(File {
         path: Path {
@@ -214,6 +215,7 @@ fn flats(alloc: Global, room: Name, from: Name, to: Name, folder: Name) -> Resul
             file: from,
         },
         bytes: Bytes::copy(alloc, b"new")?,
+        kept: 3,
     })?;
     let mut folders = NameList::new(alloc);
     folders.push(folder)?;
@@ -309,5 +311,93 @@ fn no_cut_or_write_leaves_a_gap(rt: HostRuntime) -> Result<(), Failure> {
     );
     let nowhere = store.act(&Step::MakeFolder { room: 1, folder });
     assert!(rt; matches!(nowhere, Ok(Answer::NoRoom)));
+    Ok(())
+}
+
+// A file of four bytes of which two are synced keeps these two, and as many more as are wanted.
+#[test]
+fn a_loss_keeps_what_was_synced(rt: HostRuntime) -> Result<(), NoMemory> {
+    let alloc = rt.alloc();
+    let room = name(&rt, "r");
+    let file = name(&rt, "f");
+    for extra in 0..4 {
+        let mut store = new_store(alloc, &[])?;
+        numbers(&rt, &mut store, &Step::MakeRoom {
+            name: room,
+            folders: &[],
+            files: &[file],
+        }, 0);
+        makes(&rt, &mut store, &Step::WriteAt {
+            room: 0,
+            folder: Name::empty(),
+            file,
+            at: 0,
+            bytes: b"ab",
+        });
+        makes(&rt, &mut store, &Step::Sync {
+            room: 0,
+            folder: Name::empty(),
+            file,
+        });
+        makes(&rt, &mut store, &Step::WriteAt {
+            room: 0,
+            folder: Name::empty(),
+            file,
+            at: 2,
+            bytes: b"cd",
+        });
+        let mut keeps = KeepList::new(alloc);
+        keeps.push(Keep {
+            room: 0,
+            path: Path {
+                folder: Name::empty(),
+                file,
+            },
+            extra,
+        })?;
+        let mut left = store.lose(keeps);
+        let len = if extra < 2 { 2 + extra } else { 4 };
+        gives(&rt, &mut left, &Step::ReadAt {
+            room: 0,
+            folder: Name::empty(),
+            file,
+            at: 0,
+            len: 9,
+        }, &b"abcd"[..len as usize]);
+    }
+    Ok(())
+}
+
+// A store whose power goes off in its second act leaves a part of that, and fails from then on.
+#[test]
+fn power_goes_off(rt: HostRuntime) -> Result<(), NoMemory> {
+    let alloc = rt.alloc();
+    let room = name(&rt, "r");
+    let file = name(&rt, "f");
+    let mut store = MemoryStore::off(alloc, 1, 1)?;
+    numbers(&rt, &mut store, &Step::MakeRoom {
+        name: room,
+        folders: &[],
+        files: &[file],
+    }, 0);
+    for _ in 0..2 {
+        faults(&rt, &mut store, &Step::WriteAt {
+            room: 0,
+            folder: Name::empty(),
+            file,
+            at: 0,
+            bytes: b"ab",
+        });
+    }
+    assert_eq!(&rt; store.faults(), 2);
+    assert_eq!(&rt; store.acts(), 3);
+    let mut left = store.lose(KeepList::new(alloc));
+    gives(&rt, &mut left, &Step::ReadAt {
+        room: 0,
+        folder: Name::empty(),
+        file,
+        at: 0,
+        len: 9,
+    }, b"");
     Ok(())
 }

@@ -8,3 +8,4 @@ mod Opens
 mod Counts
 mod Regulars
 mod Waits
+mod Surviving

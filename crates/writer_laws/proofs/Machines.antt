@@ -94,11 +94,12 @@ sync_failed me handle first row total why start events out same k t l r =
       knows = record { has = f.0; pending = k.pending };
       total = t;
       number = λ n e. absurd (never_ok n why (Err why) out.result refl (ap (λ (o : WriterOut). o.result) f.1) e);
+      marked = λ n e. absurd (never_ok n why (Err why) out.result refl (ap (λ (o : WriterOut). o.result) f.1) e);
     }
 
 -- the reply to SyncIndex has come
-after_index : (me : ℕ) (handle first : WriterHandle) (row : Row) (total : ℕ) (rep : Reply) (start : State) (events : List Event) (out : WriterOut) → Alike first handle → Knows me handle row start → entries_of row ≡ total → row.landed ≡ total → ((n : ℕ) → rep ≡ reply.Synced n → n ≡ row.landed) → IsLegal start events → Runs me (if_synced handle rep) events out → IsSynced me first total out (state_after start events)
-after_index me handle first row total (reply.Synced n) start events out same k t all said l r =
+after_index : (me : ℕ) (handle first : WriterHandle) (row : Row) (total : ℕ) (rep : Reply) (start : State) (events : List Event) (out : WriterOut) → Alike first handle → Knows me handle row start → entries_of row ≡ total → row.landed ≡ total → ((n : ℕ) → rep ≡ reply.Synced n → n ≡ row.landed) → ((n : ℕ) → rep ≡ reply.Synced n → row.index_mark ≡ n) → row.log_mark ≡ row.stored → IsLegal start events → Runs me (if_synced handle rep) events out → IsSynced me first total out (state_after start events)
+after_index me handle first row total (reply.Synced n) start events out same k t all said marks logs l r =
     let f = finished me handle.writer row (stays (synced n handle) (Ok n)) start events out k.has l r in
     let number : n ≡ row.landed = said n refl in
     record {
@@ -110,40 +111,41 @@ after_index me handle first row total (reply.Synced n) start events out same k t
       knows = record { has = f.0; pending = k.pending };
       total = t;
       number = λ m e. let is : m ≡ n = ok_same m n (Ok n) out.result refl (ap (λ (o : WriterOut). o.result) f.1) e in (omega arith, sym is, omega arith);
+      marked = λ m e. let is : m ≡ n = ok_same m n (Ok n) out.result refl (ap (λ (o : WriterOut). o.result) f.1) e in (marks n refl ∙ sym is, logs);
     }
-after_index me handle first row total rep start events out same k t all said l r = sync_failed me handle first row total (trouble rep) start events out same k t l r
+after_index me handle first row total rep start events out same k t all said marks logs l r = sync_failed me handle first row total (trouble rep) start events out same k t l r
 
 -- SyncIndex is to be made, and nothing is pending
-before_index : (me : ℕ) (handle first : WriterHandle) (row : Row) (total : ℕ) (start : State) (events : List Event) (out : WriterOut) → Alike first handle → Knows me handle row start → entries_of row ≡ total → handle.pending ≡ 0 → IsLegal start events → Runs me (syncs_index handle) events out → IsSynced me first total out (state_after start events)
-before_index me handle first row total start events out same k t none l r =
+before_index : (me : ℕ) (handle first : WriterHandle) (row : Row) (total : ℕ) (start : State) (events : List Event) (out : WriterOut) → Alike first handle → Knows me handle row start → entries_of row ≡ total → handle.pending ≡ 0 → row.log_mark ≡ row.stored → IsLegal start events → Runs me (syncs_index handle) events out → IsSynced me first total out (state_after start events)
+before_index me handle first row total start events out same k t none logs l r =
     let g = reached me handle.writer row (call.SyncIndex handle.writer) (if_synced handle) start events out k.has l r in
     let o = sync_index_own me handle.writer row g.mid g.rep g.next g.has g.answers in
     let pending : handle.pending ≡ length row.pending.entries = k.pending in
     subst (IsSynced me first total out) g.ends
-    (after_index me handle first row total g.rep g.next g.rest out same (record { has = o.has; pending = pending }) t (omega arith) o.number g.legal g.runs)
+    (after_index me handle first o.is_marked.after total g.rep g.next g.rest out same (record { has = o.is_marked.has; pending = pending ∙ sym o.is_marked.pending }) (o.is_marked.total ∙ t) (omega (arith, o.is_marked.landed, t, pending, none)) (λ n said. o.number n said ∙ sym o.is_marked.landed) o.synced (o.log_mark ∙ logs ∙ sym o.is_marked.stored) g.legal g.runs)
 
 -- the reply to Flush has come
-after_flush : (me : ℕ) (handle first : WriterHandle) (row : Row) (total : ℕ) (rep : Reply) (start : State) (events : List Event) (out : WriterOut) → Alike first handle → handle.pending ≡ length row.pending.entries → entries_of row ≡ total → FlushedOwn me handle.writer row rep start → IsLegal start events → Runs me (if_flushed handle (syncs_index (flushed handle)) rep) events out → IsSynced me first total out (state_after start events)
-after_flush me handle first row total (reply.Flushed n) start events out same p t o l r =
-    before_index me (flushed handle) first o.after total start events out same (record { has = o.has; pending = sym (o.empty n refl) }) (o.total ∙ t) refl l r
-after_flush me handle first row total rep start events out same p t o l r =
+after_flush : (me : ℕ) (handle first : WriterHandle) (row : Row) (total : ℕ) (rep : Reply) (start : State) (events : List Event) (out : WriterOut) → Alike first handle → handle.pending ≡ length row.pending.entries → entries_of row ≡ total → FlushedOwn me handle.writer row rep start → row.log_mark ≡ row.stored → IsLegal start events → Runs me (if_flushed handle (syncs_index (flushed handle)) rep) events out → IsSynced me first total out (state_after start events)
+after_flush me handle first row total (reply.Flushed n) start events out same p t o logs l r =
+    before_index me (flushed handle) first o.after total start events out same (record { has = o.has; pending = sym (o.empty n refl) }) (o.total ∙ t) refl (o.log_mark ∙ logs ∙ sym o.stored) l r
+after_flush me handle first row total rep start events out same p t o logs l r =
     let is : o.after ≡ row = o.kept (λ n e. cc) in
     sync_failed me handle first row total (trouble rep) start events out same (record { has = subst (λ x. HasRow me handle.writer x start) is o.has; pending = p }) t l r
 
 -- the log was synced
-before_flush : (me : ℕ) (handle first : WriterHandle) (row : Row) (total : ℕ) (start : State) (events : List Event) (out : WriterOut) → Alike first handle → Knows me handle row start → entries_of row ≡ total → IsLegal start events → Runs me (flushes_and_syncs handle) events out → IsSynced me first total out (state_after start events)
-before_flush me handle first row total start events out same k t l r =
+before_flush : (me : ℕ) (handle first : WriterHandle) (row : Row) (total : ℕ) (start : State) (events : List Event) (out : WriterOut) → Alike first handle → Knows me handle row start → entries_of row ≡ total → row.log_mark ≡ row.stored → IsLegal start events → Runs me (flushes_and_syncs handle) events out → IsSynced me first total out (state_after start events)
+before_flush me handle first row total start events out same k t logs l r =
     elim (nat_eq handle.pending 0) as (λ b. nat_eq handle.pending 0 ≡ b → Runs me (if b then syncs_index handle else ask (call.Flush handle.writer) (if_flushed handle (syncs_index (flushed handle)))) events out → IsSynced me first total out (state_after start events)) [
-      | true ↦ λ e r'. let none : handle.pending ≡ 0 = grind (arith, nat_tests) in before_index me handle first row total start events out same k t none l r'
+      | true ↦ λ e r'. let none : handle.pending ≡ 0 = grind (arith, nat_tests) in before_index me handle first row total start events out same k t none logs l r'
       | false ↦ λ e r'.
           let g = reached me handle.writer row (call.Flush handle.writer) (if_flushed handle (syncs_index (flushed handle))) start events out k.has l r' in
           subst (IsSynced me first total out) g.ends
-          (after_flush me handle first row total g.rep g.next g.rest out same k.pending t (flush_own me handle.writer row g.mid g.rep g.next g.has g.answers) g.legal g.runs)
+          (after_flush me handle first row total g.rep g.next g.rest out same k.pending t (flush_own me handle.writer row g.mid g.rep g.next g.has g.answers) logs g.legal g.runs)
     ] refl r
 
-after_log : (me : ℕ) (handle first : WriterHandle) (row : Row) (total : ℕ) (rep : Reply) (start : State) (events : List Event) (out : WriterOut) → Alike first handle → Knows me handle row start → entries_of row ≡ total → IsLegal start events → Runs me (if_log_synced handle rep) events out → IsSynced me first total out (state_after start events)
-after_log me handle first row total reply.Done start events out same k t l r = before_flush me handle first row total start events out same k t l r
-after_log me handle first row total rep start events out same k t l r = sync_failed me handle first row total (trouble rep) start events out same k t l r
+after_log : (me : ℕ) (handle first : WriterHandle) (row : Row) (total : ℕ) (rep : Reply) (start : State) (events : List Event) (out : WriterOut) → Alike first handle → Knows me handle row start → entries_of row ≡ total → (rep ≡ reply.Done → row.log_mark ≡ row.stored) → IsLegal start events → Runs me (if_log_synced handle rep) events out → IsSynced me first total out (state_after start events)
+after_log me handle first row total reply.Done start events out same k t logs l r = before_flush me handle first row total start events out same k t (logs refl) l r
+after_log me handle first row total rep start events out same k t logs l r = sync_failed me handle first row total (trouble rep) start events out same k t l r
 
 -- A sync, of a writer whose handle tells of its buffer.
 pub sync_ends : (me : ℕ) (handle : WriterHandle) (row : Row) (start : State) (events : List Event) (out : WriterOut) → Knows me handle row start → IsLegal start events → Runs me (sync_program handle) events out → IsSynced me handle (entries_of row) out (state_after start events)
@@ -151,7 +153,7 @@ sync_ends me handle row start events out k l r =
     let g = reached me handle.writer row (call.SyncLog handle.writer) (if_log_synced handle) start events out k.has l r in
     let h = sync_log_own me handle.writer row g.mid g.rep g.next g.has g.answers in
     subst (IsSynced me handle (entries_of row) out) g.ends
-    (after_log me handle handle row (entries_of row) g.rep g.next g.rest out (refl, refl) (record { has = h; pending = k.pending }) refl g.legal g.runs)
+    (after_log me handle handle h.is_marked.after (entries_of row) g.rep g.next g.rest out (refl, refl) (record { has = h.is_marked.has; pending = k.pending ∙ sym h.is_marked.pending }) h.is_marked.total h.synced g.legal g.runs)
 
 -- ---- a write
 

@@ -26,7 +26,7 @@ use Rattle.mount_model.specs.Entering.{entered, enter_outcome, enter_check, Ente
 use Rattle.mount_model.specs.Flooring.{floored, FloorOutcome, FloorsRow}
 use Rattle.mount_model.specs.Building.{build_outcome, hostdir_step, index_step, log_step}
 use Rattle.mount_model.specs.Writing.{write_check, write_outcome, entry_of, stamp_at, wrote as with_write, WritesAt}
-use Rattle.mount_model.specs.Flushing.{flushed, flush_step, flush_outcome, FlushesRow, sync_log_step, sync_log_outcome, sync_index_step, sync_index_outcome}
+use Rattle.mount_model.specs.Flushing.{log_synced, index_synced, flushed, flush_step, flush_outcome, FlushesRow, sync_log_step, sync_log_outcome, sync_index_step, sync_index_outcome}
 use Rattle.mount_model.specs.Leaving.{closing, closed, put_meta_check, put_meta_step, put_meta_outcome, exit_check, exit_step, exit_outcome}
 use Rattle.mount_model.specs.Step.{Answers}
 use Rattle.plfs_types.specs.declared.entries.Entry.{Entry}
@@ -126,15 +126,17 @@ flush_table row table (Err Fault) = inr (λ n e. cc, refl)
 flush_table row table (Err NoMemory) = inr (λ n e. cc, refl)
 flush_table row table told = inr (λ n e. cc, refl)
 
-pub sync_log_table : (row : Row) (table : Table) (told : Told) → (sync_log_outcome row table told).table ≡ table
-sync_log_table row table (Ok Made) = refl
-sync_log_table row table told = refl
+pub sync_log_table : (row : Row) (table : Table) (told : Told) → (((sync_log_outcome row table told).reply ≡ reply.Done) × ((sync_log_outcome row table told).table ≡ put (log_synced row) table)) ⊎ (((sync_log_outcome row table told).reply ≡ reply.Done → ⊥) × ((sync_log_outcome row table told).table ≡ table))
+sync_log_table row table (Ok Made) = inl (refl, refl)
+sync_log_table row table (Err Fault) = inr (λ e. cc, refl)
+sync_log_table row table (Err NoMemory) = inr (λ e. cc, refl)
+sync_log_table row table told = inr (λ e. cc, refl)
 
-pub sync_index_table : (row : Row) (table : Table) (told : Told) → (((sync_index_outcome row table told).reply ≡ reply.Synced row.landed) ⊎ ((n : ℕ) → (sync_index_outcome row table told).reply ≡ reply.Synced n → ⊥)) × ((sync_index_outcome row table told).table ≡ table)
-sync_index_table row table (Ok Made) = (inl refl, refl)
-sync_index_table row table (Err Fault) = (inr (λ n e. cc), refl)
-sync_index_table row table (Err NoMemory) = (inr (λ n e. cc), refl)
-sync_index_table row table told = (inr (λ n e. cc), refl)
+pub sync_index_table : (row : Row) (table : Table) (told : Told) → (((sync_index_outcome row table told).reply ≡ reply.Synced row.landed) × ((sync_index_outcome row table told).table ≡ put (index_synced row) table)) ⊎ (((n : ℕ) → (sync_index_outcome row table told).reply ≡ reply.Synced n → ⊥) × ((sync_index_outcome row table told).table ≡ table))
+sync_index_table row table (Ok Made) = inl (refl, refl)
+sync_index_table row table (Err Fault) = inr (λ n e. cc, refl)
+sync_index_table row table (Err NoMemory) = inr (λ n e. cc, refl)
+sync_index_table row table told = inr (λ n e. cc, refl)
 
 pub write_table : (stamp : ℕ) (row : Row) (at len : ℕ) (table : Table) (told : Told) → (((write_outcome stamp row at len table told).reply ≡ reply.Wrote stamp) × ((write_outcome stamp row at len table told).table ≡ put (with_write stamp row at len) table)) ⊎ ((wrote (write_outcome stamp row at len table told).reply ≡ 0) × ((write_outcome stamp row at len table told).table ≡ table))
 write_table stamp row at len table (Ok Made) = inl (refl, refl)
@@ -309,11 +311,17 @@ step_kept me w row old caller (call.Flush id) rep new h a s = elim (on_writer ca
 ]
 step_kept me w row old caller (call.SyncLog id) rep new h a s = elim (on_writer caller (only stage.Open) id old rep new (λ r. Makes (sync_log_step r) (sync_log_outcome r old.table) old rep new) a) as (λ _. Kept me w row caller 0 (id ≡ w) new) [
   | inl refused ↦ kept_same me w row caller 0 old new h (table_of old new refused.1) refl
-  | inr (r, e, m) ↦ kept_same me w row caller 0 old new h (ap (λ (x : State). x.table) m.after ∙ sync_log_table r old.table m.told) refl
+  | inr (r, e, m) ↦ elim (sync_log_table r old.table m.told) as (λ _. Kept me w row caller 0 (id ≡ w) new) [
+    | inl is ↦ kept_plain me w row caller old new (only stage.Open) id r (log_synced r) h e refl refl refl (inl (ap (λ (x : State). x.table) m.after ∙ is.1))
+    | inr is ↦ kept_same me w row caller 0 old new h (ap (λ (x : State). x.table) m.after ∙ is.1) refl
+  ]
 ]
 step_kept me w row old caller (call.SyncIndex id) rep new h a s = elim (on_writer caller (only stage.Open) id old rep new (λ r. Makes (sync_index_step r) (sync_index_outcome r old.table) old rep new) a) as (λ _. Kept me w row caller 0 (id ≡ w) new) [
   | inl refused ↦ kept_same me w row caller 0 old new h (table_of old new refused.1) refl
-  | inr (r, e, m) ↦ kept_same me w row caller 0 old new h (ap (λ (x : State). x.table) m.after ∙ (sync_index_table r old.table m.told).1) refl
+  | inr (r, e, m) ↦ elim (sync_index_table r old.table m.told) as (λ _. Kept me w row caller 0 (id ≡ w) new) [
+    | inl is ↦ kept_plain me w row caller old new (only stage.Open) id r (index_synced r) h e refl refl refl (inl (ap (λ (x : State). x.table) m.after ∙ is.1))
+    | inr is ↦ kept_same me w row caller 0 old new h (ap (λ (x : State). x.table) m.after ∙ is.1) refl
+  ]
 ]
 step_kept me w row old caller (call.PutMeta id) rep new h a s = elim (on_writer caller may_close id old rep new (λ r. UnlessRefused (put_meta_check r) old rep new (Makes (put_meta_step r) (put_meta_outcome r old.table) old rep new)) a) as (λ _. Kept me w row caller 0 (id ≡ w) new) [
   | inl refused ↦ kept_same me w row caller 0 old new h (table_of old new refused.1) refl

@@ -42,6 +42,8 @@ pub record IsSynced (caller : ℕ) (first : WriterHandle) (count : ℕ) (out : W
   pub knows : Knows caller handle row state
   pub total : entries_of row ≡ count
   pub number : (n : ℕ) → out.result ≡ Ok n → (n ≡ count) × (handle.landed ≡ n) × (row.landed ≡ n)
+  -- all of its entries are synced then, and all that it stored
+  pub marked : (n : ℕ) → out.result ≡ Ok n → (row.index_mark ≡ n) × (row.log_mark ≡ row.stored)
 
 -- A writer of so many entries has stayed open after a close: the handle that is left tells of its buffer, and of all its
 -- entries once the metadata dropping was asked for.

@@ -1,5 +1,5 @@
 //! The laws of a writer's machines.
-ghost use Rattle.std.specs.Prelude.{◌≡◌, ℕ, List, Result, Ok, true};
+ghost use Rattle.std.specs.Prelude.{◌≡◌, ◌≤◌, ℕ, List, Result, Ok, true};
 ghost use Rattle.mount_model.specs.declared.row.Row.{Row};
 ghost use Rattle.mount_model.specs.State.{State};
 ghost use Rattle.mount_model.specs.History.{Event, IsLegal, state_after};
@@ -15,6 +15,12 @@ ghost use Rattle.writer_laws.specs.Running.{Runs};
 ghost use Rattle.writer_laws.specs.Counting.{entries_of, writes_told, Stays};
 ghost use Rattle.writer_laws.specs.Knowing.{HasRow, Knows, IsLeft, IsSynced, IsClosed, IsOpened};
 ghost use Rattle.writer_laws.specs.Waiting.{LetsBe};
+ghost use Rattle.writer_laws.specs.Surviving.{Survives};
+ghost use Rattle.store_api.specs.declared.tree.Tree.{Tree};
+ghost use Rattle.store_api.specs.Loss.{Loses};
+ghost use Rattle.mount_sound.specs.Ledger.{Ledger};
+ghost use Rattle.mount_sound.specs.Issued.{issued};
+ghost use Rattle.mount_sound.specs.Sound.{IsSoundFor};
 
 /// A law: where a handle tells how many entries are in its writer's buffer, the handle that a write, a sync or a close
 /// leaves does so again. The number of a sync, and of a close, is that of all the writer's entries; after a sync that
@@ -79,4 +85,22 @@ pub fn a_sync_counts_every_write()
         → Runs caller (sync_program handle) during out
         → out.result ≡ Ok n
         → n ≡ writes_told handle.writer before }
+{}
+
+/// A law: where a sync told its number, a loss of power at whatever later moment of a legal history leaves a sound tree
+/// that has all those entries with their bytes.
+pub fn synced_entries_survive()
+    ensures { (caller : ℕ) (handle : WriterHandle) (row : Row) (before : Ledger)
+        (start : State) (during later : List Event) (out : WriterOut) (n : ℕ)
+        → Knows caller handle row start
+        → IsSoundFor before start
+        → IsLegal start during
+        → Runs caller (sync_program handle) during out
+        → out.result ≡ Ok n
+        → 1 ≤ n
+        → IsLegal (state_after start during) later
+        → (then : IsSoundFor (issued (issued before start during) (state_after start during) later) (state_after (state_after start during) later))
+        → (new : Tree)
+        → Loses then.shape.tree new
+        → Survives caller handle.writer n (issued (issued before start during) (state_after start during) later) (state_after start during) then.shape.tree new }
 {}

@@ -10,5 +10,5 @@ mod laws;
 
 pub use laws::{
     a_handle_tells_of_its_buffer, a_handle_waits, a_sync_counts_every_write,
-    an_opened_writer_has_no_entries,
+    an_opened_writer_has_no_entries, synced_entries_survive,
 };
