@@ -24,7 +24,7 @@ use Rattle.mount_model.specs.Making.{Told, Makes, OnWriter, Refuses, UnlessRefus
 use Rattle.mount_model.specs.Writing.{write_check, WritesAt}
 use Rattle.mount_model.specs.Flushing.{flushed, flush_outcome, FlushesRow, index_synced, sync_index_step, sync_index_outcome}
 use Rattle.mount_model.specs.Step.{Answers, IsStep}
-use Rattle.mount_model.specs.History.{Event, IsLegal}
+use Rattle.mount_model.specs.History.{Event, IsLawful}
 use Rattle.mount_sound.specs.Ledger.{Written, entries_in, Ledger}
 use Rattle.mount_sound.specs.Issued.{with_write, written_by, noted, issued_after}
 use Rattle.mount_sound.proofs.Growing.{call_issues}
@@ -45,7 +45,7 @@ use Rattle.gathering.specs.Moments.{Moment, IsSoundAt, next_moment, moment_after
 use Rattle.gathering.specs.Gathering.{Gathered, IsPrefixOf}
 use Rattle.gathering.specs.Bounds.{IsOf, LandedAtLeast, IsFlushedIn, IsSyncedIn, Spares, AllSpare}
 use Rattle.gathering.specs.Opening.{HasView}
-use Rattle.gathering.proofs.Acting.{at_most_one_act}
+use Rattle.gathering.proofs.Gathers.{answers_as}
 use Rattle.gathering.proofs.Growing.{grows_refl, trunc_grows}
 use Rattle.gathering.proofs.Seeing.{sound_next, grows_after}
 use Rattle.gathering.proofs.Fronts.{stood_grows, stands, length-entries, landed_issued}
@@ -53,8 +53,8 @@ use Rattle.gathering.proofs.Gathers.{landed_grows}
 use Rattle.gathering.proofs.Members.{any_found, found_any}
 use Rattle.gathering.proofs.Answering.{prefix_of}
 use Rattle.gathering.proofs.Listings.{not_top}
-use Rattle.gathering.proofs.Left.{open_row, issues_or_not, open_within}
-use Rattle.gathering.proofs.Sparing.{Same, call_same, spares_index, spares_trunc}
+use Rattle.gathering.proofs.Left.{open_row, step_issues_or_not, open_within}
+use Rattle.gathering.proofs.Sparing.{Same, step_same, spares_index, spares_trunc}
 
 -- ---------- what the table counts has landed
 
@@ -142,14 +142,14 @@ told_lands m s writer count t =
     let held : row_of t.row.id m.state.table.writers ≡ Some t.row = subst (λ w. row_of w m.state.table.writers ≡ Some t.row) (sym id) t.stands in
     (its_dropping t.row, id, record { row = t.row; held = held; room = refl; host = refl }, subst (LandedAtLeast m (its_dropping t.row)) t.counted (row_landed m s t.row held t.ready))
 
-pub flush_lands : (m : Moment) (event : Event) (writer count : ℕ) → IsLegal m.state (event ∷ []) → IsSoundAt m → event.ask.call ≡ Flush writer → event.reply ≡ Flushed count → Lands (next_moment m event) writer count
+pub flush_lands : (m : Moment) (event : Event) (writer count : ℕ) → IsLawful m.state (event ∷ []) → IsSoundAt m → event.ask.call ≡ Flush writer → event.reply ≡ Flushed count → Lands (next_moment m event) writer count
 flush_lands m event writer count legal s call reply =
-    let a : Answers m.state event.caller (Flush writer) (Flushed count) event.after = subst (λ r. Answers m.state event.caller (Flush writer) r event.after) reply (subst (λ c. Answers m.state event.caller c event.reply event.after) call legal.1.answers) in
+    let a : Answers m.state event.caller (Flush writer) (Flushed count) event.after = answers_as m.state event.caller event.ask (Flush writer) event.reply (Flushed count) event.after call reply refl legal.1 in
     told_lands (next_moment m event) (sound_next m event [] legal s) writer count (flush_row m.state event.caller writer count event.after a)
 
-pub sync_lands : (m : Moment) (event : Event) (writer count : ℕ) → IsLegal m.state (event ∷ []) → IsSoundAt m → event.ask.call ≡ SyncIndex writer → event.reply ≡ Synced count → Lands (next_moment m event) writer count
+pub sync_lands : (m : Moment) (event : Event) (writer count : ℕ) → IsLawful m.state (event ∷ []) → IsSoundAt m → event.ask.call ≡ SyncIndex writer → event.reply ≡ Synced count → Lands (next_moment m event) writer count
 sync_lands m event writer count legal s call reply =
-    let a : Answers m.state event.caller (SyncIndex writer) (Synced count) event.after = subst (λ r. Answers m.state event.caller (SyncIndex writer) r event.after) reply (subst (λ c. Answers m.state event.caller c event.reply event.after) call legal.1.answers) in
+    let a : Answers m.state event.caller (SyncIndex writer) (Synced count) event.after = answers_as m.state event.caller event.ask (SyncIndex writer) event.reply (Synced count) event.after call reply refl legal.1 in
     told_lands (next_moment m event) (sound_next m event [] legal s) writer count (sync_row m.state event.caller writer count event.after a)
 
 landed_later : (a b : Moment) (d : Dropping) (count : ℕ) → Grows a b → LandedAtLeast a d count → LandedAtLeast b d count
@@ -165,10 +165,10 @@ one_of state a b writer of_a of_b =
 
 -- what this event told of the writer has landed after it
 abbrev Tells : Event → ℕ → ℕ → Type 0
-Tells e writer count = (m : Moment) → IsLegal m.state (e ∷ []) → IsSoundAt m → Lands (next_moment m e) writer count
+Tells e writer count = (m : Moment) → IsLawful m.state (e ∷ []) → IsSoundAt m → Lands (next_moment m e) writer count
 
 -- and after all events
-told_landed : (m : Moment) (events : List Event) (d : Dropping) (count : ℕ) (e : Event) → IsLegal m.state events → IsSoundAt m → Among e events → Tells e d.writer count → IsOf e.after d → LandedAtLeast (moment_after m events) d count
+told_landed : (m : Moment) (events : List Event) (d : Dropping) (count : ℕ) (e : Event) → IsLawful m.state events → IsSoundAt m → Among e events → Tells e d.writer count → IsOf e.after d → LandedAtLeast (moment_after m events) d count
 told_landed m [] d count e legal s a tells of = absurd a
 told_landed m (v ∷ events) d count e legal s (inl same) tells of =
     let next : Moment = next_moment m v in
@@ -185,14 +185,14 @@ landed_gathered start end room cut truncs d count view its landed_then =
     found_any (λ (x : Gathered). (x.dropping ≡ d) × (count ≤ x.count)) cut g among_cut (is, omega (arith, landed_then.counted, p.least, ap (λ x. landed start x) is))
 
 -- A reader has all of the room that was synced before its first call.
-pub synced_gathered : (first : Moment) (before : List Event) (end : Moment) (room : ℕ) (cut : List Gathered) (truncs : List Trunc) (d : Dropping) (count : ℕ) → IsLegal first.state before → IsSoundAt first → HasView (moment_after first before) end room cut truncs
+pub synced_gathered : (first : Moment) (before : List Event) (end : Moment) (room : ℕ) (cut : List Gathered) (truncs : List Trunc) (d : Dropping) (count : ℕ) → IsLawful first.state before → IsSoundAt first → HasView (moment_after first before) end room cut truncs
     → d.room ≡ room → IsSyncedIn before d count → Any (λ (g : Gathered). (g.dropping ≡ d) × (count ≤ g.count)) cut
 synced_gathered first before end room cut truncs d count legal s view its synced =
     let (e, a, (call, reply, of)) = any_found (λ (x : Event). (x.ask.call ≡ SyncIndex d.writer) × (x.reply ≡ Synced count) × IsOf x.after d) before synced in
     landed_gathered (moment_after first before) end room cut truncs d count view its (told_landed first before d count e legal s a (λ m l sound. sync_lands m e d.writer count l sound call reply) of)
 
 -- And all that was flushed.
-pub flushed_gathered : (first : Moment) (before : List Event) (end : Moment) (room : ℕ) (cut : List Gathered) (truncs : List Trunc) (d : Dropping) (count : ℕ) → IsLegal first.state before → IsSoundAt first → HasView (moment_after first before) end room cut truncs
+pub flushed_gathered : (first : Moment) (before : List Event) (end : Moment) (room : ℕ) (cut : List Gathered) (truncs : List Trunc) (d : Dropping) (count : ℕ) → IsLawful first.state before → IsSoundAt first → HasView (moment_after first before) end room cut truncs
     → d.room ≡ room → IsFlushedIn before d count → Any (λ (g : Gathered). (g.dropping ≡ d) × (count ≤ g.count)) cut
 flushed_gathered first before end room cut truncs d count legal s view its flushed_so =
     let (e, a, (call, reply, of)) = any_found (λ (x : Event). (x.ask.call ≡ Flush d.writer) × (x.reply ≡ Flushed count) × IsOf x.after d) before flushed_so in
@@ -202,31 +202,31 @@ flushed_gathered first before end room cut truncs d count legal s view its flush
 
 step_spares : (m : Moment) (s : IsSoundAt m) (e : Event) (d : Dropping) → IsNamed d → Spares e.ask.call d → IsStep m.state e.caller e.ask e.reply e.after → Same m.state e.after d.room (index_path d.host d.writer)
 step_spares m s e d named spares step =
-    call_same m.state e.after e.ask.call s.shape.tree d.room (index_path d.host d.writer) s.shape.told (not_top d.host)
+    step_same m.state e.after e.caller e.ask e.reply s.shape.tree d.room (index_path d.host d.writer) s.shape.told (not_top d.host)
     (λ act is. spares_index m s e.ask.call act d named spares is)
-    (at_most_one_act m.state e.caller e.ask.call e.reply e.after step.answers)
+    step
 
 -- nothing has landed where the dropping is as it was
-step_lands_none : (m : Moment) (e : Event) (d : Dropping) → IsNamed d → IsSoundAt m → Answers m.state e.caller e.ask.call e.reply e.after → index_then (next_moment m e) d ≡ index_then m d → landed (next_moment m e) d ≡ landed m d
-step_lands_none m e d named s a same = elim (issues_or_not m.issued m.state e.caller e.ask.call e.reply e.after d.room d.writer a) as (λ _. landed (next_moment m e) d ≡ landed m d) [
+step_lands_none : (m : Moment) (e : Event) (d : Dropping) → IsNamed d → IsSoundAt m → IsStep m.state e.caller e.ask e.reply e.after → index_then (next_moment m e) d ≡ index_then m d → landed (next_moment m e) d ≡ landed m d
+step_lands_none m e d named s a same = elim (step_issues_or_not m.issued m.state e.caller e.ask e.reply e.after d.room d.writer a) as (λ _. landed (next_moment m e) d ≡ landed m d) [
   | inl none ↦ omega (arith, ap (λ o. whole (bytes_of o)) same, ap length none)
   | inr o ↦
       let more = call_issues m.issued m.state e.ask.call e.reply d.room d.writer in
       omega (arith, ap (λ f. whole (bytes_of f)) same, open_within m s d (index_then m d) named o refl, ap length more.1, length-append (issued_by m d) more.0)
 ]
 
-landed_stays : (m : Moment) (events : List Event) (d : Dropping) → IsNamed d → IsLegal m.state events → IsSoundAt m → AllSpare events d → landed (moment_after m events) d ≡ landed m d
+landed_stays : (m : Moment) (events : List Event) (d : Dropping) → IsNamed d → IsLawful m.state events → IsSoundAt m → AllSpare events d → landed (moment_after m events) d ≡ landed m d
 landed_stays m [] d named legal s spare = refl
 landed_stays m (e ∷ events) d named legal s spare =
     landed_stays (next_moment m e) events d named legal.2 (sound_next m e events legal s) spare.1
-    ∙ step_lands_none m e d named s legal.1.answers (step_spares m s e d named spare.0 legal.1)
+    ∙ step_lands_none m e d named s legal.1 (step_spares m s e d named spare.0 legal.1)
 
 -- no more has landed than was issued
 landed_within : (m : Moment) (s : IsSoundAt m) (d : Dropping) (file : Option (List ℕ)) → IsNamed d → index_then m d ≡ file → landed m d ≤ length (issued_by m d)
 landed_within m s d file named e = omega arith
 
 -- No more of a writer has landed than it had issued when it last was flushed.
-pub landed_most : (m : Moment) (events : List Event) (d : Dropping) → IsNamed d → IsLegal m.state events → IsSoundAt m → AllSpare events d → landed (moment_after m events) d ≤ length (issued_by m d)
+pub landed_most : (m : Moment) (events : List Event) (d : Dropping) → IsNamed d → IsLawful m.state events → IsSoundAt m → AllSpare events d → landed (moment_after m events) d ≤ length (issued_by m d)
 landed_most m events d named legal s spare = omega (arith, landed_stays m events d named legal s spare, landed_within m s d (index_then m d) named refl)
 
 -- ---------- no truncate comes
@@ -235,17 +235,17 @@ trunc_below : (stamp size : ℕ) → is_top (trunc_path stamp size).folder ≡ f
 trunc_below stamp size = refl
 
 -- a truncate that is there stays
-pub trunc_stays : (m : Moment) (events : List Event) (room stamp size : ℕ) → IsLegal m.state events → IsSoundAt m → HadTrunc m room stamp size → HadTrunc (moment_after m events) room stamp size
+pub trunc_stays : (m : Moment) (events : List Event) (room stamp size : ℕ) → IsLawful m.state events → IsSoundAt m → HadTrunc m room stamp size → HadTrunc (moment_after m events) room stamp size
 trunc_stays m events room stamp size legal s had = trunc_grows m (moment_after m events) room stamp size (grows_after m events legal s) had
 
 -- a truncate that is there after these events was there before them
-pub trunc_before : (m : Moment) (events : List Event) (room stamp size : ℕ) → IsLegal m.state events → IsSoundAt m → HadTrunc (moment_after m events) room stamp size → HadTrunc m room stamp size
+pub trunc_before : (m : Moment) (events : List Event) (room stamp size : ℕ) → IsLawful m.state events → IsSoundAt m → HadTrunc (moment_after m events) room stamp size → HadTrunc m room stamp size
 trunc_before m [] room stamp size legal s had = had
 trunc_before m (e ∷ events) room stamp size legal s had =
     let next : Moment = next_moment m e in
     let now : HadTrunc next room stamp size = trunc_before next events room stamp size legal.2 (sound_next m e events legal s) had in
     let same : Same m.state e.after room (trunc_path stamp size) =
-    call_same m.state e.after e.ask.call s.shape.tree room (trunc_path stamp size) s.shape.told (trunc_below stamp size)
+    step_same m.state e.after e.caller e.ask e.reply s.shape.tree room (trunc_path stamp size) s.shape.told (trunc_below stamp size)
     (λ act is. spares_trunc m.state e.ask.call act room stamp size is)
-    (at_most_one_act m.state e.caller e.ask.call e.reply e.after legal.1.answers) in
+    legal.1 in
     record { is_item = now.is_item; bytes = now.bytes; there = sym same ∙ now.there }

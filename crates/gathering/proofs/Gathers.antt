@@ -1,5 +1,5 @@
 -- A reader that asks the lengths and reads whole entries has a prefix of what each writer issued.
-use Rattle.std.proofs.Common.{◌≡◌, ℕ, ◌+◌, ◌-◌, ◌*◌, ◌/◌, ◌≤◌, ◌<◌, List, [], ◌∷◌, ◌++◌, length, min, take, drop, length-append, Option, Some, None, refl, ap, sym, ◌∙◌, inl, inr, subst, arith}
+use Rattle.std.proofs.Common.{◌≡◌, ℕ, ◌+◌, ◌-◌, ◌*◌, ◌/◌, ◌≤◌, ◌<◌, List, [], ◌∷◌, ◌++◌, length, min, take, drop, length-append, Bool, true, false, Option, Some, None, refl, ap, sym, ◌∙◌, ◌⊎◌, inl, inr, subst, arith}
 use Rattle.std.proofs.lemmas.Bool.{cases_lt}
 use Rattle.std.proofs.lemmas.List.{take-append-le}
 use Rattle.plfs_types.specs.declared.entries.Entry.{Entry}
@@ -7,11 +7,15 @@ use Rattle.index_entry.specs.Spelling.{spelling_all}
 use Rattle.index_entry.proofs.Spelled.{take-spelling_all}
 use Rattle.store_laws.specs.Prefix.{IsPrefix}
 use Rattle.store_laws.proofs.Overwriting.{prefix_length}
+use Rattle.mount_model.specs.declared.call.Ask.{Ask}
 use Rattle.mount_model.specs.declared.call.Call.{Call}
 use Rattle.mount_model.specs.declared.reply.Reply.{Reply}
+use Rattle.mount_model.specs.declared.reply.Reply.TheVariants.{Stopped, NoMemory}
 use Rattle.mount_model.specs.Paths.{index_path, log_path}
 use Rattle.mount_model.specs.State.{State}
-use Rattle.mount_model.specs.Step.{Answers}
+use Rattle.mount_model.specs.Step.{Answers, IsStep}
+use Rattle.mount_model.proofs.Deciding.{step_cases}
+use Rattle.mount_model.proofs.Replying.{stop_replies}
 use Rattle.mount_sound.specs.Entries.{logged}
 use Rattle.mount_sound.specs.Ledger.{entries_in, content}
 use Rattle.mount_sound.specs.Dropping.{bytes_of, log_bytes}
@@ -42,8 +46,25 @@ landed_grows a b d g =
     let i = g.issued d.room d.writer in
     omega (arith, more_landed (index_then a d) (index_then b d) (λ bytes e. index_grows a b d bytes g e), ap length i.1, length-append (issued_by a d) i.0)
 
-pub answers_as : (old : State) (caller : ℕ) (call asked : Call) (reply told : Reply) (new : State) → call ≡ asked → reply ≡ told → Answers old caller call reply new → Answers old caller asked told new
-answers_as old caller call asked reply told new c r s = subst (λ x. Answers old caller x told new) c (subst (λ y. Answers old caller call y new) r s)
+-- the reply is one of a call that is broken off, or of want of memory
+abbrev pub is_cut : Reply → Bool
+is_cut Stopped = true
+is_cut NoMemory = true
+is_cut reply = false
+
+not_cut : (reply : Reply) → is_cut reply ≡ false → (reply ≡ Stopped) ⊎ (reply ≡ NoMemory) → ⊥
+not_cut reply whole (inl stopped) = let both : true ≡ false = sym (ap is_cut stopped) ∙ whole in cc
+not_cut reply whole (inr memory) = let both : true ≡ false = sym (ap is_cut memory) ∙ whole in cc
+
+-- a call with another reply was answered
+pub answered_whole : (old : State) (caller : ℕ) (ask : Ask) (reply : Reply) (new : State) → is_cut reply ≡ false → IsStep old caller ask reply new → Answers old caller ask.call reply new
+answered_whole old caller ask reply new whole step = step_cases old caller ask reply new (Answers old caller ask.call reply new) step
+    (λ none a. a)
+    (λ k some x. absurd (not_cut reply whole (stop_replies old caller k ask.call reply new x)))
+
+pub answers_as : (old : State) (caller : ℕ) (ask : Ask) (asked : Call) (reply told : Reply) (new : State) → ask.call ≡ asked → reply ≡ told → is_cut told ≡ false → IsStep old caller ask reply new → Answers old caller asked told new
+answers_as old caller ask asked reply told new c r whole s =
+    subst (λ x. Answers old caller x told new) c (answered_whole old caller ask told new whole (subst (λ y. IsStep old caller ask y new) r s))
 
 -- the whole entries of what was there when this call was made
 pub landed_then : (m : Moment) (d : Dropping) (bytes : List ℕ) → index_then m d ≡ Some bytes → landed m d ≡ min (whole bytes) (length (issued_by m d))
@@ -51,7 +72,7 @@ landed_then m d bytes e = ap (λ o. min (whole (bytes_of o)) (length (issued_by 
 
 one_read : (caller : ℕ) (start next end : Moment) (d : Dropping) (at len : ℕ) (bytes : List ℕ) (asked : Asked) → IsNamed d → IsSeenCall caller start asked next → Grows next end → IsRead d at len bytes asked → at + len ≤ 40 * landed start d → bytes ≡ take len (drop at (spelling_all (entries_in (issued_by end d))))
 one_read caller start next end d at len bytes asked named call goes read within =
-    let t = read_told call.before call.sound caller d.room (index_path d.host d.writer) at len bytes next.state (answers_as call.before.state caller asked.call _ asked.reply _ next.state read.call read.reply call.answers) in
+    let t = read_told call.before call.sound caller d.room (index_path d.host d.writer) at len bytes next.state (answers_as call.before.state caller asked.ask _ asked.reply _ next.state read.call read.reply refl call.answers) in
     let more : landed start d ≤ landed call.before d = landed_grows start call.before d call.waits in
     sym t.2 ∙ index_slice call.before end call.sound d t.0 at len named (grows_trans call.before next end call.goes goes) t.1 (omega (arith, within, more, landed_then call.before d t.0 t.1))
 
@@ -71,7 +92,7 @@ reads_law caller start end d at stop (a ∷ rest) content named (next, call, see
 
 left_read : (caller : ℕ) (at start next : Moment) (d : Dropping) (bytes : List ℕ) (from len : ℕ) (read : List ℕ) (asked : Asked) → IsNamed d → HasUnissued at d → index_then at d ≡ Some bytes → Grows at start → IsSeenCall caller start asked next → IsRead d from len read asked → read ≡ take len (drop from bytes)
 left_read caller at start next d bytes from len read asked named l e grows call is =
-    let t = read_told call.before call.sound caller d.room (index_path d.host d.writer) from len read next.state (answers_as call.before.state caller asked.call _ asked.reply _ next.state is.call is.reply call.answers) in
+    let t = read_told call.before call.sound caller d.room (index_path d.host d.writer) from len read next.state (answers_as call.before.state caller asked.ask _ asked.reply _ next.state is.call is.reply refl call.answers) in
     let stays : index_then call.before d ≡ index_then at d = ((grows_trans at start call.before grows call.waits).left d named l).0 in
     sym t.2 ∙ ap (λ b. take len (drop from b)) (one_file t.0 bytes (index_then call.before d) t.1 (stays ∙ e))
   where
@@ -96,12 +117,12 @@ left_reads caller at start end d bytes from stop (a ∷ rest) content named l e 
 -- ---- what is told
 
 -- the length that was told is that of the log
-log_told : (m : Moment) (s : IsSoundAt m) (caller : ℕ) (d : Dropping) (log : ℕ) (asked : Asked) (new : State) → IsLogLength d log asked → Answers m.state caller asked.call asked.reply new → length (bytes_of (log_then m d)) ≡ log
+log_told : (m : Moment) (s : IsSoundAt m) (caller : ℕ) (d : Dropping) (log : ℕ) (asked : Asked) (new : State) → IsLogLength d log asked → IsStep m.state caller asked.ask asked.reply new → length (bytes_of (log_then m d)) ≡ log
 log_told m s caller d log asked new is a = elim is.reply as (λ _. length (bytes_of (log_then m d)) ≡ log) [
   | inl number ↦
-      let t = length_told m s caller d.room (log_path d.host d.writer) log new (answers_as m.state caller asked.call _ asked.reply _ new is.call number a) in
+      let t = length_told m s caller d.room (log_path d.host d.writer) log new (answers_as m.state caller asked.ask _ asked.reply _ new is.call number refl a) in
       ap (λ o. length (bytes_of o)) t.1 ∙ t.2
-  | inr (absent, none) ↦ ap (λ o. length (bytes_of o)) (absence_told m s caller d.room (log_path d.host d.writer) new (answers_as m.state caller asked.call _ asked.reply _ new is.call absent a)) ∙ sym none
+  | inr (absent, none) ↦ ap (λ o. length (bytes_of o)) (absence_told m s caller d.room (log_path d.host d.writer) new (answers_as m.state caller asked.ask _ asked.reply _ new is.call absent refl a)) ∙ sym none
 ]
 
 -- the first entries that had landed, which stay issued
@@ -186,7 +207,7 @@ gathers_one caller start next later end g asked gathers call second seen =
     let d : Dropping = g.dropping in
     let named : IsNamed d = gathers.named in
     let length_is = gathers.length in
-    let t = length_told call.before call.sound caller d.room (index_path d.host d.writer) gathers.told next.state (answers_as call.before.state caller gathers.first.call _ gathers.first.reply _ next.state length_is.call length_is.reply call.answers) in
+    let t = length_told call.before call.sound caller d.room (index_path d.host d.writer) gathers.told next.state (answers_as call.before.state caller gathers.first.ask _ gathers.first.reply _ next.state length_is.call length_is.reply refl call.answers) in
     let to_second : Grows call.before second.before = grows_trans call.before next second.before call.goes second.waits in
     let to_later : Grows call.before later = grows_trans call.before second.before later to_second second.goes in
     let on : Grows call.before end = grows_trans call.before later end to_later (seen_grows caller later end gathers.reads seen) in

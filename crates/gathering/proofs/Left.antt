@@ -15,6 +15,7 @@ use Rattle.store_api.specs.Step.{Step}
 use Rattle.store_laws.specs.Files.{file_at}
 use Rattle.store_laws.specs.Naming.{NamesFile}
 use Rattle.store_laws.proofs.Overwriting.{prefix_length}
+use Rattle.mount_model.specs.declared.call.Ask.{Ask}
 use Rattle.mount_model.specs.declared.call.Call.{Call}
 use Rattle.mount_model.specs.declared.call.Call.TheVariants.{Greet, Find, MakeContainer, Rooms, Look, Enter, Floor, MakeHostdir, MakeIndex, MakeLog, Write, Flush, SyncLog, SyncIndex, PutMeta, Exit}
 use Rattle.mount_model.specs.declared.call.Look.TheVariants.{Top, List as ListFolder, Length, Read}
@@ -34,7 +35,7 @@ use Rattle.mount_model.specs.Flushing.{flush_step}
 use Rattle.mount_model.specs.Leaving.{put_meta_step, exit_step}
 use Rattle.mount_model.specs.Step.{Answers, IsStep}
 use Rattle.mount_model.specs.History.{Event}
-use Rattle.mount_model.proofs.Deciding.{match_cases, is_held, at_only}
+use Rattle.mount_model.proofs.Deciding.{match_cases, is_held, at_only, step_cases}
 use Rattle.mount_model.proofs.Tables.{row_of_id}
 use Rattle.mount_sound.specs.Ledger.{Written, entries_in, Ledger}
 use Rattle.mount_sound.specs.Issued.{with_write, written_by, noted, issued_after}
@@ -46,9 +47,11 @@ use Rattle.mount_sound.proofs.Making.{all_fit}
 use Rattle.mount_sound.proofs.Stages.{live_stage}
 use Rattle.gathering.specs.Moments.{Moment, IsSoundAt, next_moment, Dropping, IsNamed, issued_by, index_then, log_then, HasUnissued}
 use Rattle.gathering.specs.Bounds.{Spares}
-use Rattle.gathering.proofs.Acting.{IsActOf, at_most_one_act}
+use Rattle.mount_model.proofs.Replying.{stop_replies}
+use Rattle.mount_sound.proofs.Ending.{stop_issues}
+use Rattle.gathering.proofs.Acting.{IsActOf}
 use Rattle.gathering.proofs.Fronts.{stands, length-entries}
-use Rattle.gathering.proofs.Sparing.{as_its_act, first_byte, call_same, spares_index}
+use Rattle.gathering.proofs.Sparing.{as_its_act, first_byte, step_same, spares_index}
 
 -- a call on an open writer that wasn't refused
 pub open_row : {R : Type 0} (caller writer : ℕ) (old : State) (reply : Reply) (new : State) (does : Row → Type 0) → OnWriter caller (only stage.Open) writer old reply new does
@@ -92,6 +95,12 @@ issues_or_not before old caller (Write id at block) reply new number writer a =
     (λ r. inl (ap (λ x. noted before (row_of id old.table.writers) at block x number writer) r.0))
     (λ row is held ready does. subst (λ f. (noted before f at block reply number writer ≡ before number writer) ⊎ IsOpenRow old number writer) (sym held) (noted_or_not before old id row at block reply number writer held ready))
 issues_or_not before old caller call reply new number writer a = inl refl
+
+-- so it is of a step
+pub step_issues_or_not : (before : Ledger) (old : State) (caller : ℕ) (ask : Ask) (reply : Reply) (new : State) (number writer : ℕ) → IsStep old caller ask reply new → (issued_after before old ask.call reply number writer ≡ before number writer) ⊎ IsOpenRow old number writer
+step_issues_or_not before old caller ask reply new number writer step = step_cases old caller ask reply new ((issued_after before old ask.call reply number writer ≡ before number writer) ⊎ IsOpenRow old number writer) step
+    (λ none a. issues_or_not before old caller ask.call reply new number writer a)
+    (λ k some x. inl (ap (λ (l : Ledger). l number writer) (stop_issues before old ask.call reply (stop_replies old caller k ask.call reply new x))))
 
 begun : (landed : ℕ) (issued : List Entry) (file : Option (List ℕ)) → MatchOption file (landed ≡ 0) (Begins issued landed) → whole (bytes_of file) ≤ length issued
 begun landed issued None m = omega arith
@@ -196,9 +205,9 @@ below host = positive _
 pub left_stays : (m : Moment) (e : Event) (s : IsSoundAt m) → IsStep m.state e.caller e.ask e.reply e.after → (d : Dropping) → IsNamed d → HasUnissued m d
     → (index_then (next_moment m e) d ≡ index_then m d) × (log_then (next_moment m e) d ≡ log_then m d) × (issued_by (next_moment m e) d ≡ issued_by m d)
 left_stays m e s step d named l = (
-  call_same m.state e.after e.ask.call s.shape.tree d.room (index_path d.host d.writer) s.shape.told (below d.host) (λ act is. left_index m s e.ask.call act d named l is) (at_most_one_act m.state e.caller e.ask.call e.reply e.after step.answers),
-  call_same m.state e.after e.ask.call s.shape.tree d.room (log_path d.host d.writer) s.shape.told (below d.host) (λ act is. left_log m s e.ask.call act d named l is) (at_most_one_act m.state e.caller e.ask.call e.reply e.after step.answers),
-  elim (issues_or_not m.issued m.state e.caller e.ask.call e.reply e.after d.room d.writer step.answers) as (λ _. issued_by (next_moment m e) d ≡ issued_by m d) [
+  step_same m.state e.after e.caller e.ask e.reply s.shape.tree d.room (index_path d.host d.writer) s.shape.told (below d.host) (λ act is. left_index m s e.ask.call act d named l is) step,
+  step_same m.state e.after e.caller e.ask e.reply s.shape.tree d.room (log_path d.host d.writer) s.shape.told (below d.host) (λ act is. left_log m s e.ask.call act d named l is) step,
+  elim (step_issues_or_not m.issued m.state e.caller e.ask e.reply e.after d.room d.writer step) as (λ _. issued_by (next_moment m e) d ≡ issued_by m d) [
     | inl same ↦ same
     | inr o ↦ absurd (omega (arith, l, open_within m s d (index_then m d) named o refl))
   ],

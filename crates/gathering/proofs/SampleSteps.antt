@@ -1,6 +1,6 @@
 -- The short history is legal: each of its calls answers as the mount does.
-use Rattle.std.proofs.Common.{◌≡◌, ℕ, List, [], ◌∷◌, ◌++◌, None, refl, arith, inl}
-use Rattle.std.specs.Prelude.{Ok, Err, IsTrue}
+use Rattle.std.proofs.Common.{◌≡◌, ℕ, List, [], ◌∷◌, ◌++◌, Option, None, refl, sym, subst, arith, inl}
+use Rattle.std.specs.Prelude.{Ok, Err, IsTrue, MatchOption}
 use Rattle.std.specs.Fmt.{digits}
 use Rattle.std.proofs.lemmas.List.Elements.{All-from_recursion}
 use Rattle.plfs_types.specs.Counts.{next_count}
@@ -18,7 +18,8 @@ use Rattle.mount_model.specs.Making.{Told, Outcome, Makes}
 use Rattle.mount_model.specs.State.{State}
 use Rattle.mount_model.specs.Flooring.{IsFloorOf}
 use Rattle.mount_model.specs.Step.{Answers, IsStep}
-use Rattle.mount_model.specs.History.{Event, IsLegal}
+use Rattle.mount_model.specs.Stopping.{Stops}
+use Rattle.mount_model.specs.History.{Event, IsLawful}
 use Rattle.gathering.proofs.Sample.{first_writer, second_writer, holds, state, begun}
 use Rattle.gathering.proofs.Sample as sample
 
@@ -148,83 +149,83 @@ abbrev IsStepOf : State → Event → Type 0
 IsStepOf old event = IsStep old event.caller event.ask event.reply event.after
 
 step : (old : State) (event : Event) → event.ask.stop ≡ None → IsAnswered old event → IsStepOf old event
-step old event whole answers = record { goes_on = whole; answers = answers }
+step old event whole answers = record { does = subst (λ (stop : Option ℕ). MatchOption stop (Answers old event.caller event.ask.call event.reply event.after) (λ k. Stops event.caller k event.ask.call old event.reply event.after)) (sym whole) answers }
 
 -- The history is legal.
-pub legal : IsLegal begun (sample.gathering ++ sample.lists_truncs ∷ sample.later)
+pub legal : IsLawful begun (sample.gathering ++ sample.lists_truncs ∷ sample.later)
 legal = (
-  record { goes_on = refl; call = tt },
+  tt,
   step begun sample.makes_room refl makes_room,
   (
-    record { goes_on = refl; call = (omega arith, omega arith) },
+    (omega arith, omega arith),
     step sample.makes_room.after sample.enters_first refl enters_first,
     (
-      record { goes_on = refl; call = tt },
+      tt,
       step sample.enters_first.after sample.floors_first refl floors_first,
       (
-        record { goes_on = refl; call = tt },
+        tt,
         step sample.floors_first.after sample.houses_first refl houses_first,
         (
-          record { goes_on = refl; call = tt },
+          tt,
           step sample.houses_first.after sample.indexes_first refl indexes_first,
           (
-            record { goes_on = refl; call = tt },
+            tt,
             step sample.indexes_first.after sample.opens_first refl opens_first,
             (
-              record { goes_on = refl; call = tt },
+              tt,
               step sample.opens_first.after sample.writes_first refl writes_first,
               (
-                record { goes_on = refl; call = tt },
+                tt,
                 step sample.writes_first.after sample.flushes_first refl flushes_first,
                 (
-                  record { goes_on = refl; call = (omega arith, omega arith) },
+                  (omega arith, omega arith),
                   step sample.flushes_first.after sample.enters_second refl enters_second,
                   (
-                    record { goes_on = refl; call = tt },
+                    tt,
                     step sample.enters_second.after sample.floors_second refl floors_second,
                     (
-                      record { goes_on = refl; call = tt },
+                      tt,
                       step sample.floors_second.after sample.houses_second refl houses_second,
                       (
-                        record { goes_on = refl; call = tt },
+                        tt,
                         step sample.houses_second.after sample.indexes_second refl indexes_second,
                         (
-                          record { goes_on = refl; call = tt },
+                          tt,
                           step sample.indexes_second.after sample.opens_second refl opens_second,
                           (
-                            record { goes_on = refl; call = tt },
+                            tt,
                             step sample.opens_second.after sample.writes_second refl writes_second,
                             (
-                              record { goes_on = refl; call = tt },
+                              tt,
                               step sample.writes_second.after sample.lists_top refl lists_top,
                               (
-                                record { goes_on = refl; call = tt },
+                                tt,
                                 step sample.lists_top.after sample.flush_tears refl flush_tears,
                                 (
-                                  record { goes_on = refl; call = tt },
+                                  tt,
                                   step sample.flush_tears.after sample.lists_folder refl lists_folder,
                                   (
-                                    record { goes_on = refl; call = tt },
+                                    tt,
                                     step sample.lists_folder.after sample.asks_first refl asks_first,
                                     (
-                                      record { goes_on = refl; call = tt },
+                                      tt,
                                       step sample.asks_first.after sample.asks_first_log refl asks_first_log,
                                       (
-                                      record { goes_on = refl; call = tt },
+                                      tt,
                                       step sample.asks_first_log.after sample.reads_first refl reads_first,
                                       (
-                                        record { goes_on = refl; call = tt },
+                                        tt,
                                         step sample.reads_first.after sample.asks_second refl asks_second,
                                         (
-                                          record { goes_on = refl; call = tt },
+                                          tt,
                                           step sample.asks_second.after sample.asks_second_log refl asks_second_log,
                                           (
-                                          record { goes_on = refl; call = tt },
+                                          tt,
                                           step sample.asks_second_log.after sample.lists_truncs refl lists_truncs,
                                           (
-                                            record { goes_on = refl; call = tt },
+                                            tt,
                                             step sample.lists_truncs.after sample.flushes_second refl flushes_second,
-                                            (record { goes_on = refl; call = tt }, step sample.flushes_second.after sample.reads_log refl reads_log, tt),
+                                            (tt, step sample.flushes_second.after sample.reads_log refl reads_log, tt),
                                     ),
                                     ),
                                           ),

@@ -80,7 +80,7 @@ pub record FoundOne (m : Moment) (room k : ℕ) (ds : List Dropping) : Type 0 wh
 one_folder : (caller room k : ℕ) (start next : Moment) (asked : Asked) (ds : List Dropping) → IsSeenCall caller start asked next → ListsHostdir room k ds asked → FoundOne next room k ds
 one_folder caller room k start next asked ds call lists =
     let m : Moment = call.before in
-    let l = folder_listed m call.sound caller room (hostdir_of k) lists.names next.state (answers_as m.state caller asked.call _ asked.reply _ next.state lists.lists.call lists.lists.reply call.answers) in
+    let l = folder_listed m call.sound caller room (hostdir_of k) lists.names next.state (answers_as m.state caller asked.ask _ asked.reply _ next.state lists.lists.call lists.lists.reply refl call.answers) in
     record {
       all = All-weaker (IsNamedIn room k lists.names) (IsFoundIn next room k) ds
           (λ d its.

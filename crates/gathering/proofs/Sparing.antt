@@ -25,7 +25,13 @@ use Rattle.mount_model.specs.declared.call.Call.TheVariants.{Greet, Find, MakeCo
 use Rattle.mount_model.specs.declared.call.Look.TheVariants.{Top, List as ListFolder, Length, Read}
 use Rattle.mount_model.specs.declared.row.Row.{Row}
 use Rattle.mount_model.specs.Paths.{index_path, trunc_path}
-use Rattle.mount_model.specs.State.{State}
+use Rattle.mount_model.specs.State.{State, timed}
+use Rattle.mount_model.specs.declared.call.Ask.{Ask}
+use Rattle.mount_model.specs.declared.reply.Reply.{Reply}
+use Rattle.mount_model.specs.Step.{IsStep}
+use Rattle.mount_model.specs.Stopped.{IsCutShort, IsLeftBy}
+use Rattle.mount_model.proofs.Deciding.{step_cases}
+use Rattle.mount_model.proofs.Stopping.{stop_left}
 use Rattle.mount_model.specs.Table.{row_of}
 use Rattle.mount_model.specs.Making.{Told}
 use Rattle.mount_model.specs.Entering.{enter_step}
@@ -38,7 +44,7 @@ use Rattle.mount_sound.proofs.Making.{all_fit}
 use Rattle.mount_model.proofs.Tables.{row_of_id}
 use Rattle.gathering.specs.Bounds.{Spares}
 use Rattle.gathering.specs.Moments.{Moment, IsSoundAt, file_in_room, file_in_tree, file_told, Dropping, IsNamed}
-use Rattle.gathering.proofs.Acting.{IsActOf, AtMostOneAct}
+use Rattle.gathering.proofs.Acting.{IsActOf, AtMostOneAct, at_most_one_act}
 
 -- ---------- rooms that weren't there
 
@@ -131,6 +137,26 @@ call_same old new call tree n path e below spared (inl same) = ap (λ s. file_to
 call_same old new call tree n path e below spared (inr one) =
     let t = acts_told one.step old.store new.store tree one.told e one.made in
     ap (λ o. file_told o n path) t.1 ∙ file_same one.step tree one.told t.0 n path (slice_get tree.rooms n) refl t.2 below (spared one.step one.is_of) ∙ ap (λ o. file_told o n path) (sym e)
+
+-- so it is of a call that was cut short, and of one that is broken off
+acts_untimed : (old : State) (call : Call) (step : Step) → IsActOf (timed None old) call step → IsActOf old call step
+acts_untimed old Greet step is = is
+acts_untimed old call step is = is
+
+cut_same : (old : State) (caller : ℕ) (left : State) (call : Call) (tree : Tree) (n : ℕ) (path : Path) → old.store.tree ≡ Some tree → is_top path.folder ≡ false → ((step : Step) → IsActOf old call step → NamesFile step n path → ⊥) → IsCutShort old caller call left → Same old left n path
+cut_same old caller left call tree n path e below spared (inl same) = ap (λ (s : State). file_told s.store.tree n path) same
+cut_same old caller left call tree n path e below spared (inr (reply, which, a)) = call_same old left call tree n path e below spared (at_most_one_act old caller call reply left a)
+
+left_same : (old new : State) (caller : ℕ) (call : Call) (tree : Tree) (n : ℕ) (path : Path) → old.store.tree ≡ Some tree → is_top path.folder ≡ false → ((step : Step) → IsActOf old call step → NamesFile step n path → ⊥) → IsLeftBy old caller call new → Same old new n path
+left_same old new caller call tree n path e below spared left =
+    ap (λ (o : Option Tree). file_told o n path) left.like.tree
+    ∙ cut_same (timed None old) caller left.cut call tree n path e below (λ step is. spared step (acts_untimed old call step is)) left.short
+
+-- A step leaves a file that its call's act does not name.
+pub step_same : (old new : State) (caller : ℕ) (ask : Ask) (reply : Reply) (tree : Tree) (n : ℕ) (path : Path) → old.store.tree ≡ Some tree → is_top path.folder ≡ false → ((step : Step) → IsActOf old ask.call step → NamesFile step n path → ⊥) → IsStep old caller ask reply new → Same old new n path
+step_same old new caller ask reply tree n path e below spared step = step_cases old caller ask reply new (Same old new n path) step
+    (λ none a. call_same old new ask.call tree n path e below spared (at_most_one_act old caller ask.call reply new a))
+    (λ k some x. left_same old new caller ask.call tree n path e below spared (stop_left old caller k ask.call reply new x))
 
 -- ---------- index droppings
 

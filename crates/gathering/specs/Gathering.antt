@@ -17,17 +17,17 @@ use Rattle.gathering.specs.Listing.{IsAmong}
 
 -- the length of the index dropping was asked and told
 pub record IsLength (d : Dropping) (length : ℕ) (asked : Asked) : Type 0 where
-  pub call : asked.call ≡ Look d.room (Length (index_path d.host d.writer))
+  pub call : asked.ask.call ≡ Look d.room (Length (index_path d.host d.writer))
   pub reply : asked.reply ≡ Looked (Number length)
 
 -- the length of the log was asked and told; where it is absent, it has no bytes
 pub record IsLogLength (d : Dropping) (length : ℕ) (asked : Asked) : Type 0 where
-  pub call : asked.call ≡ Look d.room (Length (log_path d.host d.writer))
+  pub call : asked.ask.call ≡ Look d.room (Length (log_path d.host d.writer))
   pub reply : (asked.reply ≡ Looked (Number length)) ⊎ ((asked.reply ≡ Looked Absent) × (length ≡ 0))
 
 -- bytes of the index dropping were asked and told
 pub record IsRead (d : Dropping) (at len : ℕ) (bytes : List ℕ) (asked : Asked) : Type 0 where
-  pub call : asked.call ≡ Look d.room (Read (index_path d.host d.writer) at len)
+  pub call : asked.ask.call ≡ Look d.room (Read (index_path d.host d.writer) at len)
   pub reply : asked.reply ≡ Looked (Bytes bytes)
 
 -- Reads of the bytes from one place to another, piece by piece, and what they gave.

@@ -15,7 +15,7 @@ use Rattle.gathering.specs.Seen.{Asked}
 
 -- names were asked and told
 pub record IsListing (room : ℕ) (look : Sight) (names : List Name) (asked : Asked) : Type 0 where
-  pub call : asked.call ≡ Look room look
+  pub call : asked.ask.call ≡ Look room look
   pub reply : asked.reply ≡ Looked (Names names)
 
 abbrev pub IsAmong : {X : Type 0} → X → List X → Type 0

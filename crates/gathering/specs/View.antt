@@ -84,7 +84,7 @@ pub record IsLogRead (cut : List Gathered) (writer at len : ℕ) (bytes : List �
   pub of : Gathered
   pub gathered : Any (λ g. g ≡ of) cut
   pub log_of : of.dropping.writer ≡ writer
-  pub call : asked.call ≡ Look of.dropping.room (Read (log_path of.dropping.host of.dropping.writer) at len)
+  pub call : asked.ask.call ≡ Look of.dropping.room (Read (log_path of.dropping.host of.dropping.writer) at len)
   pub reply : asked.reply ≡ Looked (Bytes bytes)
 
 -- The answer to a read: zeros for each hole, and for each other part the bytes that one read of a log gave.

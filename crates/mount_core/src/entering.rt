@@ -25,7 +25,7 @@ const SERIALS: u64 = 1 << 32;
 
 impl Roster {
     /// Draws the next serial, and gives its id.
-    fn draw(&mut self, room: u64) -> Result<u64, Refusal>
+    pub(crate) fn draw(&mut self, room: u64) -> Result<u64, Refusal>
         ensures ok { IfOk result (λ id. IsNextId room self.old id self.new) }
         ensures refused { IfErr result (λ why. enter_refusal (bare self.old) room ≡ Some why) }
         ensures kept { OnErr result (self.new ≡ self.old) }

@@ -25,7 +25,7 @@ fn nowhere() -> Path
 }
 
 /// The top file of a container.
-fn access() -> Name
+pub(crate) fn access() -> Name
     ensures { result ≡ codes "access" }
 {
     Name::from_bytes(b"access").unwrap()

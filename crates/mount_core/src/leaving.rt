@@ -17,7 +17,7 @@ use plfs_types::Path;
 use store_api::{Answer, Step, Store, Trouble};
 
 /// Why the writer's metadata dropping is not made.
-fn put_meta_check(row: &Row) -> Option<Refusal>
+pub(crate) fn put_meta_check(row: &Row) -> Option<Refusal>
     ensures { result ≡ put_meta_refusal row.now }
 {
     if row.pending.pending() > 0 || row.log_mark != row.stored || row.index_mark != row.landed {
@@ -28,7 +28,7 @@ fn put_meta_check(row: &Row) -> Option<Refusal>
 }
 
 /// Why the writer may not leave.
-fn exit_check(row: &Row) -> Option<Refusal>
+pub(crate) fn exit_check(row: &Row) -> Option<Refusal>
     ensures { result ≡ exit_refusal row.now }
 {
     if row.stored > 0 && !row.has_meta {

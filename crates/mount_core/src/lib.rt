@@ -22,6 +22,7 @@ mod roster;
 mod scanning;
 mod shared;
 mod stages;
+mod stopping;
 mod telling;
 mod trouble;
 mod writing;

@@ -23,7 +23,7 @@ const MOST_STORED: u64 = 1 << 56;
 const GREATEST_STAMP: u64 = (1 << 63) - 1;
 
 /// Why the writer may not write so many bytes from this place on.
-fn write_check(row: &Row, at: u64, len: u64) -> Option<Refusal>
+pub(crate) fn write_check(row: &Row, at: u64, len: u64) -> Option<Refusal>
     ensures { result ≡ write_refusal row.now at len }
 {
     if at > MAX_SIZE

@@ -2,6 +2,7 @@
 use Rattle.std.proofs.Common.{◌≡◌, ℕ, ◌+◌, ◌-◌, ◌<◌, ◌≤◌, ◌^◌, List, length, Bool, true, false, nat_eq, nat_le, nat_lt, ◌||◌, ◌&&◌, Option, Some, None, refl, ◌⊎◌, inl, inr, subst, arith, if◌then◌else◌}
 use Rattle.std.specs.Prelude.{MatchOption}
 use Rattle.std.proofs.lemmas.Bool.Decides.{nat_tests}
+use Rattle.mount_model.specs.declared.call.Ask.{Ask}
 use Rattle.mount_model.specs.declared.row.Row.{Row}
 use Rattle.mount_model.specs.declared.row.Stage.{Stage}
 use Rattle.mount_model.specs.declared.reply.Refusal.{Refusal}
@@ -11,6 +12,8 @@ use Rattle.mount_model.specs.Table.{row_of, rank, only, held_by, writer_of}
 use Rattle.mount_model.specs.Entering.{enter_check}
 use Rattle.mount_model.specs.Writing.{write_check}
 use Rattle.mount_model.specs.Making.{OnWriter, UnlessRefused}
+use Rattle.mount_model.specs.Stopping.{Stops}
+use Rattle.mount_model.specs.Step.{Answers, IsStep}
 use Rattle.mount_model.proofs.Tables.{alike, apart, row_of_id}
 
 -- ---- the caller's writer
@@ -113,3 +116,13 @@ may_write row at len e =
       floor = above (2 ^ 63 - 1) row.floor spent_parts.1;
       free = above row.pending.capacity (length row.pending.entries) full.0;
     }
+
+-- ---- a step
+
+-- a call is answered, or broken off
+pub step_cases : (old : State) (caller : ℕ) (ask : Ask) (reply : Reply) (new : State) (R : Type 0) → IsStep old caller ask reply new
+    → (ask.stop ≡ None → Answers old caller ask.call reply new → R) → ((k : ℕ) → ask.stop ≡ Some k → Stops caller k ask.call old reply new → R) → R
+step_cases old caller ask reply new R step answered stopped = elim (match_cases ask.stop _ _ step.does) as (λ _. R) [
+  | inl (none, a) ↦ answered none a
+  | inr (k, some, s) ↦ stopped k some s
+]

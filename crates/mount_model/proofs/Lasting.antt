@@ -1,7 +1,12 @@
 -- Each step keeps the table regular.
-use Rattle.std.proofs.Common.{◌≡◌, ℕ, ◌≤◌, List, [], ◌∷◌, length, Bool, Option, None, refl, sym, ◌∙◌, inl, inr, subst, arith, Ok}
+use Rattle.std.proofs.Common.{◌≡◌, ◌≢◌, ℕ, ◌≤◌, ◌<◌, List, [], ◌∷◌, length, map, Bool, true, false, nat_eq, Option, Some, None, refl, sym, ◌∙◌, inl, inr, subst, arith, Ok, Err}
+use Rattle.std.specs.Prelude.{if◌then◌else◌}
+use Rattle.std.specs.List.{All}
+use Rattle.std.proofs.lemmas.List.Elements.{All-nil, All-cons, All-head, All-tail}
 use Rattle.store_api.specs.declared.step.Answer.TheVariants.{Names}
+use Rattle.store_api.specs.declared.store.Trouble.TheVariants as trouble
 use Rattle.store_api.specs.Step.{Step}
+use Rattle.store_api.specs.Acts.{Stored}
 use Rattle.plfs_types.specs.declared.entries.Entry.{Entry}
 use Rattle.mount_model.specs.declared.row.Row.{Row}
 use Rattle.mount_model.specs.declared.row.Stage.{Stage}
@@ -23,8 +28,9 @@ use Rattle.mount_model.specs.Building.{build_outcome}
 use Rattle.mount_model.specs.Flushing.{FlushesRow, flushed, log_synced, index_synced}
 use Rattle.mount_model.specs.Leaving.{closed, closing}
 use Rattle.mount_model.specs.Step.{Answers, IsStep, OwedBy, IsOwed}
-use Rattle.mount_model.specs.Regular.{IsCounted, IsRegular}
-use Rattle.mount_model.proofs.Deciding.{IsHeld, on_writer, unless_refused, may_enter, may_write}
+use Rattle.mount_model.specs.Stopping.{ended, without_caller, drawn_unless, begun, IsEndedBy}
+use Rattle.mount_model.specs.Regular.{IsCounted, AreAscending, IsDrawn, IsRegular}
+use Rattle.mount_model.proofs.Deciding.{IsHeld, on_writer, unless_refused, may_enter, may_write, step_cases}
 use Rattle.mount_model.proofs.Ranges.{counted_entered, counted_staged, counted_marked, counted_closed, counted_floored, counted_flushed, counted_wrote, floor_fits}
 use Rattle.mount_model.proofs.Rows.{AreRegularFor, rows_of, regular_of, regular_row, regular_put, regular_taken, regular_drawn, regular_pushed}
 use Rattle.mount_model.proofs.Outcomes as table
@@ -147,6 +153,70 @@ module _ (old : State) (regular : IsRegular old) (reply : Reply) (new : State) w
       (put_regular old writer row (at_stage stage.Dead row) regular caller _ held refl refl (counted_staged stage.Dead row)))
       m))
 
+-- ---- a caller that is at its end
+
+counted_ended : (caller : ℕ) (row : Row) → IsCounted row → IsCounted (ended caller row)
+counted_ended caller row c = elim (nat_eq row.owner caller) as (λ b. IsCounted (if b then at_stage stage.Dead row else row)) [
+  | true ↦ counted_staged stage.Dead row c
+  | false ↦ c
+]
+
+ended_id : (caller : ℕ) (row : Row) → (ended caller row).id ≡ row.id
+ended_id caller row = elim (nat_eq row.owner caller) as (λ b. (if b then at_stage stage.Dead row else row).id ≡ row.id) [ true ↦ refl | false ↦ refl ]
+
+ended_room : (caller : ℕ) (row : Row) → (ended caller row).room ≡ row.room
+ended_room caller row = elim (nat_eq row.owner caller) as (λ b. (if b then at_stage stage.Dead row else row).room ≡ row.room) [ true ↦ refl | false ↦ refl ]
+
+all_ended : (P : Row → Type 0) (caller : ℕ) → ((row : Row) → P row → P (ended caller row)) → (rows : List Row) → All P rows → All P (map (ended caller) rows)
+all_ended P caller turns [] all = All-nil P
+all_ended P caller turns (x ∷ rows) all = All-cons P (ended caller x) (map (ended caller) rows) (turns x (All-head P x rows all)) (all_ended P caller turns rows (All-tail P x rows all))
+
+ascending_ended : (caller : ℕ) (rows : List Row) → AreAscending rows → AreAscending (map (ended caller) rows)
+ascending_ended caller [] a = tt
+ascending_ended caller (x ∷ rows) a = (
+  subst (λ id. All (λ (later : Row). id < later.id) (map (ended caller) rows)) (sym (ended_id caller x))
+      (all_ended (λ (later : Row). x.id < later.id) caller (λ row less. subst (λ id. x.id < id) (sym (ended_id caller row)) less) rows a.0),
+  ascending_ended caller rows a.1,
+)
+
+pub ended_regular : (caller : ℕ) (state : State) → IsRegular state → IsRegular (record state { table = without_caller caller state.table })
+ended_regular caller state r = record {
+  mount_fits = r.mount_fits;
+  serial_fits = r.serial_fits;
+  counted = all_ended IsCounted caller (counted_ended caller) state.table.writers r.counted;
+  ascending = ascending_ended caller state.table.writers r.ascending;
+  drawn = all_ended (λ (row : Row). IsDrawn state row.id) caller (λ row d. (d.0, d.1, d.2, ended_id caller row ∙ d.3)) state.table.writers r.drawn;
+  apart = all_ended (λ (row : Row). row.room ≢ state.marks) caller (λ row a same. a (sym (ended_room caller row) ∙ same)) state.table.writers r.apart;
+}
+
+-- the state in which a call's act is made
+drawn_regular : (old : State) (room : ℕ) (check : Option Refusal) → (check ≡ None → enter_check old room ≡ None) → IsRegular old → IsRegular (drawn_unless check old)
+drawn_regular old room None is r =
+    let may = may_enter old room (is refl) in
+    regular_of (drawn old) r.mount_fits (omega (arith, may.1)) (regular_drawn old.mount old.serial old.marks old.table.writers (rows_of old r))
+drawn_regular old room (Some why) is r = r
+
+pub begun_regular : (old : State) (call : Call) → IsRegular old → IsRegular (begun old call)
+begun_regular old (Enter room host most) r = drawn_regular old room (enter_check old room) (λ e. e) r
+begun_regular old call r = r
+
+stored_regular : (state : State) (store : Stored) → IsRegular state → IsRegular (record state { store = store })
+stored_regular state store r = record {
+  mount_fits = r.mount_fits;
+  serial_fits = r.serial_fits;
+  counted = r.counted;
+  ascending = r.ascending;
+  drawn = r.drawn;
+  apart = r.apart;
+}
+
+by_end : (told : Told) (reply : Reply) (at : State) (caller : ℕ) (new : State) → IsEndedBy told reply at caller new → IsRegular at → IsRegular new
+by_end (Err trouble.NoMemory) reply at caller new e r = subst IsRegular (sym e.1) r
+by_end (Err trouble.Fault) reply at caller new e r = subst IsRegular (sym e.1) (ended_regular caller at r)
+by_end (Ok answer) reply at caller new e r = subst IsRegular (sym e.1) (ended_regular caller at r)
+
 -- Each step whose caller owes no more keeps the table regular.
 pub step_regular : (old new : State) (caller : ℕ) (ask : Ask) (reply : Reply) → IsOwed ask → IsStep old caller ask reply new → IsRegular old → IsRegular new
-step_regular old new caller ask reply owed s r = answers_regular old r reply new caller ask.call owed.call s.answers
+step_regular old new caller ask reply owed s r = step_cases old caller ask reply new (IsRegular new) s
+    (λ none a. answers_regular old r reply new caller ask.call owed a)
+    (λ k some x. by_end x.told reply _ caller new x.after (stored_regular (begun old ask.call) x.store (begun_regular old ask.call r)))

@@ -7,4 +7,7 @@ pub mod Outcomes
 pub mod Lasting
 pub mod Holding
 pub mod Replying
+pub mod Broken
+pub mod Stopping
+pub mod Histories
 pub mod Beginning

@@ -1,6 +1,6 @@
 -- Which replies each call has, and what a fault says of the store.
 use Rattle.std.proofs.Common.{◌≡◌, ◌≤◌, ℕ, List, [], ◌∷◌, length, Option, Some, None, Bool, true, false, refl, ap, sym, ◌∙◌, ◌⊎◌, inl, inr, subst, arith, Ok, Err, nat_le}
-use Rattle.std.specs.Prelude.{if◌then◌else◌}
+use Rattle.std.specs.Prelude.{if◌then◌else◌, MatchOption}
 use Rattle.plfs_types.specs.Counts.{HasRisen}
 use Rattle.plfs_types.specs.declared.names.Path.{Path}
 use Rattle.plfs_types.specs.declared.entries.Entry.{Entry}
@@ -24,19 +24,20 @@ use Rattle.container_layout.specs.Paths.{hostdir_of}
 use Rattle.mount_model.specs.Paths.{Name, truncs, openhosts, metadata, open_path, index_path, log_path, marks_name, marks_folder, mark_name}
 use Rattle.mount_model.specs.State.{State, Table, drawn, timed}
 use Rattle.mount_model.specs.Making.{Told, Outcome, otherwise, Makes, OnWriter, UnlessRefused}
-use Rattle.mount_model.specs.Finding.{find_outcome, make_outcome, NamesRooms, RoomsReply}
-use Rattle.mount_model.specs.Looking.{look_outcome, look_reply, listing_reply, length_reply, read_reply, room_check}
+use Rattle.mount_model.specs.Finding.{find_outcome, make_outcome, RoomsReply}
+use Rattle.mount_model.specs.Looking.{look_reply, listing_reply, length_reply, read_reply, room_check}
 use Rattle.mount_model.specs.Entering.{EntersAs, enter_check, enter_outcome, entered}
-use Rattle.mount_model.specs.Flooring.{FloorsRow, FloorOutcome}
+use Rattle.mount_model.specs.Flooring.{FloorOutcome}
 use Rattle.mount_model.specs.Building.{build_outcome}
-use Rattle.mount_model.specs.Writing.{WritesAt, write_check, write_outcome}
+use Rattle.mount_model.specs.Writing.{write_check, write_outcome}
 use Rattle.mount_model.specs.Flushing.{FlushesRow, flush_outcome, sync_log_outcome, sync_index_outcome}
 use Rattle.mount_model.specs.Leaving.{meta_file, put_meta_check, put_meta_outcome, exit_check, exit_outcome}
+use Rattle.mount_model.specs.Stopping.{part_made, begun, MakesPart, IsEndedBy, Stops}
 use Rattle.mount_model.specs.Step.{Answers, IsStep}
-use Rattle.mount_model.specs.Replies.{IsTrouble, refused, damaged, fault, no_memory, IsAnswerTo, Fits, HasItsCause}
+use Rattle.mount_model.specs.Replies.{IsTrouble, refused, damaged, fault, no_memory, IsAnswerTo, Fits, FitsAsk, HasItsCause}
 use Rattle.mount_model.specs.Mounting.{IsMounted}
 use Rattle.mount_model.specs.Table.{writer_of}
-use Rattle.mount_model.proofs.Deciding.{match_cases}
+use Rattle.mount_model.proofs.Deciding.{match_cases, step_cases}
 
 -- ---- what an act told decides
 
@@ -238,13 +239,49 @@ answered old reply new caller (Exit writer) a = on_writer (IsAnswerTo (Exit writ
     unless_refused (IsAnswerTo (Exit writer)) old reply new (exit_check row) _ u (λ m.
     making (IsAnswerTo (Exit writer)) old reply new _ _ old refl (exit_tells (IsAnswerTo (Exit writer)) old.table row refl) m))
 
--- Each reply fits its call.
-pub step_fits : (old new : State) (caller : ℕ) (ask : Ask) (reply : Reply) → IsStep old caller ask reply new → Fits ask.call reply
-step_fits old new caller ask reply s = (answered old reply new caller ask.call s.answers).fits
+-- ---- a call that is broken off
+
+part_falls : (part : Option Step) (old new : Stored) (told : Told) → MakesPart part old new told → old.faults ≤ new.faults
+part_falls None old new told m = omega (arith, ap (λ (s : Stored). s.faults) m.1)
+part_falls (Some step) old new told m = acts_fall step old new told m
+
+-- what is answered then, and what the store counts
+record EndsSo (old new : State) (store : Stored) (reply : Reply) : Type 0 where
+  pub answered : (reply ≡ reply_of.Stopped) ⊎ (reply ≡ reply_of.NoMemory)
+  pub store_is : new.store ≡ store
+
+ends_so : (told : Told) (reply : Reply) (old from : State) (store : Stored) (caller : ℕ) (new : State) → IsEndedBy told reply (record from { store = store }) caller new → EndsSo old new store reply
+ends_so (Err trouble.NoMemory) reply old from store caller new e = record { answered = inr e.0; store_is = ap (λ (s : State). s.store) e.1 }
+ends_so (Err trouble.Fault) reply old from store caller new e = record { answered = inl e.0; store_is = ap (λ (s : State). s.store) e.1 }
+ends_so (Ok answer) reply old from store caller new e = record { answered = inl e.0; store_is = ap (λ (s : State). s.store) e.1 }
+
+not_fault : (reply : Reply) → (reply ≡ reply_of.Stopped) ⊎ (reply ≡ reply_of.NoMemory) → reply ≡ reply_of.Fault → ⊥
+not_fault reply (inl stopped) f = let both : reply_of.Stopped ≡ reply_of.Fault = sym stopped ∙ f in cc
+not_fault reply (inr memory) f = let both : reply_of.NoMemory ≡ reply_of.Fault = sym memory ∙ f in cc
+
+stopped_causes : (old new : State) (caller k : ℕ) (call : Call) (reply : Reply) → Stops caller k call old reply new → HasItsCause old new reply
+stopped_causes old new caller k call reply x =
+    let e = ends_so x.told reply old (begun old call) x.store caller new x.after in
+    record {
+      never_falls = omega (arith, part_falls (part_made k old caller call) old.store x.store x.told x.made, ap (λ (s : Stored). s.faults) e.store_is);
+      cause = λ f. absurd (not_fault reply e.answered f);
+    }
+
+-- A stop is answered so, or by want of memory.
+pub stop_replies : (old : State) (caller k : ℕ) (call : Call) (reply : Reply) (new : State) → Stops caller k call old reply new → (reply ≡ reply_of.Stopped) ⊎ (reply ≡ reply_of.NoMemory)
+stop_replies old caller k call reply new x = (ends_so x.told reply old (begun old call) x.store caller new x.after).answered
+
+-- Each reply fits its call, and whether that was broken off.
+pub step_fits : (old new : State) (caller : ℕ) (ask : Ask) (reply : Reply) → IsStep old caller ask reply new → FitsAsk ask reply
+step_fits old new caller ask reply s = step_cases old caller ask reply new (FitsAsk ask reply) s
+    (λ none a. subst (λ stop. MatchOption stop (Fits ask.call reply) (λ k. (reply ≡ reply_of.Stopped) ⊎ (reply ≡ reply_of.NoMemory))) (sym none) (answered old reply new caller ask.call a).fits)
+    (λ k some x. subst (λ stop. MatchOption stop (Fits ask.call reply) (λ k. (reply ≡ reply_of.Stopped) ⊎ (reply ≡ reply_of.NoMemory))) (sym some) (ends_so x.told reply old (begun old ask.call) x.store caller new x.after).answered)
 
 -- A fault has its cause.
 pub step_causes : (old new : State) (caller : ℕ) (ask : Ask) (reply : Reply) → IsStep old caller ask reply new → HasItsCause old new reply
-step_causes old new caller ask reply s = (answered old reply new caller ask.call s.answers).cause
+step_causes old new caller ask reply s = step_cases old caller ask reply new (HasItsCause old new reply) s
+    (λ none a. (answered old reply new caller ask.call a).cause)
+    (λ k some x. stopped_causes old new caller k ask.call reply x)
 
 abbrev marking : Step
 marking = make_room marks_name (marks_folder ∷ []) []

@@ -12,10 +12,20 @@ use Rattle.mount_model.specs.Step.{IsStep, IsOwed}
 abbrev pub Event : Type 0
 Event = turn.Entry Ask Reply State
 
--- each event is a step from the state before it, and its caller owed it no more than it met
+-- each event is a step from the state before it
 abbrev pub IsLegal : State → List Event → Type 0
 IsLegal start [] = Unit {0}
-IsLegal start (event ∷ events) = IsOwed event.ask × IsStep start event.caller event.ask event.reply event.after × IsLegal event.after events
+IsLegal start (event ∷ events) = IsStep start event.caller event.ask event.reply event.after × IsLegal event.after events
+
+-- no caller owed more than it met
+abbrev pub AreOwed : List Event → Type 0
+AreOwed [] = Unit {0}
+AreOwed (event ∷ events) = IsOwed event.ask × AreOwed events
+
+-- both at once
+abbrev pub IsLawful : State → List Event → Type 0
+IsLawful start [] = Unit {0}
+IsLawful start (event ∷ events) = IsOwed event.ask × IsStep start event.caller event.ask event.reply event.after × IsLawful event.after events
 
 -- the state after the events
 abbrev pub state_after : State → List Event → State

@@ -10,7 +10,10 @@ pub mod Building
 pub mod Writing
 pub mod Flushing
 pub mod Leaving
+pub mod Acting
+pub mod Stopping
 pub mod Step
+pub mod Stopped
 pub mod Regular
 pub mod Places
 pub mod Replies

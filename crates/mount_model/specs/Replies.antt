@@ -1,11 +1,12 @@
 -- Which replies each call has, and what a fault says of the store.
-use Rattle.std.specs.Prelude.{◌≡◌, ◌⊎◌, ◌≤◌, ℕ, List}
+use Rattle.std.specs.Prelude.{◌≡◌, ◌⊎◌, ◌≤◌, ℕ, List, MatchOption}
 use Rattle.plfs_types.specs.Counts.{HasRisen}
 use Rattle.store_api.specs.declared.step.Answer.{Answer}
+use Rattle.mount_model.specs.declared.call.Ask.{Ask}
 use Rattle.mount_model.specs.declared.call.Call.{Call}
 use Rattle.mount_model.specs.declared.call.Call.TheVariants as call
 use Rattle.mount_model.specs.declared.reply.Reply.{Reply}
-use Rattle.mount_model.specs.declared.reply.Reply.TheVariants.{Greeted, Room, Rooms, Looked, Entered, Floored, Done, Wrote, Flushed, Synced, Refused, Damaged, Fault, NoMemory}
+use Rattle.mount_model.specs.declared.reply.Reply.TheVariants.{Greeted, Room, Rooms, Looked, Entered, Floored, Done, Wrote, Flushed, Synced, Refused, Stopped, Damaged, Fault, NoMemory}
 use Rattle.mount_model.specs.declared.reply.Refusal.{Refusal}
 use Rattle.mount_model.specs.Paths.{Name}
 use Rattle.mount_model.specs.State.{State}
@@ -38,6 +39,10 @@ IsAnswerTo (call.Exit writer) reply = reply ≡ Done
 
 abbrev pub Fits : Call → Reply → Type 0
 Fits call reply = IsAnswerTo call reply ⊎ IsTrouble reply
+
+-- a call that is broken off is answered so, or by want of memory
+abbrev pub FitsAsk : Ask → Reply → Type 0
+FitsAsk ask reply = MatchOption ask.stop (Fits ask.call reply) (λ k. (reply ≡ Stopped) ⊎ (reply ≡ NoMemory))
 
 -- The store's count of faults never falls, and has risen where a fault is answered.
 pub record HasItsCause (old new : State) (reply : Reply) : Type 0 where

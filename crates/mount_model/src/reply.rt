@@ -41,6 +41,8 @@ pub enum Reply {
     Flushed { landed: u64 },
     /// How many of the writer's entries have landed, all of them synced.
     Synced { landed: u64 },
+    /// The call was broken off, and its caller is at its end.
+    Stopped,
     Refused(Refusal),
     /// The store showed what no sound container has there.
     Damaged { folder: Name, file: Name },

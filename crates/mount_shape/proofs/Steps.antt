@@ -1,5 +1,5 @@
 -- Each step of the mount keeps the shape of what its store tells.
-use Rattle.std.proofs.Common.{◌≡◌, ℕ, ◌+◌, ◌<◌, ◌≤◌, ◌^◌, List, [], ◌∷◌, Option, Some, None, refl, sym, ◌⊎◌, inl, inr, subst, arith, Bool}
+use Rattle.std.proofs.Common.{◌≡◌, ℕ, ◌+◌, ◌<◌, ◌≤◌, ◌^◌, List, [], ◌∷◌, Option, Some, None, refl, sym, ◌∙◌, ◌⊎◌, inl, inr, subst, arith, Bool}
 use Rattle.plfs_types.specs.declared.entries.Entry.{Entry}
 use Rattle.container_layout.specs.Items.{IsMetaRange}
 use Rattle.container_layout.specs.Paths.{hostdir_of}
@@ -19,7 +19,7 @@ use Rattle.mount_model.specs.declared.call.Ask.{Ask}
 use Rattle.mount_model.specs.declared.reply.Refusal.{Refusal}
 use Rattle.mount_model.specs.declared.reply.Reply.{Reply}
 use Rattle.mount_model.specs.Paths.{Name, truncs, open_path, index_path, log_path, meta_path}
-use Rattle.mount_model.specs.State.{State, last_id, drawn, timed}
+use Rattle.mount_model.specs.State.{State, id_of, last_id, drawn, timed}
 use Rattle.mount_model.specs.Making.{Told, Outcome, Makes, OnWriter, UnlessRefused}
 use Rattle.mount_model.specs.Finding.{NamesRooms, MakesContainer}
 use Rattle.mount_model.specs.Looking.{look_step}
@@ -30,9 +30,11 @@ use Rattle.mount_model.specs.Writing.{WritesAt}
 use Rattle.mount_model.specs.Flushing.{FlushesRow, flush_step, sync_log_step, sync_index_step}
 use Rattle.mount_model.specs.Leaving.{put_meta_step, exit_step}
 use Rattle.mount_model.specs.Step.{Answers, IsStep}
+use Rattle.mount_model.specs.Stopped.{IsCutShort, StopsShort, IsLeftBy}
 use Rattle.mount_model.specs.Regular.{IsCounted, IsRegular}
-use Rattle.mount_model.proofs.Deciding.{on_writer, unless_refused, may_enter}
-use Rattle.mount_model.proofs.Rows.{IsRegularRow, rows_of, regular_row}
+use Rattle.mount_model.proofs.Deciding.{on_writer, unless_refused, step_cases, may_enter}
+use Rattle.mount_model.proofs.Rows.{IsRegularRow, rows_of, regular_of, regular_row}
+use Rattle.mount_model.proofs.Stopping.{stop_left}
 use Rattle.mount_shape.specs.Marks.{HasMark}
 use Rattle.mount_shape.specs.Shape.{IsDrawnBy, HasShape}
 use Rattle.mount_shape.proofs.Items.{id_fits, open_is_at, index_is_at, log_is_at, meta_is_at, open_apart, hostdir_is_folder}
@@ -191,6 +193,31 @@ module _ (old : State) (regular : IsRegular old) (shape : HasShape old) (reply :
   answers_shape caller (PutMeta writer) a = by_writer caller _ writer _ a (λ row r u. by_check _ _ u (λ none. meta_shape row r _))
   answers_shape caller (Exit writer) a = by_writer caller _ writer _ a (λ row r u. by_check _ _ u (λ none. exit_shape row r _))
 
--- Each step keeps the shape.
+-- ---- a call that is broken off
+
+untimed_regular : (old : State) → IsRegular old → IsRegular (timed None old)
+untimed_regular old r = regular_of (timed None old) r.mount_fits r.serial_fits (rows_of old r)
+
+cut_shape : (old : State) (caller : ℕ) (call : Call) (cut : State) → IsRegular old → HasShape old → IsCutShort old caller call cut → HasShape cut
+cut_shape old caller call cut r s short = elim short as (λ _. HasShape cut) [
+  | inl same ↦ shape_as old cut s same
+  | inr (reply, which, a) ↦ answers_shape old r s reply cut caller call a
+]
+
+like_shape : (cut new : State) → StopsShort cut new → HasShape cut → HasShape new
+like_shape cut new like s =
+    has_shape new s.tree (like.tree ∙ s.told)
+    (subst (λ n. IsShapedFor (id_of n new.serial) new.marks n s.tree) (sym like.mount)
+    (subst (λ n. IsShapedFor (id_of cut.mount n) new.marks cut.mount s.tree) (sym like.serial)
+    (subst (λ n. IsShapedFor (last_id cut) n cut.mount s.tree) (sym like.marks) (shape_of cut s))))
+
+left_shape : (old : State) (caller : ℕ) (call : Call) (new : State) → IsRegular old → HasShape old → IsLeftBy old caller call new → HasShape new
+left_shape old caller call new r s left =
+    like_shape left.cut new left.like
+    (cut_shape (timed None old) caller call left.cut (untimed_regular old r) (has_shape (timed None old) s.tree s.told (shape_of old s)) left.short)
+
+-- Each step keeps the shape of what the store tells.
 pub step_shape : (old new : State) (caller : ℕ) (ask : Ask) (reply : Reply) → IsRegular old → IsStep old caller ask reply new → HasShape old → HasShape new
-step_shape old new caller ask reply regular step shape = answers_shape old regular shape reply new caller ask.call step.answers
+step_shape old new caller ask reply regular step shape = step_cases old caller ask reply new (HasShape new) step
+    (λ none a. answers_shape old regular shape reply new caller ask.call a)
+    (λ k some x. left_shape old caller ask.call new regular shape (stop_left old caller k ask.call reply new x))

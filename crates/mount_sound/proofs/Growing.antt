@@ -24,7 +24,7 @@ use Rattle.mount_model.specs.declared.reply.Refusal.{Refusal}
 use Rattle.mount_model.specs.Entering.{EntersAs}
 use Rattle.mount_model.specs.Flooring.{FloorsRow}
 use Rattle.mount_model.specs.Flushing.{FlushesRow}
-use Rattle.mount_model.specs.History.{Event, IsLegal, tree_after}
+use Rattle.mount_model.specs.History.{Event, IsLawful, tree_after}
 use Rattle.mount_model.specs.Leaving.{exit_step}
 use Rattle.mount_model.specs.Looking.{look_step}
 use Rattle.mount_model.specs.Making.{Told, Outcome, Makes, OnWriter, UnlessRefused}
@@ -32,7 +32,9 @@ use Rattle.mount_model.specs.State.{State, drawn, timed}
 use Rattle.mount_model.specs.Step.{Answers, IsStep}
 use Rattle.mount_model.specs.Table.{row_of}
 use Rattle.mount_model.specs.Writing.{WritesAt}
-use Rattle.mount_model.proofs.Deciding.{on_writer, unless_refused}
+use Rattle.mount_model.specs.Stopped.{IsCutShort, IsLeftBy}
+use Rattle.mount_model.proofs.Deciding.{on_writer, unless_refused, step_cases}
+use Rattle.mount_model.proofs.Stopping.{stop_left}
 use Rattle.mount_sound.specs.Growing.{Grows, IsMore, IssuesMore}
 use Rattle.mount_sound.specs.Issued.{with_write, written_by, noted_by, noted, issued_after, issued}
 use Rattle.mount_sound.specs.Ledger.{Written, Ledger}
@@ -136,12 +138,25 @@ stored_grows old new tree (inr act) told =
     let t = acts_told act.step old.store new.store tree act.told told act.made in
     (t.0, t.1, tells_grow act.step tree act.told t.0 act.spares t.2)
 
+-- a call that was cut short made at most one act
+pub cut_acts : (old : State) (caller : ℕ) (call : Call) (cut : State) → IsCutShort old caller call cut → AtMostOne old cut
+cut_acts old caller call cut (inl same) = none old cut same
+cut_acts old caller call cut (inr (reply, which, a)) = acting old caller call reply cut a
+
+-- what a stop leaves has all that was there
+left_grows : (old : State) (caller : ℕ) (call : Call) (new : State) (tree : Tree) → IsLeftBy old caller call new → old.store.tree ≡ Some tree → GoesOn tree new
+left_grows old caller call new tree left told =
+    let g = stored_grows (timed None old) left.cut tree (cut_acts (timed None old) caller call left.cut left.short) told in
+    (g.0, left.like.tree ∙ g.1, g.2)
+
 -- Each step leaves every file but an entry of an open writer, and shortens none of them.
 pub step_grows : (old new : State) (caller : ℕ) (ask : Ask) (reply : Reply) (tree : Tree) → IsStep old caller ask reply new → old.store.tree ≡ Some tree → (after : Tree) × (new.store.tree ≡ Some after) × Grows tree after
-step_grows old new caller ask reply tree s told = stored_grows old new tree (acting old caller ask.call reply new s.answers) told
+step_grows old new caller ask reply tree s told = step_cases old caller ask reply new (GoesOn tree new) s
+    (λ whole a. stored_grows old new tree (acting old caller ask.call reply new a) told)
+    (λ k some x. left_grows old caller ask.call new tree (stop_left old caller k ask.call reply new x) told)
 
 -- So does each legal history.
-pub history_grows : (start : State) (events : List Event) (tree : Tree) → IsLegal start events → start.store.tree ≡ Some tree → (after : Tree) × (tree_after start events ≡ Some after) × Grows tree after
+pub history_grows : (start : State) (events : List Event) (tree : Tree) → IsLawful start events → start.store.tree ≡ Some tree → (after : Tree) × (tree_after start events ≡ Some after) × Grows tree after
 history_grows start [] tree legal told = (tree, told, grows_refl tree)
 history_grows start (e ∷ events) tree legal told =
     let x = step_grows start e.after e.caller e.ask e.reply tree legal.1 told in

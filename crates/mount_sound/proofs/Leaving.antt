@@ -26,7 +26,7 @@ use Rattle.mount_model.specs.Table.{row_of, with_row, without_row, is_live, at_s
 use Rattle.mount_model.proofs.Tables.{row_of_other-without_row, row_of-without_row}
 use Rattle.mount_sound.specs.Items.{HasMeta}
 use Rattle.mount_sound.specs.Ledger.{Written, entries_in, content, Ledger}
-use Rattle.mount_sound.specs.Dropping.{IsDropping, IsWriter}
+use Rattle.mount_sound.specs.Dropping.{IsWriter}
 use Rattle.mount_sound.specs.Kept.{Begins, IsAtStage, IsKept}
 use Rattle.mount_sound.specs.Sound.{AreSound}
 use Rattle.mount_sound.proofs.Frames.{Fits, dropping_frame, settled_frame}

@@ -7,6 +7,7 @@ pub mod Live
 pub mod Making
 pub mod Working
 pub mod Stages
+pub mod Ending
 pub mod Building
 pub mod Openings
 pub mod Flushes

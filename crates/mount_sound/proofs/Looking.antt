@@ -1,25 +1,22 @@
 -- Calls whose acts change nothing keep soundness.
 use Rattle.std.proofs.Common.{◌≡◌, ℕ, Some, refl, ap, sym, ◌∙◌, subst}
 use Rattle.std.specs.Prelude.{Ok}
-use Rattle.store_api.specs.declared.step.Answer.TheVariants.{Made, Number, Absent}
+use Rattle.store_api.specs.declared.step.Answer.TheVariants.{Number, Absent}
 use Rattle.store_api.specs.Step.{Step, find_room, rooms as all_rooms}
 use Rattle.store_laws.specs.Outcomes.{IsLook}
 use Rattle.store_laws.proofs.Answering.{look_told}
 use Rattle.store_laws.proofs.Telling.{acts_told}
 use Rattle.mount_model.specs.declared.call.Look.{Look}
 use Rattle.mount_model.specs.declared.call.Look.TheVariants.{Top, List as ListFolder, Length, Read}
-use Rattle.mount_model.specs.declared.row.Row.{Row}
-use Rattle.mount_model.specs.declared.row.Stage.TheVariants as stage
 use Rattle.mount_model.specs.declared.reply.Reply.{Reply}
 use Rattle.mount_model.specs.Finding.{find_outcome, Finds, NamesRooms}
 use Rattle.mount_model.specs.Looking.{room_check, look_step, look_outcome, Looks}
 use Rattle.mount_model.specs.Making.{Told, Outcome, Makes}
 use Rattle.mount_model.specs.Paths.{Name}
 use Rattle.mount_model.specs.State.{State, Table, last_id}
-use Rattle.mount_model.specs.Table.{only}
 use Rattle.mount_sound.specs.Ledger.{Ledger}
 use Rattle.mount_sound.proofs.Making.{AreRight, IsAccounted, makes_accounted}
-use Rattle.mount_sound.proofs.Stages.{on_writer, unless_refused}
+use Rattle.mount_sound.proofs.Stages.{unless_refused}
 
 -- the tree stays, and so does the table
 looks_keep : (issued : Ledger) (step : Step) (outcome : Told → Outcome) (old : State) (reply : Reply) (new : State) → IsLook step → ((told : Told) → (outcome told).table ≡ old.table) → Makes step outcome old reply new → IsAccounted issued old → IsAccounted issued new

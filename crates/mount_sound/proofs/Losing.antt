@@ -1,14 +1,13 @@
 -- What a loss of power leaves of a writer.
-use Rattle.std.proofs.Common.{◌≡◌, ℕ, zero, suc, ◌+◌, ◌-◌, ◌*◌, ◌≤◌, ◌<◌, ◌^◌, List, [], ◌∷◌, ◌++◌, length, take, drop, min, Option, Some, None, refl, ap, sym, ◌∙◌, inl, inr, subst, arith, length-append}
+use Rattle.std.proofs.Common.{◌≡◌, ℕ, ◌+◌, ◌*◌, ◌≤◌, ◌<◌, ◌^◌, List, [], ◌∷◌, ◌++◌, length, take, drop, min, Option, Some, None, refl, ap, sym, ◌∙◌, inl, inr, subst, arith, length-append}
 use Rattle.std.specs.Prelude.{MatchOption}
-use Rattle.std.specs.List.{AllByRecursion}
 use Rattle.std.proofs.lemmas.List.{length-take-le, length-map, take-append-drop, take-append-le}
 use Rattle.plfs_types.specs.declared.names.Path.{Path}
 use Rattle.plfs_types.specs.declared.entries.Entry.{Entry}
 use Rattle.index_entry.specs.Spelling.{spelling, spelling_all}
 use Rattle.index_entry.proofs.Spelled.{length-spelling, length-spelling_all}
 use Rattle.container_layout.specs.declared.items.Item.{Item}
-use Rattle.container_layout.specs.declared.items.Item.TheVariants.{OpenHost, Meta, Trunc, Index, Log}
+use Rattle.container_layout.specs.declared.items.Item.TheVariants.{OpenHost, Meta, Trunc, Index}
 use Rattle.container_layout.specs.Paths.{path_of}
 use Rattle.store_api.specs.declared.tree.Room.{Room}
 use Rattle.store_laws.specs.Files.{file_at, kept_at}
@@ -19,7 +18,7 @@ use Rattle.store_laws.proofs.Overwriting.{prefix_trans, prefix_length}
 use Rattle.store_laws.proofs.Rooms.{kept_at_none, none_in}
 use Rattle.mount_model.specs.Paths.{open_path, index_path, log_path}
 use Rattle.mount_sound.specs.Entries.{AreInOrder, logged, last_stamp}
-use Rattle.mount_sound.specs.Ledger.{Written, entries_in, content, AreFull, AreWritesOf}
+use Rattle.mount_sound.specs.Ledger.{Written, entries_in, content, AreWritesOf}
 use Rattle.mount_sound.specs.Items.{HasItem, HasMeta, HasItemOf}
 use Rattle.mount_sound.specs.Dropping.{bytes_of, log_bytes, EndPast, IsDropping, IsSettled, IsToldOf, AreBeside, IsWriter}
 use Rattle.mount_sound.specs.Fitting.{fitting}

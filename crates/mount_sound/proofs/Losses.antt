@@ -1,11 +1,11 @@
 -- What a loss of power leaves of a sound tree is sound, and has all that was kept.
-use Rattle.std.proofs.Common.{◌≡◌, ℕ, ◌+◌, ◌*◌, ◌≤◌, ◌<◌, ◌^◌, List, [], ◌∷◌, ◌++◌, length, take, drop, Option, Some, None, refl, ap, sym, ◌∙◌, inl, inr, subst, arith, length-append}
+use Rattle.std.proofs.Common.{◌≡◌, ℕ, ◌+◌, ◌*◌, ◌≤◌, ◌<◌, ◌^◌, List, [], ◌++◌, length, take, drop, Option, Some, None, refl, ap, sym, ◌∙◌, inl, inr, subst, arith, length-append}
 use Rattle.std.specs.Prelude.{slice_get, MatchOption}
 use Rattle.std.proofs.lemmas.Bool.{cases_lt}
-use Rattle.std.proofs.lemmas.List.{length-take-le, length-map, take-append-drop, append-nil}
+use Rattle.std.proofs.lemmas.List.{length-take-le, length-map, take-append-drop}
 use Rattle.index_entry.specs.Spelling.{spelling_all}
 use Rattle.index_entry.proofs.Spelled.{length-spelling_all}
-use Rattle.container_layout.specs.declared.items.Item.TheVariants.{Trunc, Index}
+use Rattle.container_layout.specs.declared.items.Item.TheVariants.{Trunc}
 use Rattle.plfs_types.specs.declared.entries.Entry.{Entry}
 use Rattle.store_api.specs.declared.tree.Room.{Room}
 use Rattle.store_api.specs.declared.tree.Tree.{Tree}
@@ -15,7 +15,7 @@ use Rattle.store_laws.proofs.Losing.{room_back}
 use Rattle.mount_model.specs.declared.row.Row.{Row}
 use Rattle.mount_model.specs.Paths.{index_path, log_path}
 use Rattle.mount_model.specs.Table.{row_of}
-use Rattle.mount_model.specs.State.{State, last_id}
+use Rattle.mount_model.specs.State.{State}
 use Rattle.mount_model.proofs.Tables.{row_of_id}
 use Rattle.mount_shape.specs.Marks.{IsOfMark}
 use Rattle.mount_shape.specs.Shape.{IsShapedTree}
@@ -23,11 +23,10 @@ use Rattle.mount_shape.proofs.Held.{left_shaped}
 use Rattle.mount_shape.proofs.Losing.{lost_shaped}
 use Rattle.mount_sound.specs.Entries.{logged}
 use Rattle.mount_sound.specs.Ledger.{Written, entries_in, AreWritesOf, Ledger}
-use Rattle.mount_sound.specs.Items.{HasItem}
 use Rattle.mount_sound.specs.Dropping.{bytes_of, log_bytes, IsDropping, IsWriter}
 use Rattle.mount_sound.specs.Growing.{IsMore}
 use Rattle.mount_sound.specs.Kept.{Begins, IsKept}
-use Rattle.mount_sound.specs.Sound.{TruncatesDiffer, IsSoundRoom, AreSoundRooms, IsSoundFor, IsSoundTree}
+use Rattle.mount_sound.specs.Sound.{TruncatesDiffer, AreSoundRooms, IsSoundFor, IsSoundTree}
 use Rattle.mount_sound.specs.Losing.{AreKept, LosesUnkept}
 use Rattle.mount_sound.proofs.Landing.{IsWhole, no_writes, writes_take}
 use Rattle.mount_sound.proofs.Items.{is_index}

@@ -1,27 +1,25 @@
 -- What is kept of a writer stays kept, whatever the mount does.
-use Rattle.std.proofs.Common.{◌≡◌, ℕ, zero, suc, ◌+◌, ◌*◌, ◌≤◌, ◌<◌, ◌^◌, List, [], ◌∷◌, ◌++◌, length, take, drop, Option, Some, None, Bool, refl, ap, sym, ◌∙◌, ◌⊎◌, inl, inr, subst, arith}
-use Rattle.std.specs.Prelude.{slice_get, MatchOption}
+use Rattle.std.proofs.Common.{◌≡◌, ℕ, zero, suc, ◌*◌, ◌≤◌, List, [], ◌∷◌, ◌++◌, length, take, Option, Some, None, Bool, refl, ap, sym, ◌∙◌, ◌⊎◌, inl, inr, subst, arith}
+use Rattle.std.specs.Prelude.{slice_get}
 use Rattle.std.proofs.lemmas.Bool.{cases_lt}
 use Rattle.std.proofs.lemmas.List.{length-map, map-append, take-append-le, length-append}
 use Rattle.plfs_types.specs.Bytes.{overwritten}
-use Rattle.plfs_types.specs.declared.names.Path.{Path}
 use Rattle.plfs_types.specs.declared.entries.Entry.{Entry}
 use Rattle.index_entry.specs.Spelling.{spelling_all}
 use Rattle.container_layout.specs.declared.items.Item.{Item}
 use Rattle.container_layout.specs.declared.items.Item.TheVariants.{OpenHost, Index, Log}
 use Rattle.container_layout.specs.Items.{IsItem}
-use Rattle.container_layout.specs.Paths.{path_of, hostdir_of}
+use Rattle.container_layout.specs.Paths.{path_of}
 use Rattle.container_layout.proofs.Places.{same_items}
 use Rattle.store_api.specs.Acts.{Stored, Acts}
-use Rattle.store_api.specs.declared.tree.Room.{Room}
 use Rattle.store_api.specs.declared.tree.Tree.{Tree}
-use Rattle.store_api.specs.Step.{Step, rooms as all_rooms, write_at, remove}
+use Rattle.store_api.specs.Step.{Step, rooms as all_rooms}
 use Rattle.store_api.specs.Loss.{Loses}
 use Rattle.store_laws.specs.Files.{file_at, kept_at}
 use Rattle.store_laws.specs.Prefix.{IsPrefix}
 use Rattle.store_laws.specs.Tells.{Tells}
-use Rattle.store_laws.specs.Naming.{NamesFile, IsPathOf}
-use Rattle.store_laws.specs.Losing.{Repeats, Spares, KeepsFront, StaysKept}
+use Rattle.store_laws.specs.Naming.{IsPathOf}
+use Rattle.store_laws.specs.Losing.{Repeats, Spares, KeepsFront}
 use Rattle.store_laws.proofs.Losing.{have_lost}
 use Rattle.store_laws.proofs.Overwriting.{prefix_length, length-overwritten}
 use Rattle.store_laws.proofs.Rooms.{kept_at_none, none_in}
@@ -40,21 +38,24 @@ use Rattle.mount_model.specs.Entering.{EntersAs}
 use Rattle.mount_model.specs.Finding.{NamesRooms}
 use Rattle.mount_model.specs.Flooring.{FloorsRow}
 use Rattle.mount_model.specs.Flushing.{FlushesRow, flush_step}
-use Rattle.mount_model.specs.History.{Event, IsLegal, state_after}
+use Rattle.mount_model.specs.History.{Event, IsLawful, state_after}
 use Rattle.mount_model.specs.Leaving.{exit_step}
 use Rattle.mount_model.specs.Looking.{look_step}
 use Rattle.mount_model.specs.Making.{Told, Outcome, Makes, OnWriter, UnlessRefused}
-use Rattle.mount_model.specs.Paths.{open_path, index_path, log_path}
+use Rattle.mount_model.specs.Paths.{index_path, log_path}
 use Rattle.mount_model.specs.State.{State, drawn, timed}
 use Rattle.mount_model.specs.Step.{Answers, IsStep}
 use Rattle.mount_model.specs.Table.{row_of}
 use Rattle.mount_model.specs.Writing.{WritesAt, write_step}
-use Rattle.mount_model.proofs.Deciding.{IsHeld, on_writer, unless_refused}
+use Rattle.mount_model.specs.Stopped.{IsCutShort, IsLeftBy}
+use Rattle.mount_model.proofs.Deciding.{on_writer, unless_refused, step_cases}
+use Rattle.mount_model.proofs.Rows.{rows_of, regular_of}
+use Rattle.mount_model.proofs.Stopping.{stop_left}
 use Rattle.mount_model.proofs.Tables.{row_of_id}
 use Rattle.mount_sound.specs.Entries.{logged}
 use Rattle.mount_sound.specs.Ledger.{Written, entries_in, content, Ledger}
 use Rattle.mount_sound.specs.Dropping.{bytes_of, log_bytes, IsWriter}
-use Rattle.mount_sound.specs.Growing.{IsMore, IssuesMore}
+use Rattle.mount_sound.specs.Growing.{IsMore}
 use Rattle.mount_sound.specs.Issued.{issued_after, issued}
 use Rattle.mount_sound.specs.Kept.{Begins, IsKept}
 use Rattle.mount_sound.specs.Losing.{AreKeptIn, LosesUnkept}
@@ -311,15 +312,43 @@ more_issued tree number host writer count few many more k =
       };
     }
 
+-- ---- a call that is broken off
+
+untimed_sound : (l : Ledger) (old : State) → IsSoundFor l old → IsSoundFor l (timed None old)
+untimed_sound l old s = record {
+  regular = regular_of (timed None old) s.regular.mount_fits s.regular.serial_fits (rows_of old s.regular);
+  shape = record { tree = s.shape.tree; told = s.shape.told; shaped = s.shape.shaped; marks = s.shape.marks; has_marks = s.shape.has_marks; is_marks = s.shape.is_marks; mark = s.shape.mark };
+  sound = s.sound;
+  no_holders = s.no_holders;
+  no_flattenings = s.no_flattenings;
+}
+
+cut_goes_on : (l : Ledger) (old : State) (s : IsSoundFor l old) (number host writer count : ℕ) (k : AreKeptIn s.shape.tree number host writer (l number writer) count) (caller : ℕ) (call : Call) (cut : State) → IsCutShort old caller call cut
+    → (tree : Tree) → cut.store.tree ≡ Some tree → AreKeptIn tree number host writer (l number writer) count
+cut_goes_on l old s number host writer count k caller call cut (inl same) tree told = goes_on l old s number host writer count k cut (none l old s number host writer count k cut same) tree told
+cut_goes_on l old s number host writer count k caller call cut (inr (reply, which, a)) tree told = goes_on l old s number host writer count k cut (acting l old s number host writer count k caller call reply cut a) tree told
+
+left_goes_on : (l : Ledger) (old : State) (s : IsSoundFor l old) (number host writer count : ℕ) (k : AreKeptIn s.shape.tree number host writer (l number writer) count) (caller : ℕ) (call : Call) (new : State) → IsLeftBy old caller call new
+    → (tree : Tree) → new.store.tree ≡ Some tree → AreKeptIn tree number host writer (l number writer) count
+unfolding untimed_sound
+left_goes_on l old s number host writer count k caller call new left tree told =
+    cut_goes_on l (timed None old) (untimed_sound l old s) number host writer count k caller call left.cut left.short tree (sym left.like.tree ∙ told)
+
+step_goes_on : (l : Ledger) (old : State) (s : IsSoundFor l old) (number host writer count : ℕ) (k : AreKeptIn s.shape.tree number host writer (l number writer) count) (caller : ℕ) (ask : Ask) (reply : Reply) (new : State) → IsStep old caller ask reply new
+    → (tree : Tree) → new.store.tree ≡ Some tree → AreKeptIn tree number host writer (l number writer) count
+step_goes_on l old s number host writer count k caller ask reply new step tree told = step_cases old caller ask reply new (AreKeptIn tree number host writer (l number writer) count) step
+    (λ whole a. goes_on l old s number host writer count k new (acting l old s number host writer count k caller ask.call reply new a) tree told)
+    (λ n some x. left_goes_on l old s number host writer count k caller ask.call new (stop_left old caller n ask.call reply new x) tree told)
+
 -- What is kept of a writer stays kept through each step.
 pub step_keeps_kept : (l : Ledger) (old new : State) (caller : ℕ) (ask : Ask) (reply : Reply) → IsStep old caller ask reply new → (s : IsSoundFor l old) (s' : IsSoundFor (issued_after l old ask.call reply) new) (number host writer count : ℕ)
     → AreKeptIn s.shape.tree number host writer (l number writer) count → AreKeptIn s'.shape.tree number host writer (issued_after l old ask.call reply number writer) count
 step_keeps_kept l old new caller ask reply step s s' number host writer count k =
     more_issued s'.shape.tree number host writer count (l number writer) (issued_after l old ask.call reply number writer) (call_issues l old ask.call reply number writer)
-    (goes_on l old s number host writer count k new (acting l old s number host writer count k caller ask.call reply new step.answers) s'.shape.tree s'.shape.told)
+    (step_goes_on l old s number host writer count k caller ask reply new step s'.shape.tree s'.shape.told)
 
 -- So it is along a legal history.
-pub history_keeps_kept : (l : Ledger) (start : State) (events : List Event) → IsLegal start events → (s : IsSoundFor l start) (s' : IsSoundFor (issued l start events) (state_after start events)) (number host writer count : ℕ)
+pub history_keeps_kept : (l : Ledger) (start : State) (events : List Event) → IsLawful start events → (s : IsSoundFor l start) (s' : IsSoundFor (issued l start events) (state_after start events)) (number host writer count : ℕ)
     → AreKeptIn s.shape.tree number host writer (l number writer) count → AreKeptIn s'.shape.tree number host writer (issued l start events number writer) count
 history_keeps_kept l start [] legal s s' number host writer count k = subst (λ t. AreKeptIn t number host writer (l number writer) count) (one_tree s.shape.tree s'.shape.tree start.store.tree s.shape.told s'.shape.told) k
 history_keeps_kept l start (e ∷ events) legal s s' number host writer count k =
@@ -328,7 +357,7 @@ history_keeps_kept l start (e ∷ events) legal s s' number host writer count k 
     (step_keeps_kept l start e.after e.caller e.ask e.reply legal.1 s next number host writer count k)
 
 -- Whatever the mount did since entries were kept, the tree that a loss leaves has them.
-pub kept_survive : (l : Ledger) (start : State) (events : List Event) → IsLegal start events → (s : IsSoundFor l start) (s' : IsSoundFor (issued l start events) (state_after start events)) (new : Tree) → Loses s'.shape.tree new
+pub kept_survive : (l : Ledger) (start : State) (events : List Event) → IsLawful start events → (s : IsSoundFor l start) (s' : IsSoundFor (issued l start events) (state_after start events)) (new : Tree) → Loses s'.shape.tree new
     → (left : LosesUnkept (issued l start events) s'.shape.tree new) × ((number host writer count : ℕ) → AreKeptIn s.shape.tree number host writer (l number writer) count → count ≤ length (left.sound.issued number writer))
 kept_survive l start events legal s s' new lost =
     let left = lost_mount_sound (issued l start events) (state_after start events) s' new (have_lost s'.shape.tree new lost) in

@@ -1,8 +1,8 @@
 -- Syncing a dropping keeps soundness.
-use Rattle.std.proofs.Common.{◌≡◌, ◌≤◌, ◌*◌, ℕ, List, [], length, Option, Some, refl, ap, sym, ◌∙◌, ◌⊎◌, inl, inr, subst, arith}
+use Rattle.std.proofs.Common.{◌≡◌, ◌≤◌, ◌*◌, ℕ, List, [], length, Option, Some, refl, sym, ◌∙◌, ◌⊎◌, inl, inr, subst, arith}
 use Rattle.std.specs.Prelude.{MatchOption, Ok, Err}
 use Rattle.plfs_types.specs.declared.entries.Entry.{Entry}
-use Rattle.container_layout.specs.declared.items.Item.TheVariants.{OpenHost, Meta, Index, Log}
+use Rattle.container_layout.specs.declared.items.Item.TheVariants.{OpenHost, Index, Log}
 use Rattle.container_layout.specs.Paths.{hostdir_of}
 use Rattle.store_api.specs.declared.step.Answer.TheVariants.{Made}
 use Rattle.store_api.specs.declared.tree.Room.{Room}
@@ -24,7 +24,7 @@ use Rattle.mount_model.specs.State.{State, Table, last_id}
 use Rattle.mount_model.specs.Table.{with_row, rank, only}
 use Rattle.mount_model.proofs.Deciding.{at_only}
 use Rattle.mount_sound.specs.Ledger.{Written, entries_in, content, Ledger}
-use Rattle.mount_sound.specs.Dropping.{bytes_of, log_bytes}
+use Rattle.mount_sound.specs.Dropping.{bytes_of}
 use Rattle.mount_sound.specs.Kept.{Begins, IsAtStage, IsKept}
 use Rattle.mount_sound.specs.Sound.{AreSound}
 use Rattle.mount_sound.proofs.Building.{not_closing}

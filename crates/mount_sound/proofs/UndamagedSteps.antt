@@ -1,11 +1,14 @@
 -- No step of a sound mount shows damage.
-use Rattle.std.proofs.Common.{ℕ, sym, subst}
+use Rattle.std.proofs.Common.{◌≡◌, ℕ, ◌⊎◌, inl, inr, sym, subst}
 use Rattle.mount_model.specs.declared.call.Ask.{Ask}
 use Rattle.mount_model.specs.declared.call.Call.{Call}
 use Rattle.mount_model.specs.declared.call.Call.TheVariants.{Greet, Find, MakeContainer, Rooms, Look, Enter, Floor, MakeHostdir, MakeIndex, MakeLog, Write, Flush, SyncLog, SyncIndex, PutMeta, Exit}
 use Rattle.mount_model.specs.declared.reply.Reply.{Reply}
+use Rattle.mount_model.specs.declared.reply.Reply.TheVariants.{Stopped, NoMemory}
 use Rattle.mount_model.specs.State.{State}
 use Rattle.mount_model.specs.Step.{Answers, IsStep}
+use Rattle.mount_model.proofs.Deciding.{step_cases}
+use Rattle.mount_model.proofs.Replying.{stop_replies}
 use Rattle.mount_sound.specs.Damage.{ShowsNoDamage}
 use Rattle.mount_sound.specs.Ledger.{Ledger}
 use Rattle.mount_sound.specs.Sound.{IsSoundFor}
@@ -30,6 +33,12 @@ answers_show issued old s caller (SyncIndex writer) reply new f = sync_index_sho
 answers_show issued old s caller (PutMeta writer) reply new f = meta_shows issued old s caller writer reply new f
 answers_show issued old s caller (Exit writer) reply new f = exit_shows issued old s caller writer reply new f
 
+stop_shows : (reply : Reply) → (reply ≡ Stopped) ⊎ (reply ≡ NoMemory) → ShowsNoDamage reply
+stop_shows reply (inl stopped) = subst ShowsNoDamage (sym stopped) tt
+stop_shows reply (inr memory) = subst ShowsNoDamage (sym memory) tt
+
 -- No step of a sound mount shows damage.
 pub step_shows : (issued : Ledger) (old new : State) (caller : ℕ) (ask : Ask) (reply : Reply) → IsStep old caller ask reply new → IsSoundFor issued old → ShowsNoDamage reply
-step_shows issued old new caller ask reply step s = answers_show issued old s caller ask.call reply new step.answers
+step_shows issued old new caller ask reply step s = step_cases old caller ask reply new (ShowsNoDamage reply) step
+    (λ none a. answers_show issued old s caller ask.call reply new a)
+    (λ k some x. stop_shows reply (stop_replies old caller k ask.call reply new x))

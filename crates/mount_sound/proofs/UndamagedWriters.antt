@@ -19,7 +19,7 @@ use Rattle.store_api.specs.Step.{list_folder, sync}
 use Rattle.store_laws.specs.Files.{file_at}
 use Rattle.store_laws.specs.Differ.{is_listed}
 use Rattle.store_laws.specs.Prefix.{IsPrefix}
-use Rattle.store_laws.specs.Says.{WhyNoFolderMade, WhyNotCreated, WhyNoFile, ListTells}
+use Rattle.store_laws.specs.Says.{WhyNoFolderMade, WhyNotCreated, ListTells}
 use Rattle.store_laws.specs.Tells.{Tells}
 use Rattle.store_laws.specs.There.{LacksFolder, HoldsFile, EndsBefore, ListsFolder}
 use Rattle.store_laws.proofs.Answering.{list_tells, look_answered}

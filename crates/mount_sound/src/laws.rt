@@ -10,7 +10,7 @@ ghost use Rattle.mount_model.specs.declared.reply.Reply.{Reply};
 ghost use Rattle.mount_model.specs.State.{State};
 ghost use Rattle.mount_model.specs.Step.{IsStep, IsOwed};
 ghost use Rattle.mount_model.specs.Mounting.{IsMounted};
-ghost use Rattle.mount_model.specs.History.{Event, IsLegal, state_after, tree_after};
+ghost use Rattle.mount_model.specs.History.{Event, IsLawful, state_after, tree_after};
 ghost use Rattle.mount_model.specs.declared.row.Row.{Row};
 ghost use Rattle.mount_model.specs.Table.{row_of};
 ghost use Rattle.mount_sound.specs.Entries.{logged};
@@ -42,7 +42,7 @@ pub fn steps_keep_soundness()
 
 /// Soundness lasts along each legal history, for what was issued in it.
 pub fn soundness_lasts()
-    ensures { (before : Ledger) (start : State) (events : List Event) → IsLegal start events → IsSoundFor before start → IsSoundFor (issued before start events) (state_after start events) }
+    ensures { (before : Ledger) (start : State) (events : List Event) → IsLawful start events → IsSoundFor before start → IsSoundFor (issued before start events) (state_after start events) }
 {}
 
 /// The tree that a sound mount leaves is sound for the next one.
@@ -81,7 +81,7 @@ pub fn what_is_told_has_landed()
 /// Along a legal history each file but an entry of an open writer stays, and none of them gets shorter: what has landed
 /// never falls.
 pub fn files_only_grow()
-    ensures { (start : State) (events : List Event) (tree : Tree) → IsLegal start events → start.store.tree ≡ Some tree → (after : Tree) × (tree_after start events ≡ Some after) × Grows tree after }
+    ensures { (start : State) (events : List Event) (tree : Tree) → IsLawful start events → start.store.tree ≡ Some tree → (after : Tree) × (tree_after start events ≡ Some after) × Grows tree after }
 {}
 
 /// Along a history more is issued, or nothing.
@@ -106,10 +106,10 @@ pub fn what_is_marked_is_kept()
 
 /// Entries that are kept with their bytes stay so along each legal history, whatever fault the store answers.
 pub fn what_is_kept_stays_kept()
-    ensures { (before : Ledger) (start : State) (events : List Event) → IsLegal start events → (sound : IsSoundFor before start) (then : IsSoundFor (issued before start events) (state_after start events)) (number host writer count : ℕ) → AreKeptIn sound.shape.tree number host writer (before number writer) count → AreKeptIn then.shape.tree number host writer (issued before start events number writer) count }
+    ensures { (before : Ledger) (start : State) (events : List Event) → IsLawful start events → (sound : IsSoundFor before start) (then : IsSoundFor (issued before start events) (state_after start events)) (number host writer count : ℕ) → AreKeptIn sound.shape.tree number host writer (before number writer) count → AreKeptIn then.shape.tree number host writer (issued before start events number writer) count }
 {}
 
 /// Whatever a mount did since entries were kept with their bytes, a loss of power then leaves a sound tree that has them.
 pub fn kept_entries_survive()
-    ensures { (before : Ledger) (start : State) (events : List Event) → IsLegal start events → (sound : IsSoundFor before start) (then : IsSoundFor (issued before start events) (state_after start events)) (new : Tree) → Loses then.shape.tree new → (left : LosesUnkept (issued before start events) then.shape.tree new) × ((number host writer count : ℕ) → AreKeptIn sound.shape.tree number host writer (before number writer) count → count ≤ length (left.sound.issued number writer)) }
+    ensures { (before : Ledger) (start : State) (events : List Event) → IsLawful start events → (sound : IsSoundFor before start) (then : IsSoundFor (issued before start events) (state_after start events)) (new : Tree) → Loses then.shape.tree new → (left : LosesUnkept (issued before start events) then.shape.tree new) × ((number host writer count : ℕ) → AreKeptIn sound.shape.tree number host writer (before number writer) count → count ≤ length (left.sound.issued number writer)) }
 {}

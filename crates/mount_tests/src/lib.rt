@@ -1,4 +1,4 @@
-//! Tests of the mount over a store in memory: how it begins, and that it goes on after each fault of the store. They
+//! Tests of the mount over a store in memory: how it begins, that it goes on after each fault of the store, and what a stop leaves. They
 //! stand apart, so that the mount is not proved twice for them.
 #![tactic(auto)]
 
@@ -10,3 +10,5 @@ mod containers;
 mod faults;
 #[cfg(test)]
 mod mounting;
+#[cfg(test)]
+mod stopping;

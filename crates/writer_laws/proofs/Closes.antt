@@ -10,7 +10,7 @@ use Rattle.mount_model.specs.declared.reply.Reply.{Reply}
 use Rattle.mount_model.specs.declared.reply.Reply.TheVariants as reply
 use Rattle.mount_model.specs.declared.row.Row.{Row}
 use Rattle.mount_model.specs.State.{State}
-use Rattle.mount_model.specs.History.{Event, IsLegal, state_after}
+use Rattle.mount_model.specs.History.{Event, IsLawful, state_after}
 use Rattle.mount_model.specs.Step.{Answers}
 use Rattle.writer_flow.specs.declared.handle.WriterHandle.{WriterHandle}
 use Rattle.writer_flow.specs.declared.handle.WriterOut.{WriterOut}
@@ -29,22 +29,22 @@ record Split {A B : Type 0} (me : ℕ) (p : Program Call A) (f : A → Program C
   value : A
   first : List Event
   rest : List Event
-  legal : IsLegal start first
+  legal : IsLawful start first
   runs : Runs me p first value
-  then_legal : IsLegal (state_after start first) rest
+  then_legal : IsLawful (state_after start first) rest
   then_runs : Runs me (f value) rest out
   ends : state_after (state_after start first) rest ≡ last
 
-split : {A B : Type 0} (me : ℕ) (p : Program Call A) (f : A → Program Call B) (start : State) (events : List Event) (out : B) → IsLegal start events → Runs me (then p f) events out → Split me p f start (state_after start events) out
+split : {A B : Type 0} (me : ℕ) (p : Program Call A) (f : A → Program Call B) (start : State) (events : List Event) (out : B) → IsLawful start events → Runs me (then p f) events out → Split me p f start (state_after start events) out
 split me (done a) f start events out l r = record { value = a; first = []; rest = events; legal = tt; runs = refl; then_legal = l; then_runs = r; ends = refl }
 split me (ask q k) f start [] out l r = absurd r
 split me (ask q k) f start (event ∷ events) out l r = elim r as (λ _. Split me (ask q k) f start (state_after event.after events) out) [
   | inl (other, r') ↦
       let s = split me (ask q k) f event.after events out l.2 r' in
       record { value = s.value; first = event ∷ s.first; rest = s.rest; legal = (l.0, l.1, s.legal); runs = inl (other, s.runs); then_legal = s.then_legal; then_runs = s.then_runs; ends = s.ends }
-  | inr (mine, asked, some, r') ↦
+  | inr (mine, whole, asked, some, r') ↦
       let s = split me (k event.reply) f event.after events out l.2 r' in
-      record { value = s.value; first = event ∷ s.first; rest = s.rest; legal = (l.0, l.1, s.legal); runs = inr (mine, asked, some, s.runs); then_legal = s.then_legal; then_runs = s.then_runs; ends = s.ends }
+      record { value = s.value; first = event ∷ s.first; rest = s.rest; legal = (l.0, l.1, s.legal); runs = inr (mine, whole, asked, some, s.runs); then_legal = s.then_legal; then_runs = s.then_runs; ends = s.ends }
 ]
 
 -- the program is over, whatever became of the writer
@@ -65,7 +65,7 @@ no_handle : (left : WriterHandle) (o : Option WriterHandle) → None ≡ o → o
 no_handle left o a b = cc
 
 -- it failed, and the writer stays with this handle
-stays_so : (me : ℕ) (handle first : WriterHandle) (row : Row) (count : ℕ) (why : Stuck) (start : State) (events : List Event) (out : WriterOut) → handle.writer ≡ first.writer → Knows me handle row start → entries_of row ≡ count → (handle.closing ≡ true → handle.landed ≡ count) → IsLegal start events → Runs me (done (stays handle (Err why))) events out → IsClosed me first count out (state_after start events)
+stays_so : (me : ℕ) (handle first : WriterHandle) (row : Row) (count : ℕ) (why : Stuck) (start : State) (events : List Event) (out : WriterOut) → handle.writer ≡ first.writer → Knows me handle row start → entries_of row ≡ count → (handle.closing ≡ true → handle.landed ≡ count) → IsLawful start events → Runs me (done (stays handle (Err why))) events out → IsClosed me first count out (state_after start events)
 stays_so me handle first row count why start events out same k total told l r =
     let f = finished me handle.writer row (stays handle (Err why)) start events out k.has l r in
     record {
@@ -84,25 +84,25 @@ gone_so me first count result state events out number r =
     }
 
 -- the reply to Exit has come
-after_exit : (me : ℕ) (handle first : WriterHandle) (row : Row) (count : ℕ) (rep : Reply) (before start : State) (events : List Event) (out : WriterOut) → handle.writer ≡ first.writer → Knows me handle row before → entries_of row ≡ count → handle.landed ≡ count → Answers before me (call.Exit handle.writer) rep start → IsLegal start events → Runs me (if_left handle rep) events out → IsClosed me first count out (state_after start events)
+after_exit : (me : ℕ) (handle first : WriterHandle) (row : Row) (count : ℕ) (rep : Reply) (before start : State) (events : List Event) (out : WriterOut) → handle.writer ≡ first.writer → Knows me handle row before → entries_of row ≡ count → handle.landed ≡ count → Answers before me (call.Exit handle.writer) rep start → IsLawful start events → Runs me (if_left handle rep) events out → IsClosed me first count out (state_after start events)
 after_exit me handle first row count reply.Done before start events out same k total told a l r = gone_so me first count (Ok handle.landed) (state_after start events) events out (λ n e. ok_number handle.landed n (Ok handle.landed) (Ok handle.landed) refl refl e ∙ told) r
 after_exit me handle first row count reply.Fault before start events out same k total told a l r = gone_so me first count (Err stuck.Fault) (state_after start events) events out (λ n e. cc) r
 after_exit me handle first row count rep before start events out same k total told a l r =
     let h = exit_own me handle.writer row before rep start k.has a (λ e. cc) (λ e. cc) in
     stays_so me handle first row count (trouble rep) start events out same (record { has = h; pending = k.pending }) total (λ c. told) l r
 
-before_exit : (me : ℕ) (handle first : WriterHandle) (row : Row) (count : ℕ) (start : State) (events : List Event) (out : WriterOut) → handle.writer ≡ first.writer → Knows me handle row start → entries_of row ≡ count → handle.landed ≡ count → IsLegal start events → Runs me (exits handle) events out → IsClosed me first count out (state_after start events)
+before_exit : (me : ℕ) (handle first : WriterHandle) (row : Row) (count : ℕ) (start : State) (events : List Event) (out : WriterOut) → handle.writer ≡ first.writer → Knows me handle row start → entries_of row ≡ count → handle.landed ≡ count → IsLawful start events → Runs me (exits handle) events out → IsClosed me first count out (state_after start events)
 before_exit me handle first row count start events out same k total told l r =
     let g = reached me handle.writer row (call.Exit handle.writer) (if_left handle) start events out k.has l r in
     subst (IsClosed me first count out) g.ends
     (after_exit me handle first row count g.rep g.mid g.next g.rest out same (record { has = g.has; pending = k.pending }) total told g.answers g.legal g.runs)
 
 -- the reply to PutMeta has come
-after_meta : (me : ℕ) (handle first : WriterHandle) (row : Row) (count : ℕ) (rep : Reply) (start : State) (events : List Event) (out : WriterOut) → handle.writer ≡ first.writer → Knows me handle row start → entries_of row ≡ count → handle.landed ≡ count → IsLegal start events → Runs me (if_put handle rep) events out → IsClosed me first count out (state_after start events)
+after_meta : (me : ℕ) (handle first : WriterHandle) (row : Row) (count : ℕ) (rep : Reply) (start : State) (events : List Event) (out : WriterOut) → handle.writer ≡ first.writer → Knows me handle row start → entries_of row ≡ count → handle.landed ≡ count → IsLawful start events → Runs me (if_put handle rep) events out → IsClosed me first count out (state_after start events)
 after_meta me handle first row count reply.Done start events out same k total told l r = before_exit me handle first row count start events out same k total told l r
 after_meta me handle first row count rep start events out same k total told l r = stays_so me handle first row count (trouble rep) start events out same k total (λ c. told) l r
 
-before_meta : (me : ℕ) (handle first : WriterHandle) (row : Row) (count : ℕ) (start : State) (events : List Event) (out : WriterOut) → handle.writer ≡ first.writer → Knows me handle row start → entries_of row ≡ count → handle.landed ≡ count → IsLegal start events → Runs me (puts_meta handle) events out → IsClosed me first count out (state_after start events)
+before_meta : (me : ℕ) (handle first : WriterHandle) (row : Row) (count : ℕ) (start : State) (events : List Event) (out : WriterOut) → handle.writer ≡ first.writer → Knows me handle row start → entries_of row ≡ count → handle.landed ≡ count → IsLawful start events → Runs me (puts_meta handle) events out → IsClosed me first count out (state_after start events)
 before_meta me handle first row count start events out same k total told l r =
     let g = reached me handle.writer row (call.PutMeta handle.writer) (if_put (closing handle)) start events out k.has l r in
     let o = put_meta_own me handle.writer row g.mid g.rep g.next g.has g.answers in
@@ -110,7 +110,7 @@ before_meta me handle first row count start events out same k total told l r =
     (after_meta me (closing handle) first o.after count g.rep g.next g.rest out same (record { has = o.has; pending = k.pending ∙ sym o.pending }) (o.total ∙ total) told g.legal g.runs)
 
 -- the sync has ended
-kept_on : (me : ℕ) (handle first : WriterHandle) (row : Row) (count : ℕ) (result : Result ℕ Stuck) (start : State) (events : List Event) (out : WriterOut) → handle.writer ≡ first.writer → Knows me handle row start → entries_of row ≡ count → (handle.closing ≡ true → handle.landed ≡ count) → ((n : ℕ) → result ≡ Ok n → handle.landed ≡ count) → IsLegal start events → Runs me (if_kept (Some handle) result) events out → IsClosed me first count out (state_after start events)
+kept_on : (me : ℕ) (handle first : WriterHandle) (row : Row) (count : ℕ) (result : Result ℕ Stuck) (start : State) (events : List Event) (out : WriterOut) → handle.writer ≡ first.writer → Knows me handle row start → entries_of row ≡ count → (handle.closing ≡ true → handle.landed ≡ count) → ((n : ℕ) → result ≡ Ok n → handle.landed ≡ count) → IsLawful start events → Runs me (if_kept (Some handle) result) events out → IsClosed me first count out (state_after start events)
 kept_on me handle first row count (Ok n) start events out same k total told number l r = before_meta me handle first row count start events out same k total (number n refl) l r
 kept_on me handle first row count (Err why) start events out same k total told number l r = stays_so me handle first row count why start events out same k total told l r
 
@@ -118,7 +118,7 @@ not_both : (a b : Bool) → a ≡ b → b ≡ false → a ≡ true → ⊥
 not_both a b e f g = cc
 
 -- A close, of a writer whose handle tells of its buffer.
-pub close_ends : (me : ℕ) (handle : WriterHandle) (row : Row) (start : State) (events : List Event) (out : WriterOut) → Knows me handle row start → (handle.closing ≡ true → handle.landed ≡ entries_of row) → IsLegal start events → Runs me (close_program handle) events out → IsClosed me handle (entries_of row) out (state_after start events)
+pub close_ends : (me : ℕ) (handle : WriterHandle) (row : Row) (start : State) (events : List Event) (out : WriterOut) → Knows me handle row start → (handle.closing ≡ true → handle.landed ≡ entries_of row) → IsLawful start events → Runs me (close_program handle) events out → IsClosed me handle (entries_of row) out (state_after start events)
 close_ends me handle row start events out k told l r =
     elim handle.closing as (λ b. handle.closing ≡ b → (b ≡ true → handle.landed ≡ entries_of row) → Runs me (close_from b handle) events out → IsClosed me handle (entries_of row) out (state_after start events)) [
       | true ↦ λ is all r'. before_meta me handle handle row (entries_of row) start events out refl k refl (all refl) l r'

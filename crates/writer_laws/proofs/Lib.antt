@@ -1,6 +1,7 @@
 mod Rows
 mod Steps
 mod Own
+mod Stops
 mod Histories
 mod Machines
 mod Closes

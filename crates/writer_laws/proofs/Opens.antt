@@ -14,7 +14,7 @@ use Rattle.mount_model.specs.declared.reply.Refusal.{Refusal}
 use Rattle.mount_model.specs.declared.row.Row.{Row}
 use Rattle.mount_model.specs.Table.{row_of}
 use Rattle.mount_model.specs.State.{State, Table}
-use Rattle.mount_model.specs.History.{Event, IsLegal, state_after}
+use Rattle.mount_model.specs.History.{Event, IsLawful, state_after}
 use Rattle.mount_model.specs.Entering.{next_id, entered, enter_check, enter_outcome, EntersAs}
 use Rattle.mount_model.specs.Regular.{IsDrawn, IsRegular}
 use Rattle.mount_model.specs.Step.{Answers}
@@ -26,6 +26,7 @@ use Rattle.writer_laws.specs.Running.{Runs}
 use Rattle.writer_laws.proofs.Regulars.{AreRegular, are_regular}
 use Rattle.writer_laws.specs.Counting.{entries_of, wrote_by, StaysAt}
 use Rattle.writer_laws.specs.Knowing.{HasRow, IsOpened}
+use Rattle.writer_laws.proofs.Stops.{whole_answers}
 use Rattle.writer_laws.proofs.Steps.{step_kept, unless_refused, enter_table}
 use Rattle.writer_laws.proofs.Machines.{reached, finished}
 
@@ -93,21 +94,21 @@ record Asked {R : Type 0} (me : ℕ) (q : Call) (k : Reply → Program Call R) (
   regular : IsRegular mid
   answers : Answers mid me q rep next
   all : AreRegular next rest
-  legal : IsLegal next rest
+  legal : IsLawful next rest
   runs : Runs me (k rep) rest out
   ends : state_after next rest ≡ last
 
-asks : {R : Type 0} (me : ℕ) (q : Call) (k : Reply → Program Call R) (start : State) (events : List Event) (out : R) → AreRegular start events → IsLegal start events → Runs me (ask q k) events out → Asked me q k (state_after start events) out
+asks : {R : Type 0} (me : ℕ) (q : Call) (k : Reply → Program Call R) (start : State) (events : List Event) (out : R) → AreRegular start events → IsLawful start events → Runs me (ask q k) events out → Asked me q k (state_after start events) out
 asks me q k start [] out a l r = absurd r
 asks me q k start (event ∷ events) out a l r = elim r as (λ _. Asked me q k (state_after event.after events) out) [
   | inl (other, r') ↦ asks me q k event.after events out a.1 l.2 r'
-  | inr (mine, asked, some, r') ↦ record {
+  | inr (mine, whole, asked, some, r') ↦ record {
     mid = start;
     rep = event.reply;
     next = event.after;
     rest = events;
     regular = a.0;
-    answers = subst (λ c. Answers start me c event.reply event.after) asked (subst (λ n. Answers start n event.ask.call event.reply event.after) mine l.1.answers);
+    answers = subst (λ c. Answers start me c event.reply event.after) asked (subst (λ n. Answers start n event.ask.call event.reply event.after) mine (whole_answers start event.caller event.ask event.reply event.after whole l.1));
     all = a.1;
     legal = l.2;
     runs = r';
@@ -127,7 +128,7 @@ no_handle_left : (me w : ℕ) (why : Stuck) (events : List Event) (out : Result 
 no_handle_left me w why [] out handle e r = r
 no_handle_left me w why (event ∷ events) out handle e r = elim r as (λ _. ⊥) [
   | inl (other, r') ↦ no_handle_left me w why events out handle e r'
-  | inr (mine, asked, some, r') ↦ no_handle me why events out handle e r'
+  | inr (mine, whole, asked, some, r') ↦ no_handle me why events out handle e r'
 ]
 
 empty : (row after : Row) (told : ℕ) → entries_of row ≡ 0 → told ≡ 0 → entries_of after ≡ entries_of row + told → entries_of after ≡ 0
@@ -137,7 +138,7 @@ same_ok : (a b : WriterHandle) (o : Result WriterHandle Stuck) → Ok a ≡ o �
 same_ok a b o e f = cc
 
 -- the last call was answered
-opened_so : (me w most : ℕ) (row : Row) (start : State) (events : List Event) (out : Result WriterHandle Stuck) (handle : WriterHandle) → HasRow me w row start → entries_of row ≡ 0 → out ≡ Ok handle → IsLegal start events → Runs me (done (Ok (opened w most))) events out → IsOpened me handle (state_after start events)
+opened_so : (me w most : ℕ) (row : Row) (start : State) (events : List Event) (out : Result WriterHandle Stuck) (handle : WriterHandle) → HasRow me w row start → entries_of row ≡ 0 → out ≡ Ok handle → IsLawful start events → Runs me (done (Ok (opened w most))) events out → IsOpened me handle (state_after start events)
 opened_so me w most row start events out handle h none e l r =
     let f = finished me w row (Ok (opened w most)) start events out h l r in
     let is : opened w most ≡ handle = same_ok (opened w most) handle out f.1 e in
@@ -145,7 +146,7 @@ opened_so me w most row start events out handle h none e l r =
 
 -- this program leaves the writer open and empty, where it ends with a handle
 abbrev Opens : ℕ → ℕ → Opening → Type 0
-Opens me w p = (row : Row) (start : State) (events : List Event) (out : Result WriterHandle Stuck) (handle : WriterHandle) → HasRow me w row start → entries_of row ≡ 0 → out ≡ Ok handle → IsLegal start events → Runs me p events out → IsOpened me handle (state_after start events)
+Opens me w p = (row : Row) (start : State) (events : List Event) (out : Result WriterHandle Stuck) (handle : WriterHandle) → HasRow me w row start → entries_of row ≡ 0 → out ≡ Ok handle → IsLawful start events → Runs me p events out → IsOpened me handle (state_after start events)
 
 asks_on : (me w : ℕ) (q : Call) (k : Reply → Opening) → ((rep : Reply) → StaysAt w q rep) → ((rep : Reply) → wrote_by w q rep ≡ 0) → ((rep : Reply) → Opens me w (k rep)) → Opens me w (ask q k)
 asks_on me w q k stays none next row start events out handle h zero e l r =
@@ -178,25 +179,25 @@ floor_opens : (me w most : ℕ) → Opens me w (finds_floor w most)
 floor_opens me w most = asks_on me w (call.Floor w) (if_floored w most) (λ rep. tt) (λ rep. refl) (if_floored_opens me w most)
 
 -- the reply to Enter has come
-after_enter : (me room host most : ℕ) (rep : Reply) (before start : State) (events : List Event) (out : Result WriterHandle Stuck) (handle : WriterHandle) → IsRegular before → Answers before me (call.Enter room host most) rep start → out ≡ Ok handle → IsLegal start events → Runs me (if_entered most rep) events out → IsOpened me handle (state_after start events)
+after_enter : (me room host most : ℕ) (rep : Reply) (before start : State) (events : List Event) (out : Result WriterHandle Stuck) (handle : WriterHandle) → IsRegular before → Answers before me (call.Enter room host most) rep start → out ≡ Ok handle → IsLawful start events → Runs me (if_entered most rep) events out → IsOpened me handle (state_after start events)
 after_enter me room host most (reply.Entered w) before start events out handle regular a e l r =
     let o = enter_own me room host most w before (reply.Entered w) start regular a refl in
     floor_opens me w most o.row start events out handle o.has o.none e l r
 after_enter me room host most rep before start events out handle regular a e l r = absurd (no_handle me (trouble rep) events out handle e r)
 
 -- the reply to MakeContainer has come
-after_make : (me host most : ℕ) (rep : Reply) (start : State) (events : List Event) (out : Result WriterHandle Stuck) (handle : WriterHandle) → AreRegular start events → out ≡ Ok handle → IsLegal start events → Runs me (if_made host most rep) events out → IsOpened me handle (state_after start events)
+after_make : (me host most : ℕ) (rep : Reply) (start : State) (events : List Event) (out : Result WriterHandle Stuck) (handle : WriterHandle) → AreRegular start events → out ≡ Ok handle → IsLawful start events → Runs me (if_made host most rep) events out → IsOpened me handle (state_after start events)
 after_make me host most (reply.Room room) start events out handle regular e l r =
     let g = asks me (call.Enter room host most) (if_entered most) start events out regular l r in
     subst (IsOpened me handle) g.ends (after_enter me room host most g.rep g.mid g.next g.rest out handle g.regular g.answers e g.legal g.runs)
 after_make me host most rep start events out handle regular e l r = absurd (no_handle me (trouble rep) events out handle e r)
 
 -- An opening, in a history of regular states.
-pub open_ends : (me : ℕ) (name : List ℕ) (host most : ℕ) (start : State) (events : List Event) (out : Result WriterHandle Stuck) (handle : WriterHandle) → AreRegular start events → IsLegal start events → Runs me (open_program name host most) events out → out ≡ Ok handle → IsOpened me handle (state_after start events)
+pub open_ends : (me : ℕ) (name : List ℕ) (host most : ℕ) (start : State) (events : List Event) (out : Result WriterHandle Stuck) (handle : WriterHandle) → AreRegular start events → IsLawful start events → Runs me (open_program name host most) events out → out ≡ Ok handle → IsOpened me handle (state_after start events)
 open_ends me name host most start events out handle regular l r e =
     let g = asks me (call.MakeContainer name) (if_made host most) start events out regular l r in
     subst (IsOpened me handle) g.ends (after_make me host most g.rep g.next g.rest out handle g.all e g.legal g.runs)
 
 -- the same from one regular state on
-pub opened_ends : (me : ℕ) (name : List ℕ) (host most : ℕ) (start : State) (events : List Event) (out : Result WriterHandle Stuck) (handle : WriterHandle) → IsRegular start → IsLegal start events → Runs me (open_program name host most) events out → out ≡ Ok handle → IsOpened me handle (state_after start events)
+pub opened_ends : (me : ℕ) (name : List ℕ) (host most : ℕ) (start : State) (events : List Event) (out : Result WriterHandle Stuck) (handle : WriterHandle) → IsRegular start → IsLawful start events → Runs me (open_program name host most) events out → out ≡ Ok handle → IsOpened me handle (state_after start events)
 opened_ends me name host most start events out handle regular legal runs is = open_ends me name host most start events out handle (are_regular start events regular legal) legal runs is

@@ -6,7 +6,7 @@ use Rattle.store_api.specs.Loss.{Loses}
 use Rattle.mount_model.specs.declared.row.Row.{Row}
 use Rattle.mount_model.specs.Table.{row_of}
 use Rattle.mount_model.specs.State.{State}
-use Rattle.mount_model.specs.History.{Event, IsLegal, state_after}
+use Rattle.mount_model.specs.History.{Event, IsLawful, state_after}
 use Rattle.mount_sound.specs.Entries.{logged}
 use Rattle.mount_sound.specs.Ledger.{Ledger, entries_in}
 use Rattle.mount_sound.specs.Issued.{issued}
@@ -28,7 +28,7 @@ use Rattle.writer_laws.proofs.Machines.{sync_ends}
 one_row : (a b : Row) (o : Option Row) → o ≡ Some a → o ≡ Some b → a ≡ b
 one_row a b o p q = cc
 
-pub synced_survive : (caller : ℕ) (handle : WriterHandle) (row : Row) (before : Ledger) (start : State) (during later : List Event) (out : WriterOut) (n : ℕ) → Knows caller handle row start → IsSoundFor before start → IsLegal start during → Runs caller (sync_program handle) during out → out.result ≡ Ok n → 1 ≤ n → IsLegal (state_after start during) later
+pub synced_survive : (caller : ℕ) (handle : WriterHandle) (row : Row) (before : Ledger) (start : State) (during later : List Event) (out : WriterOut) (n : ℕ) → Knows caller handle row start → IsSoundFor before start → IsLawful start during → Runs caller (sync_program handle) during out → out.result ≡ Ok n → 1 ≤ n → IsLawful (state_after start during) later
     → (then : IsSoundFor (issued (issued before start during) (state_after start during) later) (state_after (state_after start during) later)) (new : Tree) → Loses then.shape.tree new → Survives caller handle.writer n (issued (issued before start during) (state_after start during) later) (state_after start during) then.shape.tree new
 synced_survive caller handle row before start during later out n k sound l runs ok some legal then new loses =
     let mid : State = state_after start during in

@@ -2,7 +2,7 @@
 ghost use Rattle.std.specs.Prelude.{◌≡◌, ◌≤◌, ℕ, List, Result, Ok, true};
 ghost use Rattle.mount_model.specs.declared.row.Row.{Row};
 ghost use Rattle.mount_model.specs.State.{State};
-ghost use Rattle.mount_model.specs.History.{Event, IsLegal, state_after};
+ghost use Rattle.mount_model.specs.History.{Event, IsLawful, state_after};
 ghost use Rattle.writer_flow.specs.declared.handle.WriterHandle.{WriterHandle};
 ghost use Rattle.writer_flow.specs.declared.handle.WriterOut.{WriterOut};
 ghost use Rattle.flow.specs.declared.trouble.Stuck.{Stuck};
@@ -29,13 +29,13 @@ pub fn a_handle_tells_of_its_buffer()
     ensures write { (caller : ℕ) (handle : WriterHandle) (row : Row) (at : ℕ) (block : List ℕ)
         (start : State) (events : List Event) (out : WriterOut)
         → Knows caller handle row start
-        → IsLegal start events
+        → IsLawful start events
         → Runs caller (write_program handle at block) events out
         → IsLeft caller handle out (state_after start events) }
     ensures sync { (caller : ℕ) (handle : WriterHandle) (row : Row)
         (start : State) (events : List Event) (out : WriterOut)
         → Knows caller handle row start
-        → IsLegal start events
+        → IsLawful start events
         → Runs caller (sync_program handle) events out
         → IsSynced caller handle (entries_of row) out (state_after start events) }
 
@@ -44,17 +44,18 @@ pub fn a_handle_tells_of_its_buffer()
         (start : State) (events : List Event) (out : WriterOut)
         → Knows caller handle row start
         → (handle.closing ≡ true → handle.landed ≡ entries_of row)
-        → IsLegal start events
+        → IsLawful start events
         → Runs caller (close_program handle) events out
         → IsClosed caller handle (entries_of row) out (state_after start events) }
 {}
 
-/// A law: while its caller makes no call on a writer, whatever else it calls and whatever others do, the handle goes on
+/// A law: while its caller makes no call on a writer, and none that is broken off, whatever else it calls and whatever
+/// others do, broken off or not, the handle goes on
 /// telling of the writer's buffer.
 pub fn a_handle_waits()
     ensures { (caller : ℕ) (handle : WriterHandle) (row : Row) (start : State) (events : List Event)
         → Knows caller handle row start
-        → IsLegal start events
+        → IsLawful start events
         → LetsBe caller handle.writer events
         → Knows caller handle row (state_after start events) }
 {}
@@ -65,7 +66,7 @@ pub fn an_opened_writer_has_no_entries()
     ensures { (caller : ℕ) (name : List ℕ) (host most : ℕ)
         (start : State) (events : List Event) (out : Result WriterHandle Stuck) (handle : WriterHandle)
         → IsRegular start
-        → IsLegal start events
+        → IsLawful start events
         → Runs caller (open_program name host most) events out
         → out ≡ Ok handle
         → IsOpened caller handle (state_after start events) }
@@ -78,10 +79,10 @@ pub fn a_sync_counts_every_write()
         (start : State) (before during : List Event) (out : WriterOut) (n : ℕ)
         → HasRow caller handle.writer new start
         → entries_of new ≡ 0
-        → IsLegal start before
+        → IsLawful start before
         → Stays handle.writer before
         → Knows caller handle row (state_after start before)
-        → IsLegal (state_after start before) during
+        → IsLawful (state_after start before) during
         → Runs caller (sync_program handle) during out
         → out.result ≡ Ok n
         → n ≡ writes_told handle.writer before }
@@ -94,11 +95,11 @@ pub fn synced_entries_survive()
         (start : State) (during later : List Event) (out : WriterOut) (n : ℕ)
         → Knows caller handle row start
         → IsSoundFor before start
-        → IsLegal start during
+        → IsLawful start during
         → Runs caller (sync_program handle) during out
         → out.result ≡ Ok n
         → 1 ≤ n
-        → IsLegal (state_after start during) later
+        → IsLawful (state_after start during) later
         → (then : IsSoundFor (issued (issued before start during) (state_after start during) later) (state_after (state_after start during) later))
         → (new : Tree)
         → Loses then.shape.tree new
