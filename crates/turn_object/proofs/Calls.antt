@@ -8,10 +8,10 @@ use Rattle.turn_object.specs.declared.front.Front.{Front}
 use Rattle.turn_object.specs.declared.front.Stage.{Stage}
 use Rattle.turn_object.specs.declared.slot.Resting.{Resting}
 use Rattle.atomic_table.specs.Table.{Me, rest}
-use Rattle.turn_object.specs.History.{entry, state_after, is_by, entries_of, number_at, own_number, MayBeOf, IsLegal}
+use Rattle.turn_object.specs.History.{entry, state_after, is_by, entries_of, number_at, own_number, IsLegal}
 use Rattle.turn_object.specs.Front.{IsOwn, KeepsIn}
 use Rattle.turn_object.specs.Steps.{at_stage, served_front, called_front, IsServed}
-use Rattle.turn_object.specs.Calls.{MayAsk, IsCalled}
+use Rattle.turn_object.specs.Calls.{CanBe, MayAsk, IsCalled}
 use Rattle.turn_object.specs.Front.{IsLegalFront}
 use Rattle.turn_object.proofs.Histories.{entries_other, entries_same, legal_snoc, legal_rest, none_above, none_since, may_along, state_append}
 
@@ -36,13 +36,13 @@ module _ {A R S : Type 0} where
 
     may_now : ((old new : S) (caller other : ℕ) (ask : A) (asked : A) (reply : R) → other ≢ caller → may old caller ask → may old other asked → step old other asked reply new → may new caller ask)
         → (st : S) (seen rest mine : List (Entry A R S)) (ask : A) → IsLegal step may 0 st (seen ++ rest) → KeepsIn (seen ++ rest) mine → KeepsIn seen mine
-        → ((caller : ℕ) → MayBeOf mine caller → may (state_after st seen) caller ask) → may (state_after st (seen ++ rest)) (number_at mine (length (seen ++ rest))) ask
+        → ((caller : ℕ) → CanBe seen mine caller → may (state_after st seen) caller ask) → may (state_after st (seen ++ rest)) (number_at mine (length (seen ++ rest))) ask
     may_now lasts st seen rest [] ask legal own before asks =
         let n : ℕ = length (seen ++ rest) in
         let none : entries_of n (seen ++ rest) ≡ [] = none_above step may 0 n st (seen ++ rest) legal (omega arith) in
         let later : entries_of n rest ≡ [] = append_none (entries_of n seen) (entries_of n rest) (sym (filter-append (is_by n) seen rest) ∙ none) in
         subst (λ (z : S). may z n ask) (sym (state_append st seen rest))
-        (may_along step may lasts (0 + length seen) n (state_after st seen) ask rest (legal_rest step may 0 st seen rest legal) later (asks n tt))
+        (may_along step may lasts (0 + length seen) n (state_after st seen) ask rest (legal_rest step may 0 st seen rest legal) later (asks n (let l = length-append seen rest in omega (arith, l))))
     may_now lasts st seen rest (x ∷ xs) ask legal own before asks =
         let later : entries_of x.caller rest ≡ [] = none_since x.caller seen rest (x ∷ xs) own before in
         subst (λ (z : S). may z x.caller ask) (sym (state_append st seen rest))

@@ -1,5 +1,5 @@
 -- How a turn begins and ends, and how passes are split and joined.
-use Rattle.std.proofs.Common.{◌≡◌, ℕ, ◌+◌, ◌^◌, ◌≤◌, ◌≢◌, ◌⊎◌, inl, zero, suc, List, [], ◌∷◌, length, get_or, sym, refl, ap, ◌∙◌, subst, ⊎_elim, arith, Option, Some}
+use Rattle.std.proofs.Common.{◌≡◌, ℕ, ◌+◌, ◌^◌, ◌≤◌, ◌≢◌, ◌⊎◌, inl, zero, suc, List, [], ◌∷◌, ◌++◌, length, get_or, sym, refl, ap, ◌∙◌, subst, ⊎_elim, arith, Option, Some}
 use Rattle.std.specs.List.{All, Any}
 use mathlib.Core.Option as at
 use Rattle.std.proofs.lemmas.List.Elements.{All-nil}
@@ -16,7 +16,8 @@ use Rattle.turn_object.specs.History.{state_after, IsLegal}
 use Rattle.turn_object.specs.Rule.{tickets, HasTicket, total, parts_in, IsLive, IsHome, IsOut, FitsStage, KeepsEnded, Knows, IsKnown, IsTurning}
 use Rattle.turn_object.specs.Front.{IsOwn}
 use Rattle.turn_object.specs.Steps.{first_front}
-use Rattle.turn_object.specs.Front.{IsLegalFront, IsWhole}
+use Rattle.turn_object.specs.Front.{IsLegalFront, IsWhole, AreApart}
+use Rattle.turn_object.specs.Shares.{as_ended}
 use Rattle.turn_object.proofs.Keeps.{idle_not_serving, keeps_in_seen}
 
 module _ {A R S : Type 0} where
@@ -36,6 +37,11 @@ module _ {A R S : Type 0} where
   sole x y zero e = (refl, at.some-injective x y e)
   sole x y (suc i) e = absurd (at.some-ne-none y (sym e))
 
+  -- a pass's own number differs from those of the passes that were joined into it
+  apart_own : (mine : List (Entry A R S)) (ended : List (Ended A R S)) → All (λ (g : Ended A R S). ¬ (IsOwn mine g.number)) ended → AreApart ended → AreApart (as_ended mine ++ ended)
+  apart_own [] ended never apart = apart
+  apart_own (e ∷ es) ended never apart = (λ k d lt is. never k d lt (sym is), apart)
+
   module _ (step : S → ℕ → A → R → S → Type 0) (may : S → ℕ → A → Type 0) (start : S) where
     abbrev Rule : State (Option (Resting A R S)) (Front A R S) → Type 0
     Rule = IsTurning step may start
@@ -51,7 +57,7 @@ module _ {A R S : Type 0} where
       parts = omega arith;
       stages = λ i v e. subst (λ (z : Front A R S). (tickets z.stage ≤ z.parts) × FitsStage [] (0 + (0 + 0)) z.seen z.stage) (sole first v i e).1 (omega arith, tt);
       apart = λ i j v w t a b has _. absurd (subst (λ (z : Front A R S). HasTicket z.stage t) (sym (sole first v i a).1) has);
-      known = λ i v e live. subst (λ (z : Front A R S). Knows [] start (λ _. 0) i z) (sole first v i e).1 record { begins = refl; seen = ([], refl); shorter = ([], refl); own = tt; ended = All-nil (KeepsEnded [] [] (λ _. 0) i []) };
+      known = λ i v e live. subst (λ (z : Front A R S). Knows [] start (λ _. 0) i z) (sole first v i e).1 record { begins = refl; seen = ([], refl); shorter = ([], refl); own = tt; ended = All-nil (KeepsEnded [] [] (λ _. 0) i []); differ = tt };
       longest = (0, first, refl, omega arith, refl);
       covered = All-nil (IsKnown (λ _. 0) (first ∷ []));
     }
@@ -74,6 +80,7 @@ module _ {A R S : Type 0} where
       pub object : resting.object ≡ state_after start v.seen
       pub legal : IsLegalFront step may start v
       pub whole : IsWhole v
+      pub differ : AreApart (as_ended v.mine ++ v.ended)
 
     pub closes : (id : ℕ) (v : Front A R S) (words : List ℕ) (slots : List (Option (Resting A R S))) → v.parts ≡ 2 ^ 40 → v.stage ≡ Idle → Final (Seen Rule id v) words slots → IsClosed v slots
     closes id v words slots all idle f =
@@ -101,4 +108,5 @@ module _ {A R S : Type 0} where
               let me : r.owner (get_or r.history k d).caller ≡ id = alone s r id v here all _ c.0 c.1 c.2 in
               let same : c.0 ≡ v = at.some-injective c.0 v (sym c.1 ∙ (ap (λ (z : ℕ). get_elem? s.views z) me ∙ here)) in
               subst (λ (z : Front A R S). IsOwn z.mine (get_or r.history k d).caller ⊎ Any (λ (g : (Ended A R S)). g.number ≡ (get_or r.history k d).caller) z.ended) same c.3);
+          differ = apart_own v.mine v.ended (λ k d lt. (K.ended k d lt).4) K.differ;
         }

@@ -130,7 +130,7 @@ module _ {A R S : Type 0} where
                 (omega arith, (omega arith, omega arith))
                 (λ j d _ e. let old = r.stages j d e in (old.0, more_tickets r.history n next d.seen d.stage (omega arith) old.1));
             apart = apart_set s.views id w r.apart (λ ticket j d ne e mine its. let b = below_next r.history n d.seen d.stage ticket (r.stages j d e).1 its in let m : get_or s.words 0 0 ≡ ticket = mine in omega arith);
-            known = knows_set r.history r.owner s.views id w record { begins = K.begins; seen = K.seen; shorter = K.shorter; own = K.own; ended = K.ended } r.known;
+            known = knows_set r.history r.owner s.views id w record { begins = K.begins; seen = K.seen; shorter = K.shorter; own = K.own; ended = K.ended; differ = K.differ } r.known;
             longest = longest_set s.views id v w r.history here live (λ e. e) r.longest;
             covered = covered_set r.owner s.views id v w r.history here live refl refl r.covered;
           },
@@ -199,6 +199,7 @@ module _ {A R S : Type 0} where
             apart = apart_set s.views id w r.apart (λ ticket j d ne e mine its. ne (sym (r.apart id j v d t here e mine_has (subst (λ (z : ℕ). HasTicket d.stage z) (sym mine) its))));
             known = knows_set r.history r.owner s.views id w record {
               begins = K.begins;
+              differ = K.differ;
               seen = ([], sym (append-nil r.history));
               shorter = starts_after r.history v.seen v.shorter K.seen K.shorter;
               own = sees_all r.history v.seen r.owner id v.mine K.own;
@@ -357,6 +358,7 @@ module _ {A R S : Type 0} where
             known = each_set (λ j d. IsLive d → Knows history' start owner' j d) s.views id w
                 (λ _. record {
                   begins = K.begins;
+                  differ = K.differ;
                   seen = ([], sym (append-nil history' ∙ refl) ∙ ap (λ (z : List (Entry A R S)). z ++ []) (sym sees));
                   shorter = starts_snoc v.seen v.shorter e K.shorter;
                   own = subst (λ (z : List (Entry A R S)). KeepsOwn history' z owner' id (v.mine ++ e ∷ [])) (sym sees) (own_extended history r.owner id e v.mine r.legal number own_here);
@@ -367,6 +369,7 @@ module _ {A R S : Type 0} where
                 })
                 (λ j d ne at_j alive. let D : Knows history start r.owner j d = r.known j d at_j alive in record {
                   begins = D.begins;
+                  differ = D.differ;
                   seen = (D.seen.0 ++ e ∷ [], ap (λ (z : List (Entry A R S)). z ++ e ∷ []) D.seen.1 ∙ append_assoc d.seen D.seen.0 (e ∷ []));
                   shorter = D.shorter;
                   own = own_later history d.seen r.owner (length history) id j e d.mine refl (λ m stands lt. alone m j ne stands lt) D.own;

@@ -1,13 +1,18 @@
 -- What a call asks of the pass, and what it does to it.
-use Rattle.std.specs.Prelude.{◌≡◌, ℕ, List, [], ◌∷◌, ◌++◌, length}
+use Rattle.std.specs.Prelude.{◌≡◌, ℕ, ◌≤◌, List, [], ◌∷◌, ◌++◌, length}
 use Rattle.turn_object.specs.declared.history.Entry.{Entry}
 use Rattle.turn_object.specs.declared.front.Front.{Front}
-use Rattle.turn_object.specs.History.{entry, state_after, number_at, MayBeOf}
+use Rattle.turn_object.specs.History.{entry, state_after, number_at}
 
 module _ {A R S : Type 0} where
-  -- the pass may ask this after all that it has seen. While it has no entry, it may under every number
+  -- a number that the caller of these entries may call under next: its own, or while it has none any that nobody had in what was seen
+  abbrev pub CanBe : List (Entry A R S) → List (Entry A R S) → ℕ → Type 0
+  CanBe seen [] caller = length seen ≤ caller
+  CanBe seen (e ∷ es) caller = caller ≡ e.caller
+
+  -- the pass may ask this after all that it has seen, under any number that it may have
   abbrev pub MayAsk : (S → ℕ → A → Type 0) → S → Front A R S → A → Type 0
-  MayAsk may start v ask = (caller : ℕ) → MayBeOf v.mine caller → may (state_after start v.seen) caller ask
+  MayAsk may start v ask = (caller : ℕ) → CanBe v.seen v.mine caller → may (state_after start v.seen) caller ask
 
   -- the history up to the call begins with what the pass had seen, and ends with the call, which is one more entry of the pass's own.
   -- In the state before it the caller might ask this, and the reply and the state after are what the object may do there

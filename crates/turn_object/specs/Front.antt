@@ -1,5 +1,5 @@
 -- What a pass knows of the one history, and when that is right.
-use Rattle.std.specs.Prelude.{◌≡◌, ℕ, ◌⊎◌, List, [], ◌∷◌}
+use Rattle.std.specs.Prelude.{◌≡◌, ◌≢◌, ℕ, ◌⊎◌, List, [], ◌∷◌}
 use Rattle.std.specs.List.{All, Any}
 use Rattle.turn_object.specs.declared.history.Entry.{Entry}
 use Rattle.turn_object.specs.declared.history.Ended.{Ended}
@@ -20,6 +20,11 @@ module _ {A R S : Type 0} where
   -- what was kept of a caller that ended is all that it has here
   abbrev pub EndedIn : List (Entry A R S) → Ended A R S → Type 0
   EndedIn seen gone = entries_of gone.number seen ≡ gone.entries
+
+  -- the numbers of these callers differ
+  abbrev pub AreApart : List (Ended A R S) → Type 0
+  AreApart [] = Unit {0}
+  AreApart (gone ∷ others) = All (λ (other : Ended A R S). other.number ≢ gone.number) others × AreApart others
 
   -- what was seen is a legal history from this state. The pass's own entries and those of the passes joined into it stand in it, each once, and no others of theirs
   pub record IsLegalFront (step : S → ℕ → A → R → S → Type 0) (may : S → ℕ → A → Type 0) (start : S) (v : Front A R S) : Type 0 where

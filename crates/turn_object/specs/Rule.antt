@@ -12,7 +12,7 @@ use Rattle.turn_object.specs.declared.front.Stage.{Stage}
 use Rattle.turn_object.specs.declared.front.Stage.TheVariants.{Idle, Waiting, Serving}
 use Rattle.turn_object.specs.declared.slot.Resting.{Resting}
 use Rattle.turn_object.specs.History.{state_after, entries_of, StartsWith, IsLegal}
-use Rattle.turn_object.specs.Front.{IsOwn}
+use Rattle.turn_object.specs.Front.{IsOwn, AreApart}
 
 -- how many tickets a pass has
 abbrev pub tickets : Stage → ℕ
@@ -76,6 +76,7 @@ module _ {A R S : Type 0} where
     pub shorter : StartsWith v.seen v.shorter
     pub own : KeepsOwn history v.seen owner seat v.mine
     pub ended : All (KeepsEnded history v.seen owner seat v.mine) v.ended
+    pub differ : AreApart v.ended
 
   -- the seat that stands for this caller has its entries, as its own or among those that ended
   abbrev pub IsKnown : (ℕ → ℕ) → List (Front A R S) → Entry A R S → Type 0
