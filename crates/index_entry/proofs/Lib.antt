@@ -1,3 +1,5 @@
+pub mod NumberLemmas
+pub mod Records
 pub mod Spelled
-mod Judgements
+pub mod Judgements
 mod Places
