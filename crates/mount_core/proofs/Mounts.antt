@@ -49,7 +49,7 @@ mounted opened new times room mount serial draws fits = record {
 -- ---- a fault has a cause
 
 faults_stay : (step : Step) (old new : Stored) (told : Told) → Acts step old new told → old.faults ≤ new.faults
-faults_stay step old new (Ok answer) made = made.faults
+faults_stay step old new (Ok answer) made = let same : new.faults ≡ old.faults = made.faults in omega (arith, same)
 faults_stay step old new (Err trouble.Fault) made = made.faults
 faults_stay step old new (Err trouble.NoMemory) made = let same = ap (λ (s : Stored). s.faults) made in omega arith
 

@@ -136,7 +136,7 @@ module _ (own : Reply → Type 0) (is : (told : Answer) → own (reply_of.Looked
 -- ---- what an act does to the count of faults
 
 acts_fall : (step : Step) (old new : Stored) (told : Told) → Acts step old new told → old.faults ≤ new.faults
-acts_fall step old new (Ok told) a = a.faults
+acts_fall step old new (Ok told) a = let same : new.faults ≡ old.faults = a.faults in omega (arith, same)
 acts_fall step old new (Err trouble.Fault) a = a.faults
 acts_fall step old new (Err trouble.NoMemory) a = let same : new.faults ≡ old.faults = ap (λ (s : Stored). s.faults) a in omega (arith, same)
 
