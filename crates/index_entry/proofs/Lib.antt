@@ -1,5 +1,6 @@
-pub mod NumberLemmas
-pub mod Records
-pub mod Spelled
-pub mod Judgements
+pub mod Facts
+mod Judgements
+mod NumberLemmas
 mod Places
+mod Records
+mod Spelled

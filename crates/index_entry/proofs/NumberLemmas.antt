@@ -2,7 +2,7 @@
 use Rattle.std.proofs.Common.{◌≡◌, ℕ, zero, suc, ◌+◌, ◌<◌, ◌≤◌, ◌^◌, List, [], ◌∷◌, ◌++◌, length, take, drop, refl, sym, ap, ◌∙◌, arith}
 use Rattle.std.specs.Int.{w64, to_le_bytes, from_le_bytes}
 use Rattle.std.proofs.lemmas.Nat.{le_bytes_8, from_le_bytes-to_le_bytes_8}
-use Rattle.std.proofs.lemmas.List.{length-take, length-drop, drop-drop, take-append-drop}
+use Rattle.std.proofs.lemmas.List.{append-nil, length-take, length-drop, drop-drop, take-append-drop}
 use Rattle.std.proofs.Math.Seq.{take-add}
 use Rattle.plfs_types.specs.declared.entries.Entry.{Entry}
 use Rattle.index_entry.specs.Spelling.{spelling, number_in, entry_in, FitsPlaces, Spells}
@@ -69,6 +69,11 @@ entries_format = record {
     writer_fits = number_fits 32 bytes are;
   };
 }
+
+-- what spells an entry is read as it
+pub read_again : (bytes : List ℕ) (e : Entry) → Spells bytes e → entry_in bytes ≡ e
+read_again bytes e spells =
+    ap entry_in (spells.spelled ∙ sym (append-nil (spelling e))) ∙ entries_format.again e [] spells.places
 
 -- the entry that the first bytes spell
 pub entry_is : (bytes : List ℕ) (e : Entry) → Spells (take 40 bytes) e → e ≡ entry_in bytes
