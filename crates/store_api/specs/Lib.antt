@@ -6,3 +6,4 @@ pub mod Effect
 pub mod Leaves
 pub mod Loss
 pub mod Acts
+pub mod Messages

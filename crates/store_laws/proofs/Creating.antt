@@ -6,7 +6,8 @@ use Rattle.store_api.specs.declared.tree.Room.{Room}
 use Rattle.store_api.specs.declared.tree.Tree.{Tree}
 use Rattle.store_api.specs.declared.step.Answer.TheVariants.{Made, Old, NoFolder}
 use Rattle.store_api.specs.Step.{create}
-use Rattle.store_api.specs.Room.{has_folder, place_of, file_in, empty_file, with_new_file, made_if_absent, file_created}
+use Rattle.store_api.specs.Kept.{empty_file}
+use Rattle.store_api.specs.Room.{has_folder, place_of, file_in, with_new_file, made_if_absent, file_created}
 use Rattle.store_api.specs.Effect.{Effect, effect, room_after}
 use Rattle.store_laws.specs.Changes.{Created}
 use Rattle.store_laws.specs.Says.{WhyNotCreated}

@@ -1,5 +1,5 @@
 -- What a loss of power leaves, path by path.
-use Rattle.std.proofs.Common.{◌≡◌, ◌≤◌, ℕ, zero, suc, Bool, true, false, cond, List, [], ◌∷◌, length, take, min, slice_get, Option, Some, None, refl, ap, sym, ◌∙◌, subst, arith}
+use Rattle.std.proofs.Common.{◌≡◌, ◌≤◌, ℕ, zero, suc, Bool, true, false, cond, List, [], ◌∷◌, length, min, slice_get, Option, Some, None, refl, ap, sym, ◌∙◌, subst, arith}
 use Rattle.std.specs.List.{find}
 use Rattle.plfs_types.specs.declared.names.Path.{Path}
 use Rattle.store_api.specs.declared.tree.File.{File}
@@ -9,9 +9,9 @@ use Rattle.store_api.specs.Step.{Name}
 use Rattle.store_api.specs.Room.{is_at, file_in}
 use Rattle.store_api.specs.Loss.{LosesFile, LoseFiles, LosesRoom, LoseRooms, Loses}
 use Rattle.store_laws.specs.Files.{file_at, kept_at}
-use Rattle.store_laws.specs.Differ.{is_there, FilesDiffer, PathsDiffer}
+use Rattle.store_laws.specs.Differ.{is_there, FilesDiffer}
 use Rattle.store_laws.specs.Prefix.{IsPrefix}
-use Rattle.store_laws.specs.Losing.{LosesBytes, HasLost, HaveLost}
+use Rattle.store_laws.specs.Losing.{HasLost, HaveLost}
 use Rattle.store_laws.proofs.Rooms.{file_at_found, kept_at_found, file_at_none, none_in, some_in}
 use Rattle.store_laws.proofs.Overwriting.{prefix_take}
 

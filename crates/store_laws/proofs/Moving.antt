@@ -10,8 +10,8 @@ use Rattle.store_api.specs.Step.{Name, replace}
 use Rattle.store_api.specs.Names.{same_name}
 use Rattle.store_api.specs.Room.{stays, becomes, is_at, has_folder, place_of, file_in, with_file, without_file, file_named, file_renamed}
 use Rattle.store_api.specs.Effect.{Effect, effect, room_after}
-use Rattle.store_api.proofs.Files.{find-set_other}
-use Rattle.store_laws.specs.Files.{file_at, kept_at, AreTwo, SameButFile}
+use Rattle.store_api.proofs.Facts.{find-set_other}
+use Rattle.store_laws.specs.Files.{file_at, AreTwo, SameButFile}
 use Rattle.store_laws.specs.Differ.{PathsDiffer}
 use Rattle.store_laws.specs.Changes.{Replaced, beside}
 use Rattle.store_laws.specs.Says.{WhyNoFile}

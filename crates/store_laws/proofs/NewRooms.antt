@@ -12,7 +12,8 @@ use Rattle.store_api.specs.declared.tree.Tree.{Tree}
 use Rattle.store_api.specs.declared.step.Answer.TheVariants.{Made, TargetThere, Number}
 use Rattle.store_api.specs.Step.{Name, make_room, rename_room}
 use Rattle.store_api.specs.Names.{same_name}
-use Rattle.store_api.specs.Room.{is_top, is_at, empty_file}
+use Rattle.store_api.specs.Kept.{empty_file}
+use Rattle.store_api.specs.Room.{is_top, is_at}
 use Rattle.store_api.specs.Effect.{Effect, effect, new_room, number_of, room_made, renamed, room_after}
 use Rattle.store_laws.specs.Files.{file_at, kept_of, kept_at}
 use Rattle.store_laws.specs.Differ.{is_listed, NamesDiffer, is_there, FilesDiffer}

@@ -8,7 +8,7 @@ use Rattle.store_api.specs.declared.tree.Room.{Room}
 use Rattle.store_api.specs.Step.{Name}
 use Rattle.store_api.specs.Names.{same_name}
 use Rattle.store_api.specs.Room.{is_at, is_top, has_folder, place_of, file_in, with_file, with_new_file}
-use Rattle.store_api.proofs.Files.{file_in-with_file, find-set_other}
+use Rattle.store_api.proofs.Facts.{file_in-with_file, find-set_other}
 use Rattle.store_laws.specs.Files.{file_at, kept_of, kept_at, AreTwo, SameButFile}
 use Rattle.store_laws.specs.Differ.{is_there, PathsDiffer}
 use Rattle.store_laws.proofs.Naming.{at_path, path_at, not_at, two_apart}

@@ -1,5 +1,5 @@
 -- A step that spares the first bytes of a file that are kept leaves them so.
-use Rattle.std.proofs.Common.{◌≡◌, ◌≤◌, ℕ, zero, suc, List, [], ◌∷◌, length, take, min, slice_get, Option, Some, None, refl, ap, sym, ◌∙◌, ◌⊎◌, inl, inr, subst, arith}
+use Rattle.std.proofs.Common.{◌≡◌, ◌≤◌, ℕ, zero, suc, List, [], ◌∷◌, length, take, slice_get, Option, Some, None, refl, ap, sym, ◌∙◌, ◌⊎◌, inl, inr, subst, arith}
 use Rattle.std.specs.Prelude.{Result}
 use Rattle.std.proofs.lemmas.Bool.{cases_eq}
 use Rattle.std.proofs.lemmas.List.{length-take-le, take_all}
@@ -9,8 +9,8 @@ use Rattle.store_api.specs.declared.tree.Room.{Room}
 use Rattle.store_api.specs.declared.tree.Tree.{Tree}
 use Rattle.store_api.specs.declared.step.Answer.{Answer}
 use Rattle.store_api.specs.declared.store.Trouble.{Trouble}
-use Rattle.store_api.specs.Step.{Step, Name, rooms, find_room, make_room, rename_room, make_folder, remove_folder, list_folder, create, remove, replace, length_of, read_at, write_at, cut, sync}
-use Rattle.store_laws.specs.Files.{file_at, kept_at, AreTwo, SameButFile}
+use Rattle.store_api.specs.Step.{Step, Name, create, remove, replace, write_at, cut, sync}
+use Rattle.store_laws.specs.Files.{file_at, kept_at, SameButFile}
 use Rattle.store_laws.specs.Prefix.{IsPrefix}
 use Rattle.store_laws.specs.Tells.{Tells}
 use Rattle.store_laws.specs.Changes.{with_room, Created, Wrote, WasCut, WasSynced}
@@ -95,8 +95,7 @@ wrote_stays tree m p at bytes after n path front spares c =
       | inr repeats ↦
           let same : take front (overwritten c.old at bytes) ≡ take front c.old = repeats c.room c.old c.has_room c.there in
           let begins : IsPrefix (take front c.old) (overwritten c.old at bytes) = subst (λ l. IsPrefix l (overwritten c.old at bytes)) same (prefix_take front (overwritten c.old at bytes)) in
-          let len : length (take front c.old) ≡ front = length-take-le front c.old (omega (arith, long, ap length is)) in
-          (
+          let len : length (take front c.old) ≡ front = length-take-le front c.old (omega (arith, long, ap length is)) in (
             overwritten c.old at bytes,
             c.now,
             longer,

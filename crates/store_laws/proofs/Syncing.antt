@@ -1,11 +1,11 @@
 -- A step that syncs a file.
 use Rattle.std.proofs.Common.{ℕ, refl, inl, inr}
 use Rattle.plfs_types.specs.declared.names.Path.{Path}
-use Rattle.store_api.specs.declared.tree.File.{File}
 use Rattle.store_api.specs.declared.tree.Tree.{Tree}
 use Rattle.store_api.specs.declared.step.Answer.TheVariants.{Made, Absent, NoFolder}
 use Rattle.store_api.specs.Step.{sync as sync_file}
-use Rattle.store_api.specs.Room.{becomes, with_file, synced, file_synced}
+use Rattle.store_api.specs.Kept.{synced}
+use Rattle.store_api.specs.Room.{becomes, with_file, file_synced}
 use Rattle.store_api.specs.Effect.{Effect, effect, room_after}
 use Rattle.store_laws.specs.Changes.{WasSynced}
 use Rattle.store_laws.specs.Says.{WhyNoFile}

@@ -1,5 +1,5 @@
 -- Steps that write a file, or cut it.
-use Rattle.std.proofs.Common.{◌≡◌, ◌≤◌, ◌<◌, ℕ, Bool, true, false, List, length, take, min, nat_le, slice_get, Some, refl, ap, sym, ◌∙◌, inl, inr, arith, if◌then◌else◌}
+use Rattle.std.proofs.Common.{◌≡◌, ◌≤◌, ◌<◌, ℕ, Bool, true, false, List, length, min, nat_le, slice_get, Some, refl, ap, sym, ◌∙◌, inl, inr, arith, if◌then◌else◌}
 use Rattle.std.proofs.lemmas.Bool.Decides.{nat_tests}
 use Rattle.plfs_types.specs.Bytes.{overwritten}
 use Rattle.plfs_types.specs.declared.names.Path.{Path}
@@ -9,7 +9,8 @@ use Rattle.store_api.specs.declared.tree.Tree.{Tree}
 use Rattle.store_api.specs.declared.step.Answer.TheVariants.{Made, Absent, NoFolder, Beyond}
 use Rattle.store_api.specs.Kept.{kept_after}
 use Rattle.store_api.specs.Step.{write_at, cut}
-use Rattle.store_api.specs.Room.{Outcome, stays, becomes, has_folder, in_file, with_file, written, shortened}
+use Rattle.store_api.specs.Kept.{written, shortened}
+use Rattle.store_api.specs.Room.{Outcome, stays, becomes, has_folder, in_file, with_file}
 use Rattle.store_api.specs.Effect.{Effect, effect, room_after, in_room}
 use Rattle.store_laws.specs.Files.{file_at, kept_at, SameButFile}
 use Rattle.store_laws.specs.Differ.{PathsDiffer}

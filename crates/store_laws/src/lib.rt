@@ -14,8 +14,7 @@ pub use answers::{
 };
 pub use changes::{
     adds_one_room, creates_one_file, cuts_one_file, makes_one_folder, moves_one_file,
-    removes_one_empty_folder, removes_one_file, renames_one_room, syncs_one_file,
-    writes_one_file,
+    removes_one_empty_folder, removes_one_file, renames_one_room, syncs_one_file, writes_one_file,
 };
 pub use losses::{common_is_the_longest_front, kept_bytes_stay, losses_leave_fronts};
 pub use tells::{creates_are_made_or_not, told_trees_go_on, writes_are_made_or_in_part};

@@ -18,6 +18,7 @@ pub fn losses_leave_fronts()
 
 /// A law: what is common to two files is the longest front of both.
 pub fn common_is_the_longest_front()
+    ensures within { (old new : List ℕ) → common old new ≤ min (length old) (length new) }
     ensures same { (old new : List ℕ) → take (common old new) old ≡ take (common old new) new }
     ensures longest { (front old new : List ℕ) → IsPrefix front old → IsPrefix front new → length front ≤ common old new }
 {}

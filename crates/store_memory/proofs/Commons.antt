@@ -1,6 +1,6 @@
 -- What a file has in common with itself once a piece was laid over it.
-use Rattle.std.proofs.Common.{◌≡◌, ℕ, zero, suc, ◌+◌, ◌≤◌, ◌<◌, Bool, true, false, nat_eq, List, [], ◌∷◌, ◌++◌, length, take, drop, min, refl, ap, sym, ◌∙◌, subst, arith}
-use Rattle.std.specs.Prelude.{◌==◌, if◌then◌else◌}
+use Rattle.std.proofs.Common.{◌≡◌, ℕ, zero, suc, ◌+◌, ◌≤◌, ◌<◌, true, false, nat_eq, List, [], ◌∷◌, ◌++◌, length, drop, min, refl, ap, arith}
+use Rattle.std.specs.Prelude.{if◌then◌else◌}
 use Rattle.std.proofs.lemmas.Bool.Decides.{nat_tests}
 use Rattle.plfs_types.specs.Bytes.{overwritten}
 use Rattle.store_api.specs.Kept.{common}
@@ -29,14 +29,6 @@ itself x = grind (arith, nat_tests)
 common_itself : (a : List ℕ) → common a a ≡ length a
 common_itself [] = refl
 common_itself (x ∷ a) = rw (itself x) (omega (arith, common_itself a))
-
-shorter : (a b : List ℕ) → common a b ≤ min (length a) (length b)
-shorter [] b = omega arith
-shorter (x ∷ a) [] = omega arith
-shorter (x ∷ a) (y ∷ b) = elim (nat_eq x y) as (λ t. (if t then common a b + 1 else 0) ≤ min (length (x ∷ a)) (length (y ∷ b))) [
-  | true ↦ omega (arith, shorter a b)
-  | false ↦ omega arith
-]
 
 -- a piece that differs from what it covers
 front_differs : (old piece : List ℕ) → common old piece < min (length old) (length piece) → common old (piece ++ drop (length piece) old) ≡ common old piece
@@ -70,7 +62,3 @@ over_agrees [] zero piece l e = refl
 over_agrees (x ∷ old) zero piece l e = let none : 0 + length piece ≡ length piece = omega arith in rw none (front_agrees (x ∷ old) piece e)
 over_agrees [] (suc at) piece l e = absurd (omega arith)
 over_agrees (x ∷ old) (suc at) piece l e = rw (next at piece, itself x) (omega (arith, over_agrees old at piece (omega arith) e))
-
--- there is no more in common than both have
-pub common_most : (a b : List ℕ) → common a b ≤ min (length a) (length b)
-common_most a b = shorter a b

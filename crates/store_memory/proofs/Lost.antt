@@ -1,11 +1,12 @@
 -- What is left of a tree is one of its losses.
-use Rattle.std.proofs.Common.{◌≡◌, ℕ, ◌+◌, ◌≤◌, ◌<◌, zero, suc, List, [], ◌∷◌, ◌++◌, length, take, drop, map, min, slice_get, slice_set, Some, refl, ap, sym, ◌∙◌, arith}
+use Rattle.std.proofs.Common.{◌≡◌, ℕ, ◌+◌, ◌<◌, zero, suc, List, [], ◌∷◌, ◌++◌, length, take, drop, map, min, slice_get, slice_set, Some, refl, ap, sym, ◌∙◌, arith}
 use Rattle.std.proofs.lemmas.List.{length-take-le}
 use Rattle.store_api.specs.declared.tree.File.{File}
 use Rattle.store_api.specs.declared.tree.Room.{Room}
 use Rattle.store_api.specs.declared.tree.Tree.{Tree}
-use Rattle.store_api.specs.Loss.{LosesFile, LoseFiles, LosesRoom, LoseRooms, Loses}
+use Rattle.store_api.specs.Loss.{LosesFile, LoseFiles, LoseRooms, Loses}
 use Rattle.store_memory.specs.declared.losing.Keep.{Keep}
+use Rattle.store_memory.proofs.Places.{next_changed, length_changed}
 use Rattle.store_memory.specs.Lost.{left_of, extra_for, lost_file, lost_room, lost_rooms, lost}
 
 loses_file : (extra : ℕ) (file : File) → LosesFile file (left_of extra file)
@@ -28,23 +29,6 @@ lost_loses keeps tree = lose_rooms keeps 0 tree.rooms
 
 -- ---- place by place
 
-no_more : {X : Type 0} (n : ℕ) → drop {A = X} n [] ≡ []
-no_more zero = refl
-no_more (suc n) = refl
-
-none_of : {X : Type 0} (n : ℕ) → take {A = X} n [] ≡ []
-none_of zero = refl
-none_of (suc n) = refl
-
--- the items up to a place have been changed, and the next one is
-pub next_changed : {X : Type 0} (f : X → X) (xs : List X) (i : ℕ) (old : X) → slice_get (map f (take i xs) ++ drop i xs) i ≡ Some old → slice_set (map f (take i xs) ++ drop i xs) i (f old) ≡ map f (take (i + 1) xs) ++ drop (i + 1) xs
-next_changed f [] zero old e = absurd (cc)
-next_changed f (x ∷ xs) zero old e = let same : x ≡ old = cc in ap (λ y. f y ∷ xs) (sym same)
-next_changed f [] (suc i) old e = absurd (cc)
-next_changed f (x ∷ xs) (suc i) old e =
-    let more : suc i + 1 ≡ suc (i + 1) = omega arith in
-    ap (λ ys. f x ∷ ys) (next_changed f xs i old e) ∙ ap (λ n. map f (take n (x ∷ xs)) ++ drop n (x ∷ xs)) (sym more)
-
 -- so with rooms, which have their numbers
 pub next_lost : (keeps : List Keep) (from : ℕ) (rooms : List Room) (i : ℕ) (old : Room) → slice_get (lost_rooms keeps from (take i rooms) ++ drop i rooms) i ≡ Some old → slice_set (lost_rooms keeps from (take i rooms) ++ drop i rooms) i (lost_room keeps (from + i) old) ≡ lost_rooms keeps from (take (i + 1) rooms) ++ drop (i + 1) rooms
 next_lost keeps from [] zero old e = absurd (cc)
@@ -58,12 +42,6 @@ next_lost keeps from (x ∷ xs) (suc i) old e =
     let at : from + suc i ≡ from + 1 + i = omega arith in
     ap (λ n. slice_set (lost_room keeps from x ∷ (lost_rooms keeps (from + 1) (take i xs) ++ drop i xs)) (suc i) (lost_room keeps n old)) at
     ∙ ap (λ ys. lost_room keeps from x ∷ ys) (next_lost keeps (from + 1) xs i old e) ∙ ap (λ n. lost_rooms keeps from (take n (x ∷ xs)) ++ drop n (x ∷ xs)) (sym more)
-
-length_changed : {X : Type 0} (f : X → X) (xs : List X) (i : ℕ) → length (map f (take i xs) ++ drop i xs) ≡ length xs
-length_changed f [] zero = refl
-length_changed f [] (suc i) = refl
-length_changed f (x ∷ xs) zero = refl
-length_changed f (x ∷ xs) (suc i) = ap (λ n. suc n) (length_changed f xs i)
 
 length_lost : (keeps : List Keep) (from : ℕ) (rooms : List Room) (i : ℕ) → length (lost_rooms keeps from (take i rooms) ++ drop i rooms) ≡ length rooms
 length_lost keeps from [] zero = refl

@@ -1,3 +1,4 @@
+pub mod AllKept
 pub mod Broken
 pub mod InRoom
 pub mod Lost

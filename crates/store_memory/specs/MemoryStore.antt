@@ -23,15 +23,20 @@ fails_of store = store.fails
 
 -- the first planned fault of the act that comes next
 abbrev pub next_fail : MemoryStore → Option Fail
-next_fail store = find (λ fail. fail.act == store.acts) store.fails
+next_fail store = find (λ fail. fail.act == acts_of store) (fails_of store)
 
+-- the act in which its power goes off, where that is planned
+abbrev pub last_of : MemoryStore → Option ℕ
+last_of store = store.last
+
+-- whether so many acts are more than those up to that one
 abbrev pub is_past : ℕ → Option ℕ → Bool
 is_past acts None = false
 is_past acts (Some last) = nat_lt last acts
 
--- whether its power is off
+-- whether its power is off: that act was made
 abbrev pub is_off : MemoryStore → Bool
-is_off store = is_past store.acts store.last
+is_off store = is_past (acts_of store) (last_of store)
 
 -- what contracts of a store see of it
 abbrev pub stored_in : MemoryStore → Stored

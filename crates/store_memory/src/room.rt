@@ -4,9 +4,9 @@ ghost use Rattle.std.specs.List.{list_any};
 ghost use Rattle.store_api.specs.Names.{same_name};
 ghost use Rattle.store_api.specs.Step.{step_of};
 ghost use Rattle.plfs_types.specs.Bytes.{overwritten};
-ghost use Rattle.store_api.specs.Kept.{common, kept_after};
 ghost use Rattle.store_memory.specs.InRoom.{room_outcome};
-ghost use Rattle.store_api.specs.Room.{empty_file, is_top, has_folder, place_of, folder_made, folder_removed, folder_listed, file_created, file_removed, file_named, file_renamed, without_file, length_told, bytes_read, bytes_written, file_cut, file_synced};
+ghost use Rattle.store_api.specs.Kept.{common, kept_after, empty_file};
+ghost use Rattle.store_api.specs.Room.{is_top, has_folder, place_of, folder_made, folder_removed, folder_listed, file_created, file_removed, file_named, file_renamed, without_file, length_told, bytes_read, bytes_written, file_cut, file_synced};
 
 use crate::listing::listing;
 use plfs_types::{Bytes, Name, NameList, NoMemory, Path};
@@ -218,7 +218,8 @@ fn common(a: &[u8], b: &[u8]) -> usize
     most
 }
 
-// How many bytes stay kept where the piece is laid over the old ones: of those that were, the ones before the first that changes.
+// How many bytes stay kept where the piece is laid over the old ones from byte `at` on: of those that were, the
+// ones before the first that changes.
 fn kept_over(kept: u64, old: &[u8], at: usize, piece: &[u8]) -> u64
     requires { at ≤ length old.now }
     ensures { result ≡ kept_after kept old.now (overwritten old.now at piece.now) }

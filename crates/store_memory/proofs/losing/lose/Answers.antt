@@ -1,4 +1,4 @@
-use Rattle.std.proofs.Common.{rules, arith, length, ap, sym, ◌∙◌, subst}
+use Rattle.std.proofs.Common.{arith, length, ap, ◌∙◌}
 use Rattle.store_memory.proofs.Lost.{tree_next, tree_within}
 use Rattle.store_memory.proofs.losing.lose.Goals as goal
 use Rattle.store_memory.proofs.losing.lose.Goals.{in-Some, in_default}

@@ -1,4 +1,4 @@
-use Rattle.std.proofs.Common.{◌≡◌, ◌++◌, ◌+◌, take, drop}
+use Rattle.std.proofs.Common.{◌≡◌, ◌++◌, take, drop}
 use Rattle.store_memory.specs.Lost.{lost_rooms}
 use Rattle.store_memory.proofs.losing.lose.Given as goal
 

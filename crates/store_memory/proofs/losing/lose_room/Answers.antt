@@ -1,5 +1,4 @@
-use Rattle.std.proofs.Common.{rules, arith, length, ap, sym, ◌∙◌, subst}
-use Rattle.std.specs.Prelude.{IsSome}
+use Rattle.std.proofs.Common.{arith, length, ap, ◌∙◌}
 use Rattle.store_memory.proofs.Lost.{room_next, room_within}
 use Rattle.store_memory.proofs.losing.lose_room.Goals as goal
 use Rattle.store_memory.proofs.losing.lose_room.Goals.{in-Some, in_default}

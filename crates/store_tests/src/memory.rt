@@ -1,9 +1,12 @@
-use super::*;
+//! A store in memory: its planned faults, and what a loss of power leaves.
 use plfs_types::{Bytes, Name, NameList, NoMemory, Path};
 use std::alloc::Global;
 use std::process::Abort;
 use std::test::Fail as Failure;
 use store_api::{Answer, Step, Store, Trouble};
+use store_memory::{
+    Fail, FailList, File, FileList, Keep, KeepList, MemoryStore, Room, RoomList, Tree,
+};
 
 fn name(rt: &impl Abort, text: &str) -> Name {
     Name::from_bytes(text.as_bytes()).expect(rt, "a short name")
@@ -322,30 +325,47 @@ fn a_loss_keeps_what_was_synced(rt: HostRuntime) -> Result<(), NoMemory> {
     let file = name(&rt, "f");
     for extra in 0..4 {
         let mut store = new_store(alloc, &[])?;
-        numbers(&rt, &mut store, &Step::MakeRoom {
-            name: room,
-            folders: &[],
-            files: &[file],
-        }, 0);
-        makes(&rt, &mut store, &Step::WriteAt {
-            room: 0,
-            folder: Name::empty(),
-            file,
-            at: 0,
-            bytes: b"ab",
-        });
-        makes(&rt, &mut store, &Step::Sync {
-            room: 0,
-            folder: Name::empty(),
-            file,
-        });
-        makes(&rt, &mut store, &Step::WriteAt {
-            room: 0,
-            folder: Name::empty(),
-            file,
-            at: 2,
-            bytes: b"cd",
-        });
+        numbers(
+            &rt,
+            &mut store,
+            &Step::MakeRoom {
+                name: room,
+                folders: &[],
+                files: &[file],
+            },
+            0,
+        );
+        makes(
+            &rt,
+            &mut store,
+            &Step::WriteAt {
+                room: 0,
+                folder: Name::empty(),
+                file,
+                at: 0,
+                bytes: b"ab",
+            },
+        );
+        makes(
+            &rt,
+            &mut store,
+            &Step::Sync {
+                room: 0,
+                folder: Name::empty(),
+                file,
+            },
+        );
+        makes(
+            &rt,
+            &mut store,
+            &Step::WriteAt {
+                room: 0,
+                folder: Name::empty(),
+                file,
+                at: 2,
+                bytes: b"cd",
+            },
+        );
         let mut keeps = KeepList::new(alloc);
         keeps.push(Keep {
             room: 0,
@@ -357,13 +377,18 @@ fn a_loss_keeps_what_was_synced(rt: HostRuntime) -> Result<(), NoMemory> {
         })?;
         let mut left = store.lose(keeps);
         let len = if extra < 2 { 2 + extra } else { 4 };
-        gives(&rt, &mut left, &Step::ReadAt {
-            room: 0,
-            folder: Name::empty(),
-            file,
-            at: 0,
-            len: 9,
-        }, &b"abcd"[..len as usize]);
+        gives(
+            &rt,
+            &mut left,
+            &Step::ReadAt {
+                room: 0,
+                folder: Name::empty(),
+                file,
+                at: 0,
+                len: 9,
+            },
+            &b"abcd"[..len as usize],
+        );
     }
     Ok(())
 }
@@ -375,29 +400,43 @@ fn power_goes_off(rt: HostRuntime) -> Result<(), NoMemory> {
     let room = name(&rt, "r");
     let file = name(&rt, "f");
     let mut store = MemoryStore::off(alloc, 1, 1)?;
-    numbers(&rt, &mut store, &Step::MakeRoom {
-        name: room,
-        folders: &[],
-        files: &[file],
-    }, 0);
+    numbers(
+        &rt,
+        &mut store,
+        &Step::MakeRoom {
+            name: room,
+            folders: &[],
+            files: &[file],
+        },
+        0,
+    );
     for _ in 0..2 {
-        faults(&rt, &mut store, &Step::WriteAt {
-            room: 0,
-            folder: Name::empty(),
-            file,
-            at: 0,
-            bytes: b"ab",
-        });
+        faults(
+            &rt,
+            &mut store,
+            &Step::WriteAt {
+                room: 0,
+                folder: Name::empty(),
+                file,
+                at: 0,
+                bytes: b"ab",
+            },
+        );
     }
     assert_eq!(&rt; store.faults(), 2);
     assert_eq!(&rt; store.acts(), 3);
     let mut left = store.lose(KeepList::new(alloc));
-    gives(&rt, &mut left, &Step::ReadAt {
-        room: 0,
-        folder: Name::empty(),
-        file,
-        at: 0,
-        len: 9,
-    }, b"");
+    gives(
+        &rt,
+        &mut left,
+        &Step::ReadAt {
+            room: 0,
+            folder: Name::empty(),
+            file,
+            at: 0,
+            len: 9,
+        },
+        b"",
+    );
     Ok(())
 }
