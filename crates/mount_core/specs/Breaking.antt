@@ -4,10 +4,10 @@ use Rattle.store_api.specs.Step.{Step}
 use Rattle.mount_model.specs.declared.row.Row.{Row}
 use Rattle.mount_model.specs.State.{State}
 use Rattle.mount_model.specs.Making.{Told}
-use Rattle.mount_model.specs.Stopping.{ended, MakesPart}
+use Rattle.mount_model.specs.Stopping.{row_ended, MakesPart}
 
 -- the part was made, if any, and the store alone has changed since this state
-pub record Breaks (part : Option Step) (from : State) (told : Told) (new : State) : Type 0 where
+pub record BreaksOff (part : Option Step) (from : State) (told : Told) (new : State) : Type 0 where
   pub made : MakesPart part from.store new.store told
   pub after : new ≡ record from { store = new.store }
 
@@ -19,4 +19,4 @@ all_or_none k step = if k == 0 then None else Some step
 abbrev pub ended_to : ℕ → ℕ → List Row → List Row
 ended_to caller zero rows = rows
 ended_to caller (suc n) [] = []
-ended_to caller (suc n) (row ∷ rows) = ended caller row ∷ ended_to caller n rows
+ended_to caller (suc n) (row ∷ rows) = row_ended caller row ∷ ended_to caller n rows

@@ -7,4 +7,3 @@ pub mod Standing
 pub mod Breaking
 pub mod Admitting
 pub mod Scanning
-pub mod Opening

@@ -1,5 +1,6 @@
 //! The mount's table, and what draws ids for it.
-ghost use Rattle.std.specs.Prelude.{◌≡◌, ◌<◌, ◌^◌, length, Some, slice_get, IfNone, IfSome, None};
+ghost use Rattle.std.specs.Prelude.{◌≡◌, ◌<◌, ◌≤◌, length, Some, slice_get, IfNone, IfSome, None};
+ghost use Rattle.plfs_types.specs.declared.limits.TheConstants.{MAX_STAMP};
 ghost use Rattle.mount_model.specs.Table.{writer_of, at_stage};
 ghost use Rattle.mount_model.specs.State.{put, take_out};
 ghost use Rattle.mount_model.specs.Regular.{IsCounted};
@@ -108,7 +109,7 @@ impl Roster {
     /// Sets the floor of the writer at this place.
     pub(crate) fn set_floor(&mut self, place: usize, floor: u64)
         requires within { place < length self.old.table.writers }
-        requires fits { floor < 2 ^ 63 }
+        requires fits { floor ≤ MAX_STAMP }
         ensures { AtPlace self.old.table place (λ row. self.new ≡ with_table (put (floored floor row) self.old.table) self.old) }
     {
         let row = &mut self.writers[place];

@@ -5,16 +5,17 @@ ghost use Rattle.store_api.specs.Step.{step_of, list_folder};
 ghost use Rattle.mount_model.specs.Paths.{truncs as truncs_name};
 ghost use Rattle.mount_model.specs.declared.call.Call.TheVariants.{Floor, MakeHostdir, MakeIndex, MakeLog, Write, Flush, SyncLog, SyncIndex, PutMeta, Exit};
 ghost use Rattle.mount_model.specs.Acting.{unless, flush_act};
-ghost use Rattle.mount_model.specs.Looking.{room_check as room_refusal, look_step};
+ghost use Rattle.mount_model.specs.Making.{room_check as room_refusal};
+ghost use Rattle.mount_model.specs.Looking.{look_step};
 ghost use Rattle.mount_model.specs.Entering.{enter_check as enter_refusal, enter_step};
 ghost use Rattle.mount_model.specs.Building.{hostdir_step, index_step, log_step};
 ghost use Rattle.mount_model.specs.Writing.{write_check as write_refusal, write_step};
 ghost use Rattle.mount_model.specs.Flushing.{flush_step, sync_log_step, sync_index_step};
 ghost use Rattle.mount_model.specs.Leaving.{put_meta_check as put_meta_refusal, put_meta_step, exit_check as exit_refusal, exit_step};
-ghost use Rattle.mount_model.specs.Stopping.{part_of, part_made, ended, without_caller, drawn_unless, begun, IsEndedBy, IsWellTyped, Stops};
+ghost use Rattle.mount_model.specs.Stopping.{part_of, part_made, row_ended, without_caller, drawn_unless, begun, IsEndedBy, IsWellTyped, Stops};
 ghost use Rattle.mount_core.specs.Roll.{with_table};
 ghost use Rattle.mount_core.specs.Standing.{AtPlace};
-ghost use Rattle.mount_core.specs.Breaking.{Breaks, all_or_none};
+ghost use Rattle.mount_core.specs.Breaking.{BreaksOff, all_or_none};
 
 use crate::finding::access;
 use crate::leaving::{exit_check, put_meta_check};
@@ -26,7 +27,7 @@ use crate::writing::write_check;
 use container_layout::{flats, metadata, openhosts, truncs};
 use edge_io::Clock;
 use mount_model::{Call, Look, Reply, Row, Stage};
-use plfs_types::{Block, LogicalName, Name};
+use plfs_types::{Block, ENTRY_SIZE, LogicalName, Name};
 use store_api::{Answer, Step, Store, Trouble};
 
 /// The first so many bytes.
@@ -42,7 +43,7 @@ fn first(bytes: &[u8], count: u64) -> &[u8]
 
 /// Makes the caller's writers dead.
 fn end_rows(rows: &mut Vec<Row>, caller: u64)
-    ensures { rows.new.items ≡ map (ended caller) rows.old.items }
+    ensures { rows.new.items ≡ map (row_ended caller) rows.old.items }
 {
     for row in rows.iter_mut() {
         if row.owner == caller {
@@ -122,7 +123,7 @@ impl<S: Store + Drop, C: Clock + Drop> Mount<S, C> {
 
     /// Makes the step, or nothing at 0.
     fn make_if(&mut self, k: u64, step: &Step<'_>) -> Result<Answer, Trouble>
-        ensures { Breaks (all_or_none k (step_of step.now)) self.old result self.new }
+        ensures { BreaksOff (all_or_none k (step_of step.now)) self.old result self.new }
     {
         if k == 0 {
             return Ok(Answer::Made);
@@ -132,7 +133,7 @@ impl<S: Store + Drop, C: Clock + Drop> Mount<S, C> {
 
     /// Makes a part of the call's act.
     fn break_off(&mut self, caller: u64, k: u64, call: &Call) -> Result<Answer, Trouble>
-        ensures { Breaks (part_made k self.old caller call.now) (begun self.old call.now) result self.new }
+        ensures { BreaksOff (part_made k self.old caller call.now) (begun self.old call.now) result self.new }
     {
         match call {
             Call::Greet => Ok(Answer::Made),
@@ -164,7 +165,7 @@ impl<S: Store + Drop, C: Clock + Drop> Mount<S, C> {
     }
 
     fn break_look(&mut self, k: u64, room: u64, look: &Look) -> Result<Answer, Trouble>
-        ensures { Breaks (option_and_then (part_of k) (unless (room_refusal self.old room) (look_step room look.now))) self.old result self.new }
+        ensures { BreaksOff (option_and_then (part_of k) (unless (room_refusal self.old room) (look_step room look.now))) self.old result self.new }
     {
         if room == self.roster.marks() {
             return Ok(Answer::Made);
@@ -173,7 +174,7 @@ impl<S: Store + Drop, C: Clock + Drop> Mount<S, C> {
     }
 
     fn break_look_in(&mut self, k: u64, room: u64, look: &Look) -> Result<Answer, Trouble>
-        ensures { Breaks (all_or_none k (look_step room look.now)) self.old result self.new }
+        ensures { BreaksOff (all_or_none k (look_step room look.now)) self.old result self.new }
     {
         match *look {
             Look::Top => self.make_if(
@@ -206,7 +207,7 @@ impl<S: Store + Drop, C: Clock + Drop> Mount<S, C> {
     }
 
     fn break_enter(&mut self, k: u64, room: u64, host: u32) -> Result<Answer, Trouble>
-        ensures { Breaks (option_and_then (part_of k) (unless (enter_refusal self.old room) (enter_step self.old room host))) (drawn_unless (enter_refusal self.old room) self.old) result self.new }
+        ensures { BreaksOff (option_and_then (part_of k) (unless (enter_refusal self.old room) (enter_step self.old room host))) (drawn_unless (enter_refusal self.old room) self.old) result self.new }
     {
         match self.roster.draw(room) {
             Ok(id) => {
@@ -225,9 +226,12 @@ impl<S: Store + Drop, C: Clock + Drop> Mount<S, C> {
     }
 
     fn break_floor(&mut self, caller: u64, k: u64, writer: u64) -> Result<Answer, Trouble>
-        ensures { Breaks (part_made k self.old caller (Floor writer)) self.old result self.new }
+        ensures { BreaksOff (part_made k self.old caller (Floor writer)) self.old result self.new }
     {
-        match self.roster.find(caller, Stages::Only(Stage::Entered), writer) {
+        match self
+            .roster
+            .find(caller, Stages::Only(Stage::Entered), writer)
+        {
             Some(place) => self.break_floor_at(place, k),
             None => Ok(Answer::Made),
         }
@@ -235,7 +239,7 @@ impl<S: Store + Drop, C: Clock + Drop> Mount<S, C> {
 
     fn break_floor_at(&mut self, place: usize, k: u64) -> Result<Answer, Trouble>
         requires { place < length self.old.table.writers }
-        ensures { AtPlace self.old.table place (λ row. Breaks (all_or_none k (list_folder row.room truncs_name)) self.old result self.new) }
+        ensures { AtPlace self.old.table place (λ row. BreaksOff (all_or_none k (list_folder row.room truncs_name)) self.old result self.new) }
     {
         let row = self.roster.row(place);
         let step = Step::List {
@@ -246,9 +250,12 @@ impl<S: Store + Drop, C: Clock + Drop> Mount<S, C> {
     }
 
     fn break_hostdir(&mut self, caller: u64, k: u64, writer: u64) -> Result<Answer, Trouble>
-        ensures { Breaks (part_made k self.old caller (MakeHostdir writer)) self.old result self.new }
+        ensures { BreaksOff (part_made k self.old caller (MakeHostdir writer)) self.old result self.new }
     {
-        match self.roster.find(caller, Stages::Only(Stage::Floored), writer) {
+        match self
+            .roster
+            .find(caller, Stages::Only(Stage::Floored), writer)
+        {
             Some(place) => self.break_hostdir_at(place, k),
             None => Ok(Answer::Made),
         }
@@ -256,7 +263,7 @@ impl<S: Store + Drop, C: Clock + Drop> Mount<S, C> {
 
     fn break_hostdir_at(&mut self, place: usize, k: u64) -> Result<Answer, Trouble>
         requires { place < length self.old.table.writers }
-        ensures { AtPlace self.old.table place (λ row. Breaks (all_or_none k (hostdir_step row)) self.old result self.new) }
+        ensures { AtPlace self.old.table place (λ row. BreaksOff (all_or_none k (hostdir_step row)) self.old result self.new) }
     {
         let row = self.roster.row(place);
         let at = hostdir_path(row.host);
@@ -268,9 +275,12 @@ impl<S: Store + Drop, C: Clock + Drop> Mount<S, C> {
     }
 
     fn break_index(&mut self, caller: u64, k: u64, writer: u64) -> Result<Answer, Trouble>
-        ensures { Breaks (part_made k self.old caller (MakeIndex writer)) self.old result self.new }
+        ensures { BreaksOff (part_made k self.old caller (MakeIndex writer)) self.old result self.new }
     {
-        match self.roster.find(caller, Stages::Only(Stage::Housed), writer) {
+        match self
+            .roster
+            .find(caller, Stages::Only(Stage::Housed), writer)
+        {
             Some(place) => self.break_index_at(place, k),
             None => Ok(Answer::Made),
         }
@@ -278,7 +288,7 @@ impl<S: Store + Drop, C: Clock + Drop> Mount<S, C> {
 
     fn break_index_at(&mut self, place: usize, k: u64) -> Result<Answer, Trouble>
         requires { place < length self.old.table.writers }
-        ensures { AtPlace self.old.table place (λ row. Breaks (all_or_none k (index_step row)) self.old result self.new) }
+        ensures { AtPlace self.old.table place (λ row. BreaksOff (all_or_none k (index_step row)) self.old result self.new) }
     {
         let row = self.roster.row(place);
         let at = index_path(row.host, row.id);
@@ -291,9 +301,12 @@ impl<S: Store + Drop, C: Clock + Drop> Mount<S, C> {
     }
 
     fn break_log(&mut self, caller: u64, k: u64, writer: u64) -> Result<Answer, Trouble>
-        ensures { Breaks (part_made k self.old caller (MakeLog writer)) self.old result self.new }
+        ensures { BreaksOff (part_made k self.old caller (MakeLog writer)) self.old result self.new }
     {
-        match self.roster.find(caller, Stages::Only(Stage::Indexed), writer) {
+        match self
+            .roster
+            .find(caller, Stages::Only(Stage::Indexed), writer)
+        {
             Some(place) => self.break_log_at(place, k),
             None => Ok(Answer::Made),
         }
@@ -301,7 +314,7 @@ impl<S: Store + Drop, C: Clock + Drop> Mount<S, C> {
 
     fn break_log_at(&mut self, place: usize, k: u64) -> Result<Answer, Trouble>
         requires { place < length self.old.table.writers }
-        ensures { AtPlace self.old.table place (λ row. Breaks (all_or_none k (log_step row)) self.old result self.new) }
+        ensures { AtPlace self.old.table place (λ row. BreaksOff (all_or_none k (log_step row)) self.old result self.new) }
     {
         let row = self.roster.row(place);
         let at = log_path(row.host, row.id);
@@ -314,7 +327,7 @@ impl<S: Store + Drop, C: Clock + Drop> Mount<S, C> {
     }
 
     fn break_sync_log(&mut self, caller: u64, k: u64, writer: u64) -> Result<Answer, Trouble>
-        ensures { Breaks (part_made k self.old caller (SyncLog writer)) self.old result self.new }
+        ensures { BreaksOff (part_made k self.old caller (SyncLog writer)) self.old result self.new }
     {
         match self.roster.find(caller, Stages::Only(Stage::Open), writer) {
             Some(place) => self.break_sync_log_at(place, k),
@@ -324,7 +337,7 @@ impl<S: Store + Drop, C: Clock + Drop> Mount<S, C> {
 
     fn break_sync_log_at(&mut self, place: usize, k: u64) -> Result<Answer, Trouble>
         requires { place < length self.old.table.writers }
-        ensures { AtPlace self.old.table place (λ row. Breaks (all_or_none k (sync_log_step row)) self.old result self.new) }
+        ensures { AtPlace self.old.table place (λ row. BreaksOff (all_or_none k (sync_log_step row)) self.old result self.new) }
     {
         let row = self.roster.row(place);
         let at = log_path(row.host, row.id);
@@ -337,7 +350,7 @@ impl<S: Store + Drop, C: Clock + Drop> Mount<S, C> {
     }
 
     fn break_sync_index(&mut self, caller: u64, k: u64, writer: u64) -> Result<Answer, Trouble>
-        ensures { Breaks (part_made k self.old caller (SyncIndex writer)) self.old result self.new }
+        ensures { BreaksOff (part_made k self.old caller (SyncIndex writer)) self.old result self.new }
     {
         match self.roster.find(caller, Stages::Only(Stage::Open), writer) {
             Some(place) => self.break_sync_index_at(place, k),
@@ -347,7 +360,7 @@ impl<S: Store + Drop, C: Clock + Drop> Mount<S, C> {
 
     fn break_sync_index_at(&mut self, place: usize, k: u64) -> Result<Answer, Trouble>
         requires { place < length self.old.table.writers }
-        ensures { AtPlace self.old.table place (λ row. Breaks (all_or_none k (sync_index_step row)) self.old result self.new) }
+        ensures { AtPlace self.old.table place (λ row. BreaksOff (all_or_none k (sync_index_step row)) self.old result self.new) }
     {
         let row = self.roster.row(place);
         let at = index_path(row.host, row.id);
@@ -360,7 +373,7 @@ impl<S: Store + Drop, C: Clock + Drop> Mount<S, C> {
     }
 
     fn break_flush(&mut self, caller: u64, k: u64, writer: u64) -> Result<Answer, Trouble>
-        ensures { Breaks (part_made k self.old caller (Flush writer)) self.old result self.new }
+        ensures { BreaksOff (part_made k self.old caller (Flush writer)) self.old result self.new }
     {
         match self.roster.find(caller, Stages::Only(Stage::Open), writer) {
             Some(place) => self.break_flush_at(place, k),
@@ -370,7 +383,7 @@ impl<S: Store + Drop, C: Clock + Drop> Mount<S, C> {
 
     fn break_flush_at(&mut self, place: usize, k: u64) -> Result<Answer, Trouble>
         requires { place < length self.old.table.writers }
-        ensures { AtPlace self.old.table place (λ row. Breaks (option_and_then (part_of k) (flush_act row row.pending.entries)) self.old result self.new) }
+        ensures { AtPlace self.old.table place (λ row. BreaksOff (option_and_then (part_of k) (flush_act row row.pending.entries)) self.old result self.new) }
     {
         if self.roster.row(place).pending.pending() == 0 {
             return Ok(Answer::Made);
@@ -380,7 +393,7 @@ impl<S: Store + Drop, C: Clock + Drop> Mount<S, C> {
 
     fn break_flush_pending(&mut self, place: usize, k: u64) -> Result<Answer, Trouble>
         requires { place < length self.old.table.writers }
-        ensures { AtPlace self.old.table place (λ row. Breaks (part_of k (flush_step row)) self.old result self.new) }
+        ensures { AtPlace self.old.table place (λ row. BreaksOff (part_of k (flush_step row)) self.old result self.new) }
     {
         let row = self.roster.row(place);
         let at = index_path(row.host, row.id);
@@ -389,13 +402,20 @@ impl<S: Store + Drop, C: Clock + Drop> Mount<S, C> {
             room: row.room,
             folder: at.folder,
             file: at.file,
-            at: 40 * row.landed,
+            at: ENTRY_SIZE as u64 * row.landed,
             bytes,
         })
     }
 
-    fn break_write(&mut self, caller: u64, k: u64, writer: u64, at: u64, bytes: &[u8]) -> Result<Answer, Trouble>
-        ensures { Breaks (part_made k self.old caller (Write writer at bytes.now)) self.old result self.new }
+    fn break_write(
+        &mut self,
+        caller: u64,
+        k: u64,
+        writer: u64,
+        at: u64,
+        bytes: &[u8],
+    ) -> Result<Answer, Trouble>
+        ensures { BreaksOff (part_made k self.old caller (Write writer at bytes.now)) self.old result self.new }
     {
         match self.roster.find(caller, Stages::Only(Stage::Open), writer) {
             Some(place) => self.break_write_at(place, k, at, bytes),
@@ -403,9 +423,15 @@ impl<S: Store + Drop, C: Clock + Drop> Mount<S, C> {
         }
     }
 
-    fn break_write_at(&mut self, place: usize, k: u64, at: u64, bytes: &[u8]) -> Result<Answer, Trouble>
+    fn break_write_at(
+        &mut self,
+        place: usize,
+        k: u64,
+        at: u64,
+        bytes: &[u8],
+    ) -> Result<Answer, Trouble>
         requires { place < length self.old.table.writers }
-        ensures { AtPlace self.old.table place (λ row. Breaks (option_and_then (part_of k) (unless (write_refusal row at (length bytes.now)) (write_step row bytes.now))) self.old result self.new) }
+        ensures { AtPlace self.old.table place (λ row. BreaksOff (option_and_then (part_of k) (unless (write_refusal row at (length bytes.now)) (write_step row bytes.now))) self.old result self.new) }
     {
         match write_check(self.roster.row(place), at, bytes.len() as u64) {
             Some(_) => Ok(Answer::Made),
@@ -415,7 +441,7 @@ impl<S: Store + Drop, C: Clock + Drop> Mount<S, C> {
 
     fn break_write_now(&mut self, place: usize, k: u64, bytes: &[u8]) -> Result<Answer, Trouble>
         requires { place < length self.old.table.writers }
-        ensures { AtPlace self.old.table place (λ row. Breaks (part_of k (write_step row bytes.now)) self.old result self.new) }
+        ensures { AtPlace self.old.table place (λ row. BreaksOff (part_of k (write_step row bytes.now)) self.old result self.new) }
     {
         let row = self.roster.row(place);
         let log = log_path(row.host, row.id);
@@ -429,7 +455,7 @@ impl<S: Store + Drop, C: Clock + Drop> Mount<S, C> {
     }
 
     fn break_meta(&mut self, caller: u64, k: u64, writer: u64) -> Result<Answer, Trouble>
-        ensures { Breaks (part_made k self.old caller (PutMeta writer)) self.old result self.new }
+        ensures { BreaksOff (part_made k self.old caller (PutMeta writer)) self.old result self.new }
     {
         match self.roster.find(caller, Stages::Closable, writer) {
             Some(place) => self.break_meta_at(place, k),
@@ -439,7 +465,7 @@ impl<S: Store + Drop, C: Clock + Drop> Mount<S, C> {
 
     fn break_meta_at(&mut self, place: usize, k: u64) -> Result<Answer, Trouble>
         requires { place < length self.old.table.writers }
-        ensures { AtPlace self.old.table place (λ row. Breaks (option_and_then (part_of k) (unless (put_meta_refusal row) (put_meta_step row))) self.old result self.new) }
+        ensures { AtPlace self.old.table place (λ row. BreaksOff (option_and_then (part_of k) (unless (put_meta_refusal row) (put_meta_step row))) self.old result self.new) }
     {
         match put_meta_check(self.roster.row(place)) {
             Some(_) => Ok(Answer::Made),
@@ -449,7 +475,7 @@ impl<S: Store + Drop, C: Clock + Drop> Mount<S, C> {
 
     fn break_meta_now(&mut self, place: usize, k: u64) -> Result<Answer, Trouble>
         requires { place < length self.old.table.writers }
-        ensures { AtPlace self.old.table place (λ row. Breaks (all_or_none k (put_meta_step row)) self.old result self.new) }
+        ensures { AtPlace self.old.table place (λ row. BreaksOff (all_or_none k (put_meta_step row)) self.old result self.new) }
     {
         let row = self.roster.row(place);
         let at = meta_path(row);
@@ -462,7 +488,7 @@ impl<S: Store + Drop, C: Clock + Drop> Mount<S, C> {
     }
 
     fn break_exit(&mut self, caller: u64, k: u64, writer: u64) -> Result<Answer, Trouble>
-        ensures { Breaks (part_made k self.old caller (Exit writer)) self.old result self.new }
+        ensures { BreaksOff (part_made k self.old caller (Exit writer)) self.old result self.new }
     {
         match self.roster.find(caller, Stages::Live, writer) {
             Some(place) => self.break_exit_at(place, k),
@@ -472,7 +498,7 @@ impl<S: Store + Drop, C: Clock + Drop> Mount<S, C> {
 
     fn break_exit_at(&mut self, place: usize, k: u64) -> Result<Answer, Trouble>
         requires { place < length self.old.table.writers }
-        ensures { AtPlace self.old.table place (λ row. Breaks (option_and_then (part_of k) (unless (exit_refusal row) (exit_step row))) self.old result self.new) }
+        ensures { AtPlace self.old.table place (λ row. BreaksOff (option_and_then (part_of k) (unless (exit_refusal row) (exit_step row))) self.old result self.new) }
     {
         match exit_check(self.roster.row(place)) {
             Some(_) => Ok(Answer::Made),
@@ -482,7 +508,7 @@ impl<S: Store + Drop, C: Clock + Drop> Mount<S, C> {
 
     fn break_exit_now(&mut self, place: usize, k: u64) -> Result<Answer, Trouble>
         requires { place < length self.old.table.writers }
-        ensures { AtPlace self.old.table place (λ row. Breaks (all_or_none k (exit_step row)) self.old result self.new) }
+        ensures { AtPlace self.old.table place (λ row. BreaksOff (all_or_none k (exit_step row)) self.old result self.new) }
     {
         let row = self.roster.row(place);
         let at = open_path(row.host, row.id);

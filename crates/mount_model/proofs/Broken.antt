@@ -9,7 +9,8 @@ use Rattle.store_api.specs.declared.step.Answer.{Answer}
 use Rattle.store_api.specs.declared.step.Answer.TheVariants.{Made, Beyond, NoFolder}
 use Rattle.store_api.specs.declared.store.Trouble.TheVariants.{Fault, NoMemory}
 use Rattle.store_api.specs.Step.{Step, Name, write_at}
-use Rattle.store_api.specs.Room.{has_folder, place_of, at_place, or_absent, becomes, stays, with_file, written, bytes_written}
+use Rattle.store_api.specs.Kept.{written}
+use Rattle.store_api.specs.Room.{has_folder, place_of, at_place, or_absent, becomes, stays, with_file, bytes_written}
 use Rattle.store_api.specs.Effect.{effect, tree_after, or_no_room, room_after}
 use Rattle.store_api.specs.Leaves.{MayLeave, with_first, not_made, whole, in_part}
 use Rattle.store_api.specs.Acts.{Stored, Goes, Acts}
@@ -22,19 +23,19 @@ module _ (folder name : Name) (at : ℕ) (bytes part : List ℕ) where
   at_file : (room : Room) (place : ℕ) (found : Option File)
       → ((or_absent room found (λ file. if nat_le at (length file.bytes) then becomes (with_file room place (written file at bytes)) else stays room Beyond)).answer ≡ Made)
       ⊎ (or_absent room found (λ file. if nat_le at (length file.bytes) then becomes (with_file room place (written file at part)) else stays room Beyond)
-        ≡ or_absent room found (λ file. if nat_le at (length file.bytes) then becomes (with_file room place (written file at bytes)) else stays room Beyond))
+      ≡ or_absent room found (λ file. if nat_le at (length file.bytes) then becomes (with_file room place (written file at bytes)) else stays room Beyond))
   at_file room place None = inr refl
   at_file room place (Some file) = elim (nat_le at (length file.bytes)) as (λ b.
       ((if b then becomes (with_file room place (written file at bytes)) else stays room Beyond).answer ≡ Made)
       ⊎ ((if b then becomes (with_file room place (written file at part)) else stays room Beyond) ≡ (if b then becomes (with_file room place (written file at bytes)) else stays room Beyond))) [
-    | true ↦ inl refl
-    | false ↦ inr refl
-  ]
+        | true ↦ inl refl
+        | false ↦ inr refl
+      ]
 
   at_its_place : (room : Room) (found : Option ℕ)
       → ((at_place room found (λ place file. if nat_le at (length file.bytes) then becomes (with_file room place (written file at bytes)) else stays room Beyond)).answer ≡ Made)
       ⊎ (at_place room found (λ place file. if nat_le at (length file.bytes) then becomes (with_file room place (written file at part)) else stays room Beyond)
-        ≡ at_place room found (λ place file. if nat_le at (length file.bytes) then becomes (with_file room place (written file at bytes)) else stays room Beyond))
+      ≡ at_place room found (λ place file. if nat_le at (length file.bytes) then becomes (with_file room place (written file at bytes)) else stays room Beyond))
   at_its_place room None = inr refl
   at_its_place room (Some place) = at_file room place (slice_get room.files place)
 
@@ -44,7 +45,7 @@ module _ (folder name : Name) (at : ℕ) (bytes part : List ℕ) where
       elim (has_folder room folder) as (λ b.
       ((if b then at_place room (place_of room folder name) (λ place file. if nat_le at (length file.bytes) then becomes (with_file room place (written file at bytes)) else stays room Beyond) else stays room NoFolder).answer ≡ Made)
       ⊎ ((if b then at_place room (place_of room folder name) (λ place file. if nat_le at (length file.bytes) then becomes (with_file room place (written file at part)) else stays room Beyond) else stays room NoFolder)
-        ≡ (if b then at_place room (place_of room folder name) (λ place file. if nat_le at (length file.bytes) then becomes (with_file room place (written file at bytes)) else stays room Beyond) else stays room NoFolder))) [
+      ≡ (if b then at_place room (place_of room folder name) (λ place file. if nat_le at (length file.bytes) then becomes (with_file room place (written file at bytes)) else stays room Beyond) else stays room NoFolder))) [
         | true ↦ rest
         | false ↦ inr refl
       ]
@@ -56,9 +57,9 @@ module _ (folder name : Name) (at : ℕ) (bytes part : List ℕ) where
   of_room tree n (Some room) = elim (in_room room) as (λ _.
       ((or_no_room tree n (λ r. bytes_written r folder name at bytes) (Some room)).answer ≡ Made)
       ⊎ ((or_no_room tree n (λ r. bytes_written r folder name at part) (Some room)).tree ≡ (or_no_room tree n (λ r. bytes_written r folder name at bytes) (Some room)).tree)) [
-    | inl made ↦ inl made
-    | inr same ↦ inr (ap (λ o. (room_after tree n o).tree) same)
-  ]
+        | inl made ↦ inl made
+        | inr same ↦ inr (ap (λ o. (room_after tree n o).tree) same)
+      ]
 
   -- it is made, or changes what any other bytes do
   of_tree : (tree : Tree) (n : ℕ) → ((effect tree (write_at n folder name at bytes)).answer ≡ Made) ⊎ (tree_after tree (write_at n folder name at part) ≡ tree_after tree (write_at n folder name at bytes))

@@ -9,9 +9,9 @@ use Rattle.mount_model.specs.declared.reply.Refusal.{Refusal}
 use Rattle.mount_model.specs.declared.reply.Reply.{Reply}
 use Rattle.mount_model.specs.State.{State}
 use Rattle.mount_model.specs.Table.{row_of, rank, only, held_by, writer_of}
-use Rattle.mount_model.specs.Entering.{enter_check}
+use Rattle.mount_model.specs.Entering.{serial_check, enter_check}
 use Rattle.mount_model.specs.Writing.{write_check}
-use Rattle.mount_model.specs.Making.{OnWriter, UnlessRefused}
+use Rattle.mount_model.specs.Making.{room_check, or_reason, OnWriter, UnlessRefused}
 use Rattle.mount_model.specs.Stopping.{Stops}
 use Rattle.mount_model.specs.Step.{Answers, IsStep}
 use Rattle.mount_model.proofs.Tables.{alike, apart, row_of_id}
@@ -87,11 +87,16 @@ not_below a b t = grind (arith, nat_tests)
 above : (a b : ℕ) → nat_le a b ≡ false → b < a
 above a b t = grind (arith, nat_tests)
 
+neither_reason : (first other : Option Refusal) → or_reason first other ≡ None → (first ≡ None) × (other ≡ None)
+neither_reason None other e = (refl, e)
+neither_reason (Some why) other e = absurd (cc)
+
 -- the room is no marks' room, and there is a serial left
 pub may_enter : (old : State) (room : ℕ) → enter_check old room ≡ None → (room ≡ old.marks → ⊥) × (old.serial < 2 ^ 32 - 1)
 may_enter old room e =
-    let first = unless (nat_eq room old.marks) _ _ e in
-    let second = unless (nat_le (2 ^ 32 - 1) old.serial) _ _ first.1 in
+    let parts = neither_reason (room_check old room) (serial_check old) e in
+    let first = unless (nat_eq room old.marks) _ _ parts.0 in
+    let second = unless (nat_le (2 ^ 32 - 1) old.serial) _ _ parts.1 in
     (apart room old.marks first.0, above (2 ^ 32 - 1) old.serial second.0)
 
 -- a write that is not too far, may have a stamp, and has a place in the buffer

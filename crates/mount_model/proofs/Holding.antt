@@ -14,7 +14,7 @@ use Rattle.mount_model.specs.declared.call.Ask.{Ask}
 use Rattle.mount_model.specs.declared.reply.Refusal.{Refusal}
 use Rattle.mount_model.specs.declared.reply.Reply.{Reply}
 use Rattle.mount_model.specs.State.{State, Table, drawn, timed}
-use Rattle.mount_model.specs.Making.{Told, Outcome, Makes, OnWriter, UnlessRefused}
+use Rattle.mount_model.specs.Making.{Told, CallOutcome, MakesAct, OnWriter, UnlessRefused}
 use Rattle.mount_model.specs.Entering.{EntersAs, enter_check, entered}
 use Rattle.mount_model.specs.Flooring.{FloorOutcome}
 use Rattle.mount_model.specs.Writing.{WritesAt, stamp_at}
@@ -40,7 +40,7 @@ with_table : (old : Table) (table : Table) (new : State) → new.table ≡ table
 with_table old table new e k = record { holders = ap (λ (t : Table). t.holders) e ∙ k.holders; flattenings = ap (λ (t : Table). t.flattenings) e ∙ k.flattenings }
 
 module _ (old : State) (reply : Reply) (new : State) where
-  by_act : (step : Step) (outcome : Told → Outcome) (from : State) → ((told : Told) → KeepsHolders old.table (outcome told).table) → Makes step outcome from reply new → KeepsHolders old.table new.table
+  by_act : (step : Step) (outcome : Told → CallOutcome) (from : State) → ((told : Told) → KeepsHolders old.table (outcome told).table) → MakesAct step outcome from reply new → KeepsHolders old.table new.table
   by_act step outcome from keeps m = with_table old.table (outcome m.told).table new (ap (λ (s : State). s.table) m.after) (keeps m.told)
 
   by_writer : (caller : ℕ) (stages : Stage → Bool) (id : ℕ) (does : Row → Type 0) → OnWriter caller stages id old reply new does → ((row : Row) → does row → KeepsHolders old.table new.table) → KeepsHolders old.table new.table
@@ -50,10 +50,7 @@ module _ (old : State) (reply : Reply) (new : State) where
   by_check check does on keeps = unless_refused check old reply new does (KeepsHolders old.table new.table) on (as_before old new) (λ none. keeps)
 
   entering : (caller room host most : ℕ) → EntersAs caller room host most old reply new → KeepsHolders old.table new.table
-  entering caller room host most e = elim (e.does) as (λ _. KeepsHolders old.table new.table) [
-    | inl makes ↦ by_act _ _ (drawn old) (table.enter_table (KeepsHolders old.table) old.table (same old.table) (entered old caller room host most) (record { holders = refl; flattenings = refl })) makes
-    | inr (no_memory, is) ↦ with_table old.table old.table new (ap (λ (s : State). s.table) is) (same old.table)
-  ]
+  entering caller room host most e = by_act _ _ (drawn old) (table.enter_table (KeepsHolders old.table) old.table (same old.table) (entered old caller room host most) (record { holders = refl; flattenings = refl })) e.makes
 
   floor_told : (row : Row) (after : Table) (told : Told) → FloorOutcome row old.table told reply after → KeepsHolders old.table after
   floor_told row after (Ok (Names names)) o = elim o as (λ _. KeepsHolders old.table after) [

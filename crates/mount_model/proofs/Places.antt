@@ -12,7 +12,7 @@ use Rattle.mount_model.specs.declared.call.Ask.{Ask}
 use Rattle.mount_model.specs.declared.reply.Refusal.{Refusal}
 use Rattle.mount_model.specs.declared.reply.Reply.{Reply}
 use Rattle.mount_model.specs.State.{State, Table, drawn, timed}
-use Rattle.mount_model.specs.Making.{Told, Outcome, Makes, OnWriter, UnlessRefused}
+use Rattle.mount_model.specs.Making.{Told, CallOutcome, MakesAct, OnWriter, UnlessRefused}
 use Rattle.mount_model.specs.Finding.{NamesRooms}
 use Rattle.mount_model.specs.Entering.{EntersAs, enter_check}
 use Rattle.mount_model.specs.Flooring.{FloorsRow}
@@ -32,7 +32,7 @@ place_as old new e = record {
 }
 
 -- a call whose act is made once serials were drawn, or the clock asked
-pub makes_place : (step : Step) (outcome : Told → Outcome) (old from : State) (reply : Reply) (new : State) → KeepsPlace old from → Makes step outcome from reply new → KeepsPlace old new
+pub makes_place : (step : Step) (outcome : Told → CallOutcome) (old from : State) (reply : Reply) (new : State) → KeepsPlace old from → MakesAct step outcome from reply new → KeepsPlace old new
 makes_place step outcome old from reply new k m = record {
   opened = ap (λ (s : State). s.opened) m.after ∙ k.opened;
   marks = ap (λ (s : State). s.marks) m.after ∙ k.marks;
@@ -49,7 +49,7 @@ timed_place times old = record { opened = refl; marks = refl; mount = refl; seri
 same_place : (old : State) → KeepsPlace old old
 same_place old = place_as old old refl
 
-made_place : (step : Step) (outcome : Told → Outcome) (old : State) (reply : Reply) (new : State) → Makes step outcome old reply new → KeepsPlace old new
+made_place : (step : Step) (outcome : Told → CallOutcome) (old : State) (reply : Reply) (new : State) → MakesAct step outcome old reply new → KeepsPlace old new
 made_place step outcome old reply new m = makes_place step outcome old old reply new (same_place old) m
 
 rooms_place : (old : State) (reply : Reply) (new : State) → NamesRooms old reply new → KeepsPlace old new
@@ -61,10 +61,7 @@ rooms_place old reply new n = record {
 }
 
 enter_place : (caller room host cap : ℕ) (old : State) (reply : Reply) (new : State) → EntersAs caller room host cap old reply new → KeepsPlace old new
-enter_place caller room host cap old reply new e = elim (e.does) as (λ _. KeepsPlace old new) [
-  | inl makes ↦ makes_place _ _ old (drawn old) reply new (drawn_place old) makes
-  | inr (no_memory, is) ↦ subst (KeepsPlace old) (sym is) (drawn_place old)
-]
+enter_place caller room host cap old reply new e = makes_place _ _ old (drawn old) reply new (drawn_place old) e.makes
 
 floor_place : (row : Row) (old : State) (reply : Reply) (new : State) → FloorsRow row old reply new → KeepsPlace old new
 floor_place row old reply new f = record {

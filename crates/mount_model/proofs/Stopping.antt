@@ -19,9 +19,9 @@ use Rattle.mount_model.specs.declared.reply.Reply.{Reply}
 use Rattle.mount_model.specs.declared.reply.Reply.TheVariants.{Fault, NoMemory}
 use Rattle.mount_model.specs.Table.{row_of, writer_of, only, may_close, is_live, at_stage, with_row}
 use Rattle.mount_model.specs.State.{State, Table, put, drawn, timed}
-use Rattle.mount_model.specs.Making.{Told, Outcome, Makes, Refuses, OnWriter, UnlessRefused}
+use Rattle.mount_model.specs.Making.{Told, CallOutcome, MakesAct, Refuses, room_check, OnWriter, UnlessRefused}
 use Rattle.mount_model.specs.Finding.{find_outcome, make_outcome}
-use Rattle.mount_model.specs.Looking.{room_check, look_outcome, look_step}
+use Rattle.mount_model.specs.Looking.{look_outcome, look_step}
 use Rattle.mount_model.specs.Building.{build_outcome, hostdir_step, index_step, log_step}
 use Rattle.mount_model.specs.Writing.{write_check, write_step, write_outcome, stamp_at}
 use Rattle.mount_model.specs.Flushing.{FlushesRow, flush_step, flush_outcome, sync_log_step, sync_log_outcome, sync_index_step, sync_index_outcome}
@@ -30,7 +30,7 @@ use Rattle.mount_model.specs.Leaving.{closing, put_meta_check, put_meta_step, pu
 use Rattle.mount_model.specs.Paths.{truncs, new_folders, new_files, index_path, log_path}
 use Rattle.container_layout.specs.Paths.{hostdir_of}
 use Rattle.mount_model.specs.Acting.{unless, flush_act, act_of}
-use Rattle.mount_model.specs.Stopping.{part_of, ended, without_caller, drawn_unless, begun, MakesPart, IsEndedBy, IsWellTyped, Stops}
+use Rattle.mount_model.specs.Stopping.{part_of, row_ended, without_caller, drawn_unless, begun, MakesPart, IsEndedBy, IsWellTyped, Stops}
 use Rattle.mount_model.specs.Step.{Answers}
 use Rattle.mount_model.specs.Stopped.{IsCutShort, StopsShort, IsLeftBy}
 use Rattle.mount_model.proofs.Deciding.{IsHeld, is_held}
@@ -39,16 +39,16 @@ use Rattle.mount_model.proofs.Broken.{failed, part_fails}
 
 -- ---- the table of a caller at its end
 
-ended_own : (caller : ℕ) (s : Stage) (row : Row) → row.owner ≡ caller → ended caller (at_stage s row) ≡ ended caller row
+ended_own : (caller : ℕ) (s : Stage) (row : Row) → row.owner ≡ caller → row_ended caller (at_stage s row) ≡ row_ended caller row
 ended_own caller s row own =
     let t : nat_eq row.owner caller ≡ true = subst (λ c. nat_eq row.owner c ≡ true) own (itself row.owner) in
     rw t refl
 
-ended_rows : (caller : ℕ) (new row : Row) (rows : List Row) → row_of new.id rows ≡ Some row → ended caller new ≡ ended caller row → map (ended caller) (with_row new rows) ≡ map (ended caller) rows
+ended_rows : (caller : ℕ) (new row : Row) (rows : List Row) → row_of new.id rows ≡ Some row → row_ended caller new ≡ row_ended caller row → map (row_ended caller) (with_row new rows) ≡ map (row_ended caller) rows
 ended_rows caller new row [] found same = refl
-ended_rows caller new row (x ∷ rows) found same = elim (nat_eq x.id new.id) as (λ b. (if b then Some x else row_of new.id rows) ≡ Some row → map (ended caller) (if b then new ∷ rows else x ∷ with_row new rows) ≡ map (ended caller) (x ∷ rows)) [
-  | true ↦ λ f. let is : row ≡ x = cc in ap (λ (r : Row). r ∷ map (ended caller) rows) (same ∙ ap (ended caller) is)
-  | false ↦ λ f. ap (λ (rs : List Row). ended caller x ∷ rs) (ended_rows caller new row rows f same)
+ended_rows caller new row (x ∷ rows) found same = elim (nat_eq x.id new.id) as (λ b. (if b then Some x else row_of new.id rows) ≡ Some row → map (row_ended caller) (if b then new ∷ rows else x ∷ with_row new rows) ≡ map (row_ended caller) (x ∷ rows)) [
+  | true ↦ λ f. let is : row ≡ x = cc in ap (λ (r : Row). r ∷ map (row_ended caller) rows) (same ∙ ap (row_ended caller) is)
+  | false ↦ λ f. ap (λ (rs : List Row). row_ended caller x ∷ rs) (ended_rows caller new row rows f same)
 ] found
 
 -- its writer's stage is told no more
@@ -86,8 +86,8 @@ made_is : (made step : Step) → Some made ≡ Some step → made ≡ step
 made_is made step e = cc
 
 -- a call whose act was answered a fault
-struck_by : (step : Step) (outcome : Told → Outcome) (from : State) (store : Stored) → Acts step from.store store (Err trouble.Fault) → (outcome (Err trouble.Fault)).reply ≡ Fault
-    → Makes step outcome from Fault (record from { store = store; table = (outcome (Err trouble.Fault)).table })
+struck_by : (step : Step) (outcome : Told → CallOutcome) (from : State) (store : Stored) → Acts step from.store store (Err trouble.Fault) → (outcome (Err trouble.Fault)).reply ≡ Fault
+    → MakesAct step outcome from Fault (record from { store = store; table = (outcome (Err trouble.Fault)).table })
 struck_by step outcome from store made is = record { told = Err trouble.Fault; made = made; answered = sym is; after = refl }
 
 on_row : (caller : ℕ) (stages : Stage → Bool) (id : ℕ) (old : State) (reply : Reply) (new : State) (does : Row → Type 0) (row : Row) → writer_of caller stages id old.table.writers ≡ Some row → does row → OnWriter caller stages id old reply new does
@@ -107,10 +107,10 @@ module _ (old : State) (caller : ℕ) (step : Step) (store : Stored) (made : Act
   made_as its is = subst (λ s. Acts s old.store store (Err trouble.Fault)) (sym is) made
 
   -- a call with one line for a fault, after which its writer's stage may be another
-  row_strikes : (stages : Stage → Bool) (id : ℕ) (its : Row → Step) (outcome : Row → Told → Outcome) (call : Call) → (begun old call ≡ old)
+  row_strikes : (stages : Stage → Bool) (id : ℕ) (its : Row → Step) (outcome : Row → Told → CallOutcome) (call : Call) → (begun old call ≡ old)
       → ((row : Row) → (outcome row (Err trouble.Fault)).reply ≡ Fault)
       → ((row : Row) → IsHeld caller stages id old.table.writers row → without_caller caller (outcome row (Err trouble.Fault)).table ≡ without_caller caller old.table)
-      → ((row : Row) → writer_of caller stages id old.table.writers ≡ Some row → Makes (its row) (outcome row) old Fault (record old { store = store; table = (outcome row (Err trouble.Fault)).table }) → Answers old caller call Fault (record old { store = store; table = (outcome row (Err trouble.Fault)).table }))
+      → ((row : Row) → writer_of caller stages id old.table.writers ≡ Some row → MakesAct (its row) (outcome row) old Fault (record old { store = store; table = (outcome row (Err trouble.Fault)).table }) → Answers old caller call Fault (record old { store = store; table = (outcome row (Err trouble.Fault)).table }))
       → (row : Row) → writer_of caller stages id old.table.writers ≡ Some row → its row ≡ step → Strikes old caller call store
   row_strikes stages id its outcome call whole faults ends answers row found is = record {
     times = old.times;
@@ -127,7 +127,7 @@ module _ (old : State) (caller : ℕ) (step : Step) (store : Stored) (made : Act
         times = old.times;
         table = old.table;
         answers = subst (λ (check : Option Refusal). MatchOption check (EntersAs caller room host most old Fault (struck (drawn_unless check old) store old.times old.table)) (λ why. Refuses why old Fault (struck (drawn_unless check old) store old.times old.table))) (sym none)
-            (record { host_fits = fits; does = inl (struck_by (enter_step old room host) (enter_outcome (entered old caller room host most) old.table) (drawn old) store (made_as (enter_step old room host) is) refl) });
+            (record { host_fits = fits; makes = struck_by (enter_step old room host) (enter_outcome (entered old caller room host most) old.table) (drawn old) store (made_as (enter_step old room host) is) refl });
         same = refl;
       }
 
@@ -138,13 +138,13 @@ module _ (old : State) (caller : ℕ) (step : Step) (store : Stored) (made : Act
         times = None;
         table = old.table;
         answers = on_row caller (only stage.Open) writer old Fault _ _ row found (on_none (write_check row at (length block)) old Fault _ _ none (record {
-              some = some;
-              time = 0;
-              times = None;
-              in_range = omega arith;
-              ticks = subst (λ (times : Option (List ℕ)). Ticks times None 0) (sym untold) refl;
-              makes = struck_by (write_step row block) (write_outcome (stamp_at 0 row) row at (length block) old.table) (timed None old) store (made_as (write_step row block) is) refl;
-            }));
+          some = some;
+          time = 0;
+          times = None;
+          in_range = omega arith;
+          ticks = subst (λ (times : Option (List ℕ)). Ticks times None 0) (sym untold) refl;
+          makes = struck_by (write_step row block) (write_outcome (stamp_at 0 row) row at (length block) old.table) (timed None old) store (made_as (write_step row block) is) refl;
+        }));
         same = refl;
       }
 
@@ -215,14 +215,14 @@ module _ (old : State) (caller : ℕ) (step : Step) (store : Stored) (made : Act
 
 -- a call that made no act, or none that was told
 enter_begins : (old : State) (caller room host most : ℕ) → host < 2 ^ 32 → (check : Option Refusal) → check ≡ enter_check old room → IsCutShort old caller (Enter room host most) (drawn_unless check old)
-enter_begins old caller room host most fits None is = inr (NoMemory, inr refl, on_none (enter_check old room) old NoMemory (drawn old) _ (sym is) (record { host_fits = fits; does = inr (refl, refl) }))
+enter_begins old caller room host most fits None is = inr (NoMemory, inr refl, on_none (enter_check old room) old NoMemory (drawn old) _ (sym is) (record { host_fits = fits; makes = record { told = Err trouble.NoMemory; made = refl; answered = refl; after = refl } }))
 enter_begins old caller room host most fits (Some why) is = inl refl
 
 begins : (old : State) (caller : ℕ) (call : Call) → IsWellTyped call → IsCutShort old caller call (begun old call)
 begins old caller (Enter room host most) typed = enter_begins old caller room host most typed (enter_check old room) refl
 begins old caller call typed = inl refl
 
-begun_store : (old : State) (call : Call) → (begun old call).store ≡ old.store
+pub begun_store : (old : State) (call : Call) → (begun old call).store ≡ old.store
 begun_store old (Enter room host most) = of_check (enter_check old room)
   where
     of_check : (check : Option Refusal) → (drawn_unless check old).store ≡ old.store
@@ -230,7 +230,7 @@ begun_store old (Enter room host most) = of_check (enter_check old room)
     of_check (Some why) = refl
 begun_store old call = refl
 
-begun_table : (old : State) (call : Call) → (begun old call).table ≡ old.table
+pub begun_table : (old : State) (call : Call) → (begun old call).table ≡ old.table
 begun_table old (Enter room host most) = of_check (enter_check old room)
   where
     of_check : (check : Option Refusal) → (drawn_unless check old).table ≡ old.table

@@ -11,7 +11,8 @@ use Rattle.mount_model.specs.declared.reply.Refusal.{Refusal}
 use Rattle.mount_model.specs.Paths.{new_folders, new_files, truncs}
 use Rattle.mount_model.specs.Table.{only, may_close, is_live, writer_of}
 use Rattle.mount_model.specs.State.{State}
-use Rattle.mount_model.specs.Looking.{room_check, look_step}
+use Rattle.mount_model.specs.Making.{room_check}
+use Rattle.mount_model.specs.Looking.{look_step}
 use Rattle.mount_model.specs.Entering.{enter_check, enter_step}
 use Rattle.mount_model.specs.Building.{hostdir_step, index_step, log_step}
 use Rattle.mount_model.specs.Writing.{write_check, write_step}

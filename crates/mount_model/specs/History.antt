@@ -32,5 +32,5 @@ abbrev pub state_after : State → List Event → State
 state_after start events = history.state_after start events
 
 -- the tree that the store tells after them
-abbrev pub tree_after : State → List Event → Option Tree
-tree_after start events = (state_after start events).store.tree
+abbrev pub told_tree_after : State → List Event → Option Tree
+told_tree_after start events = (state_after start events).store.tree

@@ -7,7 +7,7 @@ use Rattle.mount_model.specs.declared.reply.Reply.{Reply}
 use Rattle.mount_model.specs.declared.reply.Reply.TheVariants.{Greeted}
 use Rattle.mount_model.specs.State.{State}
 use Rattle.mount_model.specs.Finding.{Finds, MakesContainer, NamesRooms}
-use Rattle.mount_model.specs.Looking.{Looks}
+use Rattle.mount_model.specs.Looking.{LooksAt}
 use Rattle.mount_model.specs.Entering.{Enters}
 use Rattle.mount_model.specs.Flooring.{Floors}
 use Rattle.mount_model.specs.Building.{MakesHostdir, MakesIndex, MakesLog}
@@ -22,7 +22,7 @@ Answers old caller Greet reply new = (reply ≡ Greeted) × (new ≡ old)
 Answers old caller (Find name) reply new = Finds name old reply new
 Answers old caller (MakeContainer name) reply new = MakesContainer name old reply new
 Answers old caller Rooms reply new = NamesRooms old reply new
-Answers old caller (Look room look) reply new = Looks room look old reply new
+Answers old caller (Look room look) reply new = LooksAt room look old reply new
 Answers old caller (Enter room host cap) reply new = Enters caller room host cap old reply new
 Answers old caller (Floor writer) reply new = Floors caller writer old reply new
 Answers old caller (MakeHostdir writer) reply new = MakesHostdir caller writer old reply new

@@ -30,13 +30,13 @@ abbrev pub part_made : ℕ → State → ℕ → Call → Option Step
 part_made k old caller call = option_and_then (part_of k) (act_of old caller call)
 
 -- the row is dead where it is the caller's
-abbrev pub ended : ℕ → Row → Row
-ended caller row = if row.owner == caller then at_stage stage.Dead row else row
+abbrev pub row_ended : ℕ → Row → Row
+row_ended caller row = if row.owner == caller then at_stage stage.Dead row else row
 
 -- the caller's writers are dead, and its holders and flattenings are gone
 abbrev pub without_caller : ℕ → Table → Table
 without_caller caller table = record {
-  writers = map (ended caller) table.writers;
+  writers = map (row_ended caller) table.writers;
   holders = filter (λ (h : Holder). not (h.owner == caller)) table.holders;
   flattenings = filter (λ (f : Flattening). not (f.owner == caller)) table.flattenings;
 }

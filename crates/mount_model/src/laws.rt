@@ -8,6 +8,7 @@ ghost use Rattle.mount_model.specs.Step.{IsOwed, IsStep};
 ghost use Rattle.mount_model.specs.Regular.{IsRegular};
 ghost use Rattle.mount_model.specs.Places.{KeepsPlace};
 ghost use Rattle.mount_model.specs.Replies.{FitsAsk, HasItsCause};
+ghost use Rattle.mount_model.specs.Unchanged.{IsGivenUp, ChangesNothing};
 ghost use Rattle.mount_model.specs.Mounting.{IsMounted};
 ghost use Rattle.mount_model.specs.Stopping.{Stops};
 ghost use Rattle.mount_model.specs.Stopped.{IsLeftBy};
@@ -32,6 +33,12 @@ pub fn place_lasts()
 /// Each reply is one that its call has; a call that is broken off is answered so, or by want of memory.
 pub fn replies_fit()
     ensures { (old new : State) (caller : ℕ) (ask : Ask) (reply : Reply) → IsStep old caller ask reply new → FitsAsk ask reply }
+{}
+
+/// Where a call is refused or wants memory, the tree that the store tells is as it was, and so is the table: only a writer
+/// whose metadata dropping's room was told not to be there may only leave from then on.
+pub fn a_refusal_changes_nothing()
+    ensures { (old new : State) (caller : ℕ) (ask : Ask) (reply : Reply) → IsStep old caller ask reply new → IsGivenUp reply → ChangesNothing caller ask.call old reply new }
 {}
 
 /// The store's count of faults never falls, and a fault is answered only where it rose in this step.

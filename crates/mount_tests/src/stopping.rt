@@ -11,7 +11,7 @@ use std::test::Fail;
 use store_api::Answer;
 
 // The call is broken off after so many bytes.
-fn stopped(rt: &impl Abort, mount: &mut Tried, caller: u64, call: Call, bytes: u64)
+pub(crate) fn stopped(rt: &impl Abort, mount: &mut Tried, caller: u64, call: Call, bytes: u64)
     requires { OwedBy call }
 {
     let ask = Ask {

@@ -8,7 +8,9 @@ use Rattle.mount_core.proofs.roster.Roster.end.Goals as goal
 
 pub invariant_of-self : goal.invariant_of-self
 invariant_of-self c =
-    rw (c.end_rows.ensures) (ended_keeps c.args.caller (the_view c.self.inside) _ _ c.self.invariant)
+    let holders = filter_same _ (λ (h : Holder). not (h.owner == c.args.caller)) _ (λ x b f' k. search rules) _ _ c.retain.ensures.filtered in
+    let flattenings = filter_same _ (λ (f : Flattening). not (f.owner == c.args.caller)) _ (λ x b f' k. search rules) _ _ c.retain-2.ensures.filtered in
+    rw (c.end_rows.ensures) (ended_keeps c.args.caller (the_view c.self.inside) _ _ holders flattenings c.self.invariant)
 
 pub returns : goal.returns
 returns c =
