@@ -8,13 +8,12 @@ use Rattle.plain_file.specs.Shows.{truncs_of}
 use Rattle.plain_file.specs.Runs.{ArePieces, ArePiecesOf}
 use Rattle.plain_file.specs.Size.{size_from}
 use Rattle.plain_file.specs.Logs.{IsLogged}
-use Rattle.plain_file.proofs.OrderLemmas.{Among}
-use Rattle.plain_file.proofs.SizeLemmas.{size-from_pieces}
+use Rattle.plain_file.proofs.Facts.{Among, size-from_pieces}
 use Rattle.read_plan.specs.declared.part.Part.{Part}
 use Rattle.read_plan.specs.declared.part.Part.TheVariants.{Hole, From}
 use Rattle.read_plan.specs.Parts.{spelled}
 use Rattle.read_plan.specs.Plan.{plan_of}
-use Rattle.read_plan.proofs.PlanLemmas.{spelled-plan}
+use Rattle.read_plan.proofs.Facts.{spelled-plan}
 use Rattle.mount_model.specs.Paths.{log_path}
 use Rattle.mount_sound.specs.Ledger.{entries_in, content}
 use Rattle.gathering.specs.Moments.{Moment, IsSoundAt, Dropping, Stood, issued_by, Grows}

@@ -1,7 +1,6 @@
 -- Bounds on what has landed: what a flush or a sync told, and what was issued at the last flush.
-use Rattle.std.proofs.Common.{◌≡◌, ℕ, ◌≤◌, ◌<◌, ◌^◌, true, false, nat_eq, List, [], ◌∷◌, ◌++◌, length, min, Option, Some, None, refl, ap, sym, ◌∙◌, ◌⊎◌, inl, inr, subst, arith, length-append}
-use Rattle.std.specs.Prelude.{Ok, Err, MatchOption, ◌&&◌, if◌then◌else◌}
-use Rattle.std.proofs.lemmas.Bool.Decides.{nat_tests}
+use Rattle.std.proofs.Common.{◌≡◌, ℕ, ◌≤◌, false, List, [], ◌∷◌, length, min, Option, Some, None, refl, ap, sym, ◌∙◌, inl, inr, subst, arith, length-append}
+use Rattle.std.specs.Prelude.{Ok, Err, MatchOption}
 use Rattle.std.specs.List.{Any}
 use Rattle.plfs_types.specs.declared.entries.Entry.{Entry}
 use Rattle.plfs_types.specs.declared.entries.Trunc.{Trunc}
@@ -9,46 +8,39 @@ use Rattle.store_api.specs.Room.{is_top}
 use Rattle.store_api.specs.declared.step.Answer.TheVariants.{Made, NoRoom, NoFolder}
 use Rattle.store_api.specs.declared.store.Trouble.TheVariants.{Fault, NoMemory}
 use Rattle.store_laws.specs.Files.{file_at}
-use Rattle.plain_file.proofs.OrderLemmas.{Among}
+use Rattle.plain_file.proofs.Facts.{Among}
 use Rattle.mount_model.specs.declared.call.Call.TheVariants.{Write, Flush, SyncIndex}
 use Rattle.mount_model.specs.declared.call.Call.{Call}
 use Rattle.mount_model.specs.declared.reply.Reply.{Reply}
 use Rattle.mount_model.specs.declared.reply.Reply.TheVariants.{Wrote, Flushed, Synced}
 use Rattle.mount_model.specs.declared.reply.Refusal.TheVariants.{NotOpen}
 use Rattle.mount_model.specs.declared.row.Row.{Row}
-use Rattle.mount_model.specs.declared.row.Stage.TheVariants as stage
-use Rattle.mount_model.specs.Paths.{open_path, index_path, trunc_path}
+use Rattle.mount_model.specs.Paths.{index_path, trunc_path}
 use Rattle.mount_model.specs.State.{State, Table}
 use Rattle.mount_model.specs.Table.{row_of, with_row, writer_of, only, rank}
-use Rattle.mount_model.specs.Making.{Told, Makes, OnWriter, Refuses, UnlessRefused}
+use Rattle.mount_model.specs.Making.{Told, MakesAct, OnWriter, Refuses, UnlessRefused}
 use Rattle.mount_model.specs.Writing.{write_check, WritesAt}
 use Rattle.mount_model.specs.Flushing.{flushed, flush_outcome, FlushesRow, index_synced, sync_index_step, sync_index_outcome}
 use Rattle.mount_model.specs.Step.{Answers, IsStep}
 use Rattle.mount_model.specs.History.{Event, IsLawful}
-use Rattle.mount_sound.specs.Ledger.{Written, entries_in, Ledger}
-use Rattle.mount_sound.specs.Issued.{with_write, written_by, noted, issued_after}
-use Rattle.mount_sound.proofs.Growing.{call_issues}
+use Rattle.mount_sound.specs.Ledger.{entries_in}
+use Rattle.mount_sound.proofs.Facts.{call_issues, Fits, all_fit, live_stage, one_row}
 use Rattle.index_entry.specs.Spelling.{spelling_all}
-use Rattle.index_entry.proofs.Spelled.{length-spelling_all}
-use Rattle.store_laws.proofs.Overwriting.{prefix_length}
+use Rattle.index_entry.proofs.Facts.{length-spelling_all}
+use Rattle.store_laws.proofs.Facts.{prefix_length}
 use Rattle.store_api.specs.declared.tree.Room.{Room}
 use Rattle.mount_sound.specs.Dropping.{bytes_of, IsWriter}
 use Rattle.mount_sound.specs.Kept.{Begins, IsAtStage, IsKept}
-use Rattle.mount_sound.proofs.Frames.{Fits}
-use Rattle.mount_sound.proofs.Making.{all_fit}
-use Rattle.mount_sound.proofs.Stages.{live_stage}
-use Rattle.mount_sound.proofs.Tables.{one_row}
-use Rattle.mount_model.proofs.Deciding.{match_cases, is_held, at_only}
-use Rattle.mount_model.proofs.Tables.{row_of_id, row_of-with_row}
+use Rattle.mount_model.proofs.Facts.{match_cases, is_held, at_only, row_of_id, row_of-with_row}
 use Rattle.mount_sound.specs.Landed.{whole}
 use Rattle.gathering.specs.Moments.{Moment, IsSoundAt, next_moment, moment_after, file_in_room, file_told, Dropping, IsNamed, issued_by, index_then, landed, HadTrunc, Grows}
 use Rattle.gathering.specs.Gathering.{Gathered, IsPrefixOf}
-use Rattle.gathering.specs.Bounds.{IsOf, LandedAtLeast, IsFlushedIn, IsSyncedIn, Spares, AllSpare}
+use Rattle.gathering.specs.Bounds.{IsOf, LandedAtLeast, IsFlushedIn, IsSyncedIn, SparesIndex, AllSpareIndex}
 use Rattle.gathering.specs.Opening.{HasView}
 use Rattle.gathering.proofs.Gathers.{answers_as}
-use Rattle.gathering.proofs.Growing.{grows_refl, trunc_grows}
+use Rattle.gathering.proofs.Growing.{trunc_grows}
 use Rattle.gathering.proofs.Seeing.{sound_next, grows_after}
-use Rattle.gathering.proofs.Fronts.{stood_grows, stands, length-entries, landed_issued}
+use Rattle.gathering.proofs.Fronts.{stood_grows, length-entries}
 use Rattle.gathering.proofs.Gathers.{landed_grows}
 use Rattle.gathering.proofs.Members.{any_found, found_any}
 use Rattle.gathering.proofs.Answering.{prefix_of}
@@ -122,7 +114,7 @@ sync_told row table (Err NoMemory) n e = absurd (cc)
 
 sync_row : (old : State) (caller writer n : ℕ) (new : State) → Answers old caller (SyncIndex writer) (Synced n) new → CallTold new writer n
 sync_row old caller writer n new f =
-    open_row caller writer old (Synced n) new (λ row. Makes (sync_index_step row) (sync_index_outcome row old.table) old (Synced n) new) f
+    open_row caller writer old (Synced n) new (λ row. MakesAct (sync_index_step row) (sync_index_outcome row old.table) old (Synced n) new) f
     (λ r. absurd (let e = r.0 in cc))
     (λ row is held ready does.
     let t = sync_told row old.table does.told n does.answered in
@@ -200,7 +192,7 @@ flushed_gathered first before end room cut truncs d count legal s view its flush
 
 -- ---------- nothing lands but by the writer's own flushes
 
-step_spares : (m : Moment) (s : IsSoundAt m) (e : Event) (d : Dropping) → IsNamed d → Spares e.ask.call d → IsStep m.state e.caller e.ask e.reply e.after → Same m.state e.after d.room (index_path d.host d.writer)
+step_spares : (m : Moment) (s : IsSoundAt m) (e : Event) (d : Dropping) → IsNamed d → SparesIndex e.ask.call d → IsStep m.state e.caller e.ask e.reply e.after → Same m.state e.after d.room (index_path d.host d.writer)
 step_spares m s e d named spares step =
     step_same m.state e.after e.caller e.ask e.reply s.shape.tree d.room (index_path d.host d.writer) s.shape.told (not_top d.host)
     (λ act is. spares_index m s e.ask.call act d named spares is)
@@ -215,7 +207,7 @@ step_lands_none m e d named s a same = elim (step_issues_or_not m.issued m.state
       omega (arith, ap (λ f. whole (bytes_of f)) same, open_within m s d (index_then m d) named o refl, ap length more.1, length-append (issued_by m d) more.0)
 ]
 
-landed_stays : (m : Moment) (events : List Event) (d : Dropping) → IsNamed d → IsLawful m.state events → IsSoundAt m → AllSpare events d → landed (moment_after m events) d ≡ landed m d
+landed_stays : (m : Moment) (events : List Event) (d : Dropping) → IsNamed d → IsLawful m.state events → IsSoundAt m → AllSpareIndex events d → landed (moment_after m events) d ≡ landed m d
 landed_stays m [] d named legal s spare = refl
 landed_stays m (e ∷ events) d named legal s spare =
     landed_stays (next_moment m e) events d named legal.2 (sound_next m e events legal s) spare.1
@@ -226,7 +218,7 @@ landed_within : (m : Moment) (s : IsSoundAt m) (d : Dropping) (file : Option (Li
 landed_within m s d file named e = omega arith
 
 -- No more of a writer has landed than it had issued when it last was flushed.
-pub landed_most : (m : Moment) (events : List Event) (d : Dropping) → IsNamed d → IsLawful m.state events → IsSoundAt m → AllSpare events d → landed (moment_after m events) d ≤ length (issued_by m d)
+pub landed_most : (m : Moment) (events : List Event) (d : Dropping) → IsNamed d → IsLawful m.state events → IsSoundAt m → AllSpareIndex events d → landed (moment_after m events) d ≤ length (issued_by m d)
 landed_most m events d named legal s spare = omega (arith, landed_stays m events d named legal s spare, landed_within m s d (index_then m d) named refl)
 
 -- ---------- no truncate comes

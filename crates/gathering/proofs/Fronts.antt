@@ -6,19 +6,19 @@ use Rattle.std.proofs.Math.Seq.{take-add}
 use Rattle.plfs_types.specs.declared.entries.Entry.{Entry}
 use Rattle.plfs_types.specs.declared.names.Path.{Path}
 use Rattle.index_entry.specs.Spelling.{spelling_all}
-use Rattle.index_entry.proofs.Spelled.{spelling_all-append, length-spelling_all}
+use Rattle.index_entry.proofs.Facts.{spelling_all-append, length-spelling_all}
 use Rattle.container_layout.specs.declared.items.Item.TheVariants.{Index}
 use Rattle.store_api.specs.declared.tree.Room.{Room}
 use Rattle.store_api.specs.declared.tree.Tree.{Tree}
 use Rattle.store_laws.specs.Files.{file_at}
 use Rattle.store_laws.specs.Prefix.{IsPrefix}
-use Rattle.store_laws.proofs.Overwriting.{prefix_rest}
+use Rattle.store_laws.proofs.Facts.{prefix_rest}
 use Rattle.mount_model.specs.Paths.{index_path, log_path}
 use Rattle.mount_sound.specs.Ledger.{Written, entries_in, content}
 use Rattle.mount_sound.specs.Items.{HasItem}
 use Rattle.mount_sound.specs.Dropping.{bytes_of, log_bytes, IsWriter}
 use Rattle.mount_sound.specs.Landed.{HasLanded, whole}
-use Rattle.mount_sound.proofs.HasLanded.{landed_was_issued}
+use Rattle.mount_sound.proofs.Facts.{landed_was_issued}
 use Rattle.gathering.specs.Moments.{Moment, IsSoundAt, file_in_tree, file_told, file_then, Dropping, IsNamed, Stood, index_then, log_then, issued_by, Grows}
 use Rattle.gathering.proofs.Growing.{in_a_room, index_grows}
 

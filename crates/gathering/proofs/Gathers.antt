@@ -4,9 +4,9 @@ use Rattle.std.proofs.lemmas.Bool.{cases_lt}
 use Rattle.std.proofs.lemmas.List.{take-append-le}
 use Rattle.plfs_types.specs.declared.entries.Entry.{Entry}
 use Rattle.index_entry.specs.Spelling.{spelling_all}
-use Rattle.index_entry.proofs.Spelled.{take-spelling_all}
+use Rattle.index_entry.proofs.Facts.{take-spelling_all}
 use Rattle.store_laws.specs.Prefix.{IsPrefix}
-use Rattle.store_laws.proofs.Overwriting.{prefix_length}
+use Rattle.store_laws.proofs.Facts.{prefix_length}
 use Rattle.mount_model.specs.declared.call.Ask.{Ask}
 use Rattle.mount_model.specs.declared.call.Call.{Call}
 use Rattle.mount_model.specs.declared.reply.Reply.{Reply}
@@ -14,17 +14,13 @@ use Rattle.mount_model.specs.declared.reply.Reply.TheVariants.{Stopped, NoMemory
 use Rattle.mount_model.specs.Paths.{index_path, log_path}
 use Rattle.mount_model.specs.State.{State}
 use Rattle.mount_model.specs.Step.{Answers, IsStep}
-use Rattle.mount_model.proofs.Deciding.{step_cases}
-use Rattle.mount_model.proofs.Replying.{stop_replies}
+use Rattle.mount_model.proofs.Facts.{step_cases, stop_replies}
 use Rattle.mount_sound.specs.Entries.{logged}
 use Rattle.mount_sound.specs.Ledger.{entries_in, content}
 use Rattle.mount_sound.specs.Dropping.{bytes_of, log_bytes}
 use Rattle.mount_sound.specs.Landed.{whole}
-use Rattle.mount_sound.specs.There.{within_log}
-use Rattle.mount_sound.proofs.Fitting.{logged_append}
-use Rattle.mount_sound.proofs.Landing.{logged_take}
-use Rattle.mount_sound.proofs.WriteEntries.{length-content}
-use Rattle.mount_sound.proofs.There.{told_issued, read_in_sound}
+use Rattle.index_entry.specs.Within.{within_log}
+use Rattle.mount_sound.proofs.Facts.{logged_append, logged_take, length-content, told_issued, read_in_sound}
 use Rattle.gathering.specs.Moments.{Moment, IsSoundAt, IsNamed, file_in_room, file_told, index_then, log_then, Dropping, issued_by, landed, HasUnissued, Grows}
 use Rattle.gathering.specs.Seen.{Asked, IsSeenCall, IsSeen}
 use Rattle.gathering.specs.Gathering.{IsRead, IsLogLength, AreReads, Gathered, Gathers, GathersAll, IsPrefixOf, IsAdmissible}
@@ -206,7 +202,7 @@ gathers_one : (caller : ℕ) (start next later end : Moment) (g : Gathered) (ask
 gathers_one caller start next later end g asked gathers call second seen =
     let d : Dropping = g.dropping in
     let named : IsNamed d = gathers.named in
-    let length_is = gathers.length in
+    let length_is = gathers.index_length in
     let t = length_told call.before call.sound caller d.room (index_path d.host d.writer) gathers.told next.state (answers_as call.before.state caller gathers.first.ask _ gathers.first.reply _ next.state length_is.call length_is.reply refl call.answers) in
     let to_second : Grows call.before second.before = grows_trans call.before next second.before call.goes second.waits in
     let to_later : Grows call.before later = grows_trans call.before second.before later to_second second.goes in
@@ -223,7 +219,7 @@ gathers_one caller start next later end g asked gathers call second seen =
       were_issued = omega (arith, count, is.still);
       stands = (let l = index_grows call.before end d t.0 on t.1 in record { is_item = named; bytes = l.0; there = l.1 });
       entries = gathers.content ∙ ap spelling_all is.same ∙ ap (λ n. spelling_all (take n (entries_in (issued_by end d)))) (sym count)
-      ∙ ap spelling_all (sym (none_dropped (take g.count (entries_in (issued_by end d))))) ∙ ap (λ n. spelling_all (drop n (take g.count (entries_in (issued_by end d))))) (sym gathers.covered);
+          ∙ ap spelling_all (sym (none_dropped (take g.count (entries_in (issued_by end d))))) ∙ ap (λ n. spelling_all (drop n (take g.count (entries_in (issued_by end d))))) (sym gathers.covered);
     }
 
 -- The law of one writer.

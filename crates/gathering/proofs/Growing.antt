@@ -3,7 +3,7 @@ use Rattle.std.proofs.Common.{◌≡◌, ℕ, ◌≤◌, List, [], ◌++◌, len
 use Rattle.std.specs.Prelude.{◌≢◌, slice_get}
 use Rattle.std.proofs.lemmas.List.{append-nil}
 use Rattle.plfs_types.specs.declared.names.Path.{Path}
-use Rattle.container_layout.proofs.Places.{elsewhere}
+use Rattle.container_layout.proofs.Facts.{elsewhere}
 use Rattle.store_api.specs.declared.tree.Room.{Room}
 use Rattle.store_api.specs.declared.tree.Tree.{Tree}
 use Rattle.store_laws.specs.Files.{file_at}
@@ -11,7 +11,7 @@ use Rattle.mount_model.specs.Paths.{openhosts, index_path, log_path, trunc_path}
 use Rattle.mount_model.specs.Step.{IsStep}
 use Rattle.mount_model.specs.History.{Event}
 use Rattle.mount_sound.specs.Landed.{whole}
-use Rattle.mount_sound.proofs.Growing.{step_grows as tree_grows, call_issues}
+use Rattle.mount_sound.proofs.Facts.{step_grows as tree_grows, call_issues}
 use Rattle.gathering.specs.Moments.{Moment, next_moment, file_in_room, file_told, Dropping, IsNamed, issued_by, index_then, log_then, HasUnissued, HadTrunc, Grows}
 use Rattle.mount_sound.specs.Dropping.{bytes_of}
 

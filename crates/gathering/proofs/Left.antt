@@ -1,20 +1,19 @@
 -- A dropping that an earlier mount left with entries that don't count stays as it is.
-use Rattle.std.proofs.Common.{◌≡◌, ℕ, ◌≤◌, ◌<◌, ◌^◌, true, false, nat_eq, List, [], ◌∷◌, ◌++◌, length, min, Option, Some, None, refl, ap, sym, ◌∙◌, ◌⊎◌, inl, inr, subst, arith, length-append}
-use Rattle.std.specs.Prelude.{Ok, Err, MatchOption, ◌&&◌, if◌then◌else◌, suc}
+use Rattle.std.proofs.Common.{◌≡◌, ℕ, ◌≤◌, ◌<◌, ◌^◌, true, false, nat_eq, List, [], ◌∷◌, ◌++◌, length, Option, Some, None, refl, ap, sym, ◌∙◌, ◌⊎◌, inl, inr, subst, arith}
+use Rattle.std.specs.Prelude.{MatchOption, ◌&&◌, if◌then◌else◌, suc}
 use Rattle.std.proofs.lemmas.Bool.Decides.{nat_tests}
 use Rattle.plfs_types.specs.declared.entries.Entry.{Entry}
 use Rattle.index_entry.specs.Spelling.{spelling_all}
-use Rattle.index_entry.proofs.Spelled.{length-spelling_all}
+use Rattle.index_entry.proofs.Facts.{length-spelling_all}
 use Rattle.container_layout.specs.declared.items.Item.TheVariants.{Index, Log}
-use Rattle.container_layout.specs.Items.{IsItem}
 use Rattle.container_layout.specs.Paths.{hostdir_of}
-use Rattle.container_layout.proofs.Places.{elsewhere, same_items}
+use Rattle.container_layout.proofs.Facts.{elsewhere, same_items}
 use Rattle.store_api.specs.declared.tree.Room.{Room}
 use Rattle.store_api.specs.Room.{is_top}
 use Rattle.store_api.specs.Step.{Step}
 use Rattle.store_laws.specs.Files.{file_at}
 use Rattle.store_laws.specs.Naming.{NamesFile}
-use Rattle.store_laws.proofs.Overwriting.{prefix_length}
+use Rattle.store_laws.proofs.Facts.{prefix_length}
 use Rattle.mount_model.specs.declared.call.Ask.{Ask}
 use Rattle.mount_model.specs.declared.call.Call.{Call}
 use Rattle.mount_model.specs.declared.call.Call.TheVariants.{Greet, Find, MakeContainer, Rooms, Look, Enter, Floor, MakeHostdir, MakeIndex, MakeLog, Write, Flush, SyncLog, SyncIndex, PutMeta, Exit}
@@ -35,20 +34,15 @@ use Rattle.mount_model.specs.Flushing.{flush_step}
 use Rattle.mount_model.specs.Leaving.{put_meta_step, exit_step}
 use Rattle.mount_model.specs.Step.{Answers, IsStep}
 use Rattle.mount_model.specs.History.{Event}
-use Rattle.mount_model.proofs.Deciding.{match_cases, is_held, at_only, step_cases}
-use Rattle.mount_model.proofs.Tables.{row_of_id}
+use Rattle.mount_model.proofs.Facts.{match_cases, is_held, at_only, step_cases, row_of_id, stop_replies}
 use Rattle.mount_sound.specs.Ledger.{Written, entries_in, Ledger}
 use Rattle.mount_sound.specs.Issued.{with_write, written_by, noted, issued_after}
 use Rattle.mount_sound.specs.Dropping.{bytes_of, IsWriter}
 use Rattle.mount_sound.specs.Kept.{Begins, IsAtStage, IsKept}
 use Rattle.mount_sound.specs.Landed.{whole}
-use Rattle.mount_sound.proofs.Frames.{Fits}
-use Rattle.mount_sound.proofs.Making.{all_fit}
-use Rattle.mount_sound.proofs.Stages.{live_stage}
+use Rattle.mount_sound.proofs.Facts.{Fits, all_fit, live_stage, stop_issues}
 use Rattle.gathering.specs.Moments.{Moment, IsSoundAt, next_moment, Dropping, IsNamed, issued_by, index_then, log_then, HasUnissued}
-use Rattle.gathering.specs.Bounds.{Spares}
-use Rattle.mount_model.proofs.Replying.{stop_replies}
-use Rattle.mount_sound.proofs.Ending.{stop_issues}
+use Rattle.gathering.specs.Bounds.{SparesIndex}
 use Rattle.gathering.proofs.Acting.{IsActOf}
 use Rattle.gathering.proofs.Fronts.{stands, length-entries}
 use Rattle.gathering.proofs.Sparing.{as_its_act, first_byte, step_same, spares_index}

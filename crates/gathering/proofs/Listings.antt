@@ -8,7 +8,7 @@ use Rattle.std.proofs.lemmas.Bool.Decides.{nat_tests}
 use Rattle.plfs_types.specs.declared.names.Path.{Path}
 use Rattle.container_layout.specs.declared.items.Item.TheVariants.{Index}
 use Rattle.container_layout.specs.Paths.{hostdir_of}
-use Rattle.container_layout.proofs.Places.{one_item, elsewhere}
+use Rattle.container_layout.proofs.Facts.{one_item, elsewhere}
 use Rattle.store_api.specs.declared.tree.Room.{Room}
 use Rattle.store_api.specs.declared.step.Answer.TheVariants.{Names}
 use Rattle.store_api.specs.Room.{is_top, has_folder}
@@ -17,7 +17,7 @@ use Rattle.mount_model.specs.declared.call.Call.TheVariants.{Look}
 use Rattle.mount_model.specs.declared.call.Look.TheVariants.{Top, List as ListFolder}
 use Rattle.mount_model.specs.declared.reply.Reply.TheVariants.{Looked}
 use Rattle.mount_model.specs.Paths.{Name, marks_folder, index_path}
-use Rattle.plain_file.proofs.OrderLemmas.{Among}
+use Rattle.plain_file.proofs.Facts.{Among}
 use Rattle.gathering.specs.Moments.{Moment, IsSoundAt, Dropping, IsNamed, Stood, Grows}
 use Rattle.gathering.specs.Seen.{Asked, IsSeenCall, IsSeen}
 use Rattle.gathering.specs.Listing.{IsIndexName, AreDroppingsOf, ShowsHostdir, ListsHostdirs, hostdirs, IsScan}

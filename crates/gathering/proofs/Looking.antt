@@ -10,25 +10,24 @@ use Rattle.store_laws.specs.There.{HoldsFile, LacksFile, ListsFolder}
 use Rattle.store_laws.specs.Outcomes.{Looks}
 use Rattle.store_laws.specs.Says.{ListTells, LengthTells, ReadTells}
 use Rattle.store_laws.specs.Tells.{Tells}
-use Rattle.store_laws.proofs.Telling.{acts_told}
-use Rattle.store_laws.proofs.Answering.{list_tells, length_tells, read_tells, look_answered}
+use Rattle.store_laws.proofs.Facts.{acts_told, list_tells, length_tells, read_tells, look_answered}
 use Rattle.mount_model.specs.declared.call.Call.TheVariants.{Look}
 use Rattle.mount_model.specs.declared.call.Look.{Look as Sight}
 use Rattle.mount_model.specs.declared.call.Look.TheVariants.{Top, List as ListFolder, Length, Read}
 use Rattle.mount_model.specs.declared.reply.Reply.TheVariants.{Looked, Refused, Damaged}
 use Rattle.mount_model.specs.Paths.{Name}
 use Rattle.mount_model.specs.State.{State}
-use Rattle.mount_model.specs.Making.{Told, Makes, Refuses}
-use Rattle.mount_model.specs.Looking.{room_check, look_step, look_outcome, listing_reply, length_reply, read_reply}
+use Rattle.mount_model.specs.Making.{Told, MakesAct, Refuses, room_check}
+use Rattle.mount_model.specs.Looking.{look_step, look_outcome, listing_reply, length_reply, read_reply}
 use Rattle.mount_model.specs.Step.{Answers}
-use Rattle.mount_model.proofs.Deciding.{match_cases}
+use Rattle.mount_model.proofs.Facts.{match_cases}
 use Rattle.gathering.specs.Moments.{Moment, IsSoundAt, file_in_room, file_told, file_then}
 
 -- ---------- what the store told
 
 -- the act of a look that was answered
 abbrev Made : ℕ → Sight → State → Answer → State → Type 0
-Made room look old answer new = Makes (look_step room look) (look_outcome look old) old (Looked answer) new
+Made room look old answer new = MakesAct (look_step room look) (look_outcome look old) old (Looked answer) new
 
 made : (old : State) (caller room : ℕ) (look : Sight) (answer : Answer) (new : State) → Answers old caller (Look room look) (Looked answer) new → Made room look old answer new
 made old caller room look answer new f = elim (match_cases (room_check old room) (Made room look old answer new) (λ why. Refuses why old (Looked answer) new) f) as (λ _. Made room look old answer new) [

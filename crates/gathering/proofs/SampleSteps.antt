@@ -14,9 +14,9 @@ use Rattle.store_api.specs.Effect.{effect}
 use Rattle.store_api.specs.Leaves.{in_part}
 use Rattle.store_api.specs.Step.{Step}
 use Rattle.mount_model.specs.declared.row.Row.{Row}
-use Rattle.mount_model.specs.Making.{Told, Outcome, Makes}
+use Rattle.mount_model.specs.Making.{Told, CallOutcome, MakesAct}
 use Rattle.mount_model.specs.State.{State}
-use Rattle.mount_model.specs.Flooring.{IsFloorOf}
+use Rattle.mount_model.specs.Listed.{IsGreatest, HasStamp}
 use Rattle.mount_model.specs.Step.{Answers, IsStep}
 use Rattle.mount_model.specs.Stopping.{Stops}
 use Rattle.mount_model.specs.History.{Event, IsLawful}
@@ -24,8 +24,8 @@ use Rattle.gathering.proofs.Sample.{first_writer, second_writer, holds, state, b
 use Rattle.gathering.proofs.Sample as sample
 
 -- an act that was made
-does : (tree after : Tree) (acts faults serial : ℕ) (rows : List Row) (step : Step) (outcome : Told → Outcome) (answer : Answer) → effect tree step ≡ record { tree = after; answer = answer }
-    → Makes step outcome (state tree acts faults serial rows) (outcome (Ok answer)).reply (record (state after (next_count acts) faults serial rows) { table = (outcome (Ok answer)).table })
+does : (tree after : Tree) (acts faults serial : ℕ) (rows : List Row) (step : Step) (outcome : Told → CallOutcome) (answer : Answer) → effect tree step ≡ record { tree = after; answer = answer }
+    → MakesAct step outcome (state tree acts faults serial rows) (outcome (Ok answer)).reply (record (state after (next_count acts) faults serial rows) { table = (outcome (Ok answer)).table })
 does tree after acts faults serial rows step outcome answer e = record {
   told = Ok answer;
   made = record { tree = (after, refl, e); acts = refl; faults = omega arith };
@@ -41,8 +41,8 @@ IsAnswered old event = Answers old event.caller event.ask.call event.reply event
 named : IsLogicalName sample.container_name
 named = record { not_empty = omega arith; short = omega arith; bytes = All-from_recursion (λ b. IsTrue (is_name_byte b)) sample.container_name (refl, tt); no_dot = λ e. omega (arith, e); no_dash = λ e. omega (arith, e) }
 
-none_floor : IsFloorOf [] 0
-none_floor = record { truncates = All-from_recursion _ [] tt; greatest = inl (refl, refl) }
+none_floor : IsGreatest HasStamp [] 0
+none_floor = record { numbers = All-from_recursion _ [] tt; reached = inl (refl, refl) }
 
 makes_room : IsAnswered begun sample.makes_room
 unfolding digits
@@ -50,7 +50,7 @@ makes_room = record { named = named; makes = does sample.no_container sample.mad
 
 enters_first : IsAnswered sample.makes_room.after sample.enters_first
 unfolding digits
-enters_first = record { host_fits = omega arith; does = inl (does sample.made sample.first_entered 4 0 1 [] _ _ Made refl) }
+enters_first = record { host_fits = omega arith; makes = does sample.made sample.first_entered 4 0 1 [] _ _ Made refl }
 
 floors_first : IsAnswered sample.enters_first.after sample.floors_first
 unfolding digits
@@ -78,7 +78,7 @@ flushes_first = does sample.first_logged (sample.first_landed []) 10 0 1 _ _ _ M
 
 enters_second : IsAnswered sample.flushes_first.after sample.enters_second
 unfolding digits spelling
-enters_second = record { host_fits = omega arith; does = inl (does (sample.first_landed []) sample.second_entered 11 0 2 _ _ _ Made refl) }
+enters_second = record { host_fits = omega arith; makes = does (sample.first_landed []) sample.second_entered 11 0 2 _ _ _ Made refl }
 
 floors_second : IsAnswered sample.enters_second.after sample.floors_second
 unfolding digits spelling
@@ -211,23 +211,23 @@ legal = (
                                       tt,
                                       step sample.asks_first.after sample.asks_first_log refl asks_first_log,
                                       (
-                                      tt,
-                                      step sample.asks_first_log.after sample.reads_first refl reads_first,
-                                      (
                                         tt,
-                                        step sample.reads_first.after sample.asks_second refl asks_second,
+                                        step sample.asks_first_log.after sample.reads_first refl reads_first,
                                         (
                                           tt,
-                                          step sample.asks_second.after sample.asks_second_log refl asks_second_log,
-                                          (
-                                          tt,
-                                          step sample.asks_second_log.after sample.lists_truncs refl lists_truncs,
+                                          step sample.reads_first.after sample.asks_second refl asks_second,
                                           (
                                             tt,
-                                            step sample.lists_truncs.after sample.flushes_second refl flushes_second,
-                                            (tt, step sample.flushes_second.after sample.reads_log refl reads_log, tt),
-                                    ),
-                                    ),
+                                            step sample.asks_second.after sample.asks_second_log refl asks_second_log,
+                                            (
+                                              tt,
+                                              step sample.asks_second_log.after sample.lists_truncs refl lists_truncs,
+                                              (
+                                                tt,
+                                                step sample.lists_truncs.after sample.flushes_second refl flushes_second,
+                                                (tt, step sample.flushes_second.after sample.reads_log refl reads_log, tt),
+                                              ),
+                                            ),
                                           ),
                                         ),
                                       ),

@@ -7,8 +7,8 @@ use Rattle.plfs_types.specs.declared.names.Path.{Path}
 use Rattle.container_layout.specs.Paths.{hostdir_of}
 use Rattle.store_laws.specs.Differ.{is_listed, NamesDiffer}
 use Rattle.store_laws.specs.Files.{file_at}
-use Rattle.store_laws.proofs.Listed.{ordered_differ}
-use Rattle.plain_file.proofs.OrderLemmas.{Among, All-Among}
+use Rattle.store_laws.proofs.Facts.{ordered_differ}
+use Rattle.plain_file.proofs.Facts.{Among, All-Among}
 use Rattle.mount_model.specs.Paths.{Name, index_path}
 use Rattle.gathering.specs.Moments.{Moment, IsSoundAt, file_in_room, file_told, Dropping, Stood, Grows}
 use Rattle.gathering.specs.Seen.{Asked, IsSeenCall, IsSeen}

@@ -4,7 +4,7 @@ use Rattle.std.specs.Prelude.{if◌then◌else◌}
 use Rattle.std.proofs.lemmas.Bool.Decides.{nat_tests}
 use Rattle.mount_model.specs.Step.{IsStep}
 use Rattle.mount_model.specs.History.{Event, IsLawful}
-use Rattle.mount_sound.proofs.Steps.{step_keeps}
+use Rattle.mount_sound.proofs.Facts.{step_keeps}
 use Rattle.gathering.specs.Moments.{Moment, IsSoundAt, next_moment, moment_after, Grows}
 use Rattle.gathering.specs.Seen.{Asked, asked_in, calls_of, IsSeen}
 use Rattle.gathering.proofs.Left.{left_stays}

@@ -5,7 +5,7 @@ use Rattle.std.proofs.lemmas.Bool.{cases_eq}
 use Rattle.plfs_types.specs.declared.names.Path.{Path}
 use Rattle.container_layout.specs.declared.items.Item.TheVariants.{Index}
 use Rattle.container_layout.specs.Items.{IsItem}
-use Rattle.container_layout.proofs.Places.{same_items, elsewhere}
+use Rattle.container_layout.proofs.Facts.{same_items, elsewhere}
 use Rattle.store_api.specs.declared.tree.Room.{Room}
 use Rattle.store_api.specs.declared.tree.Tree.{Tree}
 use Rattle.store_api.specs.Room.{is_top}
@@ -15,11 +15,7 @@ use Rattle.store_laws.specs.Differ.{is_listed}
 use Rattle.store_laws.specs.Files.{file_at}
 use Rattle.store_laws.specs.Naming.{NamesFile}
 use Rattle.store_laws.specs.Tells.{Tells}
-use Rattle.store_laws.proofs.Answering.{look_told}
-use Rattle.store_laws.proofs.Keeping.{other_room, each_with_added}
-use Rattle.store_laws.proofs.Naming.{path_eq}
-use Rattle.store_laws.proofs.Telling.{acts_told, create_told, remove_told, replace_told, write_told, cut_told, sync_told, make_folder_told, remove_folder_told, make_room_told, rename_room_told}
-use Rattle.store_laws.proofs.Touching.{keeps_rooms}
+use Rattle.store_laws.proofs.Facts.{look_told, other_room, each_with_added, path_eq, acts_told, create_told, remove_told, replace_told, write_told, cut_told, sync_told, make_folder_told, remove_folder_told, make_room_told, rename_room_told, keeps_rooms}
 use Rattle.mount_model.specs.declared.call.Call.{Call}
 use Rattle.mount_model.specs.declared.call.Call.TheVariants.{Greet, Find, MakeContainer, Rooms, Look, Enter, Floor, MakeHostdir, MakeIndex, MakeLog, Write, Flush, SyncLog, SyncIndex, PutMeta, Exit}
 use Rattle.mount_model.specs.declared.call.Look.TheVariants.{Top, List as ListFolder, Length, Read}
@@ -30,8 +26,7 @@ use Rattle.mount_model.specs.declared.call.Ask.{Ask}
 use Rattle.mount_model.specs.declared.reply.Reply.{Reply}
 use Rattle.mount_model.specs.Step.{IsStep}
 use Rattle.mount_model.specs.Stopped.{IsCutShort, IsLeftBy}
-use Rattle.mount_model.proofs.Deciding.{step_cases}
-use Rattle.mount_model.proofs.Stopping.{stop_left}
+use Rattle.mount_model.proofs.Facts.{step_cases, stop_left, row_of_id}
 use Rattle.mount_model.specs.Table.{row_of}
 use Rattle.mount_model.specs.Making.{Told}
 use Rattle.mount_model.specs.Entering.{enter_step}
@@ -39,10 +34,8 @@ use Rattle.mount_model.specs.Building.{index_step, log_step}
 use Rattle.mount_model.specs.Writing.{write_step}
 use Rattle.mount_model.specs.Flushing.{flush_step}
 use Rattle.mount_model.specs.Leaving.{put_meta_step, exit_step}
-use Rattle.mount_sound.proofs.Frames.{Fits}
-use Rattle.mount_sound.proofs.Making.{all_fit}
-use Rattle.mount_model.proofs.Tables.{row_of_id}
-use Rattle.gathering.specs.Bounds.{Spares}
+use Rattle.mount_sound.proofs.Facts.{Fits, all_fit}
+use Rattle.gathering.specs.Bounds.{SparesIndex}
 use Rattle.gathering.specs.Moments.{Moment, IsSoundAt, file_in_room, file_in_tree, file_told, Dropping, IsNamed}
 use Rattle.gathering.proofs.Acting.{IsActOf, AtMostOneAct, at_most_one_act}
 
@@ -177,7 +170,7 @@ other_row m s d writer row named other held folder file =
     let item : IsItem (Index row.host row.id) = record { in_range = tt; widths = (fits.host, fits.id) } in
     other (sym (row_of_id writer m.state.table.writers row held) ∙ sym (one_writer d.host d.writer row.host row.id named item folder file))
 
-pub spares_index : (m : Moment) (s : IsSoundAt m) (call : Call) (step : Step) (d : Dropping) → IsNamed d → Spares call d → IsActOf m.state call step → NamesFile step d.room (index_path d.host d.writer) → ⊥
+pub spares_index : (m : Moment) (s : IsSoundAt m) (call : Call) (step : Step) (d : Dropping) → IsNamed d → SparesIndex call d → IsActOf m.state call step → NamesFile step d.room (index_path d.host d.writer) → ⊥
 spares_index m s Greet step d named spares is names = is
 spares_index m s (Find name) step d named spares is names = as_its_act d.room (index_path d.host d.writer) is names
 spares_index m s (MakeContainer name) step d named spares is names = as_its_act d.room (index_path d.host d.writer) is names

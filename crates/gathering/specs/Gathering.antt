@@ -1,7 +1,7 @@
 -- How a reader gathers the entries of writers.
 use Rattle.std.specs.Prelude.{◌≡◌, ◌⊎◌, ◌≤◌, ◌+◌, ◌*◌, ◌/◌, ◌++◌, ℕ, List, [], ◌∷◌, length, take, drop}
 use Rattle.std.specs.List.{All, Any, AllByRecursion}
-use Rattle.plfs_types.specs.declared.entries.Entry.{Entry}
+use Rattle.plfs_types.specs.declared.limits.TheConstants.{ENTRY_SIZE}
 use Rattle.index_entry.specs.Spelling.{spelling_all}
 use Rattle.store_api.specs.declared.step.Answer.TheVariants.{Number, Bytes, Absent}
 use Rattle.mount_model.specs.declared.call.Call.TheVariants.{Look}
@@ -10,7 +10,7 @@ use Rattle.mount_model.specs.declared.reply.Reply.TheVariants.{Looked}
 use Rattle.mount_model.specs.Paths.{index_path, log_path}
 use Rattle.mount_model.specs.History.{Event}
 use Rattle.mount_sound.specs.Ledger.{entries_in}
-use Rattle.mount_sound.specs.There.{within_log}
+use Rattle.index_entry.specs.Within.{within_log}
 use Rattle.gathering.specs.Moments.{Moment, Dropping, IsNamed, Stood, issued_by, landed}
 use Rattle.gathering.specs.Seen.{Asked, calls_of}
 use Rattle.gathering.specs.Listing.{IsAmong}
@@ -35,9 +35,6 @@ abbrev pub AreReads : Dropping → ℕ → ℕ → List Asked → List ℕ → T
 AreReads d at end [] content = (at ≡ end) × (content ≡ [])
 AreReads d at end (asked ∷ rest) content = (len : ℕ) × (bytes more : List ℕ) × IsRead d at len bytes asked × (at + len ≤ end) × AreReads d (at + len) end rest more × (content ≡ bytes ++ more)
 
-abbrev pub entries_of : List Entry → ℕ
-entries_of entries = length entries
-
 -- What was gathered of a writer: how many entries, and the bytes of those that a flattened index doesn't cover.
 pub record Gathered : Type 0 where
   pub dropping : Dropping
@@ -56,12 +53,12 @@ pub record Gathers (g : Gathered) (asked : List Asked) : Type 0 where
   pub told : ℕ
   pub log : ℕ
   pub read : List ℕ
-  pub length : IsLength g.dropping told first
+  pub index_length : IsLength g.dropping told first
   pub log_length : IsLogLength g.dropping log second
-  pub bytes : AreReads g.dropping 0 (40 * (told / 40)) reads read
+  pub bytes : AreReads g.dropping 0 (ENTRY_SIZE * (told / ENTRY_SIZE)) reads read
   pub covered : g.covered ≡ 0
-  pub count : g.count ≡ entries_of (within_log log (told / 40) read)
-  pub content : g.content ≡ spelling_all (within_log log (told / 40) read)
+  pub count : g.count ≡ length (within_log log (told / ENTRY_SIZE) read)
+  pub content : g.content ≡ spelling_all (within_log log (told / ENTRY_SIZE) read)
 
 -- the calls that gathered them all, one writer after the other
 abbrev pub GathersAll : List Gathered → List Asked → Type 0

@@ -12,7 +12,7 @@ ghost use Rattle.mount_model.specs.declared.reply.Reply.TheVariants.{Flushed, Sy
 ghost use Rattle.mount_sound.specs.Issued.{issued};
 ghost use Rattle.gathering.specs.Moments.{Moment, IsSoundAt, next_moment, moment_after, file_then, Dropping, IsNamed, HadTrunc, issued_by, landed, Grows};
 ghost use Rattle.gathering.specs.Seen.{Asked, calls_of, IsSeen, IsPlaceOf};
-ghost use Rattle.gathering.specs.Bounds.{IsOf, LandedAtLeast, AllSpare};
+ghost use Rattle.gathering.specs.Bounds.{IsOf, LandedAtLeast, AllSpareIndex};
 ghost use Rattle.gathering.specs.Failing.{BytesOrTrouble};
 
 /// A law: the moment after events has the state in which they end, and what was issued before them
@@ -51,7 +51,7 @@ pub fn sync_lands()
 
 /// A law: no more of a writer has landed than it had issued when it was last flushed.
 pub fn nothing_lands_unflushed()
-    ensures { (moment : Moment) (events : List Event) (d : Dropping) → IsNamed d → IsLawful moment.state events → IsSoundAt moment → AllSpare events d → landed (moment_after moment events) d ≤ length (issued_by moment d) }
+    ensures { (moment : Moment) (events : List Event) (d : Dropping) → IsNamed d → IsLawful moment.state events → IsSoundAt moment → AllSpareIndex events d → landed (moment_after moment events) d ≤ length (issued_by moment d) }
 {}
 
 /// A law: a truncate that is there stays.

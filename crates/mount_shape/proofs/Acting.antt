@@ -23,10 +23,7 @@ use Rattle.store_laws.specs.Differ.{is_listed}
 use Rattle.store_laws.specs.Tells.{Tells}
 use Rattle.store_laws.specs.Changes.{with_room, Wrote, FolderMade}
 use Rattle.store_laws.specs.Outcomes.{IsLook}
-use Rattle.store_laws.proofs.Answering.{look_told}
-use Rattle.store_laws.proofs.Telling.{create_told, remove_told, make_room_told, write_told, sync_told}
-use Rattle.store_laws.proofs.Folders.{with_folder, make_folder_cases}
-use Rattle.store_laws.proofs.Keeping.{changed_room}
+use Rattle.store_laws.proofs.Facts.{look_told, create_told, remove_told, make_room_told, write_told, sync_told, with_folder, make_folder_cases, changed_room}
 use Rattle.mount_model.specs.Paths.{Name, new_folders, new_files, access_path}
 use Rattle.mount_shape.specs.Marks.{HasMark}
 use Rattle.mount_shape.specs.Container.{IsContainerFolder, MayHold, IsWritersOf}

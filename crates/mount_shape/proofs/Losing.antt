@@ -2,7 +2,7 @@
 use Rattle.std.proofs.Common.{◌≡◌, ℕ, List, [], ◌∷◌, Some, None, refl, ap, sym, ◌∙◌, ◌⊎◌, inl, inr, subst}
 use Rattle.std.specs.Prelude.{slice_get}
 use Rattle.container_layout.specs.declared.items.Item.{Item}
-use Rattle.container_layout.specs.declared.items.Item.TheVariants.{Access, OpenHost, Meta, Trunc, Flat, TmpFlat, Index, Log}
+use Rattle.container_layout.specs.declared.items.Item.TheVariants.{Access, OpenHost, Meta, Trunc, Flat, TmpFlat, Index, Log, Packed, TmpPacked}
 use Rattle.plfs_types.specs.Names.{IsLogicalName}
 use Rattle.plfs_types.specs.declared.names.Path.{Path}
 use Rattle.store_api.specs.declared.tree.Room.{Room}
@@ -12,8 +12,7 @@ use Rattle.store_laws.specs.Files.{file_at}
 use Rattle.store_laws.specs.Differ.{is_listed, NamesDiffer, FoldersDiffer, RoomsDiffer}
 use Rattle.store_laws.specs.Prefix.{IsPrefix}
 use Rattle.store_laws.specs.Losing.{HasLost, HaveLost}
-use Rattle.store_laws.proofs.Losing.{file_back, room_back}
-use Rattle.store_laws.proofs.Rooms.{has_folder_same}
+use Rattle.store_laws.proofs.Facts.{file_back, room_back, has_folder_same}
 use Rattle.mount_model.specs.Paths.{Name, metadata, truncs, flats, access_path, marks_folder}
 use Rattle.mount_shape.specs.Marks.{IsMarkFile, IsMarksRoom, HasMark, IsOfMark}
 use Rattle.mount_shape.specs.Container.{MayHold, IsItemFile, IsContainer}
@@ -36,6 +35,8 @@ may_lose (Flat id) front bytes p h = absurd h
 may_lose (TmpFlat id) front bytes p h = absurd h
 may_lose (Index host writer) front bytes p h = tt
 may_lose (Log host writer) front bytes p h = tt
+may_lose (Packed host writer) front bytes p h = absurd h
+may_lose (TmpPacked host id) front bytes p h = absurd h
 
 still_empty : (room new : Room) (path : Path) → HasLost room new → file_at room path ≡ Some [] → file_at new path ≡ Some []
 still_empty room new path h e = let l = h.files path [] e in l.there ∙ ap (λ f. Some f) (empty_front l.front [] l.begins refl)

@@ -12,19 +12,19 @@ use Rattle.store_laws.specs.Files.{file_at}
 use Rattle.store_laws.specs.Changes.{Created}
 use Rattle.store_laws.specs.Tells.{Tells, made}
 use Rattle.store_laws.specs.There.{HoldsFile}
-use Rattle.store_laws.proofs.Telling.{create_told}
+use Rattle.store_laws.proofs.Facts.{create_told}
 use Rattle.mount_model.specs.declared.row.Row.{Row}
 use Rattle.mount_model.specs.declared.row.Stage.{Stage}
 use Rattle.mount_model.specs.declared.row.Stage.TheVariants as stage
 use Rattle.mount_model.specs.declared.row.Stage.TheVariants.{Closing}
 use Rattle.mount_model.specs.declared.reply.Reply.{Reply}
 use Rattle.mount_model.specs.Building.{build_outcome, index_step, MakesIndex}
-use Rattle.mount_model.specs.Making.{Told, Makes}
+use Rattle.mount_model.specs.Making.{Told, MakesAct}
 use Rattle.mount_model.specs.Paths.{Name, index_path, log_path}
 use Rattle.mount_model.specs.Regular.{IsRegular}
 use Rattle.mount_model.specs.State.{State, Table, last_id}
 use Rattle.mount_model.specs.Table.{with_row, rank, only, at_stage}
-use Rattle.mount_model.proofs.Deciding.{at_only}
+use Rattle.mount_model.proofs.Facts.{at_only}
 use Rattle.mount_sound.specs.Ledger.{Written, entries_in, Ledger}
 use Rattle.mount_sound.specs.Kept.{Begins, IsAtStage, IsKept}
 use Rattle.mount_sound.specs.Sound.{AreSound}
@@ -148,7 +148,7 @@ index_told last issued table tree row at holders flattenings w told after t =
 -- Making an index dropping keeps soundness.
 pub index_keeps : (issued : Ledger) (old : State) (caller writer : ℕ) (reply : Reply) (new : State) → IsRegular old → MakesIndex caller writer old reply new → IsAccounted issued old → IsAccounted issued new
 index_keeps issued old caller writer reply new r f a =
-    on_writer issued old caller (only stage.Housed) writer reply new (λ row. Makes (index_step row) (build_outcome stage.Indexed (hostdir_of row.host) (index_path row.host row.id).file row old.table) old reply new) f a
+    on_writer issued old caller (only stage.Housed) writer reply new (λ row. MakesAct (index_step row) (build_outcome stage.Indexed (hostdir_of row.host) (index_path row.host row.id).file row old.table) old reply new) f a
     (λ row stands at makes.
     let is : rank row.stage ≡ 2 = at_only stage.Housed row.stage at in
     makes_accounted (index_step row) (build_outcome stage.Indexed (hostdir_of row.host) (index_path row.host row.id).file row old.table) (λ x. issued) old reply new a.tree a.told

@@ -15,18 +15,18 @@ use Rattle.store_api.specs.declared.tree.Tree.{Tree}
 use Rattle.store_laws.specs.Changes.{Created}
 use Rattle.store_laws.specs.Tells.{Tells, made}
 use Rattle.store_laws.specs.There.{HoldsFile}
-use Rattle.store_laws.proofs.Telling.{create_told}
+use Rattle.store_laws.proofs.Facts.{create_told}
 use Rattle.mount_model.specs.declared.row.Row.{Row}
 use Rattle.mount_model.specs.declared.row.Stage.TheVariants as stage
 use Rattle.mount_model.specs.declared.reply.Reply.{Reply}
 use Rattle.mount_model.specs.declared.reply.Refusal.TheVariants.{NotFlushed}
 use Rattle.mount_model.specs.Leaving.{put_meta_check, put_meta_step, put_meta_outcome, closing as closing_row, closed, PutsMeta}
-use Rattle.mount_model.specs.Making.{Told, Makes, UnlessRefused}
+use Rattle.mount_model.specs.Making.{Told, MakesAct, UnlessRefused}
 use Rattle.mount_model.specs.Paths.{meta_path}
 use Rattle.mount_model.specs.Regular.{IsRegular, IsCounted}
 use Rattle.mount_model.specs.State.{State, Table, last_id, put}
 use Rattle.mount_model.specs.Table.{with_row, rank, may_close}
-use Rattle.mount_model.proofs.Tables.{row_of_all}
+use Rattle.mount_model.proofs.Facts.{row_of_all}
 use Rattle.mount_sound.specs.Items.{HasItem, HasMeta}
 use Rattle.mount_sound.specs.Ledger.{Written, entries_in, content, Ledger}
 use Rattle.mount_sound.specs.Dropping.{IsToldOf}
@@ -48,7 +48,7 @@ meta_item row c id = record {
   in_range = record {
     last_fits = c.end_fits;
     bytes_fit = c.stored_fits;
-    stamp_fits = c.last_fits;
+    stamp_fits = omega (arith, c.last_fits);
     all_or_none = elim c.written [
       | inl none ↦ inl (none.1, none.0, none.2)
       | inr some ↦ inr (some.1, some.0, some.2)
@@ -228,11 +228,11 @@ passed row e =
 -- Making a metadata dropping keeps soundness.
 pub meta_keeps : (issued : Ledger) (old : State) (caller writer : ℕ) (reply : Reply) (new : State) → IsRegular old → PutsMeta caller writer old reply new → IsAccounted issued old → IsAccounted issued new
 meta_keeps issued old caller writer reply new r f a =
-    on_writer issued old caller may_close writer reply new (λ row. UnlessRefused (put_meta_check row) old reply new (Makes (put_meta_step row) (put_meta_outcome row old.table) old reply new)) f a
+    on_writer issued old caller may_close writer reply new (λ row. UnlessRefused (put_meta_check row) old reply new (MakesAct (put_meta_step row) (put_meta_outcome row old.table) old reply new)) f a
     (λ row stands at does.
     let far = open_or_closing (rank row.stage) at in
     let w = working issued old writer row r a stands far.1 in
-    unless_refused issued (put_meta_check row) old reply new (Makes (put_meta_step row) (put_meta_outcome row old.table) old reply new) does a
+    unless_refused issued (put_meta_check row) old reply new (MakesAct (put_meta_step row) (put_meta_outcome row old.table) old reply new) does a
     (λ none makes.
     let is : IsClosing row = record { far = far.0; live = far.1; flushed = (passed row none).0; log_synced = (passed row none).1; index_synced = (passed row none).2 } in
     makes_accounted (put_meta_step row) (put_meta_outcome row old.table) (λ x. issued) old reply new a.tree a.told

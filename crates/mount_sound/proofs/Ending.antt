@@ -11,9 +11,9 @@ use Rattle.mount_model.specs.declared.row.Row.{Row}
 use Rattle.mount_model.specs.declared.row.Stage.TheVariants as stage
 use Rattle.mount_model.specs.Table.{row_of, at_stage}
 use Rattle.mount_model.specs.State.{State, Table, id_of, last_id}
-use Rattle.mount_model.specs.Stopping.{ended, without_caller}
+use Rattle.mount_model.specs.Stopping.{row_ended, without_caller}
 use Rattle.mount_model.specs.Stopped.{StopsShort}
-use Rattle.mount_model.proofs.Holding.{none_without}
+use Rattle.mount_model.proofs.Facts.{none_without}
 use Rattle.mount_sound.specs.Ledger.{Written, Ledger, entries_in}
 use Rattle.mount_sound.specs.Issued.{issued_after}
 use Rattle.mount_sound.specs.Kept.{IsKept}
@@ -23,7 +23,7 @@ use Rattle.mount_sound.proofs.Stages.{numbers_at}
 
 -- ---- a row of a caller at its end
 
-ended_kept : (room : Room) (caller : ℕ) (row : Row) (issued : List Written) → IsKept room row issued → IsKept room (ended caller row) issued
+ended_kept : (room : Room) (caller : ℕ) (row : Row) (issued : List Written) → IsKept room row issued → IsKept room (row_ended caller row) issued
 ended_kept room caller row issued k = elim (nat_eq row.owner caller) as (λ b. IsKept room (if b then at_stage stage.Dead row else row) issued) [
   | true ↦ record {
     in_order = k.in_order;
@@ -36,24 +36,24 @@ ended_kept room caller row issued k = elim (nat_eq row.owner caller) as (λ b. I
   | false ↦ k
 ]
 
-ended_place : (caller : ℕ) (row : Row) → (ended caller row).room ≡ row.room
+ended_place : (caller : ℕ) (row : Row) → (row_ended caller row).room ≡ row.room
 ended_place caller row = elim (nat_eq row.owner caller) as (λ b. (if b then at_stage stage.Dead row else row).room ≡ row.room) [ true ↦ refl | false ↦ refl ]
 
-ended_name : (caller : ℕ) (row : Row) → (ended caller row).id ≡ row.id
+ended_name : (caller : ℕ) (row : Row) → (row_ended caller row).id ≡ row.id
 ended_name caller row = elim (nat_eq row.owner caller) as (λ b. (if b then at_stage stage.Dead row else row).id ≡ row.id) [ true ↦ refl | false ↦ refl ]
 
 -- it was in the table before
-was_there : (caller id : ℕ) (rows : List Row) (row : Row) → row_of id (map (ended caller) rows) ≡ Some row → (before : Row) × (row_of id rows ≡ Some before) × (row ≡ ended caller before)
+was_there : (caller id : ℕ) (rows : List Row) (row : Row) → row_of id (map (row_ended caller) rows) ≡ Some row → (before : Row) × (row_of id rows ≡ Some before) × (row ≡ row_ended caller before)
 was_there caller id [] row e = absurd (cc)
 was_there caller id (x ∷ rows) row e =
-    elim (nat_eq x.id id) as (λ b. (if b then Some (ended caller x) else row_of id (map (ended caller) rows)) ≡ Some row → (before : Row) × ((if b then Some x else row_of id rows) ≡ Some before) × (row ≡ ended caller before)) [
+    elim (nat_eq x.id id) as (λ b. (if b then Some (row_ended caller x) else row_of id (map (row_ended caller) rows)) ≡ Some row → (before : Row) × ((if b then Some x else row_of id rows) ≡ Some before) × (row ≡ row_ended caller before)) [
       | true ↦ λ f. (x, refl, cc)
       | false ↦ λ f. was_there caller id rows row f
-    ] (subst (λ n. (if nat_eq n id then Some (ended caller x) else row_of id (map (ended caller) rows)) ≡ Some row) (ended_name caller x) e)
+    ] (subst (λ n. (if nat_eq n id then Some (row_ended caller x) else row_of id (map (row_ended caller) rows)) ≡ Some row) (ended_name caller x) e)
 
 -- ---- the table of one
 
-ended_room : (issued : ℕ → List Written) (caller : ℕ) (rows : List Row) (number : ℕ) (room : Room) → IsSoundRoom issued rows number room → IsSoundRoom issued (map (ended caller) rows) number room
+ended_room : (issued : ℕ → List Written) (caller : ℕ) (rows : List Row) (number : ℕ) (room : Room) → IsSoundRoom issued rows number room → IsSoundRoom issued (map (row_ended caller) rows) number room
 ended_room issued caller rows number room s = record {
   writers = s.writers;
   kept = λ id row found at.
@@ -63,7 +63,7 @@ ended_room issued caller rows number room s = record {
   truncates = s.truncates;
 }
 
-ended_sound : (last : ℕ) (issued : Ledger) (caller : ℕ) (rows : List Row) (tree : Tree) → AreSound last issued rows tree → AreSound last issued (map (ended caller) rows) tree
+ended_sound : (last : ℕ) (issued : Ledger) (caller : ℕ) (rows : List Row) (tree : Tree) → AreSound last issued rows tree → AreSound last issued (map (row_ended caller) rows) tree
 ended_sound last issued caller rows tree s = record {
   rooms = λ number room there. ended_room (issued number) caller rows number room (s.rooms number room there);
   writes = s.writes;

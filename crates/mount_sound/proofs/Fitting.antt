@@ -6,8 +6,8 @@ use Rattle.std.proofs.lemmas.Bool.{cases_lt}
 use Rattle.std.proofs.lemmas.Bool.Decides.{nat_tests}
 use Rattle.plfs_types.specs.declared.entries.Entry.{Entry}
 use Rattle.store_laws.specs.Prefix.{IsPrefix}
-use Rattle.store_laws.proofs.Overwriting.{prefix-split, prefix_length, whole_items}
-use Rattle.mount_sound.specs.Entries.{AreInOrder, logged, last_stamp}
+use Rattle.store_laws.proofs.Facts.{prefix-split, prefix_length, whole_items}
+use Rattle.mount_sound.specs.Entries.{AreEntriesOf, logged, last_stamp}
 use Rattle.mount_sound.specs.Dropping.{EndPast}
 use Rattle.mount_sound.specs.Fitting.{fitting}
 
@@ -107,15 +107,15 @@ front_items spell width fixed some front xs tail p short = elim (cases_lt (lengt
 
 -- ---- entries in order
 
-pub order_append : (writer last offset : ℕ) (front back : List Entry) → AreInOrder writer last offset front → AreInOrder writer (last_stamp last front) (offset + logged front) back → AreInOrder writer last offset (front ++ back)
-order_append writer last offset [] back o p = subst (λ n. AreInOrder writer last n back) (omega arith) p
-order_append writer last offset (e ∷ front) back o p = (o.0, order_append writer e.stamp (offset + e.len) front back o.1 (subst (λ n. AreInOrder writer (last_stamp e.stamp front) n back) (omega arith) p))
+pub order_append : (writer last offset : ℕ) (front back : List Entry) → AreEntriesOf writer last offset front → AreEntriesOf writer (last_stamp last front) (offset + logged front) back → AreEntriesOf writer last offset (front ++ back)
+order_append writer last offset [] back o p = subst (λ n. AreEntriesOf writer last n back) (omega arith) p
+order_append writer last offset (e ∷ front) back o p = (o.0, order_append writer e.stamp (offset + e.len) front back o.1 (subst (λ n. AreEntriesOf writer (last_stamp e.stamp front) n back) (omega arith) p))
 
-pub order_drop : (n writer last offset : ℕ) (es : List Entry) → AreInOrder writer last offset es → AreInOrder writer (last_stamp last (take n es)) (offset + logged (take n es)) (drop n es)
+pub order_drop : (n writer last offset : ℕ) (es : List Entry) → AreEntriesOf writer last offset es → AreEntriesOf writer (last_stamp last (take n es)) (offset + logged (take n es)) (drop n es)
 order_drop zero writer last offset [] o = tt
-order_drop zero writer last offset (e ∷ es) o = subst (λ n. AreInOrder writer last n (e ∷ es)) (omega arith) o
+order_drop zero writer last offset (e ∷ es) o = subst (λ n. AreEntriesOf writer last n (e ∷ es)) (omega arith) o
 order_drop (suc n) writer last offset [] o = tt
-order_drop (suc n) writer last offset (e ∷ es) o = subst (λ n'. AreInOrder writer (last_stamp e.stamp (take n es)) n' (drop n es)) (omega arith) (order_drop n writer e.stamp (offset + e.len) es o.1)
+order_drop (suc n) writer last offset (e ∷ es) o = subst (λ n'. AreEntriesOf writer (last_stamp e.stamp (take n es)) n' (drop n es)) (omega arith) (order_drop n writer e.stamp (offset + e.len) es o.1)
 
 pub logged_append : (a b : List Entry) → logged (a ++ b) ≡ logged a + logged b
 logged_append [] b = omega arith

@@ -4,7 +4,7 @@ use Rattle.std.specs.Prelude.{MatchOption, Ok}
 use Rattle.plfs_types.specs.Bytes.{overwritten}
 use Rattle.plfs_types.specs.declared.entries.Entry.{Entry}
 use Rattle.index_entry.specs.Spelling.{spelling_all}
-use Rattle.index_entry.proofs.Spelled.{length-spelling_all, drop-spelling_all}
+use Rattle.index_entry.proofs.Facts.{length-spelling_all, drop-spelling_all}
 use Rattle.container_layout.specs.declared.items.Item.TheVariants.{OpenHost, Index, Log}
 use Rattle.container_layout.specs.Paths.{hostdir_of}
 use Rattle.store_api.specs.declared.step.Answer.TheVariants.{Made}
@@ -14,9 +14,7 @@ use Rattle.store_laws.specs.Files.{file_at, kept_at}
 use Rattle.store_laws.specs.Prefix.{IsPrefix}
 use Rattle.store_laws.specs.Changes.{Wrote}
 use Rattle.store_laws.specs.Tells.{Tells, made}
-use Rattle.store_laws.proofs.Common.{kept_before}
-use Rattle.store_laws.proofs.Overwriting.{prefix-overwritten, length-overwritten}
-use Rattle.store_laws.proofs.Telling.{write_told}
+use Rattle.store_laws.proofs.Facts.{kept_before, prefix-overwritten, length-overwritten, write_told}
 use Rattle.mount_model.specs.declared.row.Row.{Row}
 use Rattle.mount_model.specs.declared.row.Stage.TheVariants as stage
 use Rattle.mount_model.specs.declared.reply.Reply.{Reply}
@@ -26,7 +24,7 @@ use Rattle.mount_model.specs.Paths.{index_path}
 use Rattle.mount_model.specs.Regular.{IsRegular}
 use Rattle.mount_model.specs.State.{State, Table, last_id}
 use Rattle.mount_model.specs.Table.{with_row, rank, only}
-use Rattle.mount_model.proofs.Deciding.{at_only}
+use Rattle.mount_model.proofs.Facts.{at_only}
 use Rattle.mount_sound.specs.Ledger.{Written, entries_in, Ledger}
 use Rattle.mount_sound.specs.Kept.{Begins, IsAtStage, IsKept}
 use Rattle.mount_sound.specs.Sound.{AreSound}

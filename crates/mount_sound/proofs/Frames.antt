@@ -11,7 +11,7 @@ use Rattle.store_laws.specs.Prefix.{IsPrefix}
 use Rattle.mount_model.specs.declared.row.Row.{Row}
 use Rattle.mount_model.specs.Paths.{open_path, index_path, log_path}
 use Rattle.mount_sound.specs.Ledger.{Written, entries_in, content}
-use Rattle.mount_sound.specs.Dropping.{bytes_of, log_bytes, IsDropping, IsSettled, IsWriter}
+use Rattle.mount_sound.specs.Dropping.{bytes_of, log_bytes, IsDropping, IsKeptWhole, IsWriter}
 use Rattle.mount_sound.specs.Kept.{Begins, IsAtStage, IsKept}
 use Rattle.mount_sound.specs.Sound.{TruncatesDiffer}
 use Rattle.mount_sound.proofs.Items.{SameFor, is_index, is_log, is_open, had, had_meta, has_meta_still, had_item_of}
@@ -32,7 +32,7 @@ dropping_frame room new host writer issued landed index log m =
     (subst (λ o. MatchOption o (landed ≡ 0) (IsDropping writer issued landed (length (log_bytes room host writer)))) (sym index) m)
 
 pub settled_frame : (room new : Room) (host writer : ℕ) (entries : List Entry) → file_at new (index_path host writer) ≡ file_at room (index_path host writer) → kept_at new (index_path host writer) ≡ kept_at room (index_path host writer) → kept_at new (log_path host writer) ≡ kept_at room (log_path host writer)
-    → IsSettled room host writer entries → IsSettled new host writer entries
+    → IsKeptWhole room host writer entries → IsKeptWhole new host writer entries
 settled_frame room new host writer entries index index_kept log_kept s = record {
   index = ap bytes_of index ∙ s.index;
   index_kept = omega (arith, index_kept, s.index_kept);

@@ -4,11 +4,11 @@ use Rattle.std.specs.Prelude.{slice_get, MatchOption}
 use Rattle.std.proofs.lemmas.List.{length-take-le, length-map}
 use Rattle.container_layout.specs.declared.items.Item.TheVariants.{Index}
 use Rattle.index_entry.specs.Spelling.{spelling_all}
-use Rattle.index_entry.proofs.Spelled.{length-spelling_all}
+use Rattle.index_entry.proofs.Facts.{length-spelling_all}
 use Rattle.store_api.specs.declared.tree.Room.{Room}
 use Rattle.store_laws.specs.Files.{file_at}
 use Rattle.store_laws.specs.Prefix.{IsPrefix}
-use Rattle.store_laws.proofs.Overwriting.{prefix_trans}
+use Rattle.store_laws.proofs.Facts.{prefix_trans}
 use Rattle.mount_model.specs.Paths.{index_path}
 use Rattle.mount_model.specs.State.{State}
 use Rattle.mount_sound.specs.Items.{HasItem}
@@ -34,8 +34,8 @@ its_whole writer issued landed log bytes d within =
       | inr all ↦ let long : landed ≤ whole bytes = least landed (whole bytes) (length bytes) (omega (arith, len)) refl in omega (arith, all, long)
     ]
 
-of_writer : (room : Room) (host writer : ℕ) (issued : List Written) (bytes : List ℕ) → IsWriter room writer issued → HasItem room (Index host writer) bytes → HasLanded room host writer issued bytes
-of_writer room host writer issued bytes w h =
+landed_of_writer : (room : Room) (host writer : ℕ) (issued : List Written) (bytes : List ℕ) → IsWriter room writer issued → HasItem room (Index host writer) bytes → HasLanded room host writer issued bytes
+landed_of_writer room host writer issued bytes w h =
     let same : w.host ≡ host = sym (w.one_host host (inl (bytes, h))) in
     let at : file_at room (index_path w.host writer) ≡ Some bytes = ap (λ x. file_at room (index_path x writer)) same ∙ h.there in
     let d : IsDropping writer issued w.landed (length (log_bytes room w.host writer)) bytes = subst (λ o. MatchOption o (w.landed ≡ 0) (IsDropping writer issued w.landed (length (log_bytes room w.host writer)))) at w.index in
@@ -48,7 +48,11 @@ of_writer room host writer issued bytes w h =
       logged = prefix_trans (content (take w.landed issued)) (content issued) (log_bytes room host writer) (content_take w.landed issued) log;
     }
 
+pub landed_is : (room : Room) (host writer : ℕ) (issued : List Written) (bytes : List ℕ) (w : IsWriter room writer issued) → HasItem room (Index host writer) bytes → w.landed ≡ min (whole bytes) (length issued)
+unfolding landed_of_writer
+landed_is room host writer issued bytes w h = (landed_of_writer room host writer issued bytes w h).is
+
 -- The whole entries of each index dropping of a sound mount are the first that its writer issued.
 pub landed_was_issued : (issued : Ledger) (state : State) (s : IsSoundFor issued state) (number : ℕ) (room : Room) → slice_get s.shape.tree.rooms number ≡ Some room → (host writer : ℕ) (bytes : List ℕ) → HasItem room (Index host writer) bytes → HasLanded room host writer (issued number writer) bytes
 landed_was_issued issued state s number room there host writer bytes h =
-    of_writer room host writer (issued number writer) bytes ((s.sound.rooms number room there).writers writer h.is_item.widths.1) h
+    landed_of_writer room host writer (issued number writer) bytes ((s.sound.rooms number room there).writers writer h.is_item.widths.1) h

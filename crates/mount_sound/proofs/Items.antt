@@ -1,14 +1,14 @@
 -- Items of a room: two of them have two paths, and a change of one leaves the others.
 use Rattle.std.proofs.Common.{◌≡◌, ◌<◌, ◌^◌, ℕ, List, true, Option, Some, None, refl, ap, sym, ◌∙◌, inl, inr}
 use Rattle.container_layout.specs.declared.items.Item.{Item}
-use Rattle.container_layout.specs.declared.items.Item.TheVariants.{Access, OpenHost, Meta, Trunc, Flat, TmpFlat, Index, Log}
+use Rattle.container_layout.specs.declared.items.Item.TheVariants.{Access, OpenHost, Meta, Trunc, Flat, TmpFlat, Index, Log, Packed, TmpPacked}
 use Rattle.container_layout.specs.Items.{IsItem}
 use Rattle.container_layout.specs.Paths.{path_of}
-use Rattle.container_layout.proofs.Places.{same_items}
+use Rattle.container_layout.proofs.Facts.{same_items}
 use Rattle.store_api.specs.declared.tree.Room.{Room}
 use Rattle.store_api.specs.Room.{has_folder}
 use Rattle.store_laws.specs.Files.{file_at, kept_at, AreTwo, SameButFile}
-use Rattle.store_laws.proofs.Rooms.{has_folder_same, file_at_same, kept_at_same}
+use Rattle.store_laws.proofs.Facts.{has_folder_same, file_at_same, kept_at_same}
 use Rattle.mount_model.specs.Paths.{Name}
 use Rattle.mount_sound.specs.Items.{HasItem, HasMeta, HasItemOf}
 
@@ -22,6 +22,8 @@ owner (Flat id) = None
 owner (TmpFlat id) = None
 owner (Index host writer) = Some writer
 owner (Log host writer) = Some writer
+owner (Packed host writer) = Some writer
+owner (TmpPacked host id) = None
 
 abbrev pub host_of : Item → Option ℕ
 host_of Access = None
@@ -32,6 +34,8 @@ host_of (Flat id) = None
 host_of (TmpFlat id) = None
 host_of (Index host writer) = Some host
 host_of (Log host writer) = Some host
+host_of (Packed host writer) = Some host
+host_of (TmpPacked host id) = None
 
 pub is_index : (host writer : ℕ) → host < 2 ^ 32 → writer < 2 ^ 64 → IsItem (Index host writer)
 is_index host writer h w = record { in_range = tt; widths = (h, w) }

@@ -12,18 +12,18 @@ use Rattle.store_api.specs.declared.tree.Tree.{Tree}
 use Rattle.store_laws.specs.Files.{file_at, kept_at}
 use Rattle.store_laws.specs.Changes.{with_room, Removed}
 use Rattle.store_laws.specs.Tells.{Tells, made}
-use Rattle.store_laws.proofs.Telling.{remove_told}
+use Rattle.store_laws.proofs.Facts.{remove_told}
 use Rattle.mount_model.specs.declared.row.Row.{Row}
 use Rattle.mount_model.specs.declared.row.Stage.TheVariants as stage
 use Rattle.mount_model.specs.declared.reply.Reply.{Reply}
 use Rattle.mount_model.specs.declared.reply.Refusal.TheVariants.{NoMeta}
 use Rattle.mount_model.specs.Leaving.{exit_check, exit_step, exit_outcome, Exits}
-use Rattle.mount_model.specs.Making.{Told, Makes, UnlessRefused}
+use Rattle.mount_model.specs.Making.{Told, MakesAct, UnlessRefused}
 use Rattle.mount_model.specs.Paths.{open_path, index_path, log_path}
 use Rattle.mount_model.specs.Regular.{IsRegular, AreAscending}
 use Rattle.mount_model.specs.State.{State, Table, last_id}
 use Rattle.mount_model.specs.Table.{row_of, with_row, without_row, is_live, at_stage}
-use Rattle.mount_model.proofs.Tables.{row_of_other-without_row, row_of-without_row}
+use Rattle.mount_model.proofs.Facts.{row_of_other-without_row, row_of-without_row}
 use Rattle.mount_sound.specs.Items.{HasMeta}
 use Rattle.mount_sound.specs.Ledger.{Written, entries_in, content, Ledger}
 use Rattle.mount_sound.specs.Dropping.{IsWriter}
@@ -176,10 +176,10 @@ may_exit row e some = passes (nat_lt 0 row.stored) row.has_meta (positive row.st
 -- Leaving keeps soundness.
 pub exit_keeps : (issued : Ledger) (old : State) (caller writer : ℕ) (reply : Reply) (new : State) → IsRegular old → Exits caller writer old reply new → IsAccounted issued old → IsAccounted issued new
 exit_keeps issued old caller writer reply new r f a =
-    on_writer issued old caller is_live writer reply new (λ row. UnlessRefused (exit_check row) old reply new (Makes (exit_step row) (exit_outcome row old.table) old reply new)) f a
+    on_writer issued old caller is_live writer reply new (λ row. UnlessRefused (exit_check row) old reply new (MakesAct (exit_step row) (exit_outcome row old.table) old reply new)) f a
     (λ row stands at does.
     let w = working issued old writer row r a stands (stage_live row.stage at) in
-    unless_refused issued (exit_check row) old reply new (Makes (exit_step row) (exit_outcome row old.table) old reply new) does a
+    unless_refused issued (exit_check row) old reply new (MakesAct (exit_step row) (exit_outcome row old.table) old reply new) does a
     (λ none makes.
     makes_accounted (exit_step row) (exit_outcome row old.table) (λ x. issued) old reply new a.tree a.told
     (exit_told (last_id old) issued old.table a.tree row r.ascending (may_exit row none) a.right.no_holders a.right.no_flattenings w) makes))

@@ -5,19 +5,19 @@ use Rattle.std.proofs.lemmas.Bool.{cases_eq, cases_lt}
 use Rattle.std.proofs.lemmas.List.{length-take-le, length-map, append-nil}
 use Rattle.plfs_types.specs.declared.entries.Entry.{Entry}
 use Rattle.index_entry.specs.Spelling.{spelling, spelling_all}
-use Rattle.index_entry.proofs.Spelled.{length-spelling, length-spelling_all}
+use Rattle.index_entry.proofs.Facts.{length-spelling, length-spelling_all}
 use Rattle.container_layout.specs.declared.items.Item.{Item}
 use Rattle.container_layout.specs.declared.items.Item.TheVariants.{Meta, Trunc, Log}
 use Rattle.store_api.specs.declared.tree.Room.{Room}
 use Rattle.store_laws.specs.Files.{file_at}
 use Rattle.store_laws.specs.Prefix.{IsPrefix}
-use Rattle.store_laws.proofs.Overwriting.{whole_items}
+use Rattle.store_laws.proofs.Facts.{whole_items}
 use Rattle.mount_model.specs.declared.row.Row.{Row}
 use Rattle.mount_model.specs.Paths.{open_path, index_path}
 use Rattle.mount_model.specs.Table.{rank}
 use Rattle.mount_sound.specs.Ledger.{Written, entries_in, content}
 use Rattle.mount_sound.specs.Items.{HasItem, HasMeta, HasItemOf}
-use Rattle.mount_sound.specs.Dropping.{bytes_of, log_bytes, IsDropping, IsSettled, IsToldOf, AreBeside, IsWriter}
+use Rattle.mount_sound.specs.Dropping.{bytes_of, log_bytes, IsDropping, IsKeptWhole, IsToldOf, AreBeside, IsWriter}
 use Rattle.mount_sound.specs.Kept.{Begins, IsAtStage, IsKept}
 use Rattle.mount_sound.proofs.Items.{SameButItem, owner, host_of, other_host, no_owner, had, has_still, had_item_of, is_open, is_log}
 use Rattle.mount_sound.proofs.Frames.{Fits, log_frame}
@@ -133,12 +133,12 @@ live_writer room row issued fits k a o =
       settled = λ m.
           let none = nothing_pending room row issued k a m in
           let all : take l.count (entries_in issued) ≡ entries_in issued = all_landed (entries_in issued) row.landed l.count (file_at room (index_path row.host row.id)) k.index l.index l.within none in
-          let s : IsSettled room row.host row.id (entries_in issued) = record {
+          let s : IsKeptWhole room row.host row.id (entries_in issued) = record {
             index = index_whole (entries_in issued) row.landed (file_at room (index_path row.host row.id)) k.index none;
             index_kept = omega (arith, k.index_kept, (a.closing m).3, no_more (entries_in issued) row.landed none);
             log_kept = omega (arith, k.log_kept, (a.closing m).2, k.numbers.stored);
           } in
-          subst (IsSettled room row.host row.id) (sym all) s;
+          subst (IsKeptWhole room row.host row.id) (sym all) s;
       beside = beside_of room row issued k a l.count;
     }
 
@@ -154,7 +154,7 @@ own_of room row issued fits k a w =
       log = subst (λ h. IsPrefix (content issued) (log_bytes room h row.id)) same w.log;
       told = λ last bytes stamp inside h.
           let m : HasMeta room row.host row.id = record { last = last; bytes = bytes; stamp = stamp; content = inside; has = h } in
-          let settled : IsSettled room row.host row.id (take w.landed (entries_in issued)) = subst (λ x. IsSettled room x row.id (take w.landed (entries_in issued))) same (w.settled (subst (λ x. HasMeta room x row.id) (sym same) m)) in
+          let settled : IsKeptWhole room row.host row.id (take w.landed (entries_in issued)) = subst (λ x. IsKeptWhole room x row.id (take w.landed (entries_in issued))) same (w.settled (subst (λ x. HasMeta room x row.id) (sym same) m)) in
           let all : take w.landed (entries_in issued) ≡ entries_in issued = all_settled (entries_in issued) row.landed w.landed (file_at room (index_path row.host row.id)) k.index settled.index (nothing_pending room row issued k a m) in
           subst (IsToldOf last bytes stamp) all (w.told last bytes stamp inside (subst (λ x. HasItem room (Meta last bytes stamp x row.id) inside) (sym same) h));
     }

@@ -14,8 +14,7 @@ use Rattle.store_api.specs.Room.{is_top}
 use Rattle.store_laws.specs.Files.{file_at}
 use Rattle.store_laws.specs.Differ.{is_listed}
 use Rattle.store_laws.specs.Changes.{RoomMade}
-use Rattle.store_laws.proofs.Places.{slice_get_before, slice_get_more}
-use Rattle.store_laws.proofs.Telling.{make_room_told}
+use Rattle.store_laws.proofs.Facts.{slice_get_before, slice_get_more, make_room_told}
 use Rattle.mount_model.specs.declared.row.Row.{Row}
 use Rattle.mount_model.specs.declared.reply.Reply.{Reply}
 use Rattle.mount_model.specs.Finding.{make_outcome, MakesContainer}

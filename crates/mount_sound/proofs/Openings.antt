@@ -13,18 +13,18 @@ use Rattle.store_laws.specs.Changes.{Created, FolderMade}
 use Rattle.store_laws.specs.Prefix.{IsPrefix}
 use Rattle.store_laws.specs.Tells.{Tells}
 use Rattle.store_laws.specs.There.{HoldsFile, HoldsFolder}
-use Rattle.store_laws.proofs.Telling.{create_told, make_folder_told}
+use Rattle.store_laws.proofs.Facts.{create_told, make_folder_told}
 use Rattle.mount_model.specs.declared.row.Row.{Row}
 use Rattle.mount_model.specs.declared.row.Stage.{Stage}
 use Rattle.mount_model.specs.declared.row.Stage.TheVariants as stage
 use Rattle.mount_model.specs.declared.reply.Reply.{Reply}
 use Rattle.mount_model.specs.Building.{build_outcome, hostdir_step, MakesHostdir, log_step, MakesLog}
-use Rattle.mount_model.specs.Making.{Told, Makes}
+use Rattle.mount_model.specs.Making.{Told, MakesAct}
 use Rattle.mount_model.specs.Paths.{Name, log_path}
 use Rattle.mount_model.specs.Regular.{IsRegular}
 use Rattle.mount_model.specs.State.{State, Table, last_id}
 use Rattle.mount_model.specs.Table.{with_row, rank, only, at_stage}
-use Rattle.mount_model.proofs.Deciding.{at_only}
+use Rattle.mount_model.proofs.Facts.{at_only}
 use Rattle.mount_sound.specs.Entries.{logged}
 use Rattle.mount_sound.specs.Ledger.{Written, entries_in, content, Ledger}
 use Rattle.mount_sound.specs.Dropping.{log_bytes}
@@ -105,7 +105,7 @@ log_told last issued table tree row at holders flattenings w told after t =
 -- Making a log keeps soundness.
 pub log_keeps : (issued : Ledger) (old : State) (caller writer : ℕ) (reply : Reply) (new : State) → IsRegular old → MakesLog caller writer old reply new → IsAccounted issued old → IsAccounted issued new
 log_keeps issued old caller writer reply new r f a =
-    on_writer issued old caller (only stage.Indexed) writer reply new (λ row. Makes (log_step row) (build_outcome stage.Open (hostdir_of row.host) (log_path row.host row.id).file row old.table) old reply new) f a
+    on_writer issued old caller (only stage.Indexed) writer reply new (λ row. MakesAct (log_step row) (build_outcome stage.Open (hostdir_of row.host) (log_path row.host row.id).file row old.table) old reply new) f a
     (λ row stands at makes.
     let is : rank row.stage ≡ 3 = at_only stage.Indexed row.stage at in
     makes_accounted (log_step row) (build_outcome stage.Open (hostdir_of row.host) (log_path row.host row.id).file row old.table) (λ x. issued) old reply new a.tree a.told
@@ -154,7 +154,7 @@ folder_told last issued table tree row at holders flattenings w told after t =
 -- Making the folder of a writer's droppings keeps soundness.
 pub hostdir_keeps : (issued : Ledger) (old : State) (caller writer : ℕ) (reply : Reply) (new : State) → IsRegular old → MakesHostdir caller writer old reply new → IsAccounted issued old → IsAccounted issued new
 hostdir_keeps issued old caller writer reply new r f a =
-    on_writer issued old caller (only stage.Floored) writer reply new (λ row. Makes (hostdir_step row) (build_outcome stage.Housed (hostdir_of row.host) [] row old.table) old reply new) f a
+    on_writer issued old caller (only stage.Floored) writer reply new (λ row. MakesAct (hostdir_step row) (build_outcome stage.Housed (hostdir_of row.host) [] row old.table) old reply new) f a
     (λ row stands at makes.
     let is : rank row.stage ≡ 1 = at_only stage.Floored row.stage at in
     makes_accounted (hostdir_step row) (build_outcome stage.Housed (hostdir_of row.host) [] row old.table) (λ x. issued) old reply new a.tree a.told

@@ -12,8 +12,7 @@ use Rattle.mount_model.specs.Making.{OnWriter, UnlessRefused}
 use Rattle.mount_model.specs.Regular.{IsRegular}
 use Rattle.mount_model.specs.State.{State, last_id}
 use Rattle.mount_model.specs.Table.{row_of, rank, is_live, at_stage}
-use Rattle.mount_model.proofs.Deciding.{on_writer as by_writer, unless_refused as by_check}
-use Rattle.mount_model.proofs.Tables.{row_of_id}
+use Rattle.mount_model.proofs.Facts.{on_writer as by_writer, unless_refused as by_check, row_of_id}
 use Rattle.mount_sound.specs.Ledger.{Written, entries_in, Ledger}
 use Rattle.mount_sound.specs.Kept.{AreItsNumbers, IsAtStage, IsKept}
 use Rattle.mount_sound.proofs.Live.{Own}

@@ -11,18 +11,17 @@ use Rattle.store_laws.specs.Files.{file_at, kept_at}
 use Rattle.store_laws.specs.Prefix.{IsPrefix}
 use Rattle.store_laws.specs.Changes.{WasSynced}
 use Rattle.store_laws.specs.Tells.{Tells, made}
-use Rattle.store_laws.proofs.Overwriting.{prefix_length}
-use Rattle.store_laws.proofs.Telling.{sync_told}
+use Rattle.store_laws.proofs.Facts.{prefix_length, sync_told}
 use Rattle.mount_model.specs.declared.row.Row.{Row}
 use Rattle.mount_model.specs.declared.row.Stage.TheVariants as stage
 use Rattle.mount_model.specs.declared.reply.Reply.{Reply}
 use Rattle.mount_model.specs.Flushing.{sync_log_step, log_synced, sync_log_outcome, SyncsLog, sync_index_step, index_synced, sync_index_outcome, SyncsIndex}
-use Rattle.mount_model.specs.Making.{Told, Makes}
+use Rattle.mount_model.specs.Making.{Told, MakesAct}
 use Rattle.mount_model.specs.Paths.{index_path, log_path}
 use Rattle.mount_model.specs.Regular.{IsRegular}
 use Rattle.mount_model.specs.State.{State, Table, last_id}
 use Rattle.mount_model.specs.Table.{with_row, rank, only}
-use Rattle.mount_model.proofs.Deciding.{at_only}
+use Rattle.mount_model.proofs.Facts.{at_only}
 use Rattle.mount_sound.specs.Ledger.{Written, entries_in, content, Ledger}
 use Rattle.mount_sound.specs.Dropping.{bytes_of}
 use Rattle.mount_sound.specs.Kept.{Begins, IsAtStage, IsKept}
@@ -121,7 +120,7 @@ log_told last issued table tree row at holders flattenings w told after t =
 -- Syncing a log keeps soundness.
 pub sync_log_keeps : (issued : Ledger) (old : State) (caller writer : ℕ) (reply : Reply) (new : State) → IsRegular old → SyncsLog caller writer old reply new → IsAccounted issued old → IsAccounted issued new
 sync_log_keeps issued old caller writer reply new r f a =
-    on_writer issued old caller (only stage.Open) writer reply new (λ row. Makes (sync_log_step row) (sync_log_outcome row old.table) old reply new) f a
+    on_writer issued old caller (only stage.Open) writer reply new (λ row. MakesAct (sync_log_step row) (sync_log_outcome row old.table) old reply new) f a
     (λ row stands at makes.
     let is : rank row.stage ≡ 4 = at_only stage.Open row.stage at in
     makes_accounted (sync_log_step row) (sync_log_outcome row old.table) (λ x. issued) old reply new a.tree a.told
@@ -198,7 +197,7 @@ index_told last issued table tree row at holders flattenings w told after t =
 -- Syncing an index dropping keeps soundness.
 pub sync_index_keeps : (issued : Ledger) (old : State) (caller writer : ℕ) (reply : Reply) (new : State) → IsRegular old → SyncsIndex caller writer old reply new → IsAccounted issued old → IsAccounted issued new
 sync_index_keeps issued old caller writer reply new r f a =
-    on_writer issued old caller (only stage.Open) writer reply new (λ row. Makes (sync_index_step row) (sync_index_outcome row old.table) old reply new) f a
+    on_writer issued old caller (only stage.Open) writer reply new (λ row. MakesAct (sync_index_step row) (sync_index_outcome row old.table) old reply new) f a
     (λ row stands at makes.
     let is : rank row.stage ≡ 4 = at_only stage.Open row.stage at in
     makes_accounted (sync_index_step row) (sync_index_outcome row old.table) (λ x. issued) old reply new a.tree a.told

@@ -1,47 +1,36 @@
 -- The landed entries of a sound room are those that its bytes tell.
-use Rattle.std.proofs.Common.{◌≡◌, ℕ, suc, ◌+◌, ◌*◌, ◌/◌, ◌≤◌, ◌<◌, ◌^◌, true, false, nat_le, List, [], ◌∷◌, ◌++◌, length, min, take, drop, Option, Some, None, refl, ap, sym, ◌∙◌, subst, arith, length-append, append_assoc}
+use Rattle.std.proofs.Common.{◌≡◌, ℕ, suc, ◌+◌, ◌*◌, ◌/◌, ◌≤◌, ◌<◌, ◌^◌, true, false, nat_le, List, [], ◌∷◌, ◌++◌, length, min, take, drop, Option, Some, None, refl, ap, sym, ◌∙◌, inl, subst, arith, length-append, append_assoc}
 use Rattle.std.specs.Prelude.{MatchOption, slice_get, if◌then◌else◌}
-use Rattle.std.specs.Int.{w64, from_le_bytes}
 use Rattle.std.proofs.lemmas.List.{length-take-le, length-map, append-nil, take_at, drop_at}
-use Rattle.std.proofs.lemmas.Nat.{from_le_bytes-to_le_bytes_8}
 use Rattle.plfs_types.specs.declared.entries.Entry.{Entry}
-use Rattle.index_entry.specs.Spelling.{spelling, spelling_all, FitsPlaces}
+use Rattle.index_entry.specs.Spelling.{spelling, spelling_all, entry_in, FitsPlaces}
 use Rattle.index_entry.specs.Valid.{IsValidEntry}
-use Rattle.index_entry.proofs.Spelled.{length-spelling, length-spelling_all, valid_fits_places}
+use Rattle.index_entry.specs.Within.{within_log}
+use Rattle.index_entry.proofs.Facts.{entries_format, length-spelling, length-spelling_all, valid_fits_places}
 use Rattle.container_layout.specs.declared.items.Item.TheVariants.{Index}
 use Rattle.store_api.specs.declared.tree.Room.{Room}
 use Rattle.store_laws.specs.Files.{file_at}
-use Rattle.store_laws.proofs.Overwriting.{prefix_length}
+use Rattle.store_laws.proofs.Facts.{prefix_length}
 use Rattle.mount_model.specs.Paths.{index_path}
 use Rattle.mount_model.specs.State.{State}
-use Rattle.mount_sound.specs.Entries.{MayFollow, AreInOrder, logged, last_stamp}
+use Rattle.mount_sound.specs.Entries.{MayFollow, AreEntriesOf, logged, last_stamp}
 use Rattle.mount_sound.specs.Ledger.{Written, entries_in, content, AreWritesOf, Ledger}
 use Rattle.mount_sound.specs.Dropping.{bytes_of, log_bytes, EndPast, IsDropping, IsWriter}
 use Rattle.mount_sound.specs.Items.{HasItem}
 use Rattle.mount_sound.specs.Landed.{whole, HasLanded}
 use Rattle.mount_sound.specs.Fitting.{fitting}
 use Rattle.mount_sound.specs.Sound.{IsSoundFor}
-use Rattle.mount_sound.specs.There.{entry_in, within_log, entries_there, landed_there}
+use Rattle.mount_sound.specs.There.{entries_there, landed_entries}
 use Rattle.mount_sound.proofs.Fitting.{fit_length, fit_least, fit_below, order_append, logged_append}
-use Rattle.mount_sound.proofs.HasLanded.{landed_was_issued}
+use Rattle.mount_sound.proofs.HasLanded.{landed_is, landed_was_issued}
 use Rattle.mount_sound.proofs.Landing.{entries_take, in_order_take, logged_take, writes_take}
 use Rattle.mount_sound.proofs.WriteEntries.{length-content}
 
 -- ---- one entry
 
-unspelled : (e : Entry) (rest : List ℕ) → FitsPlaces e → entry_in (spelling e ++ rest) ≡ e
-unfolding spelling entry_in
-unspelled e rest fits =
-    let at : from_le_bytes w64 (take 8 (spelling e ++ rest)) ≡ e.at = from_le_bytes-to_le_bytes_8 e.at fits.at_fits in
-    let len : from_le_bytes w64 (take 8 (drop 8 (spelling e ++ rest))) ≡ e.len = from_le_bytes-to_le_bytes_8 e.len fits.len_fits in
-    let physical : from_le_bytes w64 (take 8 (drop 16 (spelling e ++ rest))) ≡ e.physical = from_le_bytes-to_le_bytes_8 e.physical fits.physical_fits in
-    let stamp : from_le_bytes w64 (take 8 (drop 24 (spelling e ++ rest))) ≡ e.stamp = from_le_bytes-to_le_bytes_8 e.stamp fits.stamp_fits in
-    let writer : from_le_bytes w64 (take 8 (drop 32 (spelling e ++ rest))) ≡ e.writer = from_le_bytes-to_le_bytes_8 e.writer fits.writer_fits in
-    λ i. record { at = at i; len = len i; physical = physical i; stamp = stamp i; writer = writer i }
-
 follows_fits : (writer last offset : ℕ) (e : Entry) → writer < 2 ^ 64 → offset < 2 ^ 64 → MayFollow writer last offset e → FitsPlaces e
 follows_fits writer last offset e fits small f =
-    let valid : IsValidEntry e = record { not_empty = f.some; near = f.within; stamped = omega (arith, f.later); stamp_fits = f.in_range } in
+    let valid : IsValidEntry e = record { not_empty = f.some; near = f.within; stamped = omega (arith, f.later); stamp_fits = omega (arith, f.in_range) } in
     valid_fits_places e valid (omega (arith, f.place, small)) (omega (arith, f.owner, fits))
 
 -- ---- entries in order
@@ -57,14 +46,14 @@ unfolding first_within
 by_step log n bytes e rest one others = ap (λ x. first_within log n x (drop 40 bytes)) one ∙ ap (first_within log n e) others
 
 -- of entries in order, those that their bytes tell are those that end within the log
-told_within : (log writer last before : ℕ) (es : List Entry) (tail : List ℕ) → writer < 2 ^ 64 → before + logged es < 2 ^ 64 → AreInOrder writer last before es → within_log log (length es) (spelling_all es ++ tail) ≡ take (fitting log before es) es
+told_within : (log writer last before : ℕ) (es : List Entry) (tail : List ℕ) → writer < 2 ^ 64 → before + logged es < 2 ^ 64 → AreEntriesOf writer last before es → within_log log (length es) (spelling_all es ++ tail) ≡ take (fitting log before es) es
 unfolding first_within
 told_within log writer last before [] tail fits small o = refl
 told_within log writer last before (e ∷ es) tail fits small o =
     let rest : List ℕ = spelling_all es ++ tail in
     let split : spelling_all (e ∷ es) ++ tail ≡ spelling e ++ rest = append_assoc (spelling e) (spelling_all es) tail in
     let here : FitsPlaces e = follows_fits writer last before e fits (omega (arith, small)) o.0 in
-    let step : within_log log (suc (length es)) (spelling e ++ rest) ≡ first_within log (length es) e rest = by_step log (length es) (spelling e ++ rest) e rest (unspelled e rest here) (drop_at (spelling e) rest 40 (length-spelling e)) in
+    let step : within_log log (suc (length es)) (spelling e ++ rest) ≡ first_within log (length es) e rest = by_step log (length es) (spelling e ++ rest) e rest (entries_format.again e rest here) (drop_at (spelling e) rest 40 (length-spelling e)) in
     let more : within_log log (length es) rest ≡ take (fitting log (before + e.len) es) es = told_within log writer e.stamp (before + e.len) es tail fits (omega (arith, small)) o.1 in
     let place : first_within log (length es) e rest ≡ (if nat_le (before + e.len) log then e ∷ within_log log (length es) rest else []) = ap (λ p. if nat_le (p + e.len) log then e ∷ within_log log (length es) rest else []) o.0.place in
     ap (within_log log (suc (length es))) split ∙ step ∙ place
@@ -98,9 +87,9 @@ module _ (writer : ℕ) (issued : List Written) (landed log : ℕ) (bytes : List
   unfolding all first
   counts = quotient (length all) (length d.tail) (length bytes) (omega (arith, ap length d.spelled, length-append (spelling_all all) d.tail, length-spelling_all all)) d.torn
 
-  ordered : AreInOrder writer 0 0 all
+  ordered : AreEntriesOf writer 0 0 all
   unfolding all first
-  ordered = order_append writer 0 0 (take landed (entries_in issued)) d.more (in_order_take landed writer 0 0 (entries_in issued) v.in_order) (subst (λ n. AreInOrder writer (last_stamp 0 (take landed (entries_in issued))) n d.more) (omega arith) d.in_order)
+  ordered = order_append writer 0 0 (take landed (entries_in issued)) d.more (in_order_take landed writer 0 0 (entries_in issued) v.in_order) (subst (λ n. AreEntriesOf writer (last_stamp 0 (take landed (entries_in issued))) n d.more) (omega arith) d.in_order)
 
   small : logged all ≤ 2 ^ 56
   unfolding all first
@@ -153,20 +142,19 @@ by_index writer host issued landed None log m fits v has = sym (ap (λ n. take n
 by_index writer host issued landed (Some bytes) log m fits v has = told_landed writer issued landed (length log) bytes m fits v has
 
 -- what has landed of a writer is what its bytes tell
-pub writer_told : (room : Room) (writer : ℕ) (issued : List Written) (w : IsWriter room writer issued) → writer < 2 ^ 64 → AreWritesOf writer issued → landed_there room w.host writer ≡ take w.landed (entries_in issued)
+pub writer_told : (room : Room) (writer : ℕ) (issued : List Written) (w : IsWriter room writer issued) → writer < 2 ^ 64 → AreWritesOf writer issued → landed_entries room w.host writer ≡ take w.landed (entries_in issued)
 writer_told room writer issued w fits v =
     by_index writer w.host issued w.landed (file_at room (index_path w.host writer)) (log_bytes room w.host writer) w.index fits v
     (omega (arith, logged_take w.landed (entries_in issued), length-content issued v.full, prefix_length (content issued) (log_bytes room w.host writer) w.log))
 
 -- Of an index dropping of a sound mount, the entries that its bytes and its log tell are the landed ones.
 pub told_in_sound : (issued : Ledger) (state : State) (s : IsSoundFor issued state) (number : ℕ) (room : Room) → slice_get s.shape.tree.rooms number ≡ Some room → (host writer : ℕ) (bytes : List ℕ) → HasItem room (Index host writer) bytes
-    → entries_there bytes (log_bytes room host writer) ≡ take (min (whole bytes) (length (issued number writer))) (entries_in (issued number writer))
+    → landed_entries room host writer ≡ take (min (whole bytes) (length (issued number writer))) (entries_in (issued number writer))
 told_in_sound issued state s number room there host writer bytes item =
-    let h : HasLanded room host writer (issued number writer) bytes = landed_was_issued issued state s number room there host writer bytes item in
-    let v : AreWritesOf writer (issued number writer) = s.sound.writes number writer in
-    let long : length (content (take h.landed (issued number writer))) ≡ logged (take h.landed (entries_in (issued number writer))) = length-content (take h.landed (issued number writer)) (writes_take h.landed writer (issued number writer) v).full ∙ ap logged (entries_take h.landed (issued number writer)) in
-    told_landed writer (issued number writer) h.landed (length (log_bytes room host writer)) bytes h.dropping item.is_item.widths.1 v (omega (arith, long, prefix_length (content (take h.landed (issued number writer))) (log_bytes room host writer) h.logged))
-    ∙ ap (λ n. take n (entries_in (issued number writer))) h.is
+    let w : IsWriter room writer (issued number writer) = (s.sound.rooms number room there).writers writer item.is_item.widths.1 in
+    let same : host ≡ w.host = w.one_host host (inl (bytes, item)) in
+    ap (λ x. landed_entries room x writer) same ∙ writer_told room writer (issued number writer) w item.is_item.widths.1 (s.sound.writes number writer)
+    ∙ ap (λ n. take n (entries_in (issued number writer))) (landed_is room host writer (issued number writer) bytes w item)
 
 -- The bytes of its whole entries tell them too.
 pub read_in_sound : (issued : Ledger) (state : State) (s : IsSoundFor issued state) (number : ℕ) (room : Room) → slice_get s.shape.tree.rooms number ≡ Some room → (host writer : ℕ) (bytes : List ℕ) → HasItem room (Index host writer) bytes

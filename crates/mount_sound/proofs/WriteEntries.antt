@@ -5,20 +5,19 @@ use Rattle.std.proofs.lemmas.List.{map-append, append-nil}
 use Rattle.plfs_types.specs.Bytes.{overwritten}
 use Rattle.plfs_types.specs.declared.entries.Entry.{Entry}
 use Rattle.index_entry.specs.Spelling.{spelling_all}
-use Rattle.index_entry.proofs.Spelled.{spelling_all-append}
+use Rattle.index_entry.proofs.Facts.{spelling_all-append}
 use Rattle.container_layout.specs.declared.items.Item.TheVariants.{OpenHost, Meta, Index, Log}
 use Rattle.container_layout.specs.Paths.{hostdir_of}
 use Rattle.store_api.specs.declared.tree.Room.{Room}
 use Rattle.store_laws.specs.Files.{file_at, kept_at}
 use Rattle.store_laws.specs.Prefix.{IsPrefix}
-use Rattle.store_laws.proofs.Overwriting.{prefix-append, prefix-over, prefix_front}
+use Rattle.store_laws.proofs.Facts.{prefix-append, prefix-over, prefix_front}
 use Rattle.mount_model.specs.declared.row.Row.{Row}
 use Rattle.mount_model.specs.Paths.{index_path, log_path}
 use Rattle.mount_model.specs.Table.{rank}
 use Rattle.mount_model.specs.Writing.{entry_of, wrote}
-use Rattle.mount_model.proofs.Deciding.{MayWrite}
-use Rattle.mount_model.proofs.Ranges.{IsStamp}
-use Rattle.mount_sound.specs.Entries.{MayFollow, AreInOrder, logged, last_stamp, greatest_end}
+use Rattle.mount_model.proofs.Facts.{MayWrite, IsStamp}
+use Rattle.mount_sound.specs.Entries.{MayFollow, AreEntriesOf, logged, last_stamp, greatest_end}
 use Rattle.mount_sound.specs.Ledger.{Written, entries_in, content, AreFull, AreWritesOf}
 use Rattle.mount_sound.specs.Issued.{written_by}
 use Rattle.mount_sound.specs.Items.{HasItem}
@@ -113,13 +112,13 @@ may_follow stamp row es at len stored last past above fits f some = record {
   within = f.near;
   owner = refl;
   later = last_stamp_floor row.floor es stamp above (omega (arith, last));
-  in_range = fits;
+  in_range = omega (arith, fits);
   place = omega (arith, stored);
 }
 
-in_order_wrote : (stamp : ℕ) (room : Room) (row : Row) (issued : List Written) (at : ℕ) (bytes : List ℕ) → IsKept room row issued → IsStamp row.last row.floor stamp → MayWrite row at (length bytes) → 1 ≤ length bytes → AreInOrder row.id row.floor 0 (entries_in (issued ++ written_by row stamp at bytes ∷ []))
+in_order_wrote : (stamp : ℕ) (room : Room) (row : Row) (issued : List Written) (at : ℕ) (bytes : List ℕ) → IsKept room row issued → IsStamp row.last row.floor stamp → MayWrite row at (length bytes) → 1 ≤ length bytes → AreEntriesOf row.id row.floor 0 (entries_in (issued ++ written_by row stamp at bytes ∷ []))
 in_order_wrote stamp room row issued at bytes k s f some =
-    subst (AreInOrder row.id row.floor 0) (sym (entries_push issued (written_by row stamp at bytes)))
+    subst (AreEntriesOf row.id row.floor 0) (sym (entries_push issued (written_by row stamp at bytes)))
     (in_order_push row.id row.floor 0 (entries_in issued) (entry_of stamp row at (length bytes)) k.in_order (may_follow stamp row (entries_in issued) at (length bytes) k.numbers.stored k.numbers.last s.later s.above s.fits f some))
 
 -- all bytes were logged, and the row has their entry

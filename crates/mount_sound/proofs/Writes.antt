@@ -9,9 +9,8 @@ use Rattle.store_api.specs.declared.store.Trouble.TheVariants.{Fault, NoMemory}
 use Rattle.store_api.specs.declared.tree.Tree.{Tree}
 use Rattle.store_laws.specs.Changes.{Wrote}
 use Rattle.store_laws.specs.Files.{kept_at}
-use Rattle.store_laws.proofs.Common.{kept_before}
+use Rattle.store_laws.proofs.Facts.{kept_before, write_told}
 use Rattle.store_laws.specs.Tells.{Tells, made}
-use Rattle.store_laws.proofs.Telling.{write_told}
 use Rattle.mount_model.specs.declared.row.Row.{Row}
 use Rattle.mount_model.specs.declared.row.Stage.TheVariants as stage
 use Rattle.mount_model.specs.declared.reply.Reply.{Reply}
@@ -23,8 +22,7 @@ use Rattle.mount_model.specs.Regular.{IsRegular}
 use Rattle.mount_model.specs.State.{State, Table, last_id, timed}
 use Rattle.mount_model.specs.Table.{with_row, row_of, held_by, rank, only}
 use Rattle.mount_model.specs.Writing.{write_check, stamp_at, wrote, write_step, write_outcome, WritesAt, Writes}
-use Rattle.mount_model.proofs.Deciding.{at_only, match_cases, is_held, MayWrite, may_write}
-use Rattle.mount_model.proofs.Ranges.{IsStamp, next_is_stamp}
+use Rattle.mount_model.proofs.Facts.{at_only, match_cases, is_held, MayWrite, may_write, IsStamp, next_is_stamp}
 use Rattle.mount_sound.specs.Ledger.{Written, AreWritesOf, Ledger}
 use Rattle.mount_sound.specs.Issued.{with_write, written_by, noted}
 use Rattle.mount_sound.specs.Sound.{AreSound}

@@ -1,6 +1,7 @@
 -- What a room holds of a writer, open or not, that issued these writes.
 use Rattle.std.specs.Prelude.{◌≡◌, ◌⊎◌, ◌^◌, ◌+◌, ◌-◌, ◌*◌, ◌≤◌, ◌<◌, ℕ, List, [], ◌∷◌, ◌++◌, length, take, Option, Some, None, MatchOption}
 use Rattle.std.specs.List.{AllByRecursion}
+use Rattle.plfs_types.specs.declared.limits.TheConstants.{ENTRY_SIZE, MAX_LOG}
 use Rattle.plfs_types.specs.declared.entries.Entry.{Entry}
 use Rattle.index_entry.specs.Spelling.{spelling_all}
 use Rattle.container_layout.specs.declared.items.Item.TheVariants.{Meta, Trunc}
@@ -8,7 +9,7 @@ use Rattle.store_api.specs.declared.tree.Room.{Room}
 use Rattle.store_laws.specs.Files.{file_at, kept_at}
 use Rattle.store_laws.specs.Prefix.{IsPrefix}
 use Rattle.mount_model.specs.Paths.{open_path, index_path, log_path}
-use Rattle.mount_sound.specs.Entries.{AreInOrder, logged, last_stamp, greatest_end}
+use Rattle.mount_sound.specs.Entries.{AreEntriesOf, logged, last_stamp, greatest_end}
 use Rattle.mount_sound.specs.Ledger.{Written, entries_in, content}
 use Rattle.mount_sound.specs.Items.{HasItem, HasMeta, HasItemOf}
 
@@ -31,18 +32,18 @@ pub record IsDropping (writer : ℕ) (issued : List Written) (landed log : ℕ) 
   pub more : List Entry
   pub tail : List ℕ
   pub spelled : bytes ≡ spelling_all (take landed (entries_in issued) ++ more) ++ tail
-  pub torn : length tail < 40
-  pub in_order : AreInOrder writer (last_stamp 0 (take landed (entries_in issued))) (logged (take landed (entries_in issued))) more
-  pub few : logged more ≤ 2 ^ 56 - logged (take landed (entries_in issued))
+  pub torn : length tail < ENTRY_SIZE
+  pub in_order : AreEntriesOf writer (last_stamp 0 (take landed (entries_in issued))) (logged (take landed (entries_in issued))) more
+  pub few : logged more ≤ MAX_LOG - logged (take landed (entries_in issued))
   pub past : EndPast log (logged (take landed (entries_in issued))) more
   -- they stand behind all that the writer issued
   pub behind : (more ≡ []) ⊎ (landed ≡ length issued)
 
 -- what a writer left that has a metadata dropping: its index dropping is exactly these entries, and no loss of power
 -- takes one of them, or of their bytes
-pub record IsSettled (room : Room) (host writer : ℕ) (entries : List Entry) : Type 0 where
+pub record IsKeptWhole (room : Room) (host writer : ℕ) (entries : List Entry) : Type 0 where
   pub index : bytes_of (file_at room (index_path host writer)) ≡ spelling_all entries
-  pub index_kept : 40 * length entries ≤ kept_at room (index_path host writer)
+  pub index_kept : ENTRY_SIZE * length entries ≤ kept_at room (index_path host writer)
   pub log_kept : logged entries ≤ kept_at room (log_path host writer)
 
 -- these are the greatest end, the bytes and the last stamp of the entries
@@ -70,6 +71,6 @@ pub record IsWriter (room : Room) (writer : ℕ) (issued : List Written) : Type 
   -- once it has left, what landed is told by a metadata dropping
   pub left : file_at room (open_path host writer) ≡ None → 1 ≤ landed → HasMeta room host writer
   pub told : (last bytes stamp : ℕ) (content : List ℕ) → HasItem room (Meta last bytes stamp host writer) content → IsToldOf last bytes stamp (take landed (entries_in issued))
-  pub settled : HasMeta room host writer → IsSettled room host writer (take landed (entries_in issued))
+  pub settled : HasMeta room host writer → IsKeptWhole room host writer (take landed (entries_in issued))
   -- no truncate is between two of its landed entries
   pub beside : (stamp size : ℕ) (content : List ℕ) → HasItem room (Trunc stamp size) content → AreBeside stamp (take landed (entries_in issued))

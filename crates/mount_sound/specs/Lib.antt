@@ -7,7 +7,5 @@ pub mod Kept
 pub mod Sound
 pub mod Issued
 pub mod Growing
-pub mod Losing
 pub mod Landed
 pub mod There
-pub mod Damage

@@ -4,25 +4,20 @@ ghost use Rattle.container_layout.specs.declared.items.Item.TheVariants.{Index};
 ghost use Rattle.store_api.specs.declared.tree.Room.{Room};
 ghost use Rattle.store_api.specs.declared.tree.Tree.{Tree};
 ghost use Rattle.store_api.specs.Acts.{Stored};
-ghost use Rattle.store_api.specs.Loss.{Loses};
 ghost use Rattle.mount_model.specs.declared.call.Ask.{Ask};
 ghost use Rattle.mount_model.specs.declared.reply.Reply.{Reply};
 ghost use Rattle.mount_model.specs.State.{State};
 ghost use Rattle.mount_model.specs.Step.{IsStep, IsOwed};
+ghost use Rattle.mount_model.specs.declared.trouble.MountTrouble.{MountTrouble};
+ghost use Rattle.mount_model.specs.Failing.{FailsToMount};
 ghost use Rattle.mount_model.specs.Mounting.{IsMounted};
-ghost use Rattle.mount_model.specs.History.{Event, IsLawful, state_after, tree_after};
-ghost use Rattle.mount_model.specs.declared.row.Row.{Row};
-ghost use Rattle.mount_model.specs.Table.{row_of};
-ghost use Rattle.mount_sound.specs.Entries.{logged};
+ghost use Rattle.mount_model.specs.History.{Event, IsLawful, state_after, told_tree_after};
 ghost use Rattle.mount_sound.specs.Ledger.{Ledger, entries_in};
 ghost use Rattle.mount_sound.specs.Items.{HasItem};
 ghost use Rattle.mount_sound.specs.Sound.{IsSoundFor, IsSoundTree, IsFine};
 ghost use Rattle.mount_sound.specs.Landed.{HasLanded, whole};
-ghost use Rattle.mount_sound.specs.Dropping.{log_bytes};
-ghost use Rattle.mount_sound.specs.There.{entries_there};
-ghost use Rattle.mount_sound.specs.Losing.{AreKept, AreKeptIn, LosesUnkept};
-ghost use Rattle.mount_sound.specs.Damage.{ShowsNoDamage};
-ghost use Rattle.mount_sound.specs.Growing.{Grows, IssuesMore};
+ghost use Rattle.mount_sound.specs.There.{landed_entries, landed_in};
+ghost use Rattle.mount_sound.specs.Growing.{FilesGrow, IssuesMore};
 ghost use Rattle.mount_sound.specs.Issued.{issued, issued_after};
 
 /// A tree with no rooms is sound.
@@ -33,6 +28,12 @@ pub fn an_empty_tree_is_sound()
 /// A mount over a store that told a sound tree is sound for the writes that have landed in it.
 pub fn mounting_is_sound()
     ensures { (serial : ℕ) (times : Option (List ℕ)) (opened : Stored) (new : State) (tree : Tree) → IsMounted serial times opened new → opened.tree ≡ Some tree → (sound : IsSoundTree tree) → IsSoundFor sound.issued new }
+{}
+
+/// What the acts of a mounting that broke off left of a sound tree is sound for the next mount, whatever the store told.
+pub fn a_failed_mounting_leaves_a_sound_tree()
+    ensures { (opened left : Stored) (trouble : MountTrouble) (tree : Tree) → FailsToMount opened trouble left → opened.tree ≡ Some tree → IsSoundTree tree
+        → (after : Tree) × (left.tree ≡ Some after) × IsSoundTree after }
 {}
 
 /// A step of the mount whose caller owed no more than it met keeps soundness, for what was issued by then.
@@ -60,11 +61,6 @@ pub fn fineness_lasts()
     ensures { (old new : State) (caller : ℕ) (ask : Ask) (reply : Reply) → IsOwed ask → IsStep old caller ask reply new → IsFine old → IsFine new }
 {}
 
-/// No step of a sound mount shows damage, whatever fault the store answers.
-pub fn a_sound_mount_shows_no_damage()
-    ensures { (issued : Ledger) (old new : State) (caller : ℕ) (ask : Ask) (reply : Reply) → IsStep old caller ask reply new → IsSoundFor issued old → ShowsNoDamage reply }
-{}
-
 /// The whole entries of each index dropping of a sound mount are the first that its writer issued, and its log begins
 /// with the bytes of their writes.
 pub fn what_landed_was_issued()
@@ -75,41 +71,24 @@ pub fn what_landed_was_issued()
 /// landed: the first that its writer issued.
 pub fn what_is_told_has_landed()
     ensures { (issued : Ledger) (state : State) (sound : IsSoundFor issued state) (number : ℕ) (room : Room) → slice_get sound.shape.tree.rooms number ≡ Some room → (host writer : ℕ) (bytes : List ℕ) → HasItem room (Index host writer) bytes
-        → entries_there bytes (log_bytes room host writer) ≡ take (min (whole bytes) (length (issued number writer))) (entries_in (issued number writer)) }
+        → landed_entries room host writer ≡ take (min (whole bytes) (length (issued number writer))) (entries_in (issued number writer)) }
 {}
 
-/// Along a legal history each file but an entry of an open writer stays, and none of them gets shorter: what has landed
-/// never falls.
+/// Along a history of a sound mount the entries that have landed in an index dropping stay, and more come or none.
+pub fn landed_never_falls()
+    ensures { (before : Ledger) (start : State) (events : List Event) → IsLawful start events → IsSoundFor before start
+        → (tree after : Tree) → start.store.tree ≡ Some tree → told_tree_after start events ≡ Some after
+        → (number : ℕ) (room new : Room) → slice_get tree.rooms number ≡ Some room → slice_get after.rooms number ≡ Some new
+        → (host writer : ℕ) (bytes : List ℕ) → HasItem room (Index host writer) bytes
+        → (landed_in room host writer ≤ landed_in new host writer) × (take (landed_in room host writer) (landed_entries new host writer) ≡ landed_entries room host writer) }
+{}
+
+/// Along a legal history each file but an entry of an open writer stays, and none of them gets shorter.
 pub fn files_only_grow()
-    ensures { (start : State) (events : List Event) (tree : Tree) → IsLawful start events → start.store.tree ≡ Some tree → (after : Tree) × (tree_after start events ≡ Some after) × Grows tree after }
+    ensures { (start : State) (events : List Event) (tree : Tree) → IsLawful start events → start.store.tree ≡ Some tree → (after : Tree) × (told_tree_after start events ≡ Some after) × FilesGrow tree after }
 {}
 
 /// Along a history more is issued, or nothing.
 pub fn issues_only_grow()
     ensures { (before : Ledger) (start : State) (events : List Event) → IssuesMore before (issued before start events) }
-{}
-
-/// What a loss of power leaves of a sound tree is sound, and has the entries that were kept with their bytes.
-pub fn a_lost_tree_is_sound()
-    ensures { (tree new : Tree) → Loses tree new → (sound : IsSoundTree tree) → LosesUnkept sound.issued tree new }
-{}
-
-/// So it is with the tree of a sound mount, at every moment.
-pub fn a_lost_mount_is_sound()
-    ensures { (issued : Ledger) (state : State) (sound : IsSoundFor issued state) (new : Tree) → Loses sound.shape.tree new → LosesUnkept issued sound.shape.tree new }
-{}
-
-/// The entries that a writer of the table synced last are kept, where it had synced their bytes.
-pub fn what_is_marked_is_kept()
-    ensures { (issued : Ledger) (state : State) (sound : IsSoundFor issued state) (id : ℕ) (row : Row) (room : Room) → row_of id state.table.writers ≡ Some row → slice_get sound.shape.tree.rooms row.room ≡ Some room → 1 ≤ row.index_mark → logged (take row.index_mark (entries_in (issued row.room id))) ≤ row.log_mark → AreKept room row.host id (issued row.room id) row.index_mark }
-{}
-
-/// Entries that are kept with their bytes stay so along each legal history, whatever fault the store answers.
-pub fn what_is_kept_stays_kept()
-    ensures { (before : Ledger) (start : State) (events : List Event) → IsLawful start events → (sound : IsSoundFor before start) (then : IsSoundFor (issued before start events) (state_after start events)) (number host writer count : ℕ) → AreKeptIn sound.shape.tree number host writer (before number writer) count → AreKeptIn then.shape.tree number host writer (issued before start events number writer) count }
-{}
-
-/// Whatever a mount did since entries were kept with their bytes, a loss of power then leaves a sound tree that has them.
-pub fn kept_entries_survive()
-    ensures { (before : Ledger) (start : State) (events : List Event) → IsLawful start events → (sound : IsSoundFor before start) (then : IsSoundFor (issued before start events) (state_after start events)) (new : Tree) → Loses then.shape.tree new → (left : LosesUnkept (issued before start events) then.shape.tree new) × ((number host writer count : ℕ) → AreKeptIn sound.shape.tree number host writer (before number writer) count → count ≤ length (left.sound.issued number writer)) }
 {}

@@ -1,4 +1,4 @@
-use Rattle.store_laws.proofs.Losing.{have_lost}
+use Rattle.store_laws.proofs.Facts.{have_lost}
 use Rattle.mount_shape.proofs.Losing.{lost_shaped}
 use Rattle.mount_shape.proofs.laws.a_lost_tree_is_shaped.Goals as goal
 

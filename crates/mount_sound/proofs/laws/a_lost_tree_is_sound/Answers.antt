@@ -1,6 +1,0 @@
-use Rattle.store_laws.proofs.Losing.{have_lost}
-use Rattle.mount_sound.proofs.Losses.{lost_tree_sound}
-use Rattle.mount_sound.proofs.laws.a_lost_tree_is_sound.Goals as goal
-
-pub returns : goal.returns
-returns c = λ tree new l s. lost_tree_sound tree new (have_lost tree new l) s

@@ -1,5 +1,0 @@
-use Rattle.mount_sound.proofs.Surviving.{kept_survive}
-use Rattle.mount_sound.proofs.laws.kept_entries_survive.Goals as goal
-
-pub returns : goal.returns
-returns c = kept_survive
