@@ -3,7 +3,7 @@ use Rattle.std.proofs.Common.{List, [], ◌∷◌}
 use Rattle.mount_model.specs.State.{State}
 use Rattle.mount_model.specs.Regular.{IsRegular}
 use Rattle.mount_model.specs.History.{Event, IsLawful}
-use Rattle.mount_model.proofs.Lasting.{step_regular}
+use Rattle.mount_model.proofs.Facts.{step_regular}
 
 -- the table is regular before and after each of these events
 abbrev pub AreRegular : State → List Event → Type 0

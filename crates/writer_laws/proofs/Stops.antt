@@ -15,13 +15,12 @@ use Rattle.mount_model.specs.Table.{row_of, at_stage}
 use Rattle.mount_model.specs.State.{State, Table}
 use Rattle.mount_model.specs.Making.{Told}
 use Rattle.mount_model.specs.Entering.{enter_check}
-use Rattle.mount_model.specs.Stopping.{ended, without_caller, drawn_unless, begun, IsEndedBy, Stops}
+use Rattle.mount_model.specs.Stopping.{row_ended, without_caller, drawn_unless, begun, IsEndedBy, Stops}
 use Rattle.mount_model.specs.Step.{Answers, IsStep}
-use Rattle.mount_model.proofs.Deciding.{step_cases}
-use Rattle.mount_model.proofs.Replying.{stop_replies}
-use Rattle.writer_laws.specs.Counting.{wrote, wrote_by, entries_of, StaysAt}
+use Rattle.mount_model.proofs.Facts.{step_cases, stop_replies}
+use Rattle.writer_laws.specs.Counting.{wrote_count, wrote_by, entry_count, StaysInAt}
 use Rattle.writer_laws.specs.Knowing.{HasRow}
-use Rattle.writer_laws.specs.Waiting.{IsOn, Spares}
+use Rattle.writer_laws.specs.Waiting.{IsOn, LeavesAlone}
 use Rattle.writer_laws.proofs.Steps.{Kept, kept_same, step_kept}
 use Rattle.writer_laws.proofs.Own.{stays_spared}
 
@@ -53,25 +52,25 @@ stop_table old caller k c reply new x = elim (ended_table x.told reply _ caller 
   | inr without ↦ inr (without ∙ ap (without_caller caller) (begun_table old c))
 ]
 
-ended_found : (caller w : ℕ) (rows : List Row) (row : Row) → row_of w rows ≡ Some row → row_of w (map (ended caller) rows) ≡ Some (ended caller row)
+ended_found : (caller w : ℕ) (rows : List Row) (row : Row) → row_of w rows ≡ Some row → row_of w (map (row_ended caller) rows) ≡ Some (row_ended caller row)
 ended_found caller w [] row e = absurd (cc)
 ended_found caller w (x ∷ rows) row e =
-    subst (λ n. (if nat_eq n w then Some (ended caller x) else row_of w (map (ended caller) rows)) ≡ Some (ended caller row)) (sym (ended_id caller x))
-    (elim (nat_eq x.id w) as (λ b. (if b then Some x else row_of w rows) ≡ Some row → (if b then Some (ended caller x) else row_of w (map (ended caller) rows)) ≡ Some (ended caller row)) [
-      | true ↦ λ f. let is : x ≡ row = cc in ap (λ (r : Row). Some (ended caller r)) is
+    subst (λ n. (if nat_eq n w then Some (row_ended caller x) else row_of w (map (row_ended caller) rows)) ≡ Some (row_ended caller row)) (sym (ended_id caller x))
+    (elim (nat_eq x.id w) as (λ b. (if b then Some x else row_of w rows) ≡ Some row → (if b then Some (row_ended caller x) else row_of w (map (row_ended caller) rows)) ≡ Some (row_ended caller row)) [
+      | true ↦ λ f. let is : x ≡ row = cc in ap (λ (r : Row). Some (row_ended caller r)) is
       | false ↦ λ f. ended_found caller w rows row f
     ] e)
   where
-    ended_id : (caller : ℕ) (r : Row) → (ended caller r).id ≡ r.id
+    ended_id : (caller : ℕ) (r : Row) → (row_ended caller r).id ≡ r.id
     ended_id caller r = elim (nat_eq r.owner caller) as (λ b. (if b then at_stage stage.Dead r else r).id ≡ r.id) [ true ↦ refl | false ↦ refl ]
 
-ended_owner : (caller : ℕ) (row : Row) → (ended caller row).owner ≡ row.owner
+ended_owner : (caller : ℕ) (row : Row) → (row_ended caller row).owner ≡ row.owner
 ended_owner caller row = elim (nat_eq row.owner caller) as (λ b. (if b then at_stage stage.Dead row else row).owner ≡ row.owner) [ true ↦ refl | false ↦ refl ]
 
-ended_entries : (caller : ℕ) (row : Row) → entries_of (ended caller row) ≡ entries_of row
-ended_entries caller row = elim (nat_eq row.owner caller) as (λ b. entries_of (if b then at_stage stage.Dead row else row) ≡ entries_of row) [ true ↦ refl | false ↦ refl ]
+ended_entries : (caller : ℕ) (row : Row) → entry_count (row_ended caller row) ≡ entry_count row
+ended_entries caller row = elim (nat_eq row.owner caller) as (λ b. entry_count (if b then at_stage stage.Dead row else row) ≡ entry_count row) [ true ↦ refl | false ↦ refl ]
 
-others_stay : (caller me : ℕ) (row : Row) → row.owner ≡ me → (caller ≡ me → ⊥) → ended caller row ≡ row
+others_stay : (caller me : ℕ) (row : Row) → row.owner ≡ me → (caller ≡ me → ⊥) → row_ended caller row ≡ row
 others_stay caller me row owned other =
     let differ : row.owner ≡ caller → ⊥ = λ e. other (sym e ∙ owned) in
     let t : nat_eq row.owner caller ≡ false = grind (arith, nat_tests) in
@@ -81,8 +80,8 @@ others_stay caller me row owned other =
 
 no_write : (w : ℕ) (c : Call) (reply : Reply) → (reply ≡ Stopped) ⊎ (reply ≡ NoMemory) → wrote_by w c reply ≡ 0
 no_write w (call.Write id at block) reply none =
-    let nothing : wrote reply ≡ 0 = elim none as (λ _. wrote reply ≡ 0) [ inl e ↦ ap wrote e | inr e ↦ ap wrote e ] in
-    elim (nat_eq id w) as (λ b. (if b then wrote reply else 0) ≡ 0) [ true ↦ nothing | false ↦ refl ]
+    let nothing : wrote_count reply ≡ 0 = elim none as (λ _. wrote_count reply ≡ 0) [ inl e ↦ ap wrote_count e | inr e ↦ ap wrote_count e ] in
+    elim (nat_eq id w) as (λ b. (if b then wrote_count reply else 0) ≡ 0) [ true ↦ nothing | false ↦ refl ]
 no_write w c reply none = refl
 
 -- The writer stays the caller's, with one entry more exactly where a write of it was told; and its very row stays, where
@@ -90,8 +89,8 @@ no_write w c reply none = refl
 pub record StepKept (me w : ℕ) (row : Row) (caller : ℕ) (ask : Ask) (reply : Reply) (new : State) : Type 0 where
   pub after : Row
   pub has : HasRow me w after new
-  pub total : entries_of after ≡ entries_of row + wrote_by w ask.call reply
-  pub spared : (caller ≡ me → Spares w ask) → after ≡ row
+  pub total : entry_count after ≡ entry_count row + wrote_by w ask.call reply
+  pub spared : (caller ≡ me → LeavesAlone w ask) → after ≡ row
 
 stop_kept : (me w : ℕ) (row : Row) (old : State) (caller k : ℕ) (ask : Ask) (reply : Reply) (new : State) → HasRow me w row old → ask.stop ≡ Some k → Stops caller k ask.call old reply new → StepKept me w row caller ask reply new
 stop_kept me w row old caller k ask reply new h some x =
@@ -104,9 +103,9 @@ stop_kept me w row old caller k ask reply new h some x =
         spared = λ spares. refl;
       }
       | inr without ↦ record {
-        after = ended caller row;
+        after = row_ended caller row;
         has = record {
-          there = subst (λ (t : Table). row_of w t.writers ≡ Some (ended caller row)) (sym without) (ended_found caller w old.table.writers row h.there);
+          there = subst (λ (t : Table). row_of w t.writers ≡ Some (row_ended caller row)) (sym without) (ended_found caller w old.table.writers row h.there);
           owned = ended_owner caller row ∙ h.owned;
         };
         total = omega (arith, nothing, ended_entries caller row);
@@ -114,21 +113,21 @@ stop_kept me w row old caller k ask reply new h some x =
       }
     ]
 
-whole_kept : (me w : ℕ) (row : Row) (old : State) (caller : ℕ) (ask : Ask) (reply : Reply) (new : State) → HasRow me w row old → Answers old caller ask.call reply new → StaysAt w ask.call reply → StepKept me w row caller ask reply new
+whole_kept : (me w : ℕ) (row : Row) (old : State) (caller : ℕ) (ask : Ask) (reply : Reply) (new : State) → HasRow me w row old → Answers old caller ask.call reply new → StaysInAt w ask.call reply → StepKept me w row caller ask reply new
 whole_kept me w row old caller ask reply new h a s =
     let k = step_kept me w row old caller ask.call reply new h a s in
     record { after = k.after; has = k.has; total = k.total; spared = λ spares. k.spared (λ mine. (spares mine).1) }
 
 -- Whoever calls what, broken off or not, where it takes not this writer out.
-pub any_kept : (me w : ℕ) (row : Row) (old : State) (caller : ℕ) (ask : Ask) (reply : Reply) (new : State) → HasRow me w row old → IsStep old caller ask reply new → StaysAt w ask.call reply → StepKept me w row caller ask reply new
+pub any_kept : (me w : ℕ) (row : Row) (old : State) (caller : ℕ) (ask : Ask) (reply : Reply) (new : State) → HasRow me w row old → IsStep old caller ask reply new → StaysInAt w ask.call reply → StepKept me w row caller ask reply new
 any_kept me w row old caller ask reply new h step s = step_cases old caller ask reply new (StepKept me w row caller ask reply new) step
     (λ none a. whole_kept me w row old caller ask reply new h a s)
     (λ k some x. stop_kept me w row old caller k ask reply new h some x)
 
 -- The caller's writer is as before after each step in which its caller lets it be.
-pub spared_row : (me w : ℕ) (row : Row) (old : State) (caller : ℕ) (ask : Ask) (reply : Reply) (new : State) → (caller ≡ me → Spares w ask) → HasRow me w row old → IsStep old caller ask reply new → HasRow me w row new
+pub spared_row : (me w : ℕ) (row : Row) (old : State) (caller : ℕ) (ask : Ask) (reply : Reply) (new : State) → (caller ≡ me → LeavesAlone w ask) → HasRow me w row old → IsStep old caller ask reply new → HasRow me w row new
 spared_row me w row old caller ask reply new spares h step =
     let k : StepKept me w row caller ask reply new = step_cases old caller ask reply new (StepKept me w row caller ask reply new) step
-      (λ none a. whole_kept me w row old caller ask reply new h a (stays_spared me w row old caller ask.call reply new (λ mine. (spares mine).1) h a))
-      (λ n some x. stop_kept me w row old caller n ask reply new h some x) in
+    (λ none a. whole_kept me w row old caller ask reply new h a (stays_spared me w row old caller ask.call reply new (λ mine. (spares mine).1) h a))
+    (λ n some x. stop_kept me w row old caller n ask reply new h some x) in
     subst (λ (r : Row). HasRow me w r new) (k.spared spares) k.has

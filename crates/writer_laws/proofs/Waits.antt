@@ -6,11 +6,11 @@ use Rattle.mount_model.specs.State.{State}
 use Rattle.mount_model.specs.History.{Event, IsLawful, state_after}
 use Rattle.writer_flow.specs.declared.handle.WriterHandle.{WriterHandle}
 use Rattle.writer_laws.specs.Knowing.{Knows}
-use Rattle.writer_laws.specs.Waiting.{Spares, LetsBe}
+use Rattle.writer_laws.specs.Waiting.{LeavesAlone, LetsBe}
 use Rattle.writer_laws.proofs.Stops.{spared_row}
 
 pub handle_waits : (caller : ℕ) (handle : WriterHandle) (row : Row) (start : State) (events : List Event) → Knows caller handle row start → IsLawful start events → LetsBe caller handle.writer events → Knows caller handle row (state_after start events)
 handle_waits caller handle row start [] knows legal spared = knows
 handle_waits caller handle row start (event ∷ events) knows legal spared =
-    let has = spared_row caller handle.writer row start event.caller event.ask event.reply event.after (All-head (λ (e : Event). e.caller ≡ caller → Spares handle.writer e.ask) event events spared) knows.has legal.1 in
-    handle_waits caller handle row event.after events (record { has = has; pending = knows.pending }) legal.2 (All-tail (λ (e : Event). e.caller ≡ caller → Spares handle.writer e.ask) event events spared)
+    let has = spared_row caller handle.writer row start event.caller event.ask event.reply event.after (All-head (λ (e : Event). e.caller ≡ caller → LeavesAlone handle.writer e.ask) event events spared) knows.has legal.1 in
+    handle_waits caller handle row event.after events (record { has = has; pending = knows.pending }) legal.2 (All-tail (λ (e : Event). e.caller ≡ caller → LeavesAlone handle.writer e.ask) event events spared)

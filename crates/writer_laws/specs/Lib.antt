@@ -1,4 +1,3 @@
-pub mod Running
 pub mod Counting
 pub mod Knowing
 pub mod Waiting

@@ -21,9 +21,9 @@ IsOn writer (Exit other) = other ≡ writer
 IsOn writer call = ⊥
 
 -- the call is not on this writer, and is not broken off
-abbrev pub Spares : ℕ → Ask → Type 0
-Spares writer ask = (ask.stop ≡ None) × (IsOn writer ask.call → ⊥)
+abbrev pub LeavesAlone : ℕ → Ask → Type 0
+LeavesAlone writer ask = (ask.stop ≡ None) × (IsOn writer ask.call → ⊥)
 
 -- in these events the caller makes no call on this writer, and none that is broken off
 abbrev pub LetsBe : ℕ → ℕ → List Event → Type 0
-LetsBe caller writer events = All (λ (event : Event). event.caller ≡ caller → Spares writer event.ask) events
+LetsBe caller writer events = All (λ (event : Event). event.caller ≡ caller → LeavesAlone writer event.ask) events

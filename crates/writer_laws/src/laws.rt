@@ -1,8 +1,8 @@
 //! The laws of a writer's machines.
-ghost use Rattle.std.specs.Prelude.{◌≡◌, ◌≤◌, ℕ, List, Result, Ok, true};
+ghost use Rattle.std.specs.Prelude.{◌≡◌, ℕ, List, Result, Ok, Some, true};
 ghost use Rattle.mount_model.specs.declared.row.Row.{Row};
 ghost use Rattle.mount_model.specs.State.{State};
-ghost use Rattle.mount_model.specs.History.{Event, IsLawful, state_after};
+ghost use Rattle.mount_model.specs.History.{Event, IsLawful, state_after, told_tree_after};
 ghost use Rattle.writer_flow.specs.declared.handle.WriterHandle.{WriterHandle};
 ghost use Rattle.writer_flow.specs.declared.handle.WriterOut.{WriterOut};
 ghost use Rattle.flow.specs.declared.trouble.Stuck.{Stuck};
@@ -11,9 +11,9 @@ ghost use Rattle.writer_flow.specs.Closing.{close_program};
 ghost use Rattle.writer_flow.specs.Writing.{write_program};
 ghost use Rattle.writer_flow.specs.Syncing.{sync_program};
 ghost use Rattle.mount_model.specs.Regular.{IsRegular};
-ghost use Rattle.writer_laws.specs.Running.{Runs};
-ghost use Rattle.writer_laws.specs.Counting.{entries_of, writes_told, Stays};
-ghost use Rattle.writer_laws.specs.Knowing.{HasRow, Knows, IsLeft, IsSynced, IsClosed, IsOpened};
+ghost use Rattle.flow.specs.Running.{Runs};
+ghost use Rattle.writer_laws.specs.Counting.{entry_count, writes_told, StaysIn};
+ghost use Rattle.writer_laws.specs.Knowing.{HasRow, Knows, KeepsHandle, IsSynced, IsClosed, IsOpened};
 ghost use Rattle.writer_laws.specs.Waiting.{LetsBe};
 ghost use Rattle.writer_laws.specs.Surviving.{Survives};
 ghost use Rattle.store_api.specs.declared.tree.Tree.{Tree};
@@ -31,22 +31,22 @@ pub fn a_handle_tells_of_its_buffer()
         → Knows caller handle row start
         → IsLawful start events
         → Runs caller (write_program handle at block) events out
-        → IsLeft caller handle out (state_after start events) }
+        → KeepsHandle caller handle out (state_after start events) }
     ensures sync { (caller : ℕ) (handle : WriterHandle) (row : Row)
         (start : State) (events : List Event) (out : WriterOut)
         → Knows caller handle row start
         → IsLawful start events
         → Runs caller (sync_program handle) events out
-        → IsSynced caller handle (entries_of row) out (state_after start events) }
+        → IsSynced caller handle (entry_count row) out (state_after start events) }
 
     // A close that begins with PutMeta has the number of the sync before.
     ensures close { (caller : ℕ) (handle : WriterHandle) (row : Row)
         (start : State) (events : List Event) (out : WriterOut)
         → Knows caller handle row start
-        → (handle.closing ≡ true → handle.landed ≡ entries_of row)
+        → (handle.closing ≡ true → handle.landed ≡ entry_count row)
         → IsLawful start events
         → Runs caller (close_program handle) events out
-        → IsClosed caller handle (entries_of row) out (state_after start events) }
+        → IsClosed caller handle (entry_count row) out (state_after start events) }
 {}
 
 /// A law: while its caller makes no call on a writer, and none that is broken off, whatever else it calls and whatever
@@ -78,9 +78,9 @@ pub fn a_sync_counts_every_write()
     ensures { (caller : ℕ) (handle : WriterHandle) (new row : Row)
         (start : State) (before during : List Event) (out : WriterOut) (n : ℕ)
         → HasRow caller handle.writer new start
-        → entries_of new ≡ 0
+        → entry_count new ≡ 0
         → IsLawful start before
-        → Stays handle.writer before
+        → StaysIn handle.writer before
         → Knows caller handle row (state_after start before)
         → IsLawful (state_after start before) during
         → Runs caller (sync_program handle) during out
@@ -89,8 +89,8 @@ pub fn a_sync_counts_every_write()
 {}
 
 /// A law: where a sync told its number, a loss of power at whatever later moment of a legal history leaves a sound tree
-/// that has all those entries with their bytes.
-pub fn synced_entries_survive()
+/// in which so many entries of its writer have landed.
+pub fn a_sync_survives()
     ensures { (caller : ℕ) (handle : WriterHandle) (row : Row) (before : Ledger)
         (start : State) (during later : List Event) (out : WriterOut) (n : ℕ)
         → Knows caller handle row start
@@ -98,10 +98,9 @@ pub fn synced_entries_survive()
         → IsLawful start during
         → Runs caller (sync_program handle) during out
         → out.result ≡ Ok n
-        → 1 ≤ n
         → IsLawful (state_after start during) later
-        → (then : IsSoundFor (issued (issued before start during) (state_after start during) later) (state_after (state_after start during) later))
-        → (new : Tree)
-        → Loses then.shape.tree new
-        → Survives caller handle.writer n (issued (issued before start during) (state_after start during) later) (state_after start during) then.shape.tree new }
+        → (after lost : Tree)
+        → told_tree_after (state_after start during) later ≡ Some after
+        → Loses after lost
+        → Survives caller handle.writer n (issued (issued before start during) (state_after start during) later) (state_after start during) after lost }
 {}

@@ -2,8 +2,8 @@
 ghost use Rattle.std.specs.Prelude.{◌≡◌, ◌^◌, [], ◌∷◌, ◌++◌, IfOk, IfErr, IsOk, None, Some};
 ghost use Rattle.turn_object.specs.declared.slot.Resting.{Resting};
 ghost use Rattle.turn_object.specs.History.{state_after};
-ghost use Rattle.turn_object.specs.Front.{IsLegalFront, IsWhole, AreApart};
-ghost use Rattle.turn_object.specs.Shares.{as_ended};
+ghost use Rattle.turn_object.specs.Ended.{AreApart, as_ended};
+ghost use Rattle.turn_object.specs.Front.{IsLegalFront, IsWhole};
 ghost use Rattle.turn_object.specs.Pass.{start_of, front, seen_of, mine_of, ended_of, parts_of, IsPassOf};
 
 use super::{Lock, Numbered, Pass, Turn};
