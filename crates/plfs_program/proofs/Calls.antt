@@ -11,9 +11,7 @@ use Rattle.mount_model.specs.History.{Event, IsLawful, state_after}
 use Rattle.mount_model.specs.Mounting.{IsMounted}
 use Rattle.mount_sound.specs.Sound.{IsSoundFor, IsSoundTree}
 use Rattle.mount_sound.specs.Issued.{issued}
-use Rattle.mount_sound.proofs.Mounting.{mounted_sound}
-use Rattle.mount_sound.proofs.Steps.{history_keeps}
-use Rattle.mount_sound.proofs.Trees.{left_sound}
+use Rattle.mount_sound.proofs.Facts.{mounted_sound, history_keeps, left_sound}
 use Rattle.plfs_program.specs.Calling.{GoesOn, IsRun}
 
 pub no_call : (state : State) → GoesOn state state

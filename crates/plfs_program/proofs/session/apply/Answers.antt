@@ -1,5 +1,5 @@
 use Rattle.std.proofs.Common.{refl}
-use Rattle.mount_model.proofs.Replying.{step_fits, step_causes}
+use Rattle.mount_model.proofs.Facts.{step_fits, step_causes}
 use Rattle.plfs_program.proofs.Calls.{one_more}
 use Rattle.plfs_program.proofs.session.apply.Goals as goal
 

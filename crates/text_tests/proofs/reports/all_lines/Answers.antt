@@ -1,7 +1,7 @@
 use Rattle.std.proofs.lemmas.List.Elements.{All-push}
 use Rattle.script_lang.specs.declared.line.Outcome.TheVariants.{Refused}
 use Rattle.report_text.specs.Text.{ListsLogicalNames}
-use Rattle.report_text.proofs.tests.all_lines.Goals as goal
+use Rattle.text_tests.proofs.reports.all_lines.Goals as goal
 
 pub loop-number-preserved : goal.loop-number-preserved
 loop-number-preserved c =

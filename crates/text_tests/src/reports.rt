@@ -2,11 +2,11 @@
 ghost use Rattle.std.specs.Prelude.{IfOk};
 ghost use Rattle.report_text.specs.Text.{ListsLogicalNames, HaveText};
 
-use super::*;
 use plfs_types::{
     Bytes, CountList, Entry, IdList, LogicalName, Name, NameList, NoMemory, ShareBytes,
     ShareBytesList, Trunc, TruncList, WriterCount,
 };
+use report_text::{ReportTrouble, print, read};
 use script_lang::{Line, Lines, MapText, Outcome, Why};
 use std::alloc::Global;
 use std::test::Fail;
@@ -251,16 +251,16 @@ fn all_lines(alloc: Global) -> Result<Lines, NoMemory>
 #[test]
 fn each_outcome_has_its_line(rt: HostRuntime) -> Result<(), Fail> {
     let text = print(rt.alloc(), &all_lines(rt.alloc())?)?;
-    assert_eq!(rt; text.as_slice(), TEXT.as_bytes());
+    assert!(rt; text.as_slice() == TEXT.as_bytes());
     Ok(())
 }
 
 #[test]
 fn each_line_is_read_back(rt: HostRuntime) -> Result<(), Fail> {
     let lines = read(rt.alloc(), TEXT.as_bytes())?;
-    assert_eq!(rt; lines.as_slice().len(), 37);
+    assert!(rt; lines.as_slice().len() == 37);
     let text = print(rt.alloc(), &lines)?;
-    assert_eq!(rt; text.as_slice(), TEXT.as_bytes());
+    assert!(rt; text.as_slice() == TEXT.as_bytes());
     Ok(())
 }
 
@@ -292,14 +292,11 @@ fn the_first_bad_line_is_named(rt: HostRuntime) {
         "0 damaged /a 0\n",
         "0 refused busy 4294967296 1\n",
     ] {
-        assert_eq!(rt; bad_line(rt.alloc(), text), Some(1), "{text}");
+        assert!(rt; bad_line(rt.alloc(), text) == Some(1), "{text}");
     }
-    assert_eq!(rt;
-        bad_line(rt.alloc(), "0 same\n1 same\n2 sam\n3 same\n"),
-        Some(3)
-    );
+    assert!(rt; bad_line(rt.alloc(), "0 same\n1 same\n2 sam\n3 same\n") == Some(3));
     // What a run orders or leaves out is still a line.
     for text in ["", "9 ls b,a\n", "0 reader 1 cut 3:0,1:2 trunc -\n"] {
-        assert_eq!(rt; bad_line(rt.alloc(), text), None, "{text}");
+        assert!(rt; bad_line(rt.alloc(), text) == None, "{text}");
     }
 }

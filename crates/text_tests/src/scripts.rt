@@ -1,4 +1,6 @@
-use super::*;
+//! Scripts: the first fault of each kind, the limits, and what a script means.
+use plfs_types::Bytes;
+use script_lang::{Data, Kind, Script, ScriptTrouble, Statement};
 use std::alloc::Global;
 use std::test::Fail;
 
@@ -57,7 +59,7 @@ const FAULTS: [(&str, u64, Kind); 41] = [
 #[test]
 fn the_first_fault_counts(rt: HostRuntime) {
     for (text, line, kind) in FAULTS {
-        assert_eq!(rt; kind_of(rt.alloc(), text), Some((line, kind)), "{text}");
+        assert!(rt; kind_of(rt.alloc(), text) == Some((line, kind)), "{text}");
     }
 }
 
@@ -75,12 +77,9 @@ fn reads_sum_to_2_to_the_28th_at_most(rt: HostRuntime) -> Result<(), Fail> {
     let most = reads(rt.alloc(), "a read 7 0\n")?;
     assert!(rt; Script::read(rt.alloc(), most.as_bytes()).is_ok());
     let more = reads(rt.alloc(), "a read 7 1\n")?;
-    assert_eq!(rt; kind_of(rt.alloc(), more.as_str()), Some((18, Kind::Reads)));
+    assert!(rt; kind_of(rt.alloc(), more.as_str()) == Some((18, Kind::Reads)));
     let number = reads(rt.alloc(), "a read 01 1\n")?;
-    assert_eq!(rt;
-        kind_of(rt.alloc(), number.as_str()),
-        Some((18, Kind::Number))
-    );
+    assert!(rt; kind_of(rt.alloc(), number.as_str()) == Some((18, Kind::Number)));
     Ok(())
 }
 
@@ -91,10 +90,7 @@ fn a_script_has_at_most_256_actors(rt: HostRuntime) -> Result<(), Fail> {
         let line = format!(in rt.alloc(); "actor a{i}\n")?;
         text.push_str(line.as_str())?;
     }
-    assert_eq!(rt;
-        kind_of(rt.alloc(), text.as_str()),
-        Some((257, Kind::Actor))
-    );
+    assert!(rt; kind_of(rt.alloc(), text.as_str()) == Some((257, Kind::Actor)));
     Ok(())
 }
 
@@ -108,71 +104,148 @@ fn a_script_has_at_most_2_to_the_20th_bytes(rt: HostRuntime) -> Result<(), Fail>
         Err(ScriptTrouble::Fault { line, kind }) => Some((line, kind)),
         _ => None,
     };
-    assert_eq!(rt; found, long);
+    assert!(rt; found == long);
     Ok(())
 }
 
 #[test]
 fn an_empty_script_has_one_empty_phase(rt: HostRuntime) -> Result<(), Fail> {
     let script = Script::read(rt.alloc(), b"").ok().ok_or("it is one")?;
-    assert_eq!(rt; script.actors.as_slice().len(), 0);
-    assert_eq!(rt; script.phases.as_slice().len(), 1);
+    assert!(rt; script.actors.as_slice().len() == 0);
+    assert!(rt; script.phases.as_slice().len() == 1);
     Ok(())
 }
 
+const MEANING: [u64; 48] = [
+    3,
+    64,
+    4294967295,
+    4096, // the actors
+    0,
+    4294967295, // the turns of the first phase
+    5,
+    1,
+    1,
+    0,
+    0, // open
+    7,
+    0,
+    5,
+    1,
+    18446744073709551615, // stop
+    18446744073709551615, // the second phase
+    9,
+    1,
+    2,
+    2,
+    18446744073709551615, // write of a text
+    10,
+    1,
+    2,
+    1,
+    1, // write of digits
+    11,
+    0,
+    3,
+    1,
+    0, // ropen with one worker
+    12,
+    0,
+    3,
+    16,
+    0, // and with sixteen
+    13,
+    0,
+    4,
+    4,
+    0, // verify
+    14,
+    0,
+    2,
+    1,
+    0, // write of no digits
+    18446744073709551615,
+];
+
 const LINES: &str =
     "# two actors\nactor a 3\nactor b2 4294967295 4096\n\nb2 open f\nturn a 4294967295\na stop 1 18446744073709551615\nphase\nb2 write 18446744073709551615 text:\nb2 write 1 hex:00ff\na ropen f\na ropen f 16\na verify 0 ramp:16777216:255\na write 0 hex:\n# end";
+
+/// A statement as three numbers: its kind, the form of its data, its workers or its call, and the place or bytes.
+fn spelled(statement: &Statement) -> [u64; 3] {
+    match statement {
+        Statement::Open { .. } => [1, 0, 0],
+        Statement::Write { at, content } => [2, form(content), *at],
+        Statement::Ropen { workers, .. } => [3, u64::from(*workers), 0],
+        Statement::Verify { at, content } => [4, form(content), *at],
+        Statement::Stop { call, bytes } => [5, *call, *bytes],
+        _ => [6, 0, 0],
+    }
+}
+
+fn form(data: &Data) -> u64 {
+    match data {
+        Data::Hex(_) => 1,
+        Data::Text(_) => 2,
+        Data::Fill { .. } => 3,
+        Data::Ramp { .. } => 4,
+    }
+}
+
+/// What each line means: a host and a capacity for each actor, then for each phase its turns, and for each of its
+/// statements the line, the place of the actor, and the statement.
+fn meaning(alloc: Global, script: &Script) -> Result<Vec<u64>, Fail> {
+    let mut facts = Vec::new(alloc);
+    for actor in script.actors.as_slice() {
+        facts.extend_from_slice(&[u64::from(actor.host), u64::from(actor.cap)])?;
+    }
+    for phase in script.phases.as_slice() {
+        for turned in phase.turns.as_slice() {
+            facts.extend_from_slice(&[turned.actor, turned.count])?;
+        }
+        for numbered in phase.statements.as_slice() {
+            facts.extend_from_slice(&[numbered.line, numbered.actor])?;
+            facts.extend_from_slice(&spelled(&numbered.statement))?;
+        }
+        facts.push(u64::MAX)?;
+    }
+    Ok(facts)
+}
 
 #[test]
 fn lines_are_numbered_and_actors_are_placed(rt: HostRuntime) -> Result<(), Fail> {
     let script = Script::read(rt.alloc(), LINES.as_bytes())
         .ok()
         .ok_or("it is one")?;
-    let actors = script.actors.as_slice();
-    assert_eq!(rt; actors.len(), 2);
-    assert_eq!(rt; (actors[0].host, actors[0].cap), (3, 64));
-    assert_eq!(rt; (actors[1].host, actors[1].cap), (u32::MAX, 4096));
-    assert_eq!(rt; actors[1].name.bytes(), b"b2".as_slice());
-    let phases = script.phases.as_slice();
-    assert_eq!(rt; phases.len(), 2);
-    assert_eq!(rt; phases[0].turns.as_slice().len(), 1);
-    assert_eq!(rt; phases[1].turns.as_slice().len(), 0);
-    let first = phases[0].statements.as_slice();
-    assert_eq!(rt; first.len(), 2);
-    assert_eq!(rt; (first[0].line, first[0].actor), (5, 1));
-    assert_eq!(rt; (first[1].line, first[1].actor), (7, 0));
-    let second = phases[1].statements.as_slice();
-    assert_eq!(rt; second.len(), 6);
-    assert_eq!(rt; (second[4].line, second[4].actor), (13, 0));
-    assert!(rt;
-        matches!(
-            second[0].statement,
-            Statement::Write {
-                at: u64::MAX,
-                content: Data::Text(_)
-            }
-        )
-    );
-    assert!(rt;
-        matches!(
-            second[5].statement,
-            Statement::Write {
-                at: 0,
-                content: Data::Hex(_)
-            }
-        )
-    );
-    let copy = second[1].statement.copy(rt.alloc())?;
-    assert!(rt;
-        matches!(
-            copy,
-            Statement::Write {
-                at: 1,
-                content: Data::Hex(_)
-            }
-        )
-    );
-    assert!(rt; matches!(second[2].statement, Statement::Ropen { workers: 1, .. }));
-    assert!(rt; matches!(second[3].statement, Statement::Ropen { workers: 16, .. }));
+    assert!(rt; meaning(rt.alloc(), &script)?.as_slice() == MEANING.as_slice());
+    Ok(())
+}
+
+/// The names of the actors, one behind the other.
+fn names(alloc: Global, script: &Script) -> Result<Vec<u8>, Fail> {
+    let mut names = Vec::new(alloc);
+    for actor in script.actors.as_slice() {
+        names.extend_from_slice(actor.name.bytes())?;
+        names.push(b' ')?;
+    }
+    Ok(names)
+}
+
+#[test]
+fn actors_have_their_names(rt: HostRuntime) -> Result<(), Fail> {
+    let script = Script::read(rt.alloc(), LINES.as_bytes())
+        .ok()
+        .ok_or("it is one")?;
+    assert!(rt; names(rt.alloc(), &script)?.as_slice() == b"a b2 ".as_slice());
+    Ok(())
+}
+
+#[test]
+fn a_copy_of_a_statement_is_the_same(rt: HostRuntime) -> Result<(), Fail> {
+    let statement = Statement::Write {
+        at: 1,
+        content: Data::Hex(Bytes::copy(rt.alloc(), b"00ff")?),
+    };
+    let copy = statement.copy(rt.alloc())?;
+    assert!(rt; spelled(&copy) == [2, 1, 1]);
     Ok(())
 }

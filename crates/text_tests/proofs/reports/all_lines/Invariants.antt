@@ -1,5 +1,5 @@
 use Rattle.report_text.specs.Text.{HaveText}
-use Rattle.report_text.proofs.tests.all_lines.Given as goal
+use Rattle.text_tests.proofs.reports.all_lines.Given as goal
 
 abbrev pub invariant-loop-number : goal.invariant-loop-number
 invariant-loop-number l = HaveText l.lines
