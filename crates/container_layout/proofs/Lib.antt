@@ -1,5 +1,6 @@
 mod Decimals
-pub mod Dots
+mod Dots
+pub mod Facts
 mod Misses
-pub mod Places
-pub mod Short
+mod Places
+mod Short

@@ -6,7 +6,7 @@ use Rattle.std.proofs.lemmas.Bool.{eqb-false}
 use Rattle.std.proofs.lemmas.Fmt.{decimal_nonempty}
 use Rattle.plfs_types.specs.declared.names.Path.{Path}
 use Rattle.container_layout.specs.declared.items.Item.{Item}
-use Rattle.container_layout.specs.declared.items.Item.TheVariants.{Access, OpenHost, Meta, Trunc, Flat, TmpFlat, Index, Log}
+use Rattle.container_layout.specs.declared.items.Item.TheVariants.{Access, OpenHost, Meta, Trunc, Flat, TmpFlat, Index, Log, Packed, TmpPacked}
 use Rattle.container_layout.specs.Items.{IsItem}
 use Rattle.container_layout.specs.Numbers.{dotted, IsNumber, AreNumbers}
 use Rattle.container_layout.specs.Paths.{path_of, IsAt}
@@ -32,6 +32,10 @@ one_pair a b a' b' fit fit' same =
     let ms : AreNumbers (dotted (a ∷ b ∷ [])) (a' ∷ b' ∷ []) = record { fit = (fit'.0, (fit'.1, tt)); printed = same } in
     let e : a ∷ b ∷ [] ≡ a' ∷ b' ∷ [] = one_list _ (a ∷ b ∷ []) (a' ∷ b' ∷ []) refl ns ms in
     (ap (λ (t : List ℕ). get_or t 0 0) e, ap (λ (t : List ℕ). get_or t 1 0) e)
+
+one_host_item : (h n h' n' : ℕ) → (h < 2 ^ 32) × (n < 2 ^ 64) → (h' < 2 ^ 32) × (n' < 2 ^ 64)
+    → dotted (h ∷ n ∷ []) ≡ dotted (h' ∷ n' ∷ []) → (h ≡ h') × (n ≡ n')
+one_host_item h n h' n' fit fit' same = one_pair h n h' n' (omega (arith, fit.0), fit.1) (omega (arith, fit'.0), fit'.1) same
 
 pub pair_numbers : {text : List ℕ} (a b : ℕ) → a < 2 ^ 64 → b < 2 ^ 64 → text ≡ dotted (a ∷ b ∷ []) → AreNumbers text (a ∷ b ∷ [])
 pair_numbers a b a_lt b_lt printed = record { fit = (a_lt, (b_lt, tt)); printed = printed }
@@ -63,7 +67,7 @@ first_of_folder same = ap (λ (p : Path). get_or p.folder 0 0) same
 pub same_items : (a b : Item) → IsItem a → IsItem b → path_of a ≡ path_of b → a ≡ b
 same_items Access Access is_a is_b same = refl
 same_items (OpenHost h w) (OpenHost h' w') is_a is_b same =
-    let e = one_pair h w h' w' (omega (arith, is_a.widths.0), is_a.widths.1) (omega (arith, is_b.widths.0), is_b.widths.1) (ap (λ (p : Path). p.file) same) in
+    let e = one_host_item h w h' w' is_a.widths is_b.widths (ap (λ (p : Path). p.file) same) in
     let host : h ≡ h' = e.0 in
     let writer : w ≡ w' = e.1 in cc
 same_items (Meta last bytes stamp h w) (Meta last' bytes' stamp' h' w') is_a is_b same =
@@ -83,15 +87,33 @@ same_items (TmpFlat id) (Flat id') is_a is_b same =
 same_items (TmpFlat id) (TmpFlat id') is_a is_b same =
     ap (λ (n : ℕ). TmpFlat n) (one_id id id' is_a.widths is_b.widths (ap (λ (p : Path). drop 4 p.file) same))
 same_items (Index h w) (Index h' w') is_a is_b same =
-    let e = one_pair h w h' w' (omega (arith, is_a.widths.0), is_a.widths.1) (omega (arith, is_b.widths.0), is_b.widths.1) (ap (λ (p : Path). drop 6 p.file) same) in
+    let e = one_host_item h w h' w' is_a.widths is_b.widths (ap (λ (p : Path). drop 6 p.file) same) in
     let host : h ≡ h' = e.0 in
     let writer : w ≡ w' = e.1 in cc
 same_items (Log h w) (Log h' w') is_a is_b same =
-    let e = one_pair h w h' w' (omega (arith, is_a.widths.0), is_a.widths.1) (omega (arith, is_b.widths.0), is_b.widths.1) (ap (λ (p : Path). drop 4 p.file) same) in
+    let e = one_host_item h w h' w' is_a.widths is_b.widths (ap (λ (p : Path). drop 4 p.file) same) in
     let host : h ≡ h' = e.0 in
     let writer : w ≡ w' = e.1 in cc
+same_items (Packed h w) (Packed h' w') is_a is_b same =
+    let e = one_host_item h w h' w' is_a.widths is_b.widths (ap (λ (p : Path). drop 7 p.file) same) in
+    let host : h ≡ h' = e.0 in
+    let writer : w ≡ w' = e.1 in cc
+same_items (TmpPacked h w) (TmpPacked h' w') is_a is_b same =
+    let e = one_host_item h w h' w' is_a.widths is_b.widths (ap (λ (p : Path). drop 5 p.file) same) in
+    let host : h ≡ h' = e.0 in
+    let id : w ≡ w' = e.1 in cc
 same_items (Index h w) (Log h' w') is_a is_b same = elsewhere (ap (λ (p : Path). get_or p.file 0 0) same) refl
+same_items (Index h w) (Packed h' w') is_a is_b same = elsewhere (ap (λ (p : Path). get_or p.file 5 0) same) refl
+same_items (Index h w) (TmpPacked h' w') is_a is_b same = elsewhere (ap (λ (p : Path). get_or p.file 0 0) same) refl
 same_items (Log h w) (Index h' w') is_a is_b same = elsewhere (ap (λ (p : Path). get_or p.file 0 0) same) refl
+same_items (Log h w) (Packed h' w') is_a is_b same = elsewhere (ap (λ (p : Path). get_or p.file 0 0) same) refl
+same_items (Log h w) (TmpPacked h' w') is_a is_b same = elsewhere (ap (λ (p : Path). get_or p.file 0 0) same) refl
+same_items (Packed h w) (Index h' w') is_a is_b same = elsewhere (ap (λ (p : Path). get_or p.file 5 0) same) refl
+same_items (Packed h w) (Log h' w') is_a is_b same = elsewhere (ap (λ (p : Path). get_or p.file 0 0) same) refl
+same_items (Packed h w) (TmpPacked h' w') is_a is_b same = elsewhere (ap (λ (p : Path). get_or p.file 0 0) same) refl
+same_items (TmpPacked h w) (Index h' w') is_a is_b same = elsewhere (ap (λ (p : Path). get_or p.file 0 0) same) refl
+same_items (TmpPacked h w) (Log h' w') is_a is_b same = elsewhere (ap (λ (p : Path). get_or p.file 0 0) same) refl
+same_items (TmpPacked h w) (Packed h' w') is_a is_b same = elsewhere (ap (λ (p : Path). get_or p.file 0 0) same) refl
 same_items Access b is_a is_b same = elsewhere (first_of_folder same) refl
 same_items (OpenHost h w) b is_a is_b same = elsewhere (first_of_folder same) refl
 same_items (Meta last bytes stamp h w) b is_a is_b same = elsewhere (first_of_folder same) refl
@@ -100,6 +122,8 @@ same_items (Flat id) b is_a is_b same = elsewhere (first_of_folder same) refl
 same_items (TmpFlat id) b is_a is_b same = elsewhere (first_of_folder same) refl
 same_items (Index h w) b is_a is_b same = elsewhere (first_of_folder same) refl
 same_items (Log h w) b is_a is_b same = elsewhere (first_of_folder same) refl
+same_items (Packed h w) b is_a is_b same = elsewhere (first_of_folder same) refl
+same_items (TmpPacked h w) b is_a is_b same = elsewhere (first_of_folder same) refl
 
 pub one_item : (path : Path) (a b : Item) → IsAt path a → IsAt path b → a ≡ b
 one_item path a b at_a at_b = same_items a b at_a.is_item at_b.is_item (sym at_a.printed ∙ at_b.printed)

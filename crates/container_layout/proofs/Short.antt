@@ -7,7 +7,7 @@ use Rattle.std.proofs.lemmas.List.{length-append, drop_more, take_rest}
 use Rattle.std.proofs.lemmas.List.Concat.{flat_map-cons}
 use Rattle.std.proofs.lemmas.Fmt.{length-decimal-le}
 use Rattle.container_layout.specs.declared.items.Item.{Item}
-use Rattle.container_layout.specs.declared.items.Item.TheVariants.{Access, OpenHost, Meta, Trunc, Flat, TmpFlat, Index, Log}
+use Rattle.container_layout.specs.declared.items.Item.TheVariants.{Access, OpenHost, Meta, Trunc, Flat, TmpFlat, Index, Log, Packed, TmpPacked}
 use Rattle.container_layout.specs.Items.{IsMetaRange, IsItem}
 use Rattle.container_layout.specs.Numbers.{dotted, behind_dot}
 use Rattle.container_layout.specs.Paths.{hostdir_of, path_of}
@@ -52,6 +52,8 @@ short_file (Flat id) is = short_one [] id (omega arith) is.widths
 short_file (TmpFlat id) is = short_one (codes "tmp.") id (omega arith) is.widths
 short_file (Index host writer) is = short_two (codes "index.") host writer (omega arith) (omega (arith, is.widths.0)) is.widths.1
 short_file (Log host writer) is = short_two (codes "log.") host writer (omega arith) (omega (arith, is.widths.0)) is.widths.1
+short_file (Packed host writer) is = short_two (codes "index2.") host writer (omega arith) (omega (arith, is.widths.0)) is.widths.1
+short_file (TmpPacked host id) is = short_two (codes "tmp2.") host id (omega arith) (omega (arith, is.widths.0)) is.widths.1
 
 pub short_folder : (item : Item) → length (path_of item).folder ≤ 96
 short_folder Access = omega arith
@@ -62,6 +64,8 @@ short_folder (Flat id) = omega arith
 short_folder (TmpFlat id) = omega arith
 short_folder (Index host writer) = short_hostdir host
 short_folder (Log host writer) = short_hostdir host
+short_folder (Packed host writer) = short_hostdir host
+short_folder (TmpPacked host id) = short_hostdir host
 
 -- ---- writing numbers behind dots, one after the other
 

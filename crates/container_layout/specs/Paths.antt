@@ -3,7 +3,7 @@ use Rattle.std.specs.Prelude.{◌≡◌, ℕ, ◌%◌, List, [], ◌∷◌, ◌+
 use Rattle.std.specs.Fmt.{decimal}
 use Rattle.plfs_types.specs.declared.names.Path.{Path}
 use Rattle.container_layout.specs.declared.items.Item.{Item}
-use Rattle.container_layout.specs.declared.items.Item.TheVariants.{Access, OpenHost, Meta, Trunc, Flat, TmpFlat, Index, Log}
+use Rattle.container_layout.specs.declared.items.Item.TheVariants.{Access, OpenHost, Meta, Trunc, Flat, TmpFlat, Index, Log, Packed, TmpPacked}
 use Rattle.container_layout.specs.Items.{IsItem}
 use Rattle.container_layout.specs.Numbers.{dotted}
 
@@ -17,19 +17,21 @@ pub record Row : Type 0 where
   pub word : List ℕ
   pub numbers : List ℕ
 
-abbrev pub row_of : Item → Row
-row_of Access = record { folder = []; word = codes "access"; numbers = [] }
-row_of (OpenHost host writer) = record { folder = codes "openhosts"; word = []; numbers = host ∷ writer ∷ [] }
-row_of (Meta last bytes stamp host writer) = record { folder = codes "metadata"; word = []; numbers = last ∷ bytes ∷ stamp ∷ host ∷ writer ∷ [] }
-row_of (Trunc stamp size) = record { folder = codes "truncs"; word = []; numbers = stamp ∷ size ∷ [] }
-row_of (Flat id) = record { folder = codes "flats"; word = []; numbers = id ∷ [] }
-row_of (TmpFlat id) = record { folder = codes "flats"; word = codes "tmp."; numbers = id ∷ [] }
-row_of (Index host writer) = record { folder = hostdir_of host; word = codes "index."; numbers = host ∷ writer ∷ [] }
-row_of (Log host writer) = record { folder = hostdir_of host; word = codes "log."; numbers = host ∷ writer ∷ [] }
+abbrev pub path_parts : Item → Row
+path_parts Access = record { folder = []; word = codes "access"; numbers = [] }
+path_parts (OpenHost host writer) = record { folder = codes "openhosts"; word = []; numbers = host ∷ writer ∷ [] }
+path_parts (Meta last bytes stamp host writer) = record { folder = codes "metadata"; word = []; numbers = last ∷ bytes ∷ stamp ∷ host ∷ writer ∷ [] }
+path_parts (Trunc stamp size) = record { folder = codes "truncs"; word = []; numbers = stamp ∷ size ∷ [] }
+path_parts (Flat id) = record { folder = codes "flats"; word = []; numbers = id ∷ [] }
+path_parts (TmpFlat id) = record { folder = codes "flats"; word = codes "tmp."; numbers = id ∷ [] }
+path_parts (Index host writer) = record { folder = hostdir_of host; word = codes "index."; numbers = host ∷ writer ∷ [] }
+path_parts (Log host writer) = record { folder = hostdir_of host; word = codes "log."; numbers = host ∷ writer ∷ [] }
+path_parts (Packed host writer) = record { folder = hostdir_of host; word = codes "index2."; numbers = host ∷ writer ∷ [] }
+path_parts (TmpPacked host id) = record { folder = hostdir_of host; word = codes "tmp2."; numbers = host ∷ id ∷ [] }
 
 -- the one path of an item
 abbrev pub path_of : Item → Path
-path_of item = record { folder = (row_of item).folder; file = (row_of item).word ++ dotted (row_of item).numbers }
+path_of item = record { folder = (path_parts item).folder; file = (path_parts item).word ++ dotted (path_parts item).numbers }
 
 -- the path is the printed form of the item
 pub record IsAt (path : Path) (item : Item) : Type 0 where

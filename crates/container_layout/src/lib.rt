@@ -16,6 +16,3 @@ pub use laws::{one_path, short_names};
 pub use numbers::{print_number, read_number};
 pub use printing::print;
 pub use reading::read;
-
-#[cfg(test)]
-mod tests;

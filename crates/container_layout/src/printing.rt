@@ -30,9 +30,17 @@ pub fn print(item: &Item) -> Path
         Item::TmpFlat { id } => flat_path(b"tmp.", id),
         Item::Index { host, writer } => writer_path(hostdir(host).bytes(), b"index.", host, writer),
         Item::Log { host, writer } => writer_path(hostdir(host).bytes(), b"log.", host, writer),
+        Item::Packed { host, writer } => writer_path(
+            hostdir(host).bytes(),
+            b"index2.",
+            host,
+            writer,
+        ),
+        Item::TmpPacked { host, id } => writer_path(hostdir(host).bytes(), b"tmp2.", host, id),
     }
 }
 
+// A word, a host and a number behind it.
 fn writer_path(folder: &[u8], word: &[u8], host: u32, writer: u64) -> Path
     requires folder_fits { length folder.now ≤ 96 }
     requires word_fits { length word.now ≤ 40 }

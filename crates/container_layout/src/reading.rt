@@ -2,7 +2,7 @@
 ghost use Rattle.std.specs.Prelude.{◌≡◌, ℕ, ◌<◌, ◌^◌, ◌++◌, ◌↔◌, List, [], ◌∷◌, Some, IfSome, IfNone, MatchOption, IsTrue, codes, ◌≢◌};
 ghost use Rattle.std.specs.Option.{SomeIff};
 ghost use Rattle.container_layout.specs.declared.items.Item.{Item};
-ghost use Rattle.container_layout.specs.declared.items.Item.TheVariants.{Index, Log};
+ghost use Rattle.container_layout.specs.declared.items.Item.TheVariants.{Index, Log, Packed, TmpPacked};
 ghost use Rattle.container_layout.specs.Items.{IsMetaRange, IsTruncRange};
 ghost use Rattle.container_layout.specs.Numbers.{AreNumbers};
 ghost use Rattle.container_layout.specs.Paths.{hostdir_of, IsAt, IsIn};
@@ -10,7 +10,7 @@ ghost use Rattle.container_layout.specs.Paths.{hostdir_of, IsAt, IsIn};
 use crate::folders::hostdir;
 use crate::items::Item;
 use crate::numbers::{five_numbers, number, two_numbers};
-use plfs_types::{MAX_SIZE, Name, Path};
+use plfs_types::{MAX_LOG, MAX_SIZE, MAX_STAMP, Name, Path};
 
 /// The item whose path this is, or None exactly where it is no item's.
 pub fn read(path: &Path) -> Option<Item>
@@ -41,22 +41,27 @@ fn by_folder(path: &Path) -> Option<Item>
     }
 }
 
-// An index dropping or a log in a folder of droppings.
+// A dropping, or a packed index, in a folder of droppings.
 fn dropping(folder: &Name, file: &[u8]) -> Option<Item>
     ensures found { IfSome result (IsIn folder.now file.now) }
-    ensures none { IfNone result ((host writer : ℕ) →
-        ¬ (IsIn folder.now file.now (Index host writer)) × ¬ (IsIn folder.now file.now (Log host writer))) }
+    ensures none { IfNone result ((host number : ℕ) →
+        ¬ (IsIn folder.now file.now (Index host number)) × ¬ (IsIn folder.now file.now (Log host number))
+        × ¬ (IsIn folder.now file.now (Packed host number)) × ¬ (IsIn folder.now file.now (TmpPacked host number))) }
 {
-    match after_word(file, b"index.") {
-        Some(rest) => {
-            let (host, writer) = of_hostdir(folder, rest)?;
-            Some(Item::Index { host, writer })
-        }
-        None => {
-            let (host, writer) = of_hostdir(folder, after_word(file, b"log.")?)?;
-            Some(Item::Log { host, writer })
-        }
+    if let Some(rest) = after_word(file, b"index.") {
+        let (host, writer) = of_hostdir(folder, rest)?;
+        return Some(Item::Index { host, writer });
     }
+    if let Some(rest) = after_word(file, b"log.") {
+        let (host, writer) = of_hostdir(folder, rest)?;
+        return Some(Item::Log { host, writer });
+    }
+    if let Some(rest) = after_word(file, b"index2.") {
+        let (host, writer) = of_hostdir(folder, rest)?;
+        return Some(Item::Packed { host, writer });
+    }
+    let (host, id) = of_hostdir(folder, after_word(file, b"tmp2.")?)?;
+    Some(Item::TmpPacked { host, id })
 }
 
 // A host and a writer, where the folder is the host's.
@@ -160,7 +165,7 @@ fn host_of(number: u64) -> Option<u32>
 fn is_meta_range(last: u64, bytes: u64, stamp: u64) -> bool
     ensures { IsTrue result ↔ IsMetaRange last bytes stamp }
 {
-    let fits = last <= MAX_SIZE && bytes <= MAX_STORED && stamp <= GREATEST_STAMP;
+    let fits = last <= MAX_SIZE && bytes <= MAX_LOG && stamp <= MAX_STAMP;
     let none = last == 0 && bytes == 0 && stamp == 0;
     let all = last != 0 && bytes != 0 && stamp != 0;
     fits && (none || all)
@@ -169,10 +174,5 @@ fn is_meta_range(last: u64, bytes: u64, stamp: u64) -> bool
 fn is_trunc_range(stamp: u64, size: u64) -> bool
     ensures { IsTrue result ↔ IsTruncRange stamp size }
 {
-    stamp != 0 && stamp <= GREATEST_STAMP && size <= MAX_SIZE
+    stamp != 0 && stamp <= MAX_STAMP && size <= MAX_SIZE
 }
-
-// The most bytes of one writer.
-const MAX_STORED: u64 = 1 << 56;
-
-const GREATEST_STAMP: u64 = (1 << 63) - 1;

@@ -35,6 +35,6 @@ pub record HasNotWritten (old new : Taking) : Type 0 where
   pub cause : HasRisen old.faults new.faults
 
 -- what a write may tell, and leave
-abbrev pub Writes : List ℕ → Taking → Taking → Result ℕ Failed → Type 0
-Writes piece old new (Ok n) = HasWritten n piece old new
-Writes piece old new (Err _) = HasNotWritten old new
+abbrev pub Takes : List ℕ → Taking → Taking → Result ℕ Failed → Type 0
+Takes piece old new (Ok n) = HasWritten n piece old new
+Takes piece old new (Err _) = HasNotWritten old new

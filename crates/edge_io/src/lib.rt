@@ -25,6 +25,3 @@ pub use source::Source;
 pub use std_sink::StdSink;
 pub use std_source::StdSource;
 pub use system_clock::SystemClock;
-
-#[cfg(test)]
-mod tests;

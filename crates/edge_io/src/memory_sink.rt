@@ -1,6 +1,6 @@
 //! A sink in memory.
 ghost use Rattle.std.specs.Prelude.{◌≡◌, length, min, [], true, false, OnErr, IfOk, Some};
-ghost use Rattle.edge_io.specs.Sink.{Writes};
+ghost use Rattle.edge_io.specs.Sink.{Takes};
 ghost use Rattle.edge_io.specs.Memory.{is_failing, intake_after, intake_failed, taking_of};
 
 use crate::failed::Failed;
@@ -70,7 +70,7 @@ impl Sink for MemorySink {
 
     // Want of memory is a fault like the planned ones.
     fn write(&mut self, piece: &[u8]) -> Result<usize, Failed>
-        ensures sink { Writes piece.now (taking_of self.old) (taking_of self.new) result }
+        ensures sink { Takes piece.now (taking_of self.old) (taking_of self.new) result }
         ensures works { IfOk result (λ n. is_failing self.old.fails self.old.calls ≡ false) }
         ensures count { IfOk result (λ n. n ≡ min (length piece.now) self.old.piece) }
         ensures taken { IfOk result (λ n. self.new ≡ intake_after n piece.now self.old) }

@@ -1,5 +1,5 @@
 //! The contract of a sink of bytes.
-ghost use Rattle.edge_io.specs.Sink.{Taking, Writes};
+ghost use Rattle.edge_io.specs.Sink.{Taking, Takes};
 
 use crate::failed::Failed;
 
@@ -13,5 +13,5 @@ pub trait Sink {
     ///
     /// `Failed` comes only where the count of faults rose, and the bytes taken are then as they were.
     fn write(&mut self, piece: &[u8]) -> Result<usize, Failed>
-        ensures { Writes piece.now (taking self.old) (taking self.new) result };
+        ensures { Takes piece.now (taking self.old) (taking self.new) result };
 }

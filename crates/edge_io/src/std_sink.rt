@@ -1,7 +1,7 @@
 //! A sink over a writer of the standard library. What the writer does is trusted.
 ghost use Rattle.std.specs.Prelude.{◌≡◌};
 ghost use Rattle.std.specs.Io.KnownBytes.{WriteAppends};
-ghost use Rattle.edge_io.specs.Sink.{Writes, taking_over};
+ghost use Rattle.edge_io.specs.Sink.{Takes, taking_over};
 
 use crate::failed::Failed;
 use crate::sink::Sink;
@@ -48,7 +48,7 @@ impl<W: Write> Sink for StdSink<W> {
     ghost taking = { λ sink. taking_over sink.faults sink.stalls };
 
     fn write(&mut self, piece: &[u8]) -> Result<usize, Failed>
-        ensures sink { Writes piece.now (taking_over self.old.faults self.old.stalls) (taking_over self.new.faults self.new.stalls) result }
+        ensures sink { Takes piece.now (taking_over self.old.faults self.old.stalls) (taking_over self.new.faults self.new.stalls) result }
         ensures writer { WriteAppends (W.contents self.old.writer) (W.contents self.new.writer) result piece.now }
     {
         let Ok(count) = self.writer.write(piece) else {

@@ -10,6 +10,3 @@ mod trouble;
 
 pub use machine::Flow;
 pub use trouble::Stuck;
-
-#[cfg(test)]
-mod tests;

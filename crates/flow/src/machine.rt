@@ -1,6 +1,7 @@
 //! What a machine is.
 ghost use Rattle.std.specs.Prelude.{◌≡◌, ◌≢◌, ◌<◌, ℕ, IfOk, IfSome, OnOk, IsOk, IsErr, Some};
 ghost use Rattle.mount_model.specs.declared.call.Call.{Call as Asked};
+ghost use Rattle.mount_model.specs.declared.reply.Reply.{Reply as Replied};
 ghost use Rattle.mount_model.specs.declared.reply.Reply.TheVariants.{NoMemory as WantsMemory};
 ghost use Rattle.mount_model.specs.Step.{OwedBy};
 ghost use Rattle.flow.specs.Standing.{Standing, next_of, rest_of, replied, ready, Awaits, IsOver, over};
@@ -14,7 +15,7 @@ pub trait Flow {
     type Out;
 
     /// Where it stands in its program.
-    ghost standing: { Self → Standing Asked Self.Out };
+    ghost standing: { Self → Standing Asked Replied Self.Out };
 
     /// A bound on the calls that are left.
     ghost left: { Self → ℕ };

@@ -12,8 +12,8 @@ use Rattle.mount_model.specs.declared.row.Stage.TheVariants as stage
 use Rattle.mount_model.specs.Paths.{new_folders, new_files, truncs}
 use Rattle.mount_model.specs.State.{State}
 use Rattle.mount_model.specs.Table.{row_of, only, may_close, is_live}
-use Rattle.mount_model.specs.Making.{Told, Outcome, Makes, OnWriter, UnlessRefused}
-use Rattle.mount_model.specs.Looking.{room_check, look_step}
+use Rattle.mount_model.specs.Making.{Told, CallOutcome, MakesAct, OnWriter, UnlessRefused, room_check}
+use Rattle.mount_model.specs.Looking.{look_step}
 use Rattle.mount_model.specs.Entering.{enter_check, enter_step, EntersAs}
 use Rattle.mount_model.specs.Flooring.{FloorsRow}
 use Rattle.mount_model.specs.Building.{hostdir_step, index_step, log_step}
@@ -21,7 +21,7 @@ use Rattle.mount_model.specs.Writing.{write_check, write_step, WritesAt}
 use Rattle.mount_model.specs.Flushing.{flush_step, sync_log_step, sync_index_step, FlushesRow}
 use Rattle.mount_model.specs.Leaving.{put_meta_check, put_meta_step, exit_check, exit_step}
 use Rattle.mount_model.specs.Step.{Answers}
-use Rattle.mount_model.proofs.Deciding.{on_writer, unless_refused}
+use Rattle.mount_model.proofs.Facts.{on_writer, unless_refused}
 
 -- the act that a call makes of this writer's row
 abbrev pub OfRow : State → ℕ → (Row → Step) → Step → Type 0
@@ -63,10 +63,10 @@ one : (old new : State) (call : Call) (step : Step) (told : Told) → IsActOf ol
 one old new call step told is made = inr (record { step = step; told = told; is_of = is; made = made })
 
 -- a call on a writer that makes the act of its row
-on_row : (old new : State) (call : Call) (caller : ℕ) (stages : Stage → Bool) (writer : ℕ) (reply : Reply) (act : Row → Step) (outcome : Row → Told → Outcome) → ((step : Step) → OfRow old writer act step → IsActOf old call step)
-    → OnWriter caller stages writer old reply new (λ row. Makes (act row) (outcome row) old reply new) → AtMostOneAct old call new
+on_row : (old new : State) (call : Call) (caller : ℕ) (stages : Stage → Bool) (writer : ℕ) (reply : Reply) (act : Row → Step) (outcome : Row → Told → CallOutcome) → ((step : Step) → OfRow old writer act step → IsActOf old call step)
+    → OnWriter caller stages writer old reply new (λ row. MakesAct (act row) (outcome row) old reply new) → AtMostOneAct old call new
 on_row old new call caller stages writer reply act outcome is f =
-    on_writer caller stages writer old reply new (λ row. Makes (act row) (outcome row) old reply new) (AtMostOneAct old call new) f
+    on_writer caller stages writer old reply new (λ row. MakesAct (act row) (outcome row) old reply new) (AtMostOneAct old call new) f
     (λ e. nothing old new call e)
     (λ row held m. one old new call (act row) m.told (is (act row) (row, held.found, refl)) m.made)
 
@@ -75,10 +75,7 @@ flushing old new writer row [] reply held f = nothing old new (Flush writer) f.1
 flushing old new writer row (x ∷ entries) reply held f = one old new (Flush writer) (flush_step row) f.told (row, held, refl) f.made
 
 entering : (old new : State) (caller room host most : ℕ) (reply : Reply) → EntersAs caller room host most old reply new → AtMostOneAct old (Enter room host most) new
-entering old new caller room host most reply e = elim e.does as (λ _. AtMostOneAct old (Enter room host most) new) [
-  | inl m ↦ one old new (Enter room host most) (enter_step old room host) m.told refl m.made
-  | inr short ↦ inl (ap (λ (s : State). s.store) short.1)
-]
+entering old new caller room host most reply e = one old new (Enter room host most) (enter_step old room host) e.makes.told refl e.makes.made
 
 -- Each step makes at most one act.
 pub at_most_one_act : (old : State) (caller : ℕ) (call : Call) (reply : Reply) (new : State) → Answers old caller call reply new → AtMostOneAct old call new
@@ -114,13 +111,13 @@ at_most_one_act old caller (Flush writer) reply new f =
 at_most_one_act old caller (SyncLog writer) reply new f = on_row old new (SyncLog writer) caller (only stage.Open) writer reply sync_log_step _ (λ step is. is) f
 at_most_one_act old caller (SyncIndex writer) reply new f = on_row old new (SyncIndex writer) caller (only stage.Open) writer reply sync_index_step _ (λ step is. is) f
 at_most_one_act old caller (PutMeta writer) reply new f =
-    on_writer caller may_close writer old reply new (λ row. UnlessRefused (put_meta_check row) old reply new (Makes (put_meta_step row) _ old reply new)) (AtMostOneAct old (PutMeta writer) new) f
+    on_writer caller may_close writer old reply new (λ row. UnlessRefused (put_meta_check row) old reply new (MakesAct (put_meta_step row) _ old reply new)) (AtMostOneAct old (PutMeta writer) new) f
     (λ e. nothing old new (PutMeta writer) e)
     (λ row held g. unless_refused (put_meta_check row) old reply new _ (AtMostOneAct old (PutMeta writer) new) g
     (λ e. nothing old new (PutMeta writer) e)
     (λ none m. one old new (PutMeta writer) (put_meta_step row) m.told (row, held.found, refl) m.made))
 at_most_one_act old caller (Exit writer) reply new f =
-    on_writer caller is_live writer old reply new (λ row. UnlessRefused (exit_check row) old reply new (Makes (exit_step row) _ old reply new)) (AtMostOneAct old (Exit writer) new) f
+    on_writer caller is_live writer old reply new (λ row. UnlessRefused (exit_check row) old reply new (MakesAct (exit_step row) _ old reply new)) (AtMostOneAct old (Exit writer) new) f
     (λ e. nothing old new (Exit writer) e)
     (λ row held g. unless_refused (exit_check row) old reply new _ (AtMostOneAct old (Exit writer) new) g
     (λ e. nothing old new (Exit writer) e)

@@ -3,7 +3,7 @@ use Rattle.std.proofs.Common.{◌≡◌, ℕ, List, ◌∷◌, ◌++◌, map, re
 use Rattle.plfs_types.specs.declared.entries.Trunc.{Trunc}
 use Rattle.plain_file.specs.File.{slice, plain_size}
 use Rattle.plain_file.specs.Runs.{ArePieces}
-use Rattle.mount_model.specs.History.{Event, IsLegal}
+use Rattle.mount_model.specs.History.{Event, IsLawful}
 use Rattle.mount_sound.specs.Ledger.{entries_in}
 use Rattle.gathering.specs.Moments.{Moment, IsSoundAt, moment_after, Grows}
 use Rattle.gathering.specs.Seen.{Asked, asked_in, calls_of}
@@ -16,14 +16,14 @@ use Rattle.gathering.proofs.Opening.{opened, answers_last, writes_stay}
 
 -- The reader of an actor's list of calls has a view, from the place of its first call to that of its listing.
 pub actor_opened : (caller room : ℕ) (start : Moment) (events : List Event) (earlier : List Asked) (first : Asked) (more : List Asked) (listing : Asked) (rest : List Asked) (cut : List Gathered) (truncs : List Trunc)
-    → IsLegal start.state events → IsSoundAt start → calls_of caller events ≡ earlier ++ first ∷ (more ++ listing ∷ rest) → IsOpening room cut truncs (first ∷ more) listing
+    → IsLawful start.state events → IsSoundAt start → calls_of caller events ≡ earlier ++ first ∷ (more ++ listing ∷ rest) → IsOpening room cut truncs (first ∷ more) listing
     → (o : HasOpened caller start events earlier (first ∷ more) room cut truncs) × (asked_in o.listing ≡ listing) × (calls_of caller o.later ≡ rest)
 actor_opened caller room start events earlier first more listing rest cut truncs legal sound e opening =
     let p = place_of caller events earlier first (more ++ listing ∷ rest) e in
     let q = place_of caller p.rest more listing rest p.calls_after in
     let gathering : List Event = p.event ∷ q.first in
     let split : events ≡ p.first ++ (gathering ++ q.event ∷ q.rest) = p.split ∙ ap (λ l. p.first ++ p.event ∷ l) q.split in
-    let legal2 : IsLegal start.state (p.first ++ (gathering ++ q.event ∷ q.rest)) = subst (IsLegal start.state) split legal in
+    let legal2 : IsLawful start.state (p.first ++ (gathering ++ q.event ∷ q.rest)) = subst (IsLawful start.state) split legal in
     let from : Moment = moment_after start p.first in
     let s : IsSoundAt from = sound_after start p.first (legal_first start p.first (gathering ++ q.event ∷ q.rest) legal2) sound in
     let calls : calls_of caller gathering ≡ first ∷ more = its_call caller p.event q.first p.by_caller ∙ ap (λ x. x ∷ calls_of caller q.first) p.is ∙ ap (λ l. first ∷ l) q.calls_before in
@@ -44,7 +44,7 @@ answers_then end last cut truncs at len calls answer same a = record {
 
 -- Each answer of an actor's reader is a slice of one plain file.
 pub actor_answers : (caller room : ℕ) (start : Moment) (events : List Event) (earlier : List Asked) (first : Asked) (more : List Asked) (listing : Asked) (between reading rest : List Asked) (cut : List Gathered) (truncs : List Trunc) (at len : ℕ) (answer : List ℕ)
-    → IsLegal start.state events → IsSoundAt start → calls_of caller events ≡ earlier ++ first ∷ (more ++ listing ∷ (between ++ (reading ++ rest))) → IsOpening room cut truncs (first ∷ more) listing
+    → IsLawful start.state events → IsSoundAt start → calls_of caller events ≡ earlier ++ first ∷ (more ++ listing ∷ (between ++ (reading ++ rest))) → IsOpening room cut truncs (first ∷ more) listing
     → ReadsSo (moment_after start events) cut truncs at len reading answer → answer ≡ slice (view (moment_after start events) cut truncs) at len
 actor_answers caller room start events earlier first more listing between reading rest cut truncs at len answer legal sound e opening a =
     let (o, is, calls) = actor_opened caller room start events earlier first more listing (between ++ (reading ++ rest)) cut truncs legal sound e opening in
@@ -53,10 +53,10 @@ actor_answers caller room start events earlier first more listing between readin
     let later : o.later ≡ b.first ++ (r.first ++ r.rest) = b.split ∙ ap (λ l. b.first ++ l) r.split in
     let whole : List Event = o.gathering ++ o.listing ∷ (b.first ++ (r.first ++ r.rest)) in
     let split : events ≡ o.before ++ whole = o.split ∙ ap (λ l. o.before ++ (o.gathering ++ o.listing ∷ l)) later in
-    let legal2 : IsLegal start.state (o.before ++ whole) = subst (IsLegal start.state) split legal in
+    let legal2 : IsLawful start.state (o.before ++ whole) = subst (IsLawful start.state) split legal in
     let from : Moment = moment_after start o.before in
     let s : IsSoundAt from = sound_after start o.before (legal_first start o.before whole legal2) sound in
-    let legal3 : IsLegal from.state whole = legal_rest start o.before whole legal2 in
+    let legal3 : IsLawful from.state whole = legal_rest start o.before whole legal2 in
     let end : Moment = moment_after from o.gathering in
     let tail : List Event = o.listing ∷ (b.first ++ (r.first ++ r.rest)) in
     let s2 : IsSoundAt end = sound_after from o.gathering (legal_first from o.gathering tail legal3) s in

@@ -1,5 +1,5 @@
 -- What a reader answers is the plain file of its cut.
-use Rattle.std.proofs.Common.{◌≡◌, ℕ, ◌+◌, ◌≤◌, List, [], ◌∷◌, ◌++◌, length, take, drop, replicate, ap, sym, ◌∙◌, inl, inr, subst, arith}
+use Rattle.std.proofs.Common.{refl, ◌≡◌, ℕ, ◌+◌, ◌≤◌, List, [], ◌∷◌, ◌++◌, length, take, drop, replicate, ap, sym, ◌∙◌, inl, inr, subst, arith}
 use Rattle.std.specs.List.{AllByRecursion, All}
 use Rattle.plfs_types.specs.declared.entries.Trunc.{Trunc}
 use Rattle.plain_file.specs.declared.pieces.Piece.{Piece}
@@ -8,13 +8,12 @@ use Rattle.plain_file.specs.Shows.{truncs_of}
 use Rattle.plain_file.specs.Runs.{ArePieces, ArePiecesOf}
 use Rattle.plain_file.specs.Size.{size_from}
 use Rattle.plain_file.specs.Logs.{IsLogged}
-use Rattle.plain_file.proofs.OrderLemmas.{Among}
-use Rattle.plain_file.proofs.SizeLemmas.{size-from_pieces}
+use Rattle.plain_file.proofs.Facts.{Among, size-from_pieces}
 use Rattle.read_plan.specs.declared.part.Part.{Part}
 use Rattle.read_plan.specs.declared.part.Part.TheVariants.{Hole, From}
 use Rattle.read_plan.specs.Parts.{spelled}
 use Rattle.read_plan.specs.Plan.{plan_of}
-use Rattle.read_plan.proofs.PlanLemmas.{spelled-plan}
+use Rattle.read_plan.proofs.Facts.{spelled-plan}
 use Rattle.mount_model.specs.Paths.{log_path}
 use Rattle.mount_sound.specs.Ledger.{entries_in, content}
 use Rattle.gathering.specs.Moments.{Moment, IsSoundAt, Dropping, Stood, issued_by, Grows}
@@ -49,7 +48,7 @@ log_read caller start end from next room cut writer at len bytes asked admissibl
     let its : Among g cut = among cut g read.gathered in
     let its_room : d.room ≡ room = room_of room cut g rise its in
     let log_is : content (issued_by end d) ≡ logs_of end room writer = ap (λ r. content (end.issued r d.writer)) its_room ∙ ap (λ w. content (end.issued room w)) read.log_of in
-    let t = read_told call.before call.sound caller d.room (log_path d.host d.writer) at len bytes next.state (answers_as call.before.state caller asked.call _ asked.reply _ next.state read.call read.reply call.answers) in
+    let t = read_told call.before call.sound caller d.room (log_path d.host d.writer) at len bytes next.state (answers_as call.before.state caller asked.ask _ asked.reply _ next.state read.call read.reply refl call.answers) in
     let goes : Grows end call.before = grows_trans end from call.before grows call.waits in
     let there : Stood call.before d = stood_grows end call.before d goes (prefix_of start end cut g admissible its).stands in
     sym t.2 ∙ log_slice end call.before call.sound d there.bytes t.0 at len there.is_item goes there.there t.1 (omega (arith, within, ap length log_is)) ∙ ap (λ l. take len (drop at l)) log_is

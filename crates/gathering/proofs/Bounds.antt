@@ -1,5 +1,5 @@
 -- Bounds on what has landed: what a flush or a sync told, and what was issued at the last flush.
-use Rattle.std.proofs.Common.{◌≡◌, ℕ, ◌≤◌, false, List, [], ◌∷◌, length, Option, Some, None, refl, ap, sym, ◌∙◌, inl, inr, subst, arith}
+use Rattle.std.proofs.Common.{◌≡◌, ℕ, ◌≤◌, false, List, [], ◌∷◌, length, min, Option, Some, None, refl, ap, sym, ◌∙◌, inl, inr, subst, arith, length-append}
 use Rattle.std.specs.Prelude.{Ok, Err, MatchOption}
 use Rattle.std.specs.List.{Any}
 use Rattle.plfs_types.specs.declared.entries.Entry.{Entry}
@@ -8,43 +8,45 @@ use Rattle.store_api.specs.Room.{is_top}
 use Rattle.store_api.specs.declared.step.Answer.TheVariants.{Made, NoRoom, NoFolder}
 use Rattle.store_api.specs.declared.store.Trouble.TheVariants.{Fault, NoMemory}
 use Rattle.store_laws.specs.Files.{file_at}
-use Rattle.plain_file.proofs.OrderLemmas.{Among}
-use Rattle.mount_model.specs.declared.call.Call.TheVariants.{Flush, SyncIndex}
+use Rattle.plain_file.proofs.Facts.{Among}
+use Rattle.mount_model.specs.declared.call.Call.TheVariants.{Write, Flush, SyncIndex}
+use Rattle.mount_model.specs.declared.call.Call.{Call}
 use Rattle.mount_model.specs.declared.reply.Reply.{Reply}
-use Rattle.mount_model.specs.declared.reply.Reply.TheVariants.{Flushed, Synced}
+use Rattle.mount_model.specs.declared.reply.Reply.TheVariants.{Wrote, Flushed, Synced}
 use Rattle.mount_model.specs.declared.reply.Refusal.TheVariants.{NotOpen}
 use Rattle.mount_model.specs.declared.row.Row.{Row}
-use Rattle.mount_model.specs.declared.row.Stage.TheVariants as stage
 use Rattle.mount_model.specs.Paths.{index_path, trunc_path}
 use Rattle.mount_model.specs.State.{State, Table}
 use Rattle.mount_model.specs.Table.{row_of, with_row, writer_of, only, rank}
-use Rattle.mount_model.specs.Making.{Told, Makes, OnWriter, Refuses}
-use Rattle.mount_model.specs.Flushing.{flushed, flush_outcome, FlushesRow, sync_index_step, sync_index_outcome}
+use Rattle.mount_model.specs.Making.{Told, MakesAct, OnWriter, Refuses, UnlessRefused}
+use Rattle.mount_model.specs.Writing.{write_check, WritesAt}
+use Rattle.mount_model.specs.Flushing.{flushed, flush_outcome, FlushesRow, index_synced, sync_index_step, sync_index_outcome}
 use Rattle.mount_model.specs.Step.{Answers, IsStep}
-use Rattle.mount_model.specs.History.{Event, IsLegal}
+use Rattle.mount_model.specs.History.{Event, IsLawful}
 use Rattle.mount_sound.specs.Ledger.{entries_in}
-use Rattle.mount_sound.specs.Dropping.{bytes_of}
-use Rattle.mount_sound.specs.Kept.{Begins, IsKept}
-use Rattle.mount_sound.proofs.Frames.{Fits}
-use Rattle.mount_sound.proofs.Making.{all_fit}
-use Rattle.mount_sound.proofs.Stages.{live_stage}
-use Rattle.mount_sound.proofs.Tables.{one_row}
-use Rattle.mount_model.proofs.Deciding.{match_cases, is_held, at_only}
-use Rattle.mount_model.proofs.Tables.{row_of_id, row_of-with_row}
+use Rattle.mount_sound.proofs.Facts.{call_issues, Fits, all_fit, live_stage, one_row}
+use Rattle.index_entry.specs.Spelling.{spelling_all}
+use Rattle.index_entry.proofs.Facts.{length-spelling_all}
+use Rattle.store_laws.proofs.Facts.{prefix_length}
+use Rattle.store_api.specs.declared.tree.Room.{Room}
+use Rattle.mount_sound.specs.Dropping.{bytes_of, IsWriter}
+use Rattle.mount_sound.specs.Kept.{Begins, IsAtStage, IsKept}
+use Rattle.mount_model.proofs.Facts.{match_cases, is_held, at_only, row_of_id, row_of-with_row}
 use Rattle.mount_sound.specs.Landed.{whole}
 use Rattle.gathering.specs.Moments.{Moment, IsSoundAt, next_moment, moment_after, file_in_room, file_told, Dropping, IsNamed, issued_by, index_then, landed, HadTrunc, Grows}
 use Rattle.gathering.specs.Gathering.{Gathered, IsPrefixOf}
-use Rattle.gathering.specs.Bounds.{IsOf, LandedAtLeast, IsFlushedIn, IsSyncedIn, Spares, AllSpare}
+use Rattle.gathering.specs.Bounds.{IsOf, LandedAtLeast, IsFlushedIn, IsSyncedIn, SparesIndex, AllSpareIndex}
 use Rattle.gathering.specs.Opening.{HasView}
-use Rattle.gathering.proofs.Acting.{at_most_one_act}
-use Rattle.gathering.proofs.Growing.{grows_refl, trunc_grows}
+use Rattle.gathering.proofs.Gathers.{answers_as}
+use Rattle.gathering.proofs.Growing.{trunc_grows}
 use Rattle.gathering.proofs.Seeing.{sound_next, grows_after}
-use Rattle.gathering.proofs.Fronts.{stood_grows, landed_issued}
+use Rattle.gathering.proofs.Fronts.{stood_grows, length-entries}
 use Rattle.gathering.proofs.Gathers.{landed_grows}
 use Rattle.gathering.proofs.Members.{any_found, found_any}
 use Rattle.gathering.proofs.Answering.{prefix_of}
 use Rattle.gathering.proofs.Listings.{not_top}
-use Rattle.gathering.proofs.Sparing.{Same, call_same, spares_index, spares_trunc}
+use Rattle.gathering.proofs.Left.{open_row, step_issues_or_not, open_within}
+use Rattle.gathering.proofs.Sparing.{Same, step_same, spares_index, spares_trunc}
 
 -- ---------- what the table counts has landed
 
@@ -66,7 +68,7 @@ row_landed m s row held ready =
     let fits : Fits row = all_fit m.state s.regular row.id row held in
     record {
       stands = record { is_item = record { in_range = tt; widths = (fits.host, fits.id) }; bytes = there.0; there = sym file ∙ there.1 };
-      counted = subst (λ f. row.landed ≤ whole (bytes_of f)) file (kept_landed row.landed (entries_in (m.issued row.room row.id)) (file_at p.0 (index_path row.host row.id)) k.index);
+      counted = subst (λ f. row.landed ≤ min (whole (bytes_of f)) (length (m.issued row.room row.id))) file (omega (arith, kept_landed row.landed (entries_in (m.issued row.room row.id)) (file_at p.0 (index_path row.host row.id)) k.index, k.numbers.landed, length-entries (m.issued row.room row.id)));
     }
 
 -- ---------- rows after a flush and a sync
@@ -96,23 +98,13 @@ flushed_row old new row writer n (x ∷ entries) is held ready f =
     let put : row_of row.id (with_row (flushed row) old.table.writers) ≡ Some (flushed row) = row_of-with_row (flushed row) old.table.writers row (subst (λ w. row_of w old.table.writers ≡ Some row) (sym is) held) in
     record { row = flushed row; stands = ap (row_of writer) rows ∙ subst (λ w. row_of w (with_row (flushed row) old.table.writers) ≡ Some (flushed row)) is put; counted = sym t.1; ready = ready }
 
--- a call on an open writer that wasn't refused
-open_row : {R : Type 0} (caller writer : ℕ) (old : State) (reply : Reply) (new : State) (does : Row → Type 0) → OnWriter caller (only stage.Open) writer old reply new does
-    → (Refuses NotOpen old reply new → R) → ((row : Row) → row.id ≡ writer → row_of writer old.table.writers ≡ Some row → rank row.stage ≡ 4 → does row → R) → R
-open_row {R} caller writer old reply new does f refused each = elim (match_cases (writer_of caller (only stage.Open) writer old.table.writers) (Refuses NotOpen old reply new) does f) as (λ _. R) [
-  | inl (none, r) ↦ refused r
-  | inr (row, held, done) ↦
-      let h = is_held caller (only stage.Open) writer old.table.writers row held in
-      each row h.is h.found (at_only stage.Open row.stage h.staged) done
-]
-
 flush_row : (old : State) (caller writer n : ℕ) (new : State) → Answers old caller (Flush writer) (Flushed n) new → CallTold new writer n
 flush_row old caller writer n new f =
     open_row caller writer old (Flushed n) new (λ row. FlushesRow row row.pending.entries old (Flushed n) new) f
     (λ r. absurd (let e = r.0 in cc))
     (λ row is held ready does. flushed_row old new row writer n row.pending.entries is held ready does)
 
-sync_told : (row : Row) (table : Table) (told : Told) (n : ℕ) → Synced n ≡ (sync_index_outcome row table told).reply → ((sync_index_outcome row table told).table ≡ table) × (n ≡ row.landed)
+sync_told : (row : Row) (table : Table) (told : Told) (n : ℕ) → Synced n ≡ (sync_index_outcome row table told).reply → ((sync_index_outcome row table told).table ≡ record table { writers = with_row (index_synced row) table.writers }) × (n ≡ row.landed)
 sync_told row table (Ok Made) n e = (refl, cc)
 sync_told row table (Ok NoRoom) n e = absurd (cc)
 sync_told row table (Ok NoFolder) n e = absurd (cc)
@@ -122,11 +114,13 @@ sync_told row table (Err NoMemory) n e = absurd (cc)
 
 sync_row : (old : State) (caller writer n : ℕ) (new : State) → Answers old caller (SyncIndex writer) (Synced n) new → CallTold new writer n
 sync_row old caller writer n new f =
-    open_row caller writer old (Synced n) new (λ row. Makes (sync_index_step row) (sync_index_outcome row old.table) old (Synced n) new) f
+    open_row caller writer old (Synced n) new (λ row. MakesAct (sync_index_step row) (sync_index_outcome row old.table) old (Synced n) new) f
     (λ r. absurd (let e = r.0 in cc))
     (λ row is held ready does.
     let t = sync_told row old.table does.told n does.answered in
-    record { row = row; stands = ap (λ (s : State). row_of writer s.table.writers) does.after ∙ ap (λ (b : Table). row_of writer b.writers) t.0 ∙ held; counted = sym t.1; ready = ready })
+    let rows : new.table.writers ≡ with_row (index_synced row) old.table.writers = ap (λ (s : State). s.table.writers) does.after ∙ ap (λ (b : Table). b.writers) t.0 in
+    let put : row_of row.id (with_row (index_synced row) old.table.writers) ≡ Some (index_synced row) = row_of-with_row (index_synced row) old.table.writers row (subst (λ w. row_of w old.table.writers ≡ Some row) (sym is) held) in
+    record { row = index_synced row; stands = ap (row_of writer) rows ∙ subst (λ w. row_of w (with_row (index_synced row) old.table.writers) ≡ Some (index_synced row)) is put; counted = sym t.1; ready = ready })
 
 -- ---------- what a flush or a sync told has landed
 
@@ -140,14 +134,14 @@ told_lands m s writer count t =
     let held : row_of t.row.id m.state.table.writers ≡ Some t.row = subst (λ w. row_of w m.state.table.writers ≡ Some t.row) (sym id) t.stands in
     (its_dropping t.row, id, record { row = t.row; held = held; room = refl; host = refl }, subst (LandedAtLeast m (its_dropping t.row)) t.counted (row_landed m s t.row held t.ready))
 
-pub flush_lands : (m : Moment) (event : Event) (writer count : ℕ) → IsLegal m.state (event ∷ []) → IsSoundAt m → event.ask.call ≡ Flush writer → event.reply ≡ Flushed count → Lands (next_moment m event) writer count
+pub flush_lands : (m : Moment) (event : Event) (writer count : ℕ) → IsLawful m.state (event ∷ []) → IsSoundAt m → event.ask.call ≡ Flush writer → event.reply ≡ Flushed count → Lands (next_moment m event) writer count
 flush_lands m event writer count legal s call reply =
-    let a : Answers m.state event.caller (Flush writer) (Flushed count) event.after = subst (λ r. Answers m.state event.caller (Flush writer) r event.after) reply (subst (λ c. Answers m.state event.caller c event.reply event.after) call legal.1.answers) in
+    let a : Answers m.state event.caller (Flush writer) (Flushed count) event.after = answers_as m.state event.caller event.ask (Flush writer) event.reply (Flushed count) event.after call reply refl legal.1 in
     told_lands (next_moment m event) (sound_next m event [] legal s) writer count (flush_row m.state event.caller writer count event.after a)
 
-pub sync_lands : (m : Moment) (event : Event) (writer count : ℕ) → IsLegal m.state (event ∷ []) → IsSoundAt m → event.ask.call ≡ SyncIndex writer → event.reply ≡ Synced count → Lands (next_moment m event) writer count
+pub sync_lands : (m : Moment) (event : Event) (writer count : ℕ) → IsLawful m.state (event ∷ []) → IsSoundAt m → event.ask.call ≡ SyncIndex writer → event.reply ≡ Synced count → Lands (next_moment m event) writer count
 sync_lands m event writer count legal s call reply =
-    let a : Answers m.state event.caller (SyncIndex writer) (Synced count) event.after = subst (λ r. Answers m.state event.caller (SyncIndex writer) r event.after) reply (subst (λ c. Answers m.state event.caller c event.reply event.after) call legal.1.answers) in
+    let a : Answers m.state event.caller (SyncIndex writer) (Synced count) event.after = answers_as m.state event.caller event.ask (SyncIndex writer) event.reply (Synced count) event.after call reply refl legal.1 in
     told_lands (next_moment m event) (sound_next m event [] legal s) writer count (sync_row m.state event.caller writer count event.after a)
 
 landed_later : (a b : Moment) (d : Dropping) (count : ℕ) → Grows a b → LandedAtLeast a d count → LandedAtLeast b d count
@@ -163,10 +157,10 @@ one_of state a b writer of_a of_b =
 
 -- what this event told of the writer has landed after it
 abbrev Tells : Event → ℕ → ℕ → Type 0
-Tells e writer count = (m : Moment) → IsLegal m.state (e ∷ []) → IsSoundAt m → Lands (next_moment m e) writer count
+Tells e writer count = (m : Moment) → IsLawful m.state (e ∷ []) → IsSoundAt m → Lands (next_moment m e) writer count
 
 -- and after all events
-told_landed : (m : Moment) (events : List Event) (d : Dropping) (count : ℕ) (e : Event) → IsLegal m.state events → IsSoundAt m → Among e events → Tells e d.writer count → IsOf e.after d → LandedAtLeast (moment_after m events) d count
+told_landed : (m : Moment) (events : List Event) (d : Dropping) (count : ℕ) (e : Event) → IsLawful m.state events → IsSoundAt m → Among e events → Tells e d.writer count → IsOf e.after d → LandedAtLeast (moment_after m events) d count
 told_landed m [] d count e legal s a tells of = absurd a
 told_landed m (v ∷ events) d count e legal s (inl same) tells of =
     let next : Moment = next_moment m v in
@@ -183,14 +177,14 @@ landed_gathered start end room cut truncs d count view its landed_then =
     found_any (λ (x : Gathered). (x.dropping ≡ d) × (count ≤ x.count)) cut g among_cut (is, omega (arith, landed_then.counted, p.least, ap (λ x. landed start x) is))
 
 -- A reader has all of the room that was synced before its first call.
-pub synced_gathered : (first : Moment) (before : List Event) (end : Moment) (room : ℕ) (cut : List Gathered) (truncs : List Trunc) (d : Dropping) (count : ℕ) → IsLegal first.state before → IsSoundAt first → HasView (moment_after first before) end room cut truncs
+pub synced_gathered : (first : Moment) (before : List Event) (end : Moment) (room : ℕ) (cut : List Gathered) (truncs : List Trunc) (d : Dropping) (count : ℕ) → IsLawful first.state before → IsSoundAt first → HasView (moment_after first before) end room cut truncs
     → d.room ≡ room → IsSyncedIn before d count → Any (λ (g : Gathered). (g.dropping ≡ d) × (count ≤ g.count)) cut
 synced_gathered first before end room cut truncs d count legal s view its synced =
     let (e, a, (call, reply, of)) = any_found (λ (x : Event). (x.ask.call ≡ SyncIndex d.writer) × (x.reply ≡ Synced count) × IsOf x.after d) before synced in
     landed_gathered (moment_after first before) end room cut truncs d count view its (told_landed first before d count e legal s a (λ m l sound. sync_lands m e d.writer count l sound call reply) of)
 
 -- And all that was flushed.
-pub flushed_gathered : (first : Moment) (before : List Event) (end : Moment) (room : ℕ) (cut : List Gathered) (truncs : List Trunc) (d : Dropping) (count : ℕ) → IsLegal first.state before → IsSoundAt first → HasView (moment_after first before) end room cut truncs
+pub flushed_gathered : (first : Moment) (before : List Event) (end : Moment) (room : ℕ) (cut : List Gathered) (truncs : List Trunc) (d : Dropping) (count : ℕ) → IsLawful first.state before → IsSoundAt first → HasView (moment_after first before) end room cut truncs
     → d.room ≡ room → IsFlushedIn before d count → Any (λ (g : Gathered). (g.dropping ≡ d) × (count ≤ g.count)) cut
 flushed_gathered first before end room cut truncs d count legal s view its flushed_so =
     let (e, a, (call, reply, of)) = any_found (λ (x : Event). (x.ask.call ≡ Flush d.writer) × (x.reply ≡ Flushed count) × IsOf x.after d) before flushed_so in
@@ -198,25 +192,33 @@ flushed_gathered first before end room cut truncs d count legal s view its flush
 
 -- ---------- nothing lands but by the writer's own flushes
 
-step_spares : (m : Moment) (s : IsSoundAt m) (e : Event) (d : Dropping) → IsNamed d → Spares e.ask.call d → IsStep m.state e.caller e.ask e.reply e.after → Same m.state e.after d.room (index_path d.host d.writer)
+step_spares : (m : Moment) (s : IsSoundAt m) (e : Event) (d : Dropping) → IsNamed d → SparesIndex e.ask.call d → IsStep m.state e.caller e.ask e.reply e.after → Same m.state e.after d.room (index_path d.host d.writer)
 step_spares m s e d named spares step =
-    call_same m.state e.after e.ask.call s.shape.tree d.room (index_path d.host d.writer) s.shape.told (not_top d.host)
+    step_same m.state e.after e.caller e.ask e.reply s.shape.tree d.room (index_path d.host d.writer) s.shape.told (not_top d.host)
     (λ act is. spares_index m s e.ask.call act d named spares is)
-    (at_most_one_act m.state e.caller e.ask.call e.reply e.after step.answers)
+    step
 
-landed_stays : (m : Moment) (events : List Event) (d : Dropping) → IsNamed d → IsLegal m.state events → IsSoundAt m → AllSpare events d → landed (moment_after m events) d ≡ landed m d
+-- nothing has landed where the dropping is as it was
+step_lands_none : (m : Moment) (e : Event) (d : Dropping) → IsNamed d → IsSoundAt m → IsStep m.state e.caller e.ask e.reply e.after → index_then (next_moment m e) d ≡ index_then m d → landed (next_moment m e) d ≡ landed m d
+step_lands_none m e d named s a same = elim (step_issues_or_not m.issued m.state e.caller e.ask e.reply e.after d.room d.writer a) as (λ _. landed (next_moment m e) d ≡ landed m d) [
+  | inl none ↦ omega (arith, ap (λ o. whole (bytes_of o)) same, ap length none)
+  | inr o ↦
+      let more = call_issues m.issued m.state e.ask.call e.reply d.room d.writer in
+      omega (arith, ap (λ f. whole (bytes_of f)) same, open_within m s d (index_then m d) named o refl, ap length more.1, length-append (issued_by m d) more.0)
+]
+
+landed_stays : (m : Moment) (events : List Event) (d : Dropping) → IsNamed d → IsLawful m.state events → IsSoundAt m → AllSpareIndex events d → landed (moment_after m events) d ≡ landed m d
 landed_stays m [] d named legal s spare = refl
 landed_stays m (e ∷ events) d named legal s spare =
     landed_stays (next_moment m e) events d named legal.2 (sound_next m e events legal s) spare.1
-    ∙ ap (λ o. whole (bytes_of o)) (step_spares m s e d named spare.0 legal.1)
+    ∙ step_lands_none m e d named s legal.1 (step_spares m s e d named spare.0 legal.1)
 
 -- no more has landed than was issued
-landed_within : (m : Moment) (s : IsSoundAt m) (d : Dropping) (file : Option (List ℕ)) → IsNamed d → index_then m d ≡ file → whole (bytes_of file) ≤ length (issued_by m d)
-landed_within m s d None named e = omega arith
-landed_within m s d (Some bytes) named e = landed_issued m m s d bytes named (grows_refl m) e
+landed_within : (m : Moment) (s : IsSoundAt m) (d : Dropping) (file : Option (List ℕ)) → IsNamed d → index_then m d ≡ file → landed m d ≤ length (issued_by m d)
+landed_within m s d file named e = omega arith
 
 -- No more of a writer has landed than it had issued when it last was flushed.
-pub landed_most : (m : Moment) (events : List Event) (d : Dropping) → IsNamed d → IsLegal m.state events → IsSoundAt m → AllSpare events d → landed (moment_after m events) d ≤ length (issued_by m d)
+pub landed_most : (m : Moment) (events : List Event) (d : Dropping) → IsNamed d → IsLawful m.state events → IsSoundAt m → AllSpareIndex events d → landed (moment_after m events) d ≤ length (issued_by m d)
 landed_most m events d named legal s spare = omega (arith, landed_stays m events d named legal s spare, landed_within m s d (index_then m d) named refl)
 
 -- ---------- no truncate comes
@@ -225,17 +227,17 @@ trunc_below : (stamp size : ℕ) → is_top (trunc_path stamp size).folder ≡ f
 trunc_below stamp size = refl
 
 -- a truncate that is there stays
-pub trunc_stays : (m : Moment) (events : List Event) (room stamp size : ℕ) → IsLegal m.state events → IsSoundAt m → HadTrunc m room stamp size → HadTrunc (moment_after m events) room stamp size
+pub trunc_stays : (m : Moment) (events : List Event) (room stamp size : ℕ) → IsLawful m.state events → IsSoundAt m → HadTrunc m room stamp size → HadTrunc (moment_after m events) room stamp size
 trunc_stays m events room stamp size legal s had = trunc_grows m (moment_after m events) room stamp size (grows_after m events legal s) had
 
 -- a truncate that is there after these events was there before them
-pub trunc_before : (m : Moment) (events : List Event) (room stamp size : ℕ) → IsLegal m.state events → IsSoundAt m → HadTrunc (moment_after m events) room stamp size → HadTrunc m room stamp size
+pub trunc_before : (m : Moment) (events : List Event) (room stamp size : ℕ) → IsLawful m.state events → IsSoundAt m → HadTrunc (moment_after m events) room stamp size → HadTrunc m room stamp size
 trunc_before m [] room stamp size legal s had = had
 trunc_before m (e ∷ events) room stamp size legal s had =
     let next : Moment = next_moment m e in
     let now : HadTrunc next room stamp size = trunc_before next events room stamp size legal.2 (sound_next m e events legal s) had in
     let same : Same m.state e.after room (trunc_path stamp size) =
-    call_same m.state e.after e.ask.call s.shape.tree room (trunc_path stamp size) s.shape.told (trunc_below stamp size)
+    step_same m.state e.after e.caller e.ask e.reply s.shape.tree room (trunc_path stamp size) s.shape.told (trunc_below stamp size)
     (λ act is. spares_trunc m.state e.ask.call act room stamp size is)
-    (at_most_one_act m.state e.caller e.ask.call e.reply e.after legal.1.answers) in
+    legal.1 in
     record { is_item = now.is_item; bytes = now.bytes; there = sym same ∙ now.there }

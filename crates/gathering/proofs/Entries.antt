@@ -8,8 +8,8 @@ use Rattle.store_api.specs.Room.{is_top, has_folder}
 use Rattle.store_laws.specs.Files.{file_at}
 use Rattle.store_laws.specs.Differ.{is_listed}
 use Rattle.store_laws.specs.There.{AreNamesOf}
-use Rattle.store_laws.proofs.Naming.{name_eq, name_same}
-use Rattle.plain_file.proofs.OrderLemmas.{Among}
+use Rattle.store_laws.proofs.Facts.{name_eq, name_same}
+use Rattle.plain_file.proofs.Facts.{Among}
 use Rattle.mount_model.specs.Paths.{Name}
 
 -- ---------- names that are listed

@@ -5,7 +5,7 @@ use Rattle.std.proofs.lemmas.Bool.Decides.{nat_tests}
 use Rattle.std.proofs.lemmas.List.{length-take}
 use Rattle.plfs_types.specs.declared.entries.Trunc.{Trunc}
 use Rattle.plfs_types.specs.declared.names.Path.{Path}
-use Rattle.container_layout.proofs.Places.{elsewhere}
+use Rattle.container_layout.proofs.Facts.{elsewhere}
 use Rattle.store_api.specs.declared.step.Answer.{Answer}
 use Rattle.store_api.specs.declared.step.Answer.TheVariants.{Bytes}
 use Rattle.store_api.specs.declared.store.Trouble.TheVariants.{Fault, NoMemory}
@@ -15,8 +15,7 @@ use Rattle.store_laws.specs.Files.{file_at}
 use Rattle.store_laws.specs.Prefix.{IsPrefix}
 use Rattle.store_laws.specs.There.{HoldsFile}
 use Rattle.store_laws.specs.Tells.{Tells}
-use Rattle.store_laws.proofs.Exactly.{read_there}
-use Rattle.store_laws.proofs.Telling.{acts_told}
+use Rattle.store_laws.proofs.Facts.{read_there, acts_told}
 use Rattle.mount_model.specs.declared.call.Call.TheVariants.{Look}
 use Rattle.mount_model.specs.declared.call.Look.TheVariants.{Read}
 use Rattle.mount_model.specs.declared.reply.Reply.{Reply}
@@ -24,13 +23,13 @@ use Rattle.mount_model.specs.declared.reply.Reply.TheVariants.{Looked, Damaged}
 use Rattle.mount_model.specs.declared.reply.Refusal.{Refusal}
 use Rattle.mount_model.specs.Paths.{index_path, log_path}
 use Rattle.mount_model.specs.State.{State, last_id}
-use Rattle.mount_model.specs.Making.{Told, Makes, Refuses}
-use Rattle.mount_model.specs.Looking.{room_check, look_step, look_outcome, read_reply}
+use Rattle.mount_model.specs.Making.{Told, MakesAct, Refuses, room_check}
+use Rattle.mount_model.specs.Looking.{look_step, look_outcome, read_reply}
 use Rattle.mount_model.specs.Step.{Answers}
-use Rattle.mount_shape.proofs.Trees.{shape_of, container_at}
+use Rattle.mount_shape.proofs.Facts.{shape_of, container_at}
 use Rattle.mount_sound.specs.Ledger.{content}
 use Rattle.mount_sound.specs.Dropping.{bytes_of}
-use Rattle.mount_model.proofs.Deciding.{match_cases}
+use Rattle.mount_model.proofs.Facts.{match_cases}
 use Rattle.gathering.specs.Failing.{BytesOrTrouble}
 use Rattle.gathering.specs.Gathering.{Gathered}
 use Rattle.gathering.specs.Listing.{IsAmong}
@@ -73,7 +72,7 @@ no_longer len at bytes = omega (arith, length-take len (drop at bytes))
 pub read_ends : (m : Moment) (s : IsSoundAt m) (caller room : ℕ) (path : Path) (at len : ℕ) (bytes : List ℕ) (reply : Reply) (new : State) → room ≢ m.state.marks → file_then m room path ≡ Some bytes → Answers m.state caller (Look room (Read path at len)) reply new
     → BytesOrTrouble (take len (drop at bytes)) m.state reply new
 read_ends m s caller room path at len bytes reply new other there f =
-    elim (match_cases (room_check m.state room) (Makes (look_step room (Read path at len)) (look_outcome (Read path at len) m.state) m.state reply new) (λ why. Refuses why m.state reply new) f) as (λ _. BytesOrTrouble (take len (drop at bytes)) m.state reply new) [
+    elim (match_cases (room_check m.state room) (MakesAct (look_step room (Read path at len)) (look_outcome (Read path at len) m.state) m.state reply new) (λ why. Refuses why m.state reply new) f) as (λ _. BytesOrTrouble (take len (drop at bytes)) m.state reply new) [
       | inl (none, l) ↦
           let h = held m s room path bytes other there in
           let t = acts_told (look_step room (Read path at len)) m.state.store new.store s.shape.tree l.told s.shape.told l.made in

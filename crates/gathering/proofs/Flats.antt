@@ -8,9 +8,7 @@ use Rattle.plfs_types.specs.declared.entries.Entry.{Entry}
 use Rattle.plain_file.specs.declared.pieces.Piece.{Piece}
 use Rattle.plain_file.specs.Runs.{AreRuns, ArePieces}
 use Rattle.plain_file.specs.Sources.{source_at, source_of, newer_source}
-use Rattle.plain_file.proofs.OrderLemmas.{Among}
-use Rattle.plain_file.proofs.SameLemmas.{SameElements, OnePerKey-from_KeysDiffer, newest_at-same}
-use Rattle.plain_file.proofs.MergeLemmas.{ArePieces-merged}
+use Rattle.plain_file.proofs.Facts.{Among, SameElements, OnePerKey-from_KeysDiffer, newest_at-same, ArePieces-merged}
 use Rattle.mount_sound.specs.Ledger.{entries_in}
 use Rattle.gathering.specs.Moments.{Moment, IsSoundAt}
 use Rattle.gathering.specs.Gathering.{Gathered}

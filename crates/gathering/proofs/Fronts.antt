@@ -1,24 +1,24 @@
 -- What is read of an index dropping or a log is what its writer issued.
-use Rattle.std.proofs.Common.{◌≡◌, ℕ, suc, ◌+◌, ◌-◌, ◌*◌, ◌≤◌, List, [], ◌∷◌, ◌++◌, length, take, drop, Option, Some, refl, ap, sym, ◌∙◌, inl, subst, arith, length-append, append_assoc, length-take-le}
+use Rattle.std.proofs.Common.{◌≡◌, ℕ, suc, ◌+◌, ◌-◌, ◌*◌, ◌≤◌, List, [], ◌∷◌, ◌++◌, length, min, take, drop, Option, Some, refl, ap, sym, ◌∙◌, inl, subst, arith, length-append, append_assoc, length-take-le}
 use Rattle.std.specs.Prelude.{slice_get}
 use Rattle.std.proofs.lemmas.List.{take-append-drop, take-append-le, drop-append-le, map-append, length-drop, drop-drop}
 use Rattle.std.proofs.Math.Seq.{take-add}
 use Rattle.plfs_types.specs.declared.entries.Entry.{Entry}
 use Rattle.plfs_types.specs.declared.names.Path.{Path}
 use Rattle.index_entry.specs.Spelling.{spelling_all}
-use Rattle.index_entry.proofs.Spelled.{spelling_all-append, length-spelling_all}
+use Rattle.index_entry.proofs.Facts.{spelling_all-append, length-spelling_all}
 use Rattle.container_layout.specs.declared.items.Item.TheVariants.{Index}
 use Rattle.store_api.specs.declared.tree.Room.{Room}
 use Rattle.store_api.specs.declared.tree.Tree.{Tree}
 use Rattle.store_laws.specs.Files.{file_at}
 use Rattle.store_laws.specs.Prefix.{IsPrefix}
-use Rattle.store_laws.proofs.Overwriting.{prefix_rest}
+use Rattle.store_laws.proofs.Facts.{prefix_rest}
 use Rattle.mount_model.specs.Paths.{index_path, log_path}
 use Rattle.mount_sound.specs.Ledger.{Written, entries_in, content}
 use Rattle.mount_sound.specs.Items.{HasItem}
 use Rattle.mount_sound.specs.Dropping.{bytes_of, log_bytes, IsWriter}
 use Rattle.mount_sound.specs.Landed.{HasLanded, whole}
-use Rattle.mount_sound.proofs.HasLanded.{landed_was_issued}
+use Rattle.mount_sound.proofs.Facts.{landed_was_issued}
 use Rattle.gathering.specs.Moments.{Moment, IsSoundAt, file_in_tree, file_told, file_then, Dropping, IsNamed, Stood, index_then, log_then, issued_by, Grows}
 use Rattle.gathering.proofs.Growing.{in_a_room, index_grows}
 
@@ -81,29 +81,30 @@ content-append [] b = refl
 content-append (w ∷ a) b = ap (λ c. w.bytes ++ c) (content-append a b) ∙ sym (append_assoc w.bytes (content a) (content b))
 
 -- the whole entries of a dropping, within what its writer issued, then and later
-whole_slice : (room : Room) (host writer : ℕ) (issued more : List Written) (bytes : List ℕ) (at len : ℕ) → HasLanded room host writer issued bytes → at + len ≤ 40 * whole bytes → take len (drop at bytes) ≡ take len (drop at (spelling_all (entries_in (issued ++ more))))
+whole_slice : (room : Room) (host writer : ℕ) (issued more : List Written) (bytes : List ℕ) (at len : ℕ) → HasLanded room host writer issued bytes → at + len ≤ 40 * min (whole bytes) (length issued) → take len (drop at bytes) ≡ take len (drop at (spelling_all (entries_in (issued ++ more))))
 whole_slice room host writer issued more bytes at len h within =
-    let n : ℕ = whole bytes in
+    let n : ℕ = h.landed in
     let es : List Entry = entries_in issued in
     let front : List ℕ = spelling_all (take n es) in
     let long : length front ≡ 40 * n = length-spelling_all (take n es) ∙ ap (λ k. 40 * k) (length_taken n es (within_entries issued n h.within)) in
-    let here : take len (drop at bytes) ≡ take len (drop at front) = ap (λ b. take len (drop at b)) h.entries ∙ front_slice front h.tail at len (omega (arith, long, within)) in
+    let here : take len (drop at bytes) ≡ take len (drop at front) = ap (λ b. take len (drop at b)) (h.dropping.spelled ∙ ap (λ b. b ++ h.dropping.tail) (spelling_all-append (take n es) h.dropping.more) ∙ append_assoc front (spelling_all h.dropping.more) h.dropping.tail)
+    ∙ front_slice front (spelling_all h.dropping.more ++ h.dropping.tail) at len (omega (arith, long, within, h.is)) in
     let split : spelling_all (entries_in (issued ++ more)) ≡ front ++ (spelling_all (drop n es) ++ spelling_all (entries_in more)) =
     ap spelling_all (entries-append issued more) ∙ spelling_all-append es (entries_in more)
     ∙ ap (λ l. spelling_all l ++ spelling_all (entries_in more)) (sym (take-append-drop n es))
     ∙ ap (λ b. b ++ spelling_all (entries_in more)) (spelling_all-append (take n es) (drop n es))
     ∙ append_assoc front (spelling_all (drop n es)) (spelling_all (entries_in more)) in
-    here ∙ sym (ap (λ b. take len (drop at b)) split ∙ front_slice front (spelling_all (drop n es) ++ spelling_all (entries_in more)) at len (omega (arith, long, within)))
+    here ∙ sym (ap (λ b. take len (drop at b)) split ∙ front_slice front (spelling_all (drop n es) ++ spelling_all (entries_in more)) at len (omega (arith, long, within, h.is)))
 
 -- Bytes read of the whole entries of an index dropping are those of what its writer issued.
-pub index_slice : (m end : Moment) (s : IsSoundAt m) (d : Dropping) (bytes : List ℕ) (at len : ℕ) → IsNamed d → Grows m end → index_then m d ≡ Some bytes → at + len ≤ 40 * whole bytes → take len (drop at bytes) ≡ take len (drop at (spelling_all (entries_in (issued_by end d))))
+pub index_slice : (m end : Moment) (s : IsSoundAt m) (d : Dropping) (bytes : List ℕ) (at len : ℕ) → IsNamed d → Grows m end → index_then m d ≡ Some bytes → at + len ≤ 40 * min (whole bytes) (length (issued_by m d)) → take len (drop at bytes) ≡ take len (drop at (spelling_all (entries_in (issued_by end d))))
 index_slice m end s d bytes at len named grows e within =
     let w = stands m s d bytes named e in
     let more = grows.issued d.room d.writer in
     whole_slice w.room d.host d.writer (issued_by m d) more.0 bytes at len w.landed within ∙ ap (λ l. take len (drop at (spelling_all (entries_in l)))) (sym more.1)
 
 -- as many entries as landed were issued
-pub landed_issued : (m end : Moment) (s : IsSoundAt m) (d : Dropping) (bytes : List ℕ) → IsNamed d → Grows m end → index_then m d ≡ Some bytes → whole bytes ≤ length (issued_by end d)
+pub landed_issued : (m end : Moment) (s : IsSoundAt m) (d : Dropping) (bytes : List ℕ) → IsNamed d → Grows m end → index_then m d ≡ Some bytes → min (whole bytes) (length (issued_by m d)) ≤ length (issued_by end d)
 landed_issued m end s d bytes named grows e =
     let more = grows.issued d.room d.writer in
     omega (arith, (stands m s d bytes named e).landed.within, ap length more.1, length-append (issued_by m d) more.0)

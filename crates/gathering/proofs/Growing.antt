@@ -3,7 +3,7 @@ use Rattle.std.proofs.Common.{◌≡◌, ℕ, ◌≤◌, List, [], ◌++◌, len
 use Rattle.std.specs.Prelude.{◌≢◌, slice_get}
 use Rattle.std.proofs.lemmas.List.{append-nil}
 use Rattle.plfs_types.specs.declared.names.Path.{Path}
-use Rattle.container_layout.proofs.Places.{elsewhere}
+use Rattle.container_layout.proofs.Facts.{elsewhere}
 use Rattle.store_api.specs.declared.tree.Room.{Room}
 use Rattle.store_api.specs.declared.tree.Tree.{Tree}
 use Rattle.store_laws.specs.Files.{file_at}
@@ -11,8 +11,9 @@ use Rattle.mount_model.specs.Paths.{openhosts, index_path, log_path, trunc_path}
 use Rattle.mount_model.specs.Step.{IsStep}
 use Rattle.mount_model.specs.History.{Event}
 use Rattle.mount_sound.specs.Landed.{whole}
-use Rattle.mount_sound.proofs.Growing.{step_grows as tree_grows, call_issues}
-use Rattle.gathering.specs.Moments.{Moment, next_moment, file_in_room, file_told, Dropping, index_then, log_then, HadTrunc, Grows}
+use Rattle.mount_sound.proofs.Facts.{step_grows as tree_grows, call_issues}
+use Rattle.gathering.specs.Moments.{Moment, next_moment, file_in_room, file_told, Dropping, IsNamed, issued_by, index_then, log_then, HasUnissued, HadTrunc, Grows}
+use Rattle.mount_sound.specs.Dropping.{bytes_of}
 
 -- ---------- folders that aren't that of who is open
 
@@ -34,8 +35,9 @@ in_a_room (Some room) path bytes e = (room, refl, e)
 -- ---------- growth
 
 -- Each step from a told tree extends what was before.
-pub step_grows : (m : Moment) (e : Event) (tree : Tree) → m.state.store.tree ≡ Some tree → IsStep m.state e.caller e.ask e.reply e.after → Grows m (next_moment m e)
-step_grows m e tree told step = record {
+pub step_grows : (m : Moment) (e : Event) (tree : Tree) → m.state.store.tree ≡ Some tree → IsStep m.state e.caller e.ask e.reply e.after → ((d : Dropping) → IsNamed d → HasUnissued m d → (index_then (next_moment m e) d ≡ index_then m d) × (log_then (next_moment m e) d ≡ log_then m d) × (issued_by (next_moment m e) d ≡ issued_by m d)) → Grows m (next_moment m e)
+step_grows m e tree told step left = record {
+  left = left;
   issued = call_issues m.issued m.state e.ask.call e.reply;
   files = λ room path bytes out there.
       let t = tree_grows m.state e.after e.caller e.ask e.reply tree step told in
@@ -45,7 +47,7 @@ step_grows m e tree told step = record {
 }
 
 pub grows_refl : (m : Moment) → Grows m m
-grows_refl m = record { issued = λ number writer. ([], sym (append-nil (m.issued number writer))); files = λ room path bytes out e. (bytes, e, omega arith) }
+grows_refl m = record { issued = λ number writer. ([], sym (append-nil (m.issued number writer))); files = λ room path bytes out e. (bytes, e, omega arith); left = λ d named l. (refl, refl, refl) }
 
 pub grows_trans : (a b c : Moment) → Grows a b → Grows b c → Grows a c
 grows_trans a b c f g = record {
@@ -57,6 +59,11 @@ grows_trans a b c f g = record {
       let x = f.files room path bytes out e in
       let y = g.files room path x.0 out x.1 in
       (y.0, y.1, omega (arith, x.2, y.2));
+  left = λ d named l.
+      let x = f.left d named l in
+      let still : HasUnissued b d = omega (arith, l, ap (λ o. whole (bytes_of o)) x.0, ap length x.2) in
+      let y = g.left d named still in
+      (y.0 ∙ x.0, y.1 ∙ x.1, y.2 ∙ x.2);
 }
 
 whole_more : (old new : List ℕ) → length old ≤ length new → whole old ≤ whole new

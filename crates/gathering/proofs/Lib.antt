@@ -1,9 +1,11 @@
 pub mod Members
 pub mod Acting
 pub mod Growing
+pub mod Fronts
+pub mod Sparing
+pub mod Left
 pub mod Seeing
 pub mod Looking
-pub mod Fronts
 pub mod Gathers
 pub mod Entries
 pub mod Listings
@@ -17,7 +19,6 @@ pub mod Placing
 pub mod Shares
 pub mod Opening
 pub mod Actors
-pub mod Sparing
 pub mod Bounds
 pub mod Failing
 pub mod Flats

@@ -8,7 +8,7 @@ use Rattle.std.proofs.lemmas.Bool.Decides.{nat_tests}
 use Rattle.plfs_types.specs.declared.names.Path.{Path}
 use Rattle.container_layout.specs.declared.items.Item.TheVariants.{Index}
 use Rattle.container_layout.specs.Paths.{hostdir_of}
-use Rattle.container_layout.proofs.Places.{one_item, elsewhere}
+use Rattle.container_layout.proofs.Facts.{one_item, elsewhere}
 use Rattle.store_api.specs.declared.tree.Room.{Room}
 use Rattle.store_api.specs.declared.step.Answer.TheVariants.{Names}
 use Rattle.store_api.specs.Room.{is_top, has_folder}
@@ -17,7 +17,7 @@ use Rattle.mount_model.specs.declared.call.Call.TheVariants.{Look}
 use Rattle.mount_model.specs.declared.call.Look.TheVariants.{Top, List as ListFolder}
 use Rattle.mount_model.specs.declared.reply.Reply.TheVariants.{Looked}
 use Rattle.mount_model.specs.Paths.{Name, marks_folder, index_path}
-use Rattle.plain_file.proofs.OrderLemmas.{Among}
+use Rattle.plain_file.proofs.Facts.{Among}
 use Rattle.gathering.specs.Moments.{Moment, IsSoundAt, Dropping, IsNamed, Stood, Grows}
 use Rattle.gathering.specs.Seen.{Asked, IsSeenCall, IsSeen}
 use Rattle.gathering.specs.Listing.{IsIndexName, AreDroppingsOf, ShowsHostdir, ListsHostdirs, hostdirs, IsScan}
@@ -79,11 +79,11 @@ named_dropping room k (n ∷ names) ds name d (inr (none, more)) (inr a) is = na
 -- ---------- what the listings tell of a dropping that stood
 
 -- the top names its folder
-top_names : (caller room : ℕ) (start next : Moment) (asked : Asked) (names : List Name) (d : Dropping) → IsSeenCall caller start asked next → asked.call ≡ Look room Top → asked.reply ≡ Looked (Names names) → d.room ≡ room → Stood start d → Among (hostdir_of d.host) names
+top_names : (caller room : ℕ) (start next : Moment) (asked : Asked) (names : List Name) (d : Dropping) → IsSeenCall caller start asked next → asked.ask.call ≡ Look room Top → asked.reply ≡ Looked (Names names) → d.room ≡ room → Stood start d → Among (hostdir_of d.host) names
 top_names caller room start next asked names d call c r its stood =
     let m : Moment = call.before in
     let now : Stood m d = stood_grows start m d call.waits stood in
-    let l = top_listed m call.sound caller room names next.state (answers_as m.state caller asked.call _ asked.reply _ next.state c r call.answers) in
+    let l = top_listed m call.sound caller room names next.state (answers_as m.state caller asked.ask _ asked.reply _ next.state c r refl call.answers) in
     let there : slice_get call.sound.shape.tree.rooms d.room ≡ Some l.room = ap (λ n. slice_get call.sound.shape.tree.rooms n) its ∙ l.has_room in
     let f = in_a_room (slice_get call.sound.shape.tree.rooms d.room) (index_path d.host d.writer) now.bytes (in_tree m call.sound d.room (index_path d.host d.writer) now.bytes now.there) in
     let both : Some f.0 ≡ Some l.room = sym f.1 ∙ there in
@@ -91,11 +91,11 @@ top_names caller room start next asked names d call c r its stood =
     folder_named l.room (hostdir_of d.host) names (not_top d.host) (has_hostdir m call.sound d.room l.room (index_path d.host d.writer) d.host now.bytes there refl (subst (λ x. file_at x (index_path d.host d.writer) ≡ Some now.bytes) same f.2)) l.entries
 
 -- its folder names it
-folder_names : (caller room k : ℕ) (start next : Moment) (asked : Asked) (names : List Name) (d : Dropping) → IsSeenCall caller start asked next → asked.call ≡ Look room (ListFolder (hostdir_of k)) → asked.reply ≡ Looked (Names names) → d.room ≡ room → d.host % 32 ≡ k → Stood start d → Among (index_path d.host d.writer).file names
+folder_names : (caller room k : ℕ) (start next : Moment) (asked : Asked) (names : List Name) (d : Dropping) → IsSeenCall caller start asked next → asked.ask.call ≡ Look room (ListFolder (hostdir_of k)) → asked.reply ≡ Looked (Names names) → d.room ≡ room → d.host % 32 ≡ k → Stood start d → Among (index_path d.host d.writer).file names
 folder_names caller room k start next asked names d call c r its number stood =
     let m : Moment = call.before in
     let now : Stood m d = stood_grows start m d call.waits stood in
-    let l = folder_listed m call.sound caller room (hostdir_of k) names next.state (answers_as m.state caller asked.call _ asked.reply _ next.state c r call.answers) in
+    let l = folder_listed m call.sound caller room (hostdir_of k) names next.state (answers_as m.state caller asked.ask _ asked.reply _ next.state c r refl call.answers) in
     let there : slice_get call.sound.shape.tree.rooms d.room ≡ Some l.room = ap (λ n. slice_get call.sound.shape.tree.rooms n) its ∙ l.has_room in
     let f = in_a_room (slice_get call.sound.shape.tree.rooms d.room) (index_path d.host d.writer) now.bytes (in_tree m call.sound d.room (index_path d.host d.writer) now.bytes now.there) in
     let both : Some f.0 ≡ Some l.room = sym f.1 ∙ there in

@@ -1,34 +1,33 @@
 -- What the reply to a look says of the moment at which it was made.
-use Rattle.std.proofs.Common.{◌≡◌, ℕ, List, [], length, take, drop, Some, ap, sym, ◌∙◌, subst, true, false, inl, inr}
+use Rattle.std.proofs.Common.{◌≡◌, ℕ, List, [], length, take, drop, Some, None, refl, ap, sym, ◌∙◌, subst, true, false, inl, inr}
 use Rattle.std.specs.Prelude.{Ok, Err, nat_le, if◌then◌else◌}
 use Rattle.plfs_types.specs.declared.names.Path.{Path}
 use Rattle.store_api.specs.declared.step.Answer.{Answer}
-use Rattle.store_api.specs.declared.step.Answer.TheVariants.{Names, Number, Bytes}
+use Rattle.store_api.specs.declared.step.Answer.TheVariants.{Names, Number, Bytes, Absent, NoFolder}
 use Rattle.store_api.specs.declared.store.Trouble.TheVariants.{Fault, NoMemory}
 use Rattle.store_api.specs.Effect.{effect}
-use Rattle.store_laws.specs.There.{HoldsFile, ListsFolder}
+use Rattle.store_laws.specs.There.{HoldsFile, LacksFile, ListsFolder}
 use Rattle.store_laws.specs.Outcomes.{Looks}
 use Rattle.store_laws.specs.Says.{ListTells, LengthTells, ReadTells}
 use Rattle.store_laws.specs.Tells.{Tells}
-use Rattle.store_laws.proofs.Telling.{acts_told}
-use Rattle.store_laws.proofs.Answering.{list_tells, length_tells, read_tells, look_answered}
+use Rattle.store_laws.proofs.Facts.{acts_told, list_tells, length_tells, read_tells, look_answered}
 use Rattle.mount_model.specs.declared.call.Call.TheVariants.{Look}
 use Rattle.mount_model.specs.declared.call.Look.{Look as Sight}
 use Rattle.mount_model.specs.declared.call.Look.TheVariants.{Top, List as ListFolder, Length, Read}
 use Rattle.mount_model.specs.declared.reply.Reply.TheVariants.{Looked, Refused, Damaged}
 use Rattle.mount_model.specs.Paths.{Name}
 use Rattle.mount_model.specs.State.{State}
-use Rattle.mount_model.specs.Making.{Told, Makes, Refuses}
-use Rattle.mount_model.specs.Looking.{room_check, look_step, look_outcome, listing_reply, length_reply, read_reply}
+use Rattle.mount_model.specs.Making.{Told, MakesAct, Refuses, room_check}
+use Rattle.mount_model.specs.Looking.{look_step, look_outcome, listing_reply, length_reply, read_reply}
 use Rattle.mount_model.specs.Step.{Answers}
-use Rattle.mount_model.proofs.Deciding.{match_cases}
+use Rattle.mount_model.proofs.Facts.{match_cases}
 use Rattle.gathering.specs.Moments.{Moment, IsSoundAt, file_in_room, file_told, file_then}
 
 -- ---------- what the store told
 
 -- the act of a look that was answered
 abbrev Made : ℕ → Sight → State → Answer → State → Type 0
-Made room look old answer new = Makes (look_step room look) (look_outcome look old) old (Looked answer) new
+Made room look old answer new = MakesAct (look_step room look) (look_outcome look old) old (Looked answer) new
 
 made : (old : State) (caller room : ℕ) (look : Sight) (answer : Answer) (new : State) → Answers old caller (Look room look) (Looked answer) new → Made room look old answer new
 made old caller room look answer new f = elim (match_cases (room_check old room) (Made room look old answer new) (λ why. Refuses why old (Looked answer) new) f) as (λ _. Made room look old answer new) [
@@ -47,6 +46,14 @@ number_told path (Ok (Number n)) value e = let same : n ≡ value = cc in ap (λ
 number_told path (Ok answer) value e = absurd (cc)
 number_told path (Err Fault) value e = absurd (cc)
 number_told path (Err NoMemory) value e = absurd (cc)
+
+absent_told : (path : Path) (told : Told) → Looked Absent ≡ length_reply path told → told ≡ Ok Absent
+absent_told path (Ok Absent) e = refl
+absent_told path (Ok NoFolder) e = absurd (cc)
+absent_told path (Ok (Number n)) e = absurd (cc)
+absent_told path (Ok answer) e = absurd (cc)
+absent_told path (Err Fault) e = absurd (cc)
+absent_told path (Err NoMemory) e = absurd (cc)
 
 abbrev told_bytes : List ℕ → Told
 told_bytes bytes = Ok (Bytes bytes)
@@ -93,6 +100,13 @@ length_told m s caller room path told new f =
     let l = made m.state caller room (Length path) (Number told) new f in
     let says = says_of m s room (Length path) (Number told) new (LengthTells s.shape.tree room path) l (number_told path l.told told l.answered) (length_tells s.shape.tree room path) in
     (says.0.bytes, held_then m s room path says.0, says.1)
+
+-- where a Length finds no file, there is none
+pub absence_told : (m : Moment) (s : IsSoundAt m) (caller room : ℕ) (path : Path) (new : State) → Answers m.state caller (Look room (Length path)) (Looked Absent) new → file_then m room path ≡ None
+absence_told m s caller room path new f =
+    let l = made m.state caller room (Length path) Absent new f in
+    let lacks : LacksFile s.shape.tree room path = says_of m s room (Length path) Absent new (LengthTells s.shape.tree room path) l (absent_told path l.told l.answered) (length_tells s.shape.tree room path) in
+    ap (λ o. file_told o room path) s.shape.told ∙ ap (λ o. file_in_room o path) lacks.has_room ∙ lacks.none
 
 -- A Read tells the file's bytes.
 pub read_told : (m : Moment) (s : IsSoundAt m) (caller room : ℕ) (path : Path) (at len : ℕ) (told : List ℕ) (new : State) → Answers m.state caller (Look room (Read path at len)) (Looked (Bytes told)) new

@@ -4,7 +4,7 @@ use Rattle.std.specs.List.{Any}
 use Rattle.std.proofs.lemmas.List.{take-append-le}
 use Rattle.plfs_types.specs.declared.entries.Trunc.{Trunc}
 use Rattle.plain_file.specs.File.{slice, plain}
-use Rattle.mount_model.specs.History.{Event, IsLegal}
+use Rattle.mount_model.specs.History.{Event, IsLawful}
 use Rattle.mount_sound.specs.Ledger.{Written}
 use Rattle.gathering.specs.Moments.{Moment, IsSoundAt, moment_after, Dropping, Stood, issued_by, Grows}
 use Rattle.gathering.specs.Seen.{Asked, asked_in, calls_of, IsSeen}
@@ -40,7 +40,7 @@ writes_stay start end later (h ∷ cut) a g =
 pub view_kept : (start end later : Moment) (cut : List Gathered) (truncs : List Trunc) → IsAdmissible start end cut → Grows end later → view later cut truncs ≡ view end cut truncs
 view_kept start end later cut truncs a g = ap (λ ws. plain (map change_of ws ++ map cut_off truncs)) (writes_stay start end later cut a g)
 
-pub view_stays : (start end : Moment) (events : List Event) (cut : List Gathered) (truncs : List Trunc) → IsLegal end.state events → IsSoundAt end → IsAdmissible start end cut → view (moment_after end events) cut truncs ≡ view end cut truncs
+pub view_stays : (start end : Moment) (events : List Event) (cut : List Gathered) (truncs : List Trunc) → IsLawful end.state events → IsSoundAt end → IsAdmissible start end cut → view (moment_after end events) cut truncs ≡ view end cut truncs
 view_stays start end events cut truncs legal s a = view_kept start end (moment_after end events) cut truncs a (grows_after end events legal s)
 
 -- ---------- the laws
@@ -58,7 +58,7 @@ gathered_seen caller room start end cut truncs calls listing seen opening =
           (scan_found caller room s.0 t.0 opening.scan opening.droppings d t.1 opening.scans its (stood_grows start s.0 d first stood)),
     )
 
-pub opened : (caller room : ℕ) (start : Moment) (gathering : List Event) (listing : Event) (later : List Event) (cut : List Gathered) (truncs : List Trunc) → IsLegal start.state (gathering ++ listing ∷ later) → IsSoundAt start → IsOpening room cut truncs (calls_of caller gathering) (asked_in listing)
+pub opened : (caller room : ℕ) (start : Moment) (gathering : List Event) (listing : Event) (later : List Event) (cut : List Gathered) (truncs : List Trunc) → IsLawful start.state (gathering ++ listing ∷ later) → IsSoundAt start → IsOpening room cut truncs (calls_of caller gathering) (asked_in listing)
     → HasView start (moment_after start gathering) room cut truncs
 opened caller room start gathering listing later cut truncs legal sound opening =
     let end : Moment = moment_after start gathering in
@@ -70,13 +70,13 @@ opened caller room start gathering listing later cut truncs legal sound opening 
       rise = opening.cuts.rise;
       admissible = g.0;
       complete = g.1;
-      all_truncs = truncs_listed end s listing.caller room truncs (asked_in listing) listing.after rest.1.answers opening.lists;
+      all_truncs = truncs_listed end s listing.caller room truncs (asked_in listing) listing.after rest.1 opening.lists;
       entries = content_is start end cut g.0;
     }
 
 -- Each answer of who has a view is a slice of its plain file, whatever goes on.
 pub view_answers : (caller room : ℕ) (start end : Moment) (cut : List Gathered) (truncs : List Trunc) (between reading rest : List Event) (at len : ℕ) (answer : List ℕ)
-    → IsLegal end.state (between ++ (reading ++ rest)) → IsSoundAt end → HasView start end room cut truncs
+    → IsLawful end.state (between ++ (reading ++ rest)) → IsSoundAt end → HasView start end room cut truncs
     → ReadsSo end cut truncs at len (calls_of caller reading) answer → answer ≡ slice (view end cut truncs) at len
 view_answers caller room start end cut truncs between reading rest at len answer legal s v a =
     let first = legal_first end between (reading ++ rest) legal in
@@ -88,7 +88,7 @@ view_answers caller room start end cut truncs between reading rest at len answer
 
 -- The same of one who opened a reader, with the file as it is at the history's end.
 pub answers_last : (caller room : ℕ) (start : Moment) (gathering : List Event) (listing : Event) (between reading rest : List Event) (cut : List Gathered) (truncs : List Trunc) (at len : ℕ) (answer : List ℕ)
-    → IsLegal start.state (gathering ++ listing ∷ (between ++ (reading ++ rest))) → IsSoundAt start → IsOpening room cut truncs (calls_of caller gathering) (asked_in listing)
+    → IsLawful start.state (gathering ++ listing ∷ (between ++ (reading ++ rest))) → IsSoundAt start → IsOpening room cut truncs (calls_of caller gathering) (asked_in listing)
     → ReadsSo (moment_after start gathering) cut truncs at len (calls_of caller reading) answer
     → answer ≡ slice (view (moment_after start (gathering ++ listing ∷ (between ++ (reading ++ rest)))) cut truncs) at len
 answers_last caller room start gathering listing between reading rest cut truncs at len answer legal sound opening a =
@@ -110,7 +110,7 @@ view_waits first start end room (h ∷ cut) g (p, more) = (
 
 -- The same of a reader whose workers gather.
 pub shared_opened : (caller room : ℕ) (start : Moment) (scanning gathering : List Event) (listing : Event) (later : List Event) (cut : List Gathered) (truncs : List Trunc)
-    → IsLegal start.state (scanning ++ (gathering ++ listing ∷ later)) → IsSoundAt start → IsSharedOpening room cut truncs (calls_of caller scanning) gathering (asked_in listing)
+    → IsLawful start.state (scanning ++ (gathering ++ listing ∷ later)) → IsSoundAt start → IsSharedOpening room cut truncs (calls_of caller scanning) gathering (asked_in listing)
     → HasView start (moment_after (moment_after start scanning) gathering) room cut truncs
 shared_opened caller room start scanning gathering listing later cut truncs legal sound opening =
     let middle : Moment = moment_after start scanning in
@@ -128,6 +128,6 @@ shared_opened caller room start scanning gathering listing later cut truncs lega
       admissible = admissible;
       complete = λ d its stood. all_at (λ (x : Dropping). Any (λ (g : Gathered). g.dropping ≡ x) cut) opening.droppings d opening.cuts.all
           (scan_found caller room t.0 middle opening.scan opening.droppings d t.2 opening.scans its (stood_grows start t.0 d (seen_grows caller start t.0 opening.earlier t.1) stood));
-      all_truncs = truncs_listed end s2 listing.caller room truncs (asked_in listing) listing.after l4.1.answers opening.lists;
+      all_truncs = truncs_listed end s2 listing.caller room truncs (asked_in listing) listing.after l4.1 opening.lists;
       entries = content_is start end cut admissible;
     }

@@ -10,15 +10,13 @@ use Rattle.plain_file.specs.declared.pieces.Piece.{Piece}
 use Rattle.plain_file.specs.Newest.{covers, survives, newest_at}
 use Rattle.plain_file.specs.Sources.{Source, source_of, source_in, source_at}
 use Rattle.plain_file.specs.Runs.{AreRuns, ArePieces}
-use Rattle.plain_file.proofs.OrderLemmas.{Among, All-Among}
-use Rattle.plain_file.proofs.SameLemmas.{newest-is, filtered-Among, cases_Option}
-use Rattle.plain_file.proofs.RunLemmas.{source_at-here, source_at-later}
+use Rattle.plain_file.proofs.Facts.{Among, All-Among, newest-is, filtered-Among, cases_Option, source_at-here, source_at-later}
 use Rattle.read_plan.specs.declared.part.Part.{Part}
 use Rattle.read_plan.specs.declared.part.Part.TheVariants.{Hole}
-use Rattle.read_plan.specs.Plan.{hole, part_of, filled, plan_of}
-use Rattle.read_plan.specs.Ranges.{end_of, pieces_in}
-use Rattle.read_plan.proofs.RangeLemmas.{pieces_in-met, pieces_in-missed}
-use Rattle.mount_sound.specs.Entries.{AreInOrder}
+use Rattle.read_plan.specs.Plan.{hole, piece_part, filled, plan_of}
+use Rattle.read_plan.specs.Ranges.{end_of, pieces_in_range}
+use Rattle.read_plan.proofs.Facts.{pieces_in-met, pieces_in-missed}
+use Rattle.mount_sound.specs.Entries.{AreEntriesOf}
 use Rattle.mount_sound.specs.Ledger.{Written, entries_in, content, AreFull}
 use Rattle.gathering.specs.Moments.{Moment, IsSoundAt, issued_by}
 use Rattle.gathering.specs.Gathering.{Gathered}
@@ -33,7 +31,7 @@ HasIssued end cut writer bytes = (g : Gathered) × Among g cut × (g.dropping.wr
 
 -- ---------- entries
 
-own_within : (writer last offset most : ℕ) (writes : List Written) → offset + length (content writes) ≤ most → AreInOrder writer last offset (entries_in writes) → AreFull writes
+own_within : (writer last offset most : ℕ) (writes : List Written) → offset + length (content writes) ≤ most → AreEntriesOf writer last offset (entries_in writes) → AreFull writes
     → AllByRecursion (λ (e : Entry). (writer ≡ e.writer) × (e.physical + e.len ≤ most)) (entries_in writes)
 own_within writer last offset most [] fits o f = tt
 own_within writer last offset most (w ∷ writes) fits o f =
@@ -92,11 +90,11 @@ pieces_within end cut (p ∷ pieces) runs says =
 
 -- what a range has of them has bytes, and lies there too
 range_within : (end : Moment) (cut : List Gathered) (at until : ℕ) (pieces : List Piece) → AllByRecursion (λ (p : Piece). HasIssued end cut p.writer (p.physical + p.len)) pieces
-    → AllByRecursion (λ (p : Piece). IsPartOf end cut (part_of p)) (pieces_in at until pieces)
+    → AllByRecursion (λ (p : Piece). IsPartOf end cut (piece_part p)) (pieces_in_range at until pieces)
 range_within end cut at until [] all = tt
 range_within end cut at until (p ∷ pieces) all =
-    let P : List Piece → Type 0 = AllByRecursion (λ (q : Piece). IsPartOf end cut (part_of q)) in
-    let rest : P (pieces_in at until pieces) = range_within end cut at until pieces all.1 in
+    let P : List Piece → Type 0 = AllByRecursion (λ (q : Piece). IsPartOf end cut (piece_part q)) in
+    let rest : P (pieces_in_range at until pieces) = range_within end cut at until pieces all.1 in
     let its : HasIssued end cut p.writer (p.physical + p.len) = all.0 in
     let from : ℕ = p.physical + (max at p.at - p.at) in
     let len : ℕ = min until (p.at + p.len) - max at p.at in
@@ -113,10 +111,10 @@ hole_all : (P : Part → Type 0) (len : ℕ) → P (Hole len) → AllByRecursion
 hole_all P len h = elim (len == 0) as (λ b. AllByRecursion P (if b then [] else Hole len ∷ [])) [ true ↦ tt | false ↦ (h, tt) ]
 
 -- what holds of holes and of each piece's part holds of all parts
-filled_all : (P : Part → Type 0) (from until : ℕ) (pieces : List Piece) → ((len : ℕ) → P (Hole len)) → AllByRecursion (λ (p : Piece). P (part_of p)) pieces → AllByRecursion P (filled from until pieces)
+filled_all : (P : Part → Type 0) (from until : ℕ) (pieces : List Piece) → ((len : ℕ) → P (Hole len)) → AllByRecursion (λ (p : Piece). P (piece_part p)) pieces → AllByRecursion P (filled from until pieces)
 filled_all P from until [] holes all = hole_all P (until - from) (holes (until - from))
 filled_all P from until (p ∷ pieces) holes all =
-    All-append P (hole (p.at - from)) (part_of p ∷ filled (p.at + p.len) until pieces) (hole_all P (p.at - from) (holes (p.at - from))) (all.0, filled_all P (p.at + p.len) until pieces holes all.1)
+    All-append P (hole (p.at - from)) (piece_part p ∷ filled (p.at + p.len) until pieces) (hole_all P (p.at - from) (holes (p.at - from))) (all.0, filled_all P (p.at + p.len) until pieces holes all.1)
 
 pub plan_within : (end : Moment) (cut : List Gathered) (truncs : List Trunc) (pieces : List Piece) (size at len : ℕ) → IsSoundAt end → ArePieces (entries_in (writes_in end cut)) truncs pieces → AllByRecursion (IsPartOf end cut) (plan_of pieces size at len)
 plan_within end cut truncs pieces size at len s are =
@@ -124,7 +122,7 @@ plan_within end cut truncs pieces size at len s are =
     let all : AllByRecursion (λ (p : Piece). HasIssued end cut p.writer (p.physical + p.len)) pieces =
     pieces_within end cut pieces are.runs (λ x source h. source_within end cut es truncs x source (entries_within end cut s) (sym (are.shown x) ∙ h)) in
     let until : ℕ = end_of size at len in
-    filled_all (IsPartOf end cut) at until (pieces_in at until pieces) (λ n. tt) (range_within end cut at until pieces all)
+    filled_all (IsPartOf end cut) at until (pieces_in_range at until pieces) (λ n. tt) (range_within end cut at until pieces all)
 
 -- Each part of a read is a hole, or bytes of a gathered writer's log that it had issued.
 pub parts_in_logs : (end : Moment) (cut : List Gathered) (truncs : List Trunc) (pieces : List Piece) (size at len : ℕ) → IsSoundAt end → ArePieces (entries_in (writes_in end cut)) truncs pieces → All (IsPartOf end cut) (plan_of pieces size at len)

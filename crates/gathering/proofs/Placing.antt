@@ -2,7 +2,7 @@
 use Rattle.std.proofs.Common.{◌≡◌, ℕ, List, [], ◌∷◌, ◌++◌, refl, ap, sym, ◌∙◌, arith, true, false, nat_eq}
 use Rattle.std.specs.Prelude.{if◌then◌else◌}
 use Rattle.std.proofs.lemmas.Bool.Decides.{nat_tests}
-use Rattle.mount_model.specs.History.{Event, IsLegal, state_after}
+use Rattle.mount_model.specs.History.{Event, IsLawful, state_after}
 use Rattle.mount_sound.specs.Issued.{issued}
 use Rattle.gathering.specs.Moments.{Moment, next_moment, moment_after}
 use Rattle.gathering.specs.Seen.{Asked, asked_in, calls_of, IsPlaceOf}
@@ -10,11 +10,11 @@ use Rattle.gathering.proofs.Seeing.{alike}
 
 -- ---------- histories in parts
 
-pub legal_first : (start : Moment) (first rest : List Event) → IsLegal start.state (first ++ rest) → IsLegal start.state first
+pub legal_first : (start : Moment) (first rest : List Event) → IsLawful start.state (first ++ rest) → IsLawful start.state first
 legal_first start [] rest l = tt
 legal_first start (e ∷ first) rest l = (l.0, l.1, legal_first (next_moment start e) first rest l.2)
 
-pub legal_rest : (start : Moment) (first rest : List Event) → IsLegal start.state (first ++ rest) → IsLegal (moment_after start first).state rest
+pub legal_rest : (start : Moment) (first rest : List Event) → IsLawful start.state (first ++ rest) → IsLawful (moment_after start first).state rest
 legal_rest start [] rest l = l
 legal_rest start (e ∷ first) rest l = legal_rest (next_moment start e) first rest l.2
 

@@ -5,19 +5,19 @@ use Rattle.std.proofs.lemmas.Bool.{cases_lt}
 use Rattle.std.proofs.lemmas.List.Elements.{All-from_recursion}
 use Rattle.plfs_types.specs.declared.entries.Entry.{Entry}
 use Rattle.index_entry.specs.Valid.{IsValidEntry}
-use Rattle.index_entry.proofs.Spelled.{valid_fits_places}
-use Rattle.mount_sound.specs.Entries.{AreInOrder, last_stamp, logged}
+use Rattle.index_entry.proofs.Facts.{valid_fits_places}
+use Rattle.mount_sound.specs.Entries.{AreEntriesOf, last_stamp, logged}
 use Rattle.mount_sound.specs.Ledger.{Written, entries_in}
 use Rattle.gathering.specs.Moments.{Moment, Dropping, IsSoundAt, issued_by}
 use Rattle.gathering.specs.Gathering.{Gathered}
 use Rattle.gathering.specs.View.{IsReadable, own_entries, FollowsCovered, tails_in}
 use Rattle.gathering.proofs.Viewing.{All-append, All-take, in_order-take}
 
-readable_from : (writer last offset : ℕ) (es : List Entry) → writer < 2 ^ 64 → offset + logged es ≤ 2 ^ 56 → AreInOrder writer last offset es → AllByRecursion IsReadable es
+readable_from : (writer last offset : ℕ) (es : List Entry) → writer < 2 ^ 64 → offset + logged es ≤ 2 ^ 56 → AreEntriesOf writer last offset es → AllByRecursion IsReadable es
 readable_from writer last offset [] fits small o = tt
 readable_from writer last offset (e ∷ es) fits small o =
     let first = o.0 in
-    let valid : IsValidEntry e = record { not_empty = first.some; near = first.within; stamped = omega (arith, first.later); stamp_fits = first.in_range } in (
+    let valid : IsValidEntry e = record { not_empty = first.some; near = first.within; stamped = omega (arith, first.later); stamp_fits = omega (arith, first.in_range) } in (
       record { valid = valid; fits = valid_fits_places e valid (omega (arith, first.place, small)) (omega (arith, first.owner, fits)) },
       readable_from writer e.stamp (offset + e.len) es fits (omega (arith, small)) o.1,
     )
@@ -61,20 +61,20 @@ from_none n = omega arith
 sums : (a b c : ℕ) → (a + b) + c ≡ a + (b + c)
 sums a b c = omega arith
 
-in_order-drop : (n writer last offset : ℕ) (es : List Entry) → AreInOrder writer last offset es → AreInOrder writer (last_stamp last (take n es)) (offset + logged (take n es)) (drop n es)
+in_order-drop : (n writer last offset : ℕ) (es : List Entry) → AreEntriesOf writer last offset es → AreEntriesOf writer (last_stamp last (take n es)) (offset + logged (take n es)) (drop n es)
 in_order-drop zero writer last offset [] o = tt
-in_order-drop zero writer last offset (e ∷ es) o = subst (λ k. AreInOrder writer last k (e ∷ es)) (none_more offset) o
+in_order-drop zero writer last offset (e ∷ es) o = subst (λ k. AreEntriesOf writer last k (e ∷ es)) (none_more offset) o
 in_order-drop (suc n) writer last offset [] o = tt
 in_order-drop (suc n) writer last offset (e ∷ es) o =
-    subst (λ k. AreInOrder writer (last_stamp e.stamp (take n es)) k (drop n es)) (sums offset e.len (logged (take n es))) (in_order-drop n writer e.stamp (offset + e.len) es o.1)
+    subst (λ k. AreEntriesOf writer (last_stamp e.stamp (take n es)) k (drop n es)) (sums offset e.len (logged (take n es))) (in_order-drop n writer e.stamp (offset + e.len) es o.1)
 
 all_follow : (end : Moment) (cut : List Gathered) → IsSoundAt end → AllByRecursion (FollowsCovered end) cut
 all_follow end [] s = tt
 all_follow end (g ∷ cut) s =
     let own : List Entry = own_entries end g in
     let w = s.sound.writes g.dropping.room g.dropping.writer in
-    let o : AreInOrder g.dropping.writer 0 0 own = in_order-take g.count g.dropping.writer 0 0 (entries_in (issued_by end g.dropping)) w.in_order in
-    (subst (λ k. AreInOrder g.dropping.writer (last_stamp 0 (take g.covered own)) k (drop g.covered own)) (from_none (logged (take g.covered own))) (in_order-drop g.covered g.dropping.writer 0 0 own o), all_follow end cut s)
+    let o : AreEntriesOf g.dropping.writer 0 0 own = in_order-take g.count g.dropping.writer 0 0 (entries_in (issued_by end g.dropping)) w.in_order in
+    (subst (λ k. AreEntriesOf g.dropping.writer (last_stamp 0 (take g.covered own)) k (drop g.covered own)) (from_none (logged (take g.covered own))) (in_order-drop g.covered g.dropping.writer 0 0 own o), all_follow end cut s)
 
 -- The entries that a reader gathers follow the rules of a writer's entries.
 pub gathered_follow : (end : Moment) (cut : List Gathered) → IsSoundAt end → All (FollowsCovered end) cut

@@ -35,7 +35,7 @@ abbrev pub second_writer : ℕ
 second_writer = id_of 1 2
 
 abbrev pub marks_room : Room
-marks_room = record { name = marks_name; folders = marks_folder ∷ []; files = record { path = mark_path 1; bytes = [] } ∷ [] }
+marks_room = record { name = marks_name; folders = marks_folder ∷ []; files = record { path = mark_path 1; bytes = []; kept = 0 } ∷ [] }
 
 abbrev pub container_name : Name
 container_name = codes "f"
@@ -47,16 +47,16 @@ abbrev pub tree_of : List Name → List File → Tree
 tree_of folders files = record { rooms = marks_room ∷ record { name = container_name; folders = folders; files = files } ∷ [] }
 
 abbrev pub access_file : File
-access_file = record { path = access_path; bytes = [] }
+access_file = record { path = access_path; bytes = []; kept = 0 }
 
 abbrev pub open_file : ℕ → File
-open_file writer = record { path = open_path 0 writer; bytes = [] }
+open_file writer = record { path = open_path 0 writer; bytes = []; kept = 0 }
 
 abbrev pub index_file : ℕ → List ℕ → File
-index_file writer bytes = record { path = index_path 0 writer; bytes = bytes }
+index_file writer bytes = record { path = index_path 0 writer; bytes = bytes; kept = 0 }
 
 abbrev pub log_file : ℕ → List ℕ → File
-log_file writer bytes = record { path = log_path 0 writer; bytes = bytes }
+log_file writer bytes = record { path = log_path 0 writer; bytes = bytes; kept = 0 }
 
 -- ---------- rows
 
@@ -71,6 +71,8 @@ row_at owner writer stage = record {
   stored = 0;
   end = 0;
   landed = 0;
+  log_mark = 0;
+  index_mark = 0;
   pending = record { entries = []; capacity = 4 };
   has_meta = false;
   stage = stage;
@@ -237,23 +239,29 @@ lists_folder = asks 3 (Look 1 (ListFolder (hostdir_of 0))) (Looked (Names folder
 abbrev pub asks_first : Event
 asks_first = asks 3 (Look 1 (Length (index_path 0 first_writer))) (Looked (Number 40)) (state (both_files torn second_log) 21 1 2 both_wrote)
 
+abbrev pub asks_first_log : Event
+asks_first_log = asks 3 (Look 1 (Length (log_path 0 first_writer))) (Looked (Number 2)) (state (both_files torn second_log) 22 1 2 both_wrote)
+
 abbrev pub reads_first : Event
-reads_first = asks 3 (Look 1 (Read (index_path 0 first_writer) 0 40)) (Looked (Bytes first_bytes)) (state (both_files torn second_log) 22 1 2 both_wrote)
+reads_first = asks 3 (Look 1 (Read (index_path 0 first_writer) 0 40)) (Looked (Bytes first_bytes)) (state (both_files torn second_log) 23 1 2 both_wrote)
 
 abbrev pub asks_second : Event
-asks_second = asks 3 (Look 1 (Length (index_path 0 second_writer))) (Looked (Number 20)) (state (both_files torn second_log) 23 1 2 both_wrote)
+asks_second = asks 3 (Look 1 (Length (index_path 0 second_writer))) (Looked (Number 20)) (state (both_files torn second_log) 24 1 2 both_wrote)
+
+abbrev pub asks_second_log : Event
+asks_second_log = asks 3 (Look 1 (Length (log_path 0 second_writer))) (Looked (Number 2)) (state (both_files torn second_log) 25 1 2 both_wrote)
 
 abbrev pub lists_truncs : Event
-lists_truncs = asks 3 (Look 1 (ListFolder truncs)) (Looked (Names [])) (state (both_files torn second_log) 24 1 2 both_wrote)
+lists_truncs = asks 3 (Look 1 (ListFolder truncs)) (Looked (Names [])) (state (both_files torn second_log) 26 1 2 both_wrote)
 
 abbrev pub flushes_second : Event
-flushes_second = asks 2 (Flush second_writer) (Flushed 1) (state (both_files second_bytes second_log) 25 1 2 (flushed first_wrote ∷ flushed second_wrote ∷ []))
+flushes_second = asks 2 (Flush second_writer) (Flushed 1) (state (both_files second_bytes second_log) 27 1 2 (flushed first_wrote ∷ flushed second_wrote ∷ []))
 
 abbrev pub reads_log : Event
-reads_log = asks 3 (Look 1 (Read (log_path 0 first_writer) 0 2)) (Looked (Bytes first_log)) (state (both_files second_bytes second_log) 26 1 2 (flushed first_wrote ∷ flushed second_wrote ∷ []))
+reads_log = asks 3 (Look 1 (Read (log_path 0 first_writer) 0 2)) (Looked (Bytes first_log)) (state (both_files second_bytes second_log) 28 1 2 (flushed first_wrote ∷ flushed second_wrote ∷ []))
 
 abbrev pub gathering : List Event
-gathering = makes_room ∷ enters_first ∷ floors_first ∷ houses_first ∷ indexes_first ∷ opens_first ∷ writes_first ∷ flushes_first ∷ enters_second ∷ floors_second ∷ houses_second ∷ indexes_second ∷ opens_second ∷ writes_second ∷ lists_top ∷ flush_tears ∷ lists_folder ∷ asks_first ∷ reads_first ∷ asks_second ∷ []
+gathering = makes_room ∷ enters_first ∷ floors_first ∷ houses_first ∷ indexes_first ∷ opens_first ∷ writes_first ∷ flushes_first ∷ enters_second ∷ floors_second ∷ houses_second ∷ indexes_second ∷ opens_second ∷ writes_second ∷ lists_top ∷ flush_tears ∷ lists_folder ∷ asks_first ∷ asks_first_log ∷ reads_first ∷ asks_second ∷ asks_second_log ∷ []
 
 abbrev pub later : List Event
 later = flushes_second ∷ reads_log ∷ []

@@ -1,14 +1,15 @@
 -- What the reader of the short history gathered and read.
 use Rattle.std.proofs.Common.{◌≡◌, ℕ, ◌<◌, ◌^◌, ◌∙◌, Bool, true, false, List, [], ◌∷◌, get_or, Some, None, refl, ap, sym, arith, inl, inr}
-use Rattle.std.specs.Prelude.{◌&&◌, nat_le, nat_lt, cond, option_map, if◌then◌else◌, not}
+use Rattle.std.specs.Prelude.{◌&&◌, nat_le, nat_lt, cond, option_map, if◌then◌else◌, not, Ok}
+use Rattle.store_api.specs.declared.step.Answer.TheVariants.{Number}
 use Rattle.std.specs.Fmt.{digits}
 use Rattle.std.specs.List.{Any, list_all, range_with_len}
 use Rattle.std.proofs.lemmas.List.{append-nil}
 use Rattle.std.proofs.lemmas.List.Elements.{All-from_recursion}
 use Rattle.plfs_types.specs.declared.names.Path.{Path}
-use Rattle.index_entry.specs.Spelling.{spelling}
+use Rattle.index_entry.specs.Spelling.{spelling, entry_in}
 use Rattle.container_layout.specs.Paths.{hostdir_of}
-use Rattle.container_layout.proofs.Places.{elsewhere}
+use Rattle.container_layout.proofs.Facts.{elsewhere}
 use Rattle.store_laws.specs.Files.{file_at}
 use Rattle.store_laws.specs.Differ.{is_listed}
 use Rattle.plain_file.specs.declared.pieces.Piece.{Piece}
@@ -17,11 +18,10 @@ use Rattle.plain_file.specs.Sources.{source_of, source_in}
 use Rattle.plain_file.specs.Runs.{ArePieces}
 use Rattle.mount_model.specs.Paths.{Name, index_path}
 use Rattle.mount_model.specs.Mounting.{IsMounted}
-use Rattle.mount_shape.proofs.Held.{empty_shaped}
+use Rattle.mount_shape.proofs.Facts.{empty_shaped}
 use Rattle.mount_sound.specs.Sound.{IsSoundTree}
 use Rattle.mount_sound.specs.Ledger.{entries_in}
-use Rattle.mount_sound.proofs.Landing.{no_writes}
-use Rattle.mount_sound.proofs.Mounting.{mounted_sound}
+use Rattle.mount_sound.proofs.Facts.{no_writes, mounted_sound}
 use Rattle.gathering.specs.Moments.{Moment, IsSoundAt, moment_after, Dropping}
 use Rattle.gathering.specs.Seen.{asked_in, calls_of}
 use Rattle.gathering.specs.Gathering.{Gathered, Gathers}
@@ -57,16 +57,15 @@ start = record { state = begun; issued = λ number writer. [] }
 mounted : IsMounted 0 None (holds no_rooms 0 0) begun
 unfolding digits
 mounted = record {
-  roomed = holds sample.unmarked 1 0;
-  listed = holds sample.unmarked 2 0;
-  names = [];
-  greatest = 0;
-  made = inl record { tree = (sample.unmarked, refl, refl); acts = refl; faults = omega arith };
-  lists = record { tree = (sample.unmarked, refl, refl); acts = refl; faults = omega arith };
-  found = record { marks = All-from_recursion _ [] tt; reached = inl (refl, refl) };
-  next = refl;
-  fits = omega arith;
-  marked = record { tree = (sample.no_container, refl, refl); acts = refl; faults = omega arith };
+  draws = record {
+    roomed = holds sample.unmarked 1 0;
+    listed = holds sample.unmarked 2 0;
+    names = [];
+    tells = record { told = Ok (Number 0); made = record { tree = (sample.unmarked, refl, refl); acts = refl; faults = omega arith }; tells = refl };
+    lists = record { tree = (sample.unmarked, refl, refl); acts = refl; faults = omega arith };
+    next = record { greatest = 0; found = record { numbers = All-from_recursion _ [] tt; reached = inl (refl, refl) }; next = refl; fits = omega arith };
+    marked = record { tree = (sample.no_container, refl, refl); acts = refl; faults = omega arith };
+  };
   opened_is = refl;
   times_are = refl;
   serial_is = refl;
@@ -169,37 +168,48 @@ second_gathered = record { dropping = second_dropping; covered = 0; count = 0; c
 abbrev pub cut : List Gathered
 cut = first_gathered ∷ second_gathered ∷ []
 
-gathers_first : Gathers first_gathered (asked_in sample.asks_first ∷ asked_in sample.reads_first ∷ [])
+gathers_first : Gathers first_gathered (asked_in sample.asks_first ∷ asked_in sample.asks_first_log ∷ asked_in sample.reads_first ∷ [])
+unfolding spelling entry_in
 gathers_first = record {
   named = record { in_range = tt; widths = (omega arith, omega arith) };
   first = asked_in sample.asks_first;
+  second = asked_in sample.asks_first_log;
   reads = asked_in sample.reads_first ∷ [];
   calls = refl;
   told = 40;
-  length = record { call = refl; reply = refl };
-  count = refl;
-  covered = omega arith;
+  log = 2;
+  read = sample.first_bytes;
+  index_length = record { call = refl; reply = refl };
+  log_length = record { call = refl; reply = inl refl };
   bytes = (40, sample.first_bytes, [], record { call = refl; reply = refl }, omega arith, (refl, refl), sym (append-nil sample.first_bytes));
+  covered = refl;
+  count = refl;
+  content = refl;
 }
 
-gathers_second : Gathers second_gathered (asked_in sample.asks_second ∷ [])
+gathers_second : Gathers second_gathered (asked_in sample.asks_second ∷ asked_in sample.asks_second_log ∷ [])
 gathers_second = record {
   named = record { in_range = tt; widths = (omega arith, omega arith) };
   first = asked_in sample.asks_second;
+  second = asked_in sample.asks_second_log;
   reads = [];
   calls = refl;
   told = 20;
-  length = record { call = refl; reply = refl };
-  count = refl;
-  covered = omega arith;
+  log = 2;
+  read = [];
+  index_length = record { call = refl; reply = refl };
+  log_length = record { call = refl; reply = inl refl };
   bytes = (refl, refl);
+  covered = refl;
+  count = refl;
+  content = refl;
 }
 
 opens : IsOpening 1 cut [] (calls_of 3 sample.gathering) (asked_in sample.lists_truncs)
 opens = record {
   earlier = [];
   scan = asked_in sample.lists_top ∷ asked_in sample.lists_folder ∷ [];
-  entries = asked_in sample.asks_first ∷ asked_in sample.reads_first ∷ asked_in sample.asks_second ∷ [];
+  entries = asked_in sample.asks_first ∷ asked_in sample.asks_first_log ∷ asked_in sample.reads_first ∷ asked_in sample.asks_second ∷ asked_in sample.asks_second_log ∷ [];
   split = refl;
   droppings = both;
   scans = scans;
@@ -210,11 +220,11 @@ opens = record {
   };
   gathered = cut;
   gathers = (
-    asked_in sample.asks_first ∷ asked_in sample.reads_first ∷ [],
-    asked_in sample.asks_second ∷ [],
+    asked_in sample.asks_first ∷ asked_in sample.asks_first_log ∷ asked_in sample.reads_first ∷ [],
+    asked_in sample.asks_second ∷ asked_in sample.asks_second_log ∷ [],
     refl,
     gathers_first,
-    (asked_in sample.asks_second ∷ [], [], refl, gathers_second, refl),
+    (asked_in sample.asks_second ∷ asked_in sample.asks_second_log ∷ [], [], refl, gathers_second, refl),
   );
   has = All-from_recursion (λ (g : Gathered). IsAmong g cut) cut (is_among cut first_gathered (inl refl), (is_among cut second_gathered (inr (inl refl)), tt));
   lists = record { names = []; lists = record { call = refl; reply = refl }; told = record { rise = tt; named = All-from_recursion _ [] tt; all = λ t any. absurd (let f = any_found _ [] any in f.1) } };

@@ -7,8 +7,8 @@ use Rattle.plfs_types.specs.declared.names.Path.{Path}
 use Rattle.container_layout.specs.Paths.{hostdir_of}
 use Rattle.store_laws.specs.Differ.{is_listed, NamesDiffer}
 use Rattle.store_laws.specs.Files.{file_at}
-use Rattle.store_laws.proofs.Listed.{ordered_differ}
-use Rattle.plain_file.proofs.OrderLemmas.{Among, All-Among}
+use Rattle.store_laws.proofs.Facts.{ordered_differ}
+use Rattle.plain_file.proofs.Facts.{Among, All-Among}
 use Rattle.mount_model.specs.Paths.{Name, index_path}
 use Rattle.gathering.specs.Moments.{Moment, IsSoundAt, file_in_room, file_told, Dropping, Stood, Grows}
 use Rattle.gathering.specs.Seen.{Asked, IsSeenCall, IsSeen}
@@ -80,7 +80,7 @@ pub record FoundOne (m : Moment) (room k : ℕ) (ds : List Dropping) : Type 0 wh
 one_folder : (caller room k : ℕ) (start next : Moment) (asked : Asked) (ds : List Dropping) → IsSeenCall caller start asked next → ListsHostdir room k ds asked → FoundOne next room k ds
 one_folder caller room k start next asked ds call lists =
     let m : Moment = call.before in
-    let l = folder_listed m call.sound caller room (hostdir_of k) lists.names next.state (answers_as m.state caller asked.call _ asked.reply _ next.state lists.lists.call lists.lists.reply call.answers) in
+    let l = folder_listed m call.sound caller room (hostdir_of k) lists.names next.state (answers_as m.state caller asked.ask _ asked.reply _ next.state lists.lists.call lists.lists.reply refl call.answers) in
     record {
       all = All-weaker (IsNamedIn room k lists.names) (IsFoundIn next room k) ds
           (λ d its.

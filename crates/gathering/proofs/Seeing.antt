@@ -2,45 +2,46 @@
 use Rattle.std.proofs.Common.{◌≡◌, ℕ, List, [], ◌∷◌, ◌++◌, refl, subst, true, false, nat_eq, arith}
 use Rattle.std.specs.Prelude.{if◌then◌else◌}
 use Rattle.std.proofs.lemmas.Bool.Decides.{nat_tests}
-use Rattle.mount_model.specs.Step.{Answers}
-use Rattle.mount_model.specs.History.{Event, IsLegal}
-use Rattle.mount_sound.proofs.Steps.{step_keeps}
+use Rattle.mount_model.specs.Step.{IsStep}
+use Rattle.mount_model.specs.History.{Event, IsLawful}
+use Rattle.mount_sound.proofs.Facts.{step_keeps}
 use Rattle.gathering.specs.Moments.{Moment, IsSoundAt, next_moment, moment_after, Grows}
 use Rattle.gathering.specs.Seen.{Asked, asked_in, calls_of, IsSeen}
+use Rattle.gathering.proofs.Left.{left_stays}
 use Rattle.gathering.proofs.Growing.{step_grows, grows_refl, grows_trans}
 
 pub alike : (a b : ℕ) → nat_eq a b ≡ true → a ≡ b
 alike a b t = grind (arith, nat_tests)
 
 -- soundness at the moment after a step
-pub sound_next : (m : Moment) (e : Event) (rest : List Event) → IsLegal m.state (e ∷ rest) → IsSoundAt m → IsSoundAt (next_moment m e)
+pub sound_next : (m : Moment) (e : Event) (rest : List Event) → IsLawful m.state (e ∷ rest) → IsSoundAt m → IsSoundAt (next_moment m e)
 sound_next m e rest legal sound = step_keeps m.issued m.state e.after e.caller e.ask e.reply legal.0 legal.1 sound
 
-pub sound_after : (m : Moment) (events : List Event) → IsLegal m.state events → IsSoundAt m → IsSoundAt (moment_after m events)
+pub sound_after : (m : Moment) (events : List Event) → IsLawful m.state events → IsSoundAt m → IsSoundAt (moment_after m events)
 sound_after m [] legal sound = sound
 sound_after m (e ∷ rest) legal sound = sound_after (next_moment m e) rest legal.2 (sound_next m e rest legal sound)
 
-pub grows_next : (m : Moment) (e : Event) (rest : List Event) → IsLegal m.state (e ∷ rest) → IsSoundAt m → Grows m (next_moment m e)
-grows_next m e rest legal sound = step_grows m e sound.shape.tree sound.shape.told legal.1
+pub grows_next : (m : Moment) (e : Event) (rest : List Event) → IsLawful m.state (e ∷ rest) → IsSoundAt m → Grows m (next_moment m e)
+grows_next m e rest legal sound = step_grows m e sound.shape.tree sound.shape.told legal.1 (left_stays m e sound legal.1)
 
 -- Later moments of a legal history extend earlier ones.
-pub grows_after : (m : Moment) (events : List Event) → IsLegal m.state events → IsSoundAt m → Grows m (moment_after m events)
+pub grows_after : (m : Moment) (events : List Event) → IsLawful m.state events → IsSoundAt m → Grows m (moment_after m events)
 grows_after m [] legal sound = grows_refl m
 grows_after m (e ∷ rest) legal sound = grows_trans m (next_moment m e) (moment_after (next_moment m e) rest) (grows_next m e rest legal sound) (grows_after (next_moment m e) rest legal.2 (sound_next m e rest legal sound))
 
-seen_from : (caller : ℕ) (start now : Moment) (events : List Event) → Grows start now → IsLegal now.state events → IsSoundAt now → IsSeen caller start (calls_of caller events) (moment_after now events)
+seen_from : (caller : ℕ) (start now : Moment) (events : List Event) → Grows start now → IsLawful now.state events → IsSoundAt now → IsSeen caller start (calls_of caller events) (moment_after now events)
 seen_from caller start now [] waited legal sound = waited
 seen_from caller start now (e ∷ rest) waited legal sound =
     let next : Moment = next_moment now e in
     let goes : Grows now next = grows_next now e rest legal sound in
     let sound_then : IsSoundAt next = sound_next now e rest legal sound in
     elim (nat_eq e.caller caller) as (λ b. nat_eq e.caller caller ≡ b → IsSeen caller start (if b then asked_in e ∷ calls_of caller rest else calls_of caller rest) (moment_after next rest)) [
-      | true ↦ λ t. (next, record { before = now; waits = waited; sound = sound; answers = subst (λ c. Answers now.state c e.ask.call e.reply e.after) (alike e.caller caller t) legal.1.answers; goes = goes }, seen_from caller next next rest (grows_refl next) legal.2 sound_then)
+      | true ↦ λ t. (next, record { before = now; waits = waited; sound = sound; answers = subst (λ c. IsStep now.state c e.ask e.reply e.after) (alike e.caller caller t) legal.1; goes = goes }, seen_from caller next next rest (grows_refl next) legal.2 sound_then)
       | false ↦ λ t. seen_from caller start next rest (grows_trans start now next waited goes) legal.2 sound_then
     ] refl
 
 -- A caller sees its own calls, whatever the others did between them.
-pub seen : (caller : ℕ) (m : Moment) (events : List Event) → IsLegal m.state events → IsSoundAt m → IsSeen caller m (calls_of caller events) (moment_after m events)
+pub seen : (caller : ℕ) (m : Moment) (events : List Event) → IsLawful m.state events → IsSoundAt m → IsSeen caller m (calls_of caller events) (moment_after m events)
 seen caller m events legal sound = seen_from caller m m events (grows_refl m) legal sound
 
 pub seen_grows : (caller : ℕ) (start end : Moment) (asked : List Asked) → IsSeen caller start asked end → Grows start end

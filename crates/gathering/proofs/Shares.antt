@@ -2,8 +2,8 @@
 use Rattle.std.proofs.Common.{List, [], ◌∷◌, inl, inr, subst, sym}
 use Rattle.std.specs.List.{Any, AllByRecursion}
 use Rattle.std.proofs.lemmas.List.Elements.{recursion_from_All}
-use Rattle.plain_file.proofs.OrderLemmas.{Among}
-use Rattle.mount_model.specs.History.{Event, IsLegal}
+use Rattle.plain_file.proofs.Facts.{Among}
+use Rattle.mount_model.specs.History.{Event, IsLawful}
 use Rattle.gathering.specs.Listing.{IsAmong}
 use Rattle.gathering.specs.Moments.{Moment, IsSoundAt, moment_after}
 use Rattle.gathering.specs.Seen.{calls_of}
@@ -22,14 +22,14 @@ pub gathered_admissible : (start end : Moment) (gathered cut : List Gathered) �
 gathered_admissible start end gathered cut a are = gathered_each start end gathered cut a (recursion_from_All (λ (g : Gathered). IsAmong g gathered) cut are)
 
 -- each worker's calls lie between the two places
-share_gathered : (start : Moment) (events : List Event) (shares : List Share) (share : Share) → IsLegal start.state events → IsSoundAt start → GatherShares events shares → Among share shares → IsAdmissible start (moment_after start events) share.part
+share_gathered : (start : Moment) (events : List Event) (shares : List Share) (share : Share) → IsLawful start.state events → IsSoundAt start → GatherShares events shares → Among share shares → IsAdmissible start (moment_after start events) share.part
 share_gathered start events [] share legal sound gather a = absurd a
 share_gathered start events (first ∷ others) share legal sound gather (inl same) =
     subst (λ (x : Share). IsAdmissible start (moment_after start events) x.part) (sym same)
     (gathers_all first.worker start (moment_after start events) first.part (calls_of first.worker events) (seen first.worker start events legal sound) gather.0)
 share_gathered start events (first ∷ others) share legal sound gather (inr more) = share_gathered start events others share legal sound gather.1 more
 
-from_shares : (start : Moment) (events : List Event) (shares : List Share) (cut : List Gathered) → IsLegal start.state events → IsSoundAt start → GatherShares events shares
+from_shares : (start : Moment) (events : List Event) (shares : List Share) (cut : List Gathered) → IsLawful start.state events → IsSoundAt start → GatherShares events shares
     → AllByRecursion (λ (g : Gathered). Any (λ (share : Share). IsAmong g share.part) shares) cut → IsAdmissible start (moment_after start events) cut
 from_shares start events shares [] legal sound gather all = tt
 from_shares start events shares (g ∷ cut) legal sound gather all =
@@ -37,6 +37,6 @@ from_shares start events shares (g ∷ cut) legal sound gather all =
     (prefix_of start (moment_after start events) share.part g (share_gathered start events shares share legal sound gather a) (among share.part g is), from_shares start events shares cut legal sound gather all.1)
 
 -- A cut of the shares is admissible between the two places.
-pub shares_admissible : (start : Moment) (events : List Event) (shares : List Share) (cut : List Gathered) → IsLegal start.state events → IsSoundAt start → GatherShares events shares → AreShared shares cut → IsAdmissible start (moment_after start events) cut
+pub shares_admissible : (start : Moment) (events : List Event) (shares : List Share) (cut : List Gathered) → IsLawful start.state events → IsSoundAt start → GatherShares events shares → AreShared shares cut → IsAdmissible start (moment_after start events) cut
 shares_admissible start events shares cut legal sound gather shared =
     from_shares start events shares cut legal sound gather (recursion_from_All (λ (g : Gathered). Any (λ (share : Share). IsAmong g share.part) shares) cut shared)

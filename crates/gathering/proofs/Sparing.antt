@@ -5,27 +5,28 @@ use Rattle.std.proofs.lemmas.Bool.{cases_eq}
 use Rattle.plfs_types.specs.declared.names.Path.{Path}
 use Rattle.container_layout.specs.declared.items.Item.TheVariants.{Index}
 use Rattle.container_layout.specs.Items.{IsItem}
-use Rattle.container_layout.proofs.Places.{same_items, elsewhere}
+use Rattle.container_layout.proofs.Facts.{same_items, elsewhere}
 use Rattle.store_api.specs.declared.tree.Room.{Room}
 use Rattle.store_api.specs.declared.tree.Tree.{Tree}
 use Rattle.store_api.specs.Room.{is_top}
-use Rattle.store_api.specs.Step.{Step, make_room, rename_room, make_folder, remove_folder, create, remove, replace, write_at, cut}
+use Rattle.store_api.specs.Step.{Step, make_room, rename_room, make_folder, remove_folder, create, remove, replace, write_at, cut, sync}
 use Rattle.store_laws.specs.Changes.{with_room, RoomMade}
 use Rattle.store_laws.specs.Differ.{is_listed}
 use Rattle.store_laws.specs.Files.{file_at}
 use Rattle.store_laws.specs.Naming.{NamesFile}
 use Rattle.store_laws.specs.Tells.{Tells}
-use Rattle.store_laws.proofs.Answering.{look_told}
-use Rattle.store_laws.proofs.Keeping.{other_room, each_with_added}
-use Rattle.store_laws.proofs.Naming.{path_eq}
-use Rattle.store_laws.proofs.Telling.{acts_told, create_told, remove_told, replace_told, write_told, cut_told, make_folder_told, remove_folder_told, make_room_told, rename_room_told}
-use Rattle.store_laws.proofs.Touching.{keeps_rooms}
+use Rattle.store_laws.proofs.Facts.{look_told, other_room, each_with_added, path_eq, acts_told, create_told, remove_told, replace_told, write_told, cut_told, sync_told, make_folder_told, remove_folder_told, make_room_told, rename_room_told, keeps_rooms}
 use Rattle.mount_model.specs.declared.call.Call.{Call}
 use Rattle.mount_model.specs.declared.call.Call.TheVariants.{Greet, Find, MakeContainer, Rooms, Look, Enter, Floor, MakeHostdir, MakeIndex, MakeLog, Write, Flush, SyncLog, SyncIndex, PutMeta, Exit}
 use Rattle.mount_model.specs.declared.call.Look.TheVariants.{Top, List as ListFolder, Length, Read}
 use Rattle.mount_model.specs.declared.row.Row.{Row}
 use Rattle.mount_model.specs.Paths.{index_path, trunc_path}
-use Rattle.mount_model.specs.State.{State}
+use Rattle.mount_model.specs.State.{State, timed}
+use Rattle.mount_model.specs.declared.call.Ask.{Ask}
+use Rattle.mount_model.specs.declared.reply.Reply.{Reply}
+use Rattle.mount_model.specs.Step.{IsStep}
+use Rattle.mount_model.specs.Stopped.{IsCutShort, IsLeftBy}
+use Rattle.mount_model.proofs.Facts.{step_cases, stop_left, row_of_id}
 use Rattle.mount_model.specs.Table.{row_of}
 use Rattle.mount_model.specs.Making.{Told}
 use Rattle.mount_model.specs.Entering.{enter_step}
@@ -33,12 +34,10 @@ use Rattle.mount_model.specs.Building.{index_step, log_step}
 use Rattle.mount_model.specs.Writing.{write_step}
 use Rattle.mount_model.specs.Flushing.{flush_step}
 use Rattle.mount_model.specs.Leaving.{put_meta_step, exit_step}
-use Rattle.mount_sound.proofs.Frames.{Fits}
-use Rattle.mount_sound.proofs.Making.{all_fit}
-use Rattle.mount_model.proofs.Tables.{row_of_id}
-use Rattle.gathering.specs.Bounds.{Spares}
+use Rattle.mount_sound.proofs.Facts.{Fits, all_fit}
+use Rattle.gathering.specs.Bounds.{SparesIndex}
 use Rattle.gathering.specs.Moments.{Moment, IsSoundAt, file_in_room, file_in_tree, file_told, Dropping, IsNamed}
-use Rattle.gathering.proofs.Acting.{IsActOf, AtMostOneAct}
+use Rattle.gathering.proofs.Acting.{IsActOf, AtMostOneAct, at_most_one_act}
 
 -- ---------- rooms that weren't there
 
@@ -104,6 +103,10 @@ bare_room (cut k folder file len) tree told after n path room t below none e = e
   | inl c ↦ absurd (absent_still tree after k n c.room c.new room c.has_room c.gives none e)
   | inr same ↦ absurd (absent_same tree after n room same none e)
 ]
+bare_room (sync k folder file) tree told after n path room t below none e = elim (sync_told k (record { folder = folder; file = file }) tree told after t).either as (λ _. file_at room path ≡ None) [
+  | inl c ↦ absurd (absent_still tree after k n c.room c.new room c.has_room c.gives none e)
+  | inr same ↦ absurd (absent_same tree after n room same none e)
+]
 bare_room step tree told after n path room t below none e = absurd (absent_same tree after n room (look_told step tree told after tt t) none e)
 
 -- ---------- files that the act doesn't name
@@ -128,13 +131,33 @@ call_same old new call tree n path e below spared (inr one) =
     let t = acts_told one.step old.store new.store tree one.told e one.made in
     ap (λ o. file_told o n path) t.1 ∙ file_same one.step tree one.told t.0 n path (slice_get tree.rooms n) refl t.2 below (spared one.step one.is_of) ∙ ap (λ o. file_told o n path) (sym e)
 
+-- so it is of a call that was cut short, and of one that is broken off
+acts_untimed : (old : State) (call : Call) (step : Step) → IsActOf (timed None old) call step → IsActOf old call step
+acts_untimed old Greet step is = is
+acts_untimed old call step is = is
+
+cut_same : (old : State) (caller : ℕ) (left : State) (call : Call) (tree : Tree) (n : ℕ) (path : Path) → old.store.tree ≡ Some tree → is_top path.folder ≡ false → ((step : Step) → IsActOf old call step → NamesFile step n path → ⊥) → IsCutShort old caller call left → Same old left n path
+cut_same old caller left call tree n path e below spared (inl same) = ap (λ (s : State). file_told s.store.tree n path) same
+cut_same old caller left call tree n path e below spared (inr (reply, which, a)) = call_same old left call tree n path e below spared (at_most_one_act old caller call reply left a)
+
+left_same : (old new : State) (caller : ℕ) (call : Call) (tree : Tree) (n : ℕ) (path : Path) → old.store.tree ≡ Some tree → is_top path.folder ≡ false → ((step : Step) → IsActOf old call step → NamesFile step n path → ⊥) → IsLeftBy old caller call new → Same old new n path
+left_same old new caller call tree n path e below spared left =
+    ap (λ (o : Option Tree). file_told o n path) left.like.tree
+    ∙ cut_same (timed None old) caller left.cut call tree n path e below (λ step is. spared step (acts_untimed old call step is)) left.short
+
+-- A step leaves a file that its call's act does not name.
+pub step_same : (old new : State) (caller : ℕ) (ask : Ask) (reply : Reply) (tree : Tree) (n : ℕ) (path : Path) → old.store.tree ≡ Some tree → is_top path.folder ≡ false → ((step : Step) → IsActOf old ask.call step → NamesFile step n path → ⊥) → IsStep old caller ask reply new → Same old new n path
+step_same old new caller ask reply tree n path e below spared step = step_cases old caller ask reply new (Same old new n path) step
+    (λ none a. call_same old new ask.call tree n path e below spared (at_most_one_act old caller ask.call reply new a))
+    (λ k some x. left_same old new caller ask.call tree n path e below spared (stop_left old caller k ask.call reply new x))
+
 -- ---------- index droppings
 
 -- what a step names, the act that it is names
-as_its_act : {step act : Step} (n : ℕ) (path : Path) → step ≡ act → NamesFile step n path → NamesFile act n path
+pub as_its_act : {step act : Step} (n : ℕ) (path : Path) → step ≡ act → NamesFile step n path → NamesFile act n path
 as_its_act n path is names = subst (λ s. NamesFile s n path) is names
 
-first_byte : (a b : List ℕ) → a ≡ b → get_or a 0 0 ≡ get_or b 0 0
+pub first_byte : (a b : List ℕ) → a ≡ b → get_or a 0 0 ≡ get_or b 0 0
 first_byte a b e = ap (λ (l : List ℕ). get_or l 0 0) e
 
 one_writer : (h w host writer : ℕ) → IsItem (Index h w) → IsItem (Index host writer) → (index_path h w).folder ≡ (index_path host writer).folder → (index_path h w).file ≡ (index_path host writer).file → w ≡ writer
@@ -147,7 +170,7 @@ other_row m s d writer row named other held folder file =
     let item : IsItem (Index row.host row.id) = record { in_range = tt; widths = (fits.host, fits.id) } in
     other (sym (row_of_id writer m.state.table.writers row held) ∙ sym (one_writer d.host d.writer row.host row.id named item folder file))
 
-pub spares_index : (m : Moment) (s : IsSoundAt m) (call : Call) (step : Step) (d : Dropping) → IsNamed d → Spares call d → IsActOf m.state call step → NamesFile step d.room (index_path d.host d.writer) → ⊥
+pub spares_index : (m : Moment) (s : IsSoundAt m) (call : Call) (step : Step) (d : Dropping) → IsNamed d → SparesIndex call d → IsActOf m.state call step → NamesFile step d.room (index_path d.host d.writer) → ⊥
 spares_index m s Greet step d named spares is names = is
 spares_index m s (Find name) step d named spares is names = as_its_act d.room (index_path d.host d.writer) is names
 spares_index m s (MakeContainer name) step d named spares is names = as_its_act d.room (index_path d.host d.writer) is names

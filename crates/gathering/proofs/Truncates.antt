@@ -10,7 +10,7 @@ use Rattle.store_laws.specs.Files.{file_at}
 use Rattle.store_laws.specs.There.{ListsFolder}
 use Rattle.mount_model.specs.Paths.{Name, truncs as truncs_folder, trunc_path}
 use Rattle.mount_model.specs.State.{State}
-use Rattle.mount_model.specs.Step.{Answers}
+use Rattle.mount_model.specs.Step.{IsStep}
 use Rattle.gathering.specs.Moments.{Moment, IsSoundAt, file_in_room, file_told, HadTrunc}
 use Rattle.gathering.specs.Seen.{Asked}
 use Rattle.gathering.specs.Listing.{IsTruncName, AreTruncsOf, AreTruncsAt}
@@ -48,9 +48,9 @@ all_stood m s room names l [] all = tt
 all_stood m s room names l (t ∷ ts) all = (stood m s room names l t all.0, all_stood m s room names l ts all.1)
 
 -- What was listed at a moment are the truncates of then.
-pub truncs_listed : (m : Moment) (s : IsSoundAt m) (caller room : ℕ) (ts : List Trunc) (asked : Asked) (new : State) → Answers m.state caller asked.call asked.reply new → ListsTruncs room ts asked → AreTruncsAt m room ts
+pub truncs_listed : (m : Moment) (s : IsSoundAt m) (caller room : ℕ) (ts : List Trunc) (asked : Asked) (new : State) → IsStep m.state caller asked.ask asked.reply new → ListsTruncs room ts asked → AreTruncsAt m room ts
 truncs_listed m s caller room ts asked new answers lists =
-    let l = folder_listed m s caller room truncs_folder lists.names new (answers_as m.state caller asked.call _ asked.reply _ new lists.lists.call lists.lists.reply answers) in
+    let l = folder_listed m s caller room truncs_folder lists.names new (answers_as m.state caller asked.ask _ asked.reply _ new lists.lists.call lists.lists.reply refl answers) in
     let told : AreTruncsOf lists.names ts = lists.told in
     record {
       rise = told.rise;

@@ -7,14 +7,14 @@ use Rattle.std.proofs.Math.Seq.{drop-append_seam, take-append_seam}
 use Rattle.plfs_types.specs.declared.entries.Entry.{Entry}
 use Rattle.plfs_types.specs.declared.entries.Trunc.{Trunc}
 use Rattle.index_entry.specs.Spelling.{spelling_all}
-use Rattle.index_entry.proofs.Spelled.{spelling_all-append}
+use Rattle.index_entry.proofs.Facts.{spelling_all-append}
 use Rattle.plain_file.specs.declared.changes.Change.{Change}
 use Rattle.plain_file.specs.declared.changes.Change.TheVariants.{Truncate}
 use Rattle.plain_file.specs.File.{HasItsBytes, slice}
 use Rattle.plain_file.specs.Keys.{KeysDiffer, same_key}
 use Rattle.plain_file.specs.Shows.{entries_of, truncs_of}
 use Rattle.plain_file.specs.Logs.{IsLogged}
-use Rattle.mount_sound.specs.Entries.{AreInOrder}
+use Rattle.mount_sound.specs.Entries.{AreEntriesOf}
 use Rattle.mount_sound.specs.Ledger.{Written, entries_in, content, AreFull}
 use Rattle.gathering.specs.Moments.{Moment, IsSoundAt, issued_by}
 use Rattle.gathering.specs.Gathering.{Gathered, IsAdmissible}
@@ -98,7 +98,7 @@ skip_front : (front rest : List ℕ) (at len : ℕ) (bytes : List ℕ) → at �
 skip_front front rest at len bytes a l =
     ap (λ n. take len (drop n (front ++ (bytes ++ rest)))) a ∙ ap (take len) (drop-append_seam front (bytes ++ rest)) ∙ ap (λ n. take n (bytes ++ rest)) l ∙ take-append_seam bytes rest
 
-placed_from : (writer last offset : ℕ) (front : List ℕ) (writes : List Written) → offset ≡ length front → AreInOrder writer last offset (entries_in writes) → AreFull writes
+placed_from : (writer last offset : ℕ) (front : List ℕ) (writes : List Written) → offset ≡ length front → AreEntriesOf writer last offset (entries_in writes) → AreFull writes
     → AllByRecursion (λ (w : Written). (w.entry.writer ≡ writer) × (slice (front ++ content writes) w.entry.physical w.entry.len ≡ w.bytes)) writes
 placed_from writer last offset front [] at o f = tt
 placed_from writer last offset front (w ∷ writes) at o f =
@@ -128,7 +128,7 @@ pub All-weaker : {X : Type 0} (P Q : X → Type 0) (xs : List X) → ((x : X) �
 All-weaker P Q [] f a = tt
 All-weaker P Q (x ∷ xs) f a = (f x a.0, All-weaker P Q xs f a.1)
 
-later_all : (writer last offset : ℕ) (es : List Entry) → AreInOrder writer last offset es → AllByRecursion (λ (e : Entry). last < e.stamp) es
+later_all : (writer last offset : ℕ) (es : List Entry) → AreEntriesOf writer last offset es → AllByRecursion (λ (e : Entry). last < e.stamp) es
 later_all writer last offset [] o = tt
 later_all writer last offset (e ∷ es) o =
     let first : last < e.stamp = o.0.later in
@@ -140,15 +140,15 @@ stamps_apart e d l = grind (arith, nat_tests)
 writers_apart : (e d : Entry) → e.writer < d.writer → same_key e d ≡ false
 writers_apart e d l = grind (arith, nat_tests)
 
-keys_of_writer : (writer last offset : ℕ) (es : List Entry) → AreInOrder writer last offset es → KeysDiffer es
+keys_of_writer : (writer last offset : ℕ) (es : List Entry) → AreEntriesOf writer last offset es → KeysDiffer es
 keys_of_writer writer last offset [] o = tt
 keys_of_writer writer last offset (e ∷ es) o = (All-weaker (λ (d : Entry). e.stamp < d.stamp) (λ (d : Entry). same_key e d ≡ false) es (λ d l. stamps_apart e d l) (later_all writer e.stamp (offset + e.len) es o.1), keys_of_writer writer e.stamp (offset + e.len) es o.1)
 
-owners_all : (writer last offset : ℕ) (es : List Entry) → AreInOrder writer last offset es → AllByRecursion (λ (e : Entry). e.writer ≡ writer) es
+owners_all : (writer last offset : ℕ) (es : List Entry) → AreEntriesOf writer last offset es → AllByRecursion (λ (e : Entry). e.writer ≡ writer) es
 owners_all writer last offset [] o = tt
 owners_all writer last offset (e ∷ es) o = (o.0.owner, owners_all writer e.stamp (offset + e.len) es o.1)
 
-pub in_order-take : (n writer last offset : ℕ) (es : List Entry) → AreInOrder writer last offset es → AreInOrder writer last offset (take n es)
+pub in_order-take : (n writer last offset : ℕ) (es : List Entry) → AreEntriesOf writer last offset es → AreEntriesOf writer last offset (take n es)
 in_order-take zero writer last offset [] o = tt
 in_order-take zero writer last offset (e ∷ es) o = tt
 in_order-take (suc n) writer last offset [] o = tt
@@ -172,7 +172,7 @@ keys_in end s room [] rise = tt
 keys_in end s room (g ∷ cut) rise =
     let o = s.sound.writes g.dropping.room g.dropping.writer in
     let es : List Entry = take g.count (entries_in (issued_by end g.dropping)) in
-    let order : AreInOrder g.dropping.writer 0 0 es = in_order-take g.count g.dropping.writer 0 0 (entries_in (issued_by end g.dropping)) o.in_order in
+    let order : AreEntriesOf g.dropping.writer 0 0 es = in_order-take g.count g.dropping.writer 0 0 (entries_in (issued_by end g.dropping)) o.in_order in
     let rest : List Entry = entries_in (writes_in end cut) in
     let others = others_all end s g.dropping.writer cut rise.1 in
     let cross : AllByRecursion (λ (e : Entry). AllByRecursion (λ (d : Entry). same_key e d ≡ false) rest) es =

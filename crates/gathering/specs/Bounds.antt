@@ -31,11 +31,11 @@ abbrev pub IsFlushedIn : List Event → Dropping → ℕ → Type 0
 IsFlushedIn events d count = Any (λ (e : Event). (e.ask.call ≡ Flush d.writer) × (e.reply ≡ Flushed count) × IsOf e.after d) events
 
 -- a call that lets this index dropping be: none that makes or flushes it
-abbrev pub Spares : Call → Dropping → Type 0
-Spares (MakeIndex writer) d = writer ≢ d.writer
-Spares (Flush writer) d = writer ≢ d.writer
-Spares call d = Unit {0}
+abbrev pub SparesIndex : Call → Dropping → Type 0
+SparesIndex (MakeIndex writer) d = writer ≢ d.writer
+SparesIndex (Flush writer) d = writer ≢ d.writer
+SparesIndex call d = Unit {0}
 
-abbrev pub AllSpare : List Event → Dropping → Type 0
-AllSpare [] d = Unit {0}
-AllSpare (e ∷ events) d = Spares e.ask.call d × AllSpare events d
+abbrev pub AllSpareIndex : List Event → Dropping → Type 0
+AllSpareIndex [] d = Unit {0}
+AllSpareIndex (e ∷ events) d = SparesIndex e.ask.call d × AllSpareIndex events d

@@ -6,7 +6,7 @@ use Rattle.store_api.specs.Acts.{Stored}
 use Rattle.mount_model.specs.declared.call.Call.TheVariants.{Flush}
 use Rattle.mount_model.specs.declared.reply.Reply.TheVariants.{Fault}
 use Rattle.mount_model.specs.Mounting.{IsMounted}
-use Rattle.mount_model.specs.History.{Event, IsLegal}
+use Rattle.mount_model.specs.History.{Event, IsLawful}
 use Rattle.mount_sound.specs.Dropping.{bytes_of}
 use Rattle.gathering.specs.Moments.{Moment, IsSoundAt, moment_after, index_then, landed}
 use Rattle.gathering.specs.Seen.{asked_in, calls_of}
@@ -35,7 +35,7 @@ pub record IsBesideTornFlush (start : Moment) (gathering : List Event) (listing 
   pub mounted : IsMounted 0 None opened start.state
   pub none_issued : (number writer : ℕ) → start.issued number writer ≡ []
   pub sound : IsSoundAt start
-  pub legal : IsLegal start.state (gathering ++ listing ∷ later)
+  pub legal : IsLawful start.state (gathering ++ listing ∷ later)
   pub torn : Any (λ (e : Event). (writer : ℕ) × (e.ask.call ≡ Flush writer) × (e.reply ≡ Fault)) gathering
   -- twenty bytes of it are there, and no entry
   pub tail : lengths_of (moment_after start gathering) cut ≡ 40 ∷ 20 ∷ []

@@ -1,26 +1,33 @@
 -- How a reader gathers the entries of writers.
-use Rattle.std.specs.Prelude.{◌≡◌, ◌≤◌, ◌+◌, ◌*◌, ◌/◌, ◌++◌, ℕ, List, [], ◌∷◌, length, take, drop}
+use Rattle.std.specs.Prelude.{◌≡◌, ◌⊎◌, ◌≤◌, ◌+◌, ◌*◌, ◌/◌, ◌++◌, ℕ, List, [], ◌∷◌, length, take, drop}
 use Rattle.std.specs.List.{All, Any, AllByRecursion}
+use Rattle.plfs_types.specs.declared.limits.TheConstants.{ENTRY_SIZE}
 use Rattle.index_entry.specs.Spelling.{spelling_all}
-use Rattle.store_api.specs.declared.step.Answer.TheVariants.{Number, Bytes}
+use Rattle.store_api.specs.declared.step.Answer.TheVariants.{Number, Bytes, Absent}
 use Rattle.mount_model.specs.declared.call.Call.TheVariants.{Look}
 use Rattle.mount_model.specs.declared.call.Look.TheVariants.{Length, Read}
 use Rattle.mount_model.specs.declared.reply.Reply.TheVariants.{Looked}
-use Rattle.mount_model.specs.Paths.{index_path}
+use Rattle.mount_model.specs.Paths.{index_path, log_path}
 use Rattle.mount_model.specs.History.{Event}
 use Rattle.mount_sound.specs.Ledger.{entries_in}
+use Rattle.index_entry.specs.Within.{within_log}
 use Rattle.gathering.specs.Moments.{Moment, Dropping, IsNamed, Stood, issued_by, landed}
 use Rattle.gathering.specs.Seen.{Asked, calls_of}
 use Rattle.gathering.specs.Listing.{IsAmong}
 
 -- the length of the index dropping was asked and told
 pub record IsLength (d : Dropping) (length : ℕ) (asked : Asked) : Type 0 where
-  pub call : asked.call ≡ Look d.room (Length (index_path d.host d.writer))
+  pub call : asked.ask.call ≡ Look d.room (Length (index_path d.host d.writer))
   pub reply : asked.reply ≡ Looked (Number length)
+
+-- the length of the log was asked and told; where it is absent, it has no bytes
+pub record IsLogLength (d : Dropping) (length : ℕ) (asked : Asked) : Type 0 where
+  pub call : asked.ask.call ≡ Look d.room (Length (log_path d.host d.writer))
+  pub reply : (asked.reply ≡ Looked (Number length)) ⊎ ((asked.reply ≡ Looked Absent) × (length ≡ 0))
 
 -- bytes of the index dropping were asked and told
 pub record IsRead (d : Dropping) (at len : ℕ) (bytes : List ℕ) (asked : Asked) : Type 0 where
-  pub call : asked.call ≡ Look d.room (Read (index_path d.host d.writer) at len)
+  pub call : asked.ask.call ≡ Look d.room (Read (index_path d.host d.writer) at len)
   pub reply : asked.reply ≡ Looked (Bytes bytes)
 
 -- Reads of the bytes from one place to another, piece by piece, and what they gave.
@@ -35,17 +42,23 @@ pub record Gathered : Type 0 where
   pub count : ℕ
   pub content : List ℕ
 
--- The calls that gathered it: the length, then the bytes of the whole entries past the covered ones.
+-- The calls that gathered it: the length, that of the log, then the bytes of the whole entries. Those count that end
+-- within the log, up to the first that doesn't. (There are no flattened indices yet.)
 pub record Gathers (g : Gathered) (asked : List Asked) : Type 0 where
   pub named : IsNamed g.dropping
   pub first : Asked
+  pub second : Asked
   pub reads : List Asked
-  pub calls : asked ≡ first ∷ reads
+  pub calls : asked ≡ first ∷ second ∷ reads
   pub told : ℕ
-  pub length : IsLength g.dropping told first
-  pub count : g.count ≡ told / 40
-  pub covered : g.covered ≤ g.count
-  pub bytes : AreReads g.dropping (40 * g.covered) (40 * g.count) reads g.content
+  pub log : ℕ
+  pub read : List ℕ
+  pub index_length : IsLength g.dropping told first
+  pub log_length : IsLogLength g.dropping log second
+  pub bytes : AreReads g.dropping 0 (ENTRY_SIZE * (told / ENTRY_SIZE)) reads read
+  pub covered : g.covered ≡ 0
+  pub count : g.count ≡ length (within_log log (told / ENTRY_SIZE) read)
+  pub content : g.content ≡ spelling_all (within_log log (told / ENTRY_SIZE) read)
 
 -- the calls that gathered them all, one writer after the other
 abbrev pub GathersAll : List Gathered → List Asked → Type 0

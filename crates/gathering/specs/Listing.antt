@@ -14,8 +14,8 @@ use Rattle.gathering.specs.Moments.{Moment, Dropping, Stood, HadTrunc}
 use Rattle.gathering.specs.Seen.{Asked}
 
 -- names were asked and told
-pub record IsListing (room : ℕ) (look : Sight) (names : List Name) (asked : Asked) : Type 0 where
-  pub call : asked.call ≡ Look room look
+pub record IsListed (room : ℕ) (look : Sight) (names : List Name) (asked : Asked) : Type 0 where
+  pub call : asked.ask.call ≡ Look room look
   pub reply : asked.reply ≡ Looked (Names names)
 
 abbrev pub IsAmong : {X : Type 0} → X → List X → Type 0
@@ -62,7 +62,7 @@ AreDroppingsOf room k (name ∷ names) ds =
 -- The folder of droppings of this number is listed, and these droppings are found.
 pub record ListsHostdir (room k : ℕ) (ds : List Dropping) (asked : Asked) : Type 0 where
   pub names : List Name
-  pub lists : IsListing room (ListFolder (hostdir_of k)) names asked
+  pub lists : IsListed room (ListFolder (hostdir_of k)) names asked
   pub found : AreDroppingsOf room k names ds
 
 -- It is listed where the top named it, and else nothing is asked of it.
@@ -87,7 +87,7 @@ pub record IsScan (room : ℕ) (ds : List Dropping) (asked : List Asked) : Type 
   pub rest : List Asked
   pub calls : asked ≡ first ∷ rest
   pub top : List Name
-  pub lists : IsListing room Top top first
+  pub lists : IsListed room Top top first
   pub hostdirs : ListsHostdirs room top hostdirs rest ds
 
 -- no two of the droppings are of one writer

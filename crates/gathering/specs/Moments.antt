@@ -1,5 +1,5 @@
 -- Moments of a history, and how later ones extend earlier ones.
-use Rattle.std.specs.Prelude.{◌≡◌, ◌≢◌, ◌≤◌, ℕ, List, [], ◌∷◌, length, Option, Some, None, slice_get}
+use Rattle.std.specs.Prelude.{◌≡◌, ◌≢◌, ◌≤◌, ◌<◌, ℕ, List, [], ◌∷◌, length, min, Option, Some, None, slice_get}
 use Rattle.plfs_types.specs.declared.names.Path.{Path}
 use Rattle.container_layout.specs.declared.items.Item.{Item}
 use Rattle.container_layout.specs.declared.items.Item.TheVariants.{Index, Trunc}
@@ -84,12 +84,19 @@ index_then moment d = file_then moment d.room (index_path d.host d.writer)
 abbrev pub log_then : Moment → Dropping → Option (List ℕ)
 log_then moment d = file_then moment d.room (log_path d.host d.writer)
 
--- the whole entries in its index dropping, or 0 without one
+-- How many of its entries have landed: the whole ones in its index dropping, as far as it issued them. (Of a dropping
+-- that an earlier mount left, those have been issued that end within its log.)
 abbrev pub landed : Moment → Dropping → ℕ
-landed moment d = whole (bytes_of (index_then moment d))
+landed moment d = min (whole (bytes_of (index_then moment d))) (length (issued_by moment d))
+
+-- a dropping of an earlier mount has entries that count as not there, since its log lacks their bytes
+abbrev pub HasUnissued : Moment → Dropping → Type 0
+HasUnissued moment d = length (issued_by moment d) < whole (bytes_of (index_then moment d))
 
 -- A later moment: writers issued no less, and each file is still there and no shorter, but for those that say who is
 -- open.
 pub record Grows (old new : Moment) : Type 0 where
   pub issued : IssuesMore old.issued new.issued
   pub files : (room : ℕ) (path : Path) (bytes : List ℕ) → path.folder ≢ openhosts → file_then old room path ≡ Some bytes → (later : List ℕ) × (file_then new room path ≡ Some later) × (length bytes ≤ length later)
+  -- such a dropping stays as it is
+  pub left : (d : Dropping) → IsNamed d → HasUnissued old d → (index_then new d ≡ index_then old d) × (log_then new d ≡ log_then old d) × (issued_by new d ≡ issued_by old d)

@@ -14,13 +14,13 @@ use Rattle.mount_sound.specs.Ledger.{entries_in}
 use Rattle.gathering.specs.Moments.{Moment, moment_after, Dropping, Stood}
 use Rattle.gathering.specs.Seen.{Asked, calls_of}
 use Rattle.gathering.specs.Gathering.{Gathered, GathersAll, AreGathered, Share, GatherShares, AreShared, IsAdmissible}
-use Rattle.gathering.specs.Listing.{IsAmong, IsListing, IsScan, AreTruncsOf, AreTruncsAt}
+use Rattle.gathering.specs.Listing.{IsAmong, IsListed, IsScan, AreTruncsOf, AreTruncsAt}
 use Rattle.gathering.specs.View.{writes_in, tails_in, content_of, changes_in, WritersRise, IsAnswer}
 
 -- The truncates of the room were asked and told.
 pub record ListsTruncs (room : ℕ) (truncs : List Trunc) (asked : Asked) : Type 0 where
   pub names : List Name
-  pub lists : IsListing room (ListFolder truncs_folder) names asked
+  pub lists : IsListed room (ListFolder truncs_folder) names asked
   pub told : AreTruncsOf names truncs
 
 -- The cut has each of these droppings, by rising writer, and no other.

@@ -1,30 +1,30 @@
 -- What one caller sees of a history: its own calls, and that all went on between them.
 use Rattle.std.specs.Prelude.{◌≡◌, ℕ, List, [], ◌∷◌, ◌++◌, ◌==◌, if◌then◌else◌}
-use Rattle.mount_model.specs.declared.call.Call.{Call}
+use Rattle.mount_model.specs.declared.call.Ask.{Ask}
 use Rattle.mount_model.specs.declared.reply.Reply.{Reply}
-use Rattle.mount_model.specs.Step.{Answers}
+use Rattle.mount_model.specs.Step.{IsStep}
 use Rattle.mount_model.specs.History.{Event}
 use Rattle.gathering.specs.Moments.{Moment, IsSoundAt, Grows}
 
--- a call and its reply
+-- a call, broken off or not, and its reply
 pub record Asked : Type 0 where
-  pub call : Call
+  pub ask : Ask
   pub reply : Reply
 
 abbrev pub asked_in : Event → Asked
-asked_in event = record { call = event.ask.call; reply = event.reply }
+asked_in event = record { ask = event.ask; reply = event.reply }
 
 -- the calls that one caller made, in order
 abbrev pub calls_of : ℕ → List Event → List Asked
 calls_of caller [] = []
 calls_of caller (event ∷ events) = if event.caller == caller then asked_in event ∷ calls_of caller events else calls_of caller events
 
--- One call of the caller: others went on before it, the state was sound, and the mount answered it.
+-- One call of the caller: others went on before it, the state was sound, and it was a step of the mount.
 pub record IsSeenCall (caller : ℕ) (start : Moment) (asked : Asked) (next : Moment) : Type 0 where
   pub before : Moment
   pub waits : Grows start before
   pub sound : IsSoundAt before
-  pub answers : Answers before.state caller asked.call asked.reply next.state
+  pub answers : IsStep before.state caller asked.ask asked.reply next.state
   pub goes : Grows before next
 
 -- The calls, one after the other, from one moment to another.

@@ -15,7 +15,7 @@ use Rattle.mount_model.specs.declared.call.Call.TheVariants.{Look}
 use Rattle.mount_model.specs.declared.call.Look.TheVariants.{Read}
 use Rattle.mount_model.specs.declared.reply.Reply.TheVariants.{Looked}
 use Rattle.mount_model.specs.Paths.{log_path}
-use Rattle.mount_sound.specs.Entries.{AreInOrder, last_stamp, logged}
+use Rattle.mount_sound.specs.Entries.{AreEntriesOf, last_stamp, logged}
 use Rattle.mount_sound.specs.Ledger.{Written, entries_in, content}
 use Rattle.gathering.specs.Moments.{Moment, issued_by}
 use Rattle.gathering.specs.Seen.{Asked}
@@ -65,7 +65,7 @@ pub record IsReadable (e : Entry) : Type 0 where
 
 -- those that no flattened index covers follow, by the rules of a writer's entries, the ones that it covers
 abbrev pub FollowsCovered : Moment → Gathered → Type 0
-FollowsCovered moment g = AreInOrder g.dropping.writer
+FollowsCovered moment g = AreEntriesOf g.dropping.writer
     (last_stamp 0 (take g.covered (own_entries moment g)))
     (logged (take g.covered (own_entries moment g)))
     (drop g.covered (own_entries moment g))
@@ -84,7 +84,7 @@ pub record IsLogRead (cut : List Gathered) (writer at len : ℕ) (bytes : List �
   pub of : Gathered
   pub gathered : Any (λ g. g ≡ of) cut
   pub log_of : of.dropping.writer ≡ writer
-  pub call : asked.call ≡ Look of.dropping.room (Read (log_path of.dropping.host of.dropping.writer) at len)
+  pub call : asked.ask.call ≡ Look of.dropping.room (Read (log_path of.dropping.host of.dropping.writer) at len)
   pub reply : asked.reply ≡ Looked (Bytes bytes)
 
 -- The answer to a read: zeros for each hole, and for each other part the bytes that one read of a log gave.

@@ -4,7 +4,7 @@ ghost use Rattle.plfs_types.specs.declared.names.Path.{Path};
 ghost use Rattle.mount_model.specs.Paths.{log_path};
 ghost use Rattle.mount_model.specs.State.{State};
 ghost use Rattle.mount_model.specs.Step.{Answers};
-ghost use Rattle.mount_model.specs.History.{Event, IsLegal, state_after};
+ghost use Rattle.mount_model.specs.History.{Event, IsLawful, state_after};
 ghost use Rattle.mount_model.specs.declared.call.Call.TheVariants.{Flush, Look, SyncIndex};
 ghost use Rattle.mount_model.specs.declared.call.Look.TheVariants.{Read};
 ghost use Rattle.mount_model.specs.declared.reply.Reply.{Reply};
@@ -12,7 +12,7 @@ ghost use Rattle.mount_model.specs.declared.reply.Reply.TheVariants.{Flushed, Sy
 ghost use Rattle.mount_sound.specs.Issued.{issued};
 ghost use Rattle.gathering.specs.Moments.{Moment, IsSoundAt, next_moment, moment_after, file_then, Dropping, IsNamed, HadTrunc, issued_by, landed, Grows};
 ghost use Rattle.gathering.specs.Seen.{Asked, calls_of, IsSeen, IsPlaceOf};
-ghost use Rattle.gathering.specs.Bounds.{IsOf, LandedAtLeast, AllSpare};
+ghost use Rattle.gathering.specs.Bounds.{IsOf, LandedAtLeast, AllSpareIndex};
 ghost use Rattle.gathering.specs.Failing.{BytesOrTrouble};
 
 /// A law: the moment after events has the state in which they end, and what was issued before them
@@ -24,12 +24,12 @@ pub fn moments_follow_histories()
 /// A law: at later moments of a legal history each writer has issued no less, and each file outside
 /// the folder of who is open is there and no shorter.
 pub fn history_grows()
-    ensures { (moment : Moment) (events : List Event) → IsLegal moment.state events → IsSoundAt moment → Grows moment (moment_after moment events) }
+    ensures { (moment : Moment) (events : List Event) → IsLawful moment.state events → IsSoundAt moment → Grows moment (moment_after moment events) }
 {}
 
 /// A law: a caller sees its own calls in order, and all goes on between them.
 pub fn caller_sees()
-    ensures { (caller : ℕ) (moment : Moment) (events : List Event) → IsLegal moment.state events → IsSoundAt moment → IsSeen caller moment (calls_of caller events) (moment_after moment events) }
+    ensures { (caller : ℕ) (moment : Moment) (events : List Event) → IsLawful moment.state events → IsSoundAt moment → IsSeen caller moment (calls_of caller events) (moment_after moment events) }
 {}
 
 /// A law: each call in a caller's list has its place in the history.
@@ -39,29 +39,29 @@ pub fn call_has_place()
 
 /// A law: what a flush told has landed, in the dropping that the table then has of the writer.
 pub fn flush_lands()
-    ensures { (moment : Moment) (event : Event) (writer told : ℕ) → IsLegal moment.state (event ∷ []) → IsSoundAt moment → event.ask.call ≡ Flush writer → event.reply ≡ Flushed told
+    ensures { (moment : Moment) (event : Event) (writer told : ℕ) → IsLawful moment.state (event ∷ []) → IsSoundAt moment → event.ask.call ≡ Flush writer → event.reply ≡ Flushed told
         → (d : Dropping) × (d.writer ≡ writer) × IsOf event.after d × LandedAtLeast (next_moment moment event) d told }
 {}
 
 /// A law: what a sync told has landed, in the dropping that the table then has of the writer.
 pub fn sync_lands()
-    ensures { (moment : Moment) (event : Event) (writer told : ℕ) → IsLegal moment.state (event ∷ []) → IsSoundAt moment → event.ask.call ≡ SyncIndex writer → event.reply ≡ Synced told
+    ensures { (moment : Moment) (event : Event) (writer told : ℕ) → IsLawful moment.state (event ∷ []) → IsSoundAt moment → event.ask.call ≡ SyncIndex writer → event.reply ≡ Synced told
         → (d : Dropping) × (d.writer ≡ writer) × IsOf event.after d × LandedAtLeast (next_moment moment event) d told }
 {}
 
 /// A law: no more of a writer has landed than it had issued when it was last flushed.
 pub fn nothing_lands_unflushed()
-    ensures { (moment : Moment) (events : List Event) (d : Dropping) → IsNamed d → IsLegal moment.state events → IsSoundAt moment → AllSpare events d → landed (moment_after moment events) d ≤ length (issued_by moment d) }
+    ensures { (moment : Moment) (events : List Event) (d : Dropping) → IsNamed d → IsLawful moment.state events → IsSoundAt moment → AllSpareIndex events d → landed (moment_after moment events) d ≤ length (issued_by moment d) }
 {}
 
 /// A law: a truncate that is there stays.
 pub fn truncates_stay()
-    ensures { (moment : Moment) (events : List Event) (room stamp size : ℕ) → IsLegal moment.state events → IsSoundAt moment → HadTrunc moment room stamp size → HadTrunc (moment_after moment events) room stamp size }
+    ensures { (moment : Moment) (events : List Event) (room stamp size : ℕ) → IsLawful moment.state events → IsSoundAt moment → HadTrunc moment room stamp size → HadTrunc (moment_after moment events) room stamp size }
 {}
 
 /// A law: a truncate that is there after events was there before them, since no call puts one yet.
 pub fn no_truncate_comes()
-    ensures { (moment : Moment) (events : List Event) (room stamp size : ℕ) → IsLegal moment.state events → IsSoundAt moment → HadTrunc (moment_after moment events) room stamp size → HadTrunc moment room stamp size }
+    ensures { (moment : Moment) (events : List Event) (room stamp size : ℕ) → IsLawful moment.state events → IsSoundAt moment → HadTrunc (moment_after moment events) room stamp size → HadTrunc moment room stamp size }
 {}
 
 /// A law: a read of a container's file gives its bytes, or the store's count of faults rose, or

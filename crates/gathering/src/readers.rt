@@ -11,7 +11,7 @@ ghost use Rattle.read_plan.specs.Plan.{plan_of};
 ghost use Rattle.mount_model.specs.Paths.{log_path};
 ghost use Rattle.mount_model.specs.State.{State};
 ghost use Rattle.mount_model.specs.Step.{Answers};
-ghost use Rattle.mount_model.specs.History.{Event, IsLegal};
+ghost use Rattle.mount_model.specs.History.{Event, IsLawful};
 ghost use Rattle.mount_model.specs.declared.call.Call.TheVariants.{Look};
 ghost use Rattle.mount_model.specs.declared.call.Look.TheVariants.{Read};
 ghost use Rattle.mount_model.specs.declared.reply.Reply.{Reply};
@@ -34,7 +34,7 @@ pub fn one_writer()
 
 /// A law: workers that gathered their shares have an admissible cut together.
 pub fn workers_gather()
-    ensures { (start : Moment) (events : List Event) (shares : List Share) (cut : List Gathered) → IsLegal start.state events → IsSoundAt start → GatherShares events shares → AreShared shares cut → IsAdmissible start (moment_after start events) cut }
+    ensures { (start : Moment) (events : List Event) (shares : List Share) (cut : List Gathered) → IsLawful start.state events → IsSoundAt start → GatherShares events shares → AreShared shares cut → IsAdmissible start (moment_after start events) cut }
 {}
 
 /// A law: a scan finds droppings that stand, one a writer, and misses none that stood before it.
@@ -47,14 +47,14 @@ pub fn scan_finds()
 /// it read are the entries of its cut.
 pub fn reader_opens()
     ensures { (caller room : ℕ) (start : Moment) (gathering : List Event) (listing : Event) (later : List Event) (cut : List Gathered) (truncs : List Trunc)
-        → IsLegal start.state (gathering ++ listing ∷ later) → IsSoundAt start → IsOpening room cut truncs (calls_of caller gathering) (asked_in listing)
+        → IsLawful start.state (gathering ++ listing ∷ later) → IsSoundAt start → IsOpening room cut truncs (calls_of caller gathering) (asked_in listing)
         → HasView start (moment_after start gathering) room cut truncs }
 {}
 
 /// A law: the same of a reader whose workers gather between its scan and its listing of truncates.
 pub fn shared_reader_opens()
     ensures { (caller room : ℕ) (start : Moment) (scanning gathering : List Event) (listing : Event) (later : List Event) (cut : List Gathered) (truncs : List Trunc)
-        → IsLegal start.state (scanning ++ (gathering ++ listing ∷ later)) → IsSoundAt start → IsSharedOpening room cut truncs (calls_of caller scanning) gathering (asked_in listing)
+        → IsLawful start.state (scanning ++ (gathering ++ listing ∷ later)) → IsSoundAt start → IsSharedOpening room cut truncs (calls_of caller scanning) gathering (asked_in listing)
         → HasView start (moment_after (moment_after start scanning) gathering) room cut truncs }
 {}
 
@@ -71,14 +71,14 @@ pub fn gathered_entries_are_in_order()
 
 /// A law: no later event changes the plain file of a cut and its truncates.
 pub fn view_stays()
-    ensures { (start end : Moment) (events : List Event) (cut : List Gathered) (truncs : List Trunc) → IsLegal end.state events → IsSoundAt end → IsAdmissible start end cut → view (moment_after end events) cut truncs ≡ view end cut truncs }
+    ensures { (start end : Moment) (events : List Event) (cut : List Gathered) (truncs : List Trunc) → IsLawful end.state events → IsSoundAt end → IsAdmissible start end cut → view (moment_after end events) cut truncs ≡ view end cut truncs }
 {}
 
 /// A law: each answer of who has a view is a slice of its plain file, whatever goes on before it and
 /// between its calls.
 pub fn view_is_answered()
     ensures { (caller room : ℕ) (start end : Moment) (cut : List Gathered) (truncs : List Trunc) (between reading rest : List Event) (at len : ℕ) (answer : List ℕ)
-        → IsLegal end.state (between ++ (reading ++ rest)) → IsSoundAt end → HasView start end room cut truncs
+        → IsLawful end.state (between ++ (reading ++ rest)) → IsSoundAt end → HasView start end room cut truncs
         → ReadsSo end cut truncs at len (calls_of caller reading) answer → answer ≡ slice (view end cut truncs) at len }
 {}
 
@@ -86,7 +86,7 @@ pub fn view_is_answered()
 /// it still is at the history's end.
 pub fn reader_answers()
     ensures { (caller room : ℕ) (start : Moment) (gathering : List Event) (listing : Event) (between reading rest : List Event) (cut : List Gathered) (truncs : List Trunc) (at len : ℕ) (answer : List ℕ)
-        → IsLegal start.state (gathering ++ listing ∷ (between ++ (reading ++ rest))) → IsSoundAt start → IsOpening room cut truncs (calls_of caller gathering) (asked_in listing)
+        → IsLawful start.state (gathering ++ listing ∷ (between ++ (reading ++ rest))) → IsSoundAt start → IsOpening room cut truncs (calls_of caller gathering) (asked_in listing)
         → ReadsSo (moment_after start gathering) cut truncs at len (calls_of caller reading) answer
         → answer ≡ slice (view (moment_after start (gathering ++ listing ∷ (between ++ (reading ++ rest)))) cut truncs) at len }
 {}
@@ -95,7 +95,7 @@ pub fn reader_answers()
 /// opening to that of its listing of truncates.
 pub fn actor_opens()
     ensures { (caller room : ℕ) (start : Moment) (events : List Event) (earlier : List Asked) (first : Asked) (more : List Asked) (listing : Asked) (rest : List Asked) (cut : List Gathered) (truncs : List Trunc)
-        → IsLegal start.state events → IsSoundAt start → calls_of caller events ≡ earlier ++ first ∷ (more ++ listing ∷ rest) → IsOpening room cut truncs (first ∷ more) listing
+        → IsLawful start.state events → IsSoundAt start → calls_of caller events ≡ earlier ++ first ∷ (more ++ listing ∷ rest) → IsOpening room cut truncs (first ∷ more) listing
         → (o : HasOpened caller start events earlier (first ∷ more) room cut truncs) × (asked_in o.listing ≡ listing) × (calls_of caller o.later ≡ rest) }
 {}
 
@@ -103,7 +103,7 @@ pub fn actor_opens()
 /// truncates.
 pub fn actor_reads()
     ensures { (caller room : ℕ) (start : Moment) (events : List Event) (earlier : List Asked) (first : Asked) (more : List Asked) (listing : Asked) (between reading rest : List Asked) (cut : List Gathered) (truncs : List Trunc) (at len : ℕ) (answer : List ℕ)
-        → IsLegal start.state events → IsSoundAt start → calls_of caller events ≡ earlier ++ first ∷ (more ++ listing ∷ (between ++ (reading ++ rest))) → IsOpening room cut truncs (first ∷ more) listing
+        → IsLawful start.state events → IsSoundAt start → calls_of caller events ≡ earlier ++ first ∷ (more ++ listing ∷ (between ++ (reading ++ rest))) → IsOpening room cut truncs (first ∷ more) listing
         → ReadsSo (moment_after start events) cut truncs at len reading answer → answer ≡ slice (view (moment_after start events) cut truncs) at len }
 {}
 
@@ -111,7 +111,7 @@ pub fn actor_reads()
 /// reader's first call, to be synced.
 pub fn synced_is_gathered()
     ensures { (first : Moment) (before : List Event) (end : Moment) (room : ℕ) (cut : List Gathered) (truncs : List Trunc) (d : Dropping) (count : ℕ)
-        → IsLegal first.state before → IsSoundAt first → HasView (moment_after first before) end room cut truncs → d.room ≡ room → IsSyncedIn before d count
+        → IsLawful first.state before → IsSoundAt first → HasView (moment_after first before) end room cut truncs → d.room ≡ room → IsSyncedIn before d count
         → Any (λ (g : Gathered). (g.dropping ≡ d) × (count ≤ g.count)) cut }
 {}
 
@@ -119,7 +119,7 @@ pub fn synced_is_gathered()
 /// reader's first call, to be flushed.
 pub fn flushed_is_gathered()
     ensures { (first : Moment) (before : List Event) (end : Moment) (room : ℕ) (cut : List Gathered) (truncs : List Trunc) (d : Dropping) (count : ℕ)
-        → IsLegal first.state before → IsSoundAt first → HasView (moment_after first before) end room cut truncs → d.room ≡ room → IsFlushedIn before d count
+        → IsLawful first.state before → IsSoundAt first → HasView (moment_after first before) end room cut truncs → d.room ≡ room → IsFlushedIn before d count
         → Any (λ (g : Gathered). (g.dropping ≡ d) × (count ≤ g.count)) cut }
 {}
 

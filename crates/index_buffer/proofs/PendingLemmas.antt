@@ -5,19 +5,19 @@ use Rattle.std.proofs.lemmas.List.Elements.{All-nil, All-push}
 use Rattle.plfs_types.specs.declared.entries.Entry.{Entry}
 use Rattle.index_entry.specs.Spelling.{spelling, spelling_all, FitsPlaces}
 use Rattle.index_entry.specs.Valid.{IsValidEntry}
-use Rattle.index_entry.proofs.Spelled.{length-spelling_all, spelling_all-push}
-use Rattle.index_buffer.specs.Held.{entries_of}
-use Rattle.index_buffer.proofs.EntryLemmas.{entries_of-push, entries_of-none}
+use Rattle.index_entry.proofs.Facts.{length-spelling_all, spelling_all-push}
+use Rattle.index_buffer.specs.Held.{buffered}
+use Rattle.index_buffer.proofs.EntryLemmas.{buffered-push, buffered-none}
 
 -- bytes that are the spelling of valid entries, and of no more than so many
 pub record AreHeld (bytes : List ℕ) (entries : List Entry) : Type 0 where
-  pub are : entries_of bytes ≡ entries
-  pub whole : bytes ≡ spelling_all (entries_of bytes)
-  pub valid : All IsValidEntry (entries_of bytes)
+  pub are : buffered bytes ≡ entries
+  pub whole : bytes ≡ spelling_all (buffered bytes)
+  pub valid : All IsValidEntry (buffered bytes)
 
 pub AreHeld-none : (bytes : List ℕ) → bytes ≡ [] → AreHeld bytes []
 AreHeld-none bytes none =
-    let are : entries_of bytes ≡ [] = ap entries_of none ∙ entries_of-none in
+    let are : buffered bytes ≡ [] = ap buffered none ∙ buffered-none in
     let P : List Entry → Type 0 = λ es. All IsValidEntry es in
     record {
       are = are;
@@ -25,20 +25,20 @@ AreHeld-none bytes none =
       valid = subst P (sym are) (All-nil IsValidEntry);
     }
 
-pub AreHeld-push : (bytes : List ℕ) (e : Entry) → bytes ≡ spelling_all (entries_of bytes) → All IsValidEntry (entries_of bytes)
-    → IsValidEntry e → FitsPlaces e → AreHeld (bytes ++ spelling e) (entries_of bytes ++ e ∷ [])
+pub AreHeld-push : (bytes : List ℕ) (e : Entry) → bytes ≡ spelling_all (buffered bytes) → All IsValidEntry (buffered bytes)
+    → IsValidEntry e → FitsPlaces e → AreHeld (bytes ++ spelling e) (buffered bytes ++ e ∷ [])
 AreHeld-push bytes e whole valid here fits =
     let P : List Entry → Type 0 = λ es. All IsValidEntry es in
-    let len : length bytes ≡ 40 * length (entries_of bytes) = ap length whole ∙ length-spelling_all (entries_of bytes) in
-    let are : entries_of (bytes ++ spelling e) ≡ entries_of bytes ++ e ∷ [] = entries_of-push bytes e len fits in
+    let len : length bytes ≡ 40 * length (buffered bytes) = ap length whole ∙ length-spelling_all (buffered bytes) in
+    let are : buffered (bytes ++ spelling e) ≡ buffered bytes ++ e ∷ [] = buffered-push bytes e len fits in
     record {
       are = are;
       whole =
           ap (λ (x : List ℕ). x ++ spelling e) whole
-          ∙ sym (spelling_all-push (entries_of bytes) e)
+          ∙ sym (spelling_all-push (buffered bytes) e)
           ∙ sym (ap (λ (es : List Entry). spelling_all es) are);
-      valid = subst P (sym are) (All-push IsValidEntry (entries_of bytes) e valid here);
+      valid = subst P (sym are) (All-push IsValidEntry (buffered bytes) e valid here);
     }
 
-pub length_bytes : (bytes : List ℕ) → bytes ≡ spelling_all (entries_of bytes) → length bytes ≡ 40 * length (entries_of bytes)
-length_bytes bytes whole = ap length whole ∙ length-spelling_all (entries_of bytes)
+pub length_bytes : (bytes : List ℕ) → bytes ≡ spelling_all (buffered bytes) → length bytes ≡ 40 * length (buffered bytes)
+length_bytes bytes whole = ap length whole ∙ length-spelling_all (buffered bytes)

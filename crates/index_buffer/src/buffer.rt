@@ -4,7 +4,7 @@ ghost use Rattle.index_entry.specs.Spelling.{Spells, spelling_all};
 ghost use Rattle.index_entry.specs.Valid.{IsValidEntry};
 
 use index_entry::encode;
-use plfs_types::{Entry, NoMemory};
+use plfs_types::{ENTRY_SIZE, Entry, NoMemory};
 use std::alloc::Global;
 use std::marker::Model;
 
@@ -35,7 +35,7 @@ impl Buffer {
         requires few { capacity ≤ 4096 }
         ensures { IfOk result (λ buffer. buffer ≡ record { entries = []; capacity = capacity }) }
     {
-        let bytes = Vec::with_capacity(alloc, 40 * capacity as usize)?;
+        let bytes = Vec::with_capacity(alloc, ENTRY_SIZE * capacity as usize)?;
         Ok(Buffer { bytes, capacity })
     }
 
@@ -54,7 +54,7 @@ impl Buffer {
         ensures count { result ≡ length self.now.entries }
         ensures within { result ≤ self.now.capacity }
     {
-        self.bytes.len() as u64 / 40
+        self.bytes.len() as u64 / ENTRY_SIZE as u64
     }
 
     /// The most entries that can be pending, 1 to 4096.
@@ -83,7 +83,7 @@ impl Buffer {
 }
 
 /// The bytes of a valid entry, and of no other.
-fn encoded(entry: Entry) -> [u8; 40]
+fn encoded(entry: Entry) -> [u8; ENTRY_SIZE]
     requires { IsValidEntry entry }
     ensures { Spells result entry }
 {

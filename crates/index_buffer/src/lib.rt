@@ -10,6 +10,3 @@
 mod buffer;
 
 pub use buffer::Buffer;
-
-#[cfg(test)]
-mod tests;

@@ -1,14 +1,15 @@
 -- What the judgement on the one entry that bytes spell says of the bytes.
-use Rattle.std.proofs.Common.{◌≡◌, List, ℕ, Result, Ok, Err, refl, subst, ◌∙◌, inl, inr, arith}
+use Rattle.std.proofs.Common.{◌≡◌, List, ℕ, Result, Ok, Err, refl, subst, ◌∙◌, inl, inr, arith, take}
 use Rattle.std.specs.Prelude.{◌↔◌, IfOk, IfErr}
 use Rattle.plfs_types.specs.declared.entries.Entry.{Entry}
 use Rattle.index_entry.specs.declared.reading.BadEntry.{BadEntry}
 use Rattle.index_entry.specs.declared.reading.BadEntry.TheVariants.{ZeroLength, TooFar, StampRange}
-use Rattle.index_entry.specs.Spelling.{Spells, SpellsSome}
+use Rattle.index_entry.specs.Spelling.{Spells, SpellsSome, entry_in}
+use Rattle.index_entry.proofs.NumberLemmas.{entry_is}
 use Rattle.index_entry.specs.Valid.{IsValidEntry, Breaks}
 use Rattle.index_entry.proofs.Spelled.{one_entry}
 
-valid_breaks_none : (entry : Entry) (rule : BadEntry) → IsValidEntry entry → Breaks entry rule → ⊥
+pub valid_breaks_none : (entry : Entry) (rule : BadEntry) → IsValidEntry entry → Breaks entry rule → ⊥
 valid_breaks_none entry ZeroLength valid broken = omega (arith, valid.not_empty, broken)
 valid_breaks_none entry TooFar valid broken = omega (arith, valid.near, broken.1)
 valid_breaks_none entry StampRange valid broken =
@@ -49,3 +50,11 @@ exact bytes read (Err first) spelled _ broken rule = (
       let P : Entry → Type 0 = λ e. Breaks e rule in
       let same : first ≡ rule = one_rule read first rule broken (subst P (one_entry bytes some.0 read some.1 spelled) some.2) in cc,
 )
+
+-- the entry that bytes have is not valid where what they spell breaks a rule
+pub none_valid : (bytes first : List ℕ) (rule : BadEntry) → first ≡ take 40 bytes → SpellsSome first (λ entry. Breaks entry rule) → IsValidEntry (entry_in bytes) → ⊥
+none_valid bytes first rule same some valid =
+    let P : List ℕ → Type 0 = λ b. Spells b some.0 in
+    let is : some.0 ≡ entry_in bytes = entry_is bytes some.0 (subst P same some.1) in
+    let Q : Entry → Type 0 = λ e. Breaks e rule in
+    valid_breaks_none (entry_in bytes) rule valid (subst Q is some.2)

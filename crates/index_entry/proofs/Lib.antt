@@ -1,3 +1,6 @@
-pub mod Spelled
+pub mod Facts
 mod Judgements
+mod NumberLemmas
 mod Places
+mod Records
+mod Spelled

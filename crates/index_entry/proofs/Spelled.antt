@@ -1,14 +1,13 @@
 -- What the spelling of entries is like: its length, its parts, and that it determines the entries.
 use Rattle.std.proofs.Common.{◌≡◌, ℕ, zero, suc, ◌+◌, ◌*◌, ◌<◌, ◌^◌, List, [], ◌∷◌, ◌++◌, length, get_or, take, drop, refl, ap, sym, ◌∙◌, arith, append_assoc}
 use Rattle.std.specs.List.{AllByRecursion}
-use Rattle.std.specs.Int.{w64, from_le_bytes}
 use Rattle.std.proofs.lemmas.List.{append-nil, length-append, take_all, drop_all, take_at, drop_at}
 use Rattle.std.proofs.Math.Seq.{take-append-add, drop-append-add}
 use Rattle.std.proofs.lemmas.List.Concat.{flat_map-append}
-use Rattle.std.proofs.lemmas.Nat.{from_le_bytes-to_le_bytes_8}
 use Rattle.plfs_types.specs.declared.entries.Entry.{Entry}
 use Rattle.index_entry.specs.Spelling.{spelling, spelling_all, FitsPlaces, Spells}
 use Rattle.index_entry.specs.Valid.{IsValidEntry}
+use Rattle.index_entry.proofs.NumberLemmas.{read_again}
 
 -- ---- one entry
 
@@ -16,34 +15,9 @@ pub length-spelling : (entry : Entry) → length (spelling entry) ≡ 40
 unfolding spelling
 length-spelling entry = refl
 
--- the number that lies at a place
-number_at : ℕ → List ℕ → ℕ
-number_at place bytes = from_le_bytes w64 (take 8 (drop place bytes))
-
-numbers-spelling : (e : Entry) → FitsPlaces e →
-    (number_at 0 (spelling e) ≡ e.at) × (number_at 8 (spelling e) ≡ e.len) × (number_at 16 (spelling e) ≡ e.physical)
-    × (number_at 24 (spelling e) ≡ e.stamp) × (number_at 32 (spelling e) ≡ e.writer)
-unfolding spelling number_at
-numbers-spelling e fits = (
-  from_le_bytes-to_le_bytes_8 e.at fits.at_fits,
-  from_le_bytes-to_le_bytes_8 e.len fits.len_fits,
-  from_le_bytes-to_le_bytes_8 e.physical fits.physical_fits,
-  from_le_bytes-to_le_bytes_8 e.stamp fits.stamp_fits,
-  from_le_bytes-to_le_bytes_8 e.writer fits.writer_fits,
-)
-
 -- bytes spell at most one entry
 pub one_entry : (bytes : List ℕ) (a b : Entry) → Spells bytes a → Spells bytes b → a ≡ b
-one_entry bytes a b in_a in_b =
-    let same : spelling a ≡ spelling b = sym in_a.spelled ∙ in_b.spelled in
-    let of_a = numbers-spelling a in_a.places in
-    let of_b = numbers-spelling b in_b.places in
-    let at_same : a.at ≡ b.at = sym of_a.0 ∙ ap (number_at 0) same ∙ of_b.0 in
-    let len_same : a.len ≡ b.len = sym of_a.1 ∙ ap (number_at 8) same ∙ of_b.1 in
-    let physical_same : a.physical ≡ b.physical = sym of_a.2 ∙ ap (number_at 16) same ∙ of_b.2 in
-    let stamp_same : a.stamp ≡ b.stamp = sym of_a.3 ∙ ap (number_at 24) same ∙ of_b.3 in
-    let writer_same : a.writer ≡ b.writer = sym of_a.4 ∙ ap (number_at 32) same ∙ of_b.4 in
-    λ i. record { at = at_same i; len = len_same i; physical = physical_same i; stamp = stamp_same i; writer = writer_same i }
+one_entry bytes a b in_a in_b = sym (read_again bytes a in_a) ∙ read_again bytes b in_b
 
 -- ---- entries one after the other
 

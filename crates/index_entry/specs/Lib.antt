@@ -1,2 +1,5 @@
+pub mod Messages
+pub mod Records
 pub mod Spelling
 pub mod Valid
+pub mod Within

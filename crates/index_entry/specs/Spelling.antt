@@ -1,7 +1,7 @@
 -- How entries lie in bytes.
-use Rattle.std.specs.Prelude.{◌≡◌, ℕ, ◌<◌, ◌^◌, List, ◌++◌}
+use Rattle.std.specs.Prelude.{◌≡◌, ℕ, ◌<◌, ◌^◌, List, ◌++◌, take, drop}
 use Rattle.std.specs.List.{flat_map}
-use Rattle.std.specs.Int.{w64, to_le_bytes}
+use Rattle.std.specs.Int.{w64, to_le_bytes, from_le_bytes}
 use Rattle.plfs_types.specs.declared.entries.Entry.{Entry}
 
 -- five numbers of 8 bytes, the lowest byte first
@@ -33,3 +33,17 @@ pub record Spells (bytes : List ℕ) (entry : Entry) : Type 0 where
 -- the bytes are those of an entry of which this holds
 abbrev pub SpellsSome : List ℕ → (Entry → Type 0) → Type 0
 SpellsSome bytes P = (entry : Entry) × Spells bytes entry × P entry
+
+-- the number that 8 bytes from this place on are
+abbrev pub number_in : ℕ → List ℕ → ℕ
+number_in place bytes = from_le_bytes w64 (take 8 (drop place bytes))
+
+-- the entry that the first 40 bytes are, valid or not
+unfoldable pub entry_in : List ℕ → Entry
+entry_in bytes = record {
+  at = number_in 0 bytes;
+  len = number_in 8 bytes;
+  physical = number_in 16 bytes;
+  stamp = number_in 24 bytes;
+  writer = number_in 32 bytes;
+}

@@ -6,22 +6,22 @@ ghost use Rattle.index_entry.specs.declared.reading.BadEntry.{BadEntry};
 ghost use Rattle.index_entry.specs.Spelling.{Spells, SpellsSome};
 ghost use Rattle.index_entry.specs.Valid.{IsValidEntry, Breaks};
 
-use plfs_types::{Entry, fits};
+use plfs_types::{ENTRY_SIZE, Entry, MAX_STAMP, fits};
 
 /// The first rule that an entry breaks.
 #[derive(Clone, Copy, Debug, PartialEq, Eq)]
 pub enum BadEntry {
     /// The length is 0.
     ZeroLength,
-    /// The entry ends past 2^40.
+    /// The entry ends past the greatest size.
     TooFar,
-    /// The stamp is 0 or at least 2^63.
+    /// The stamp is 0 or above the greatest.
     StampRange,
 }
 
 /// The valid entry that the bytes spell. `ZeroLength` exactly where the length is 0, else `TooFar` exactly where
-/// offset + length is above 2^40, else `StampRange` exactly where the stamp is 0 or at least 2^63.
-pub fn decode(bytes: &[u8; 40]) -> Result<Entry, BadEntry>
+/// offset + length is above `MAX_SIZE`, else `StampRange` exactly where the stamp is 0 or above `MAX_STAMP`.
+pub fn decode(bytes: &[u8; ENTRY_SIZE]) -> Result<Entry, BadEntry>
     // What is read is valid and spelled so.
     ensures found { IfOk result (λ entry. IsValidEntry entry × Spells bytes.now entry) }
     // Each valid entry that is spelled so is read.
@@ -43,16 +43,14 @@ fn judge(entry: Entry) -> Result<Entry, BadEntry>
     if !fits(entry.at, entry.len) {
         return Err(BadEntry::TooFar);
     }
-    if entry.stamp == 0 || entry.stamp > GREATEST_STAMP {
+    if entry.stamp == 0 || entry.stamp > MAX_STAMP {
         return Err(BadEntry::StampRange);
     }
     Ok(entry)
 }
 
-const GREATEST_STAMP: u64 = (1 << 63) - 1;
-
 // The five numbers, valid or not.
-fn numbers(bytes: &[u8; 40]) -> Entry
+fn numbers(bytes: &[u8; ENTRY_SIZE]) -> Entry
     ensures { Spells bytes.now result }
 {
     Entry {
@@ -64,8 +62,9 @@ fn numbers(bytes: &[u8; 40]) -> Entry
     }
 }
 
-fn number_at(bytes: &[u8; 40], place: usize) -> u64
-    requires { place + 8 ≤ 40 }
+// The number that lies at this place, by what it is spelled as.
+fn number_at(bytes: &[u8; ENTRY_SIZE], place: usize) -> u64
+    requires { place + 8 ≤ ENTRY_SIZE }
     ensures { to_le_bytes w64 result ≡ take 8 (drop place bytes.now) }
 {
     let mut number = [0; 8];

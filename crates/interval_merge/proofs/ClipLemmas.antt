@@ -7,7 +7,7 @@ use Rattle.plfs_types.specs.declared.entries.Trunc.{Trunc}
 use Rattle.plain_file.specs.declared.pieces.Piece.{Piece}
 use Rattle.plain_file.specs.Sources.{Source, source_in, source_at, kept_source}
 use Rattle.plain_file.specs.Runs.{AreRuns, IsPiece, Follows}
-use Rattle.plain_file.proofs.RunLemmas.{Starts, Starts-after, source_at-here, source_at-past, source_at-before}
+use Rattle.plain_file.proofs.Facts.{Starts, Starts-after, source_at-here, source_at-past, source_at-before}
 use Rattle.interval_merge.specs.Clip.{limit}
 
 -- a byte survives the truncates where it lies below the limit

@@ -9,8 +9,7 @@ use Rattle.std.proofs.lemmas.Map.Keys.{ge_from_not_lt}
 use Rattle.std.proofs.lemmas.List.Elements.{recursion_from_All, All-from_recursion}
 use Rattle.std.proofs.lemmas.List.Sorted.{All-permutation, IsPermutation-sym}
 use Rattle.plfs_types.specs.declared.entries.Trunc.{Trunc}
-use Rattle.plain_file.proofs.OrderLemmas.{Descends}
-use Rattle.plain_file.proofs.ChangeLemmas.{Descends-from_sort}
+use Rattle.plain_file.proofs.Facts.{Descends, Descends-from_sort}
 use Rattle.interval_merge.specs.Clip.{limit, StampsFall, SizesFall, AreWithin, AreCutsOf}
 use Rattle.interval_merge.proofs.ClipLemmas.{limit-small}
 

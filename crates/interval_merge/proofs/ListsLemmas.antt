@@ -9,7 +9,7 @@ use Rattle.plain_file.specs.declared.pieces.Piece.{Piece}
 use Rattle.plain_file.specs.Newest.{newest_at}
 use Rattle.plain_file.specs.Sources.{Source, source_of, source_at, newer_source}
 use Rattle.plain_file.specs.Runs.{AreRuns, ArePieces}
-use Rattle.plain_file.proofs.MergeLemmas.{newest_at-append, newer_source-of}
+use Rattle.plain_file.proofs.Facts.{newest_at-append, newer_source-of}
 use Rattle.interval_merge.specs.Lists.{newest_source, joined, ArePiecesOfEach}
 
 -- whether t has the greater key

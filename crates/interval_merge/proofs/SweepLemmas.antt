@@ -7,8 +7,8 @@ use Rattle.plain_file.specs.declared.pieces.Piece.{Piece}
 use Rattle.plain_file.specs.Sources.{newer_source, Source, source_in, source_at, has_byte}
 use Rattle.plain_file.specs.Runs.{AreRuns, IsPiece, Follows, Joins, EndsPast}
 use Rattle.plain_file.specs.Size.{is_later, later}
-use Rattle.plain_file.proofs.RunLemmas.{source_at-here, source_at-past, source_at-before, has-before}
-use Rattle.interval_merge.specs.Sweep.{AllEndBy, Extends, EndsFrom, SaysUntil, IsLeft}
+use Rattle.plain_file.proofs.Facts.{source_at-here, source_at-past, source_at-before, has-before}
+use Rattle.interval_merge.specs.Sweep.{AllEndBy, Extends, EndsFrom, SaysUntil, IsRestFrom}
 
 -- truncates
 
@@ -218,7 +218,7 @@ IsMerged-all a b runs runs_a runs_b m x = elim (cases_lt x (2 ^ 40)) [
 
 -- what both lists say up to `until`
 pub both_say : (a b left_a left_b : List Piece) (from until until_a until_b : ℕ) (p q w : Option Piece) → until ≡ min until_a until_b
-    → IsLeft a from left_a → IsLeft b from left_b → SaysUntil left_a from p until_a → SaysUntil left_b from q until_b
+    → IsRestFrom a from left_a → IsRestFrom b from left_b → SaysUntil left_a from p until_a → SaysUntil left_b from q until_b
     → ((x : ℕ) → option_map (source_in x) w ≡ newer_source (option_map (source_in x) p) (option_map (source_in x) q))
     → (x : ℕ) → from ≤ x → x < until → newer_source (source_at a x) (source_at b x) ≡ option_map (source_in x) w
 both_say a b left_a left_b from until until_a until_b p q w e la lb sa sb newer_is x h l =
@@ -227,14 +227,14 @@ both_say a b left_a left_b from until until_a until_b p q w e la lb sa sb newer_
     ∙ sym (newer_is x)
 
 -- what is left after one step
-pub IsLeft-more : (a left rest : List Piece) (from until : ℕ) → from ≤ until → IsLeft a from left → IsLeft left until rest → IsLeft a until rest
+pub IsLeft-more : (a left rest : List Piece) (from until : ℕ) → from ≤ until → IsRestFrom a from left → IsRestFrom left until rest → IsRestFrom a until rest
 IsLeft-more a left rest from until le l r = record { runs = r.runs; first = r.first; same = λ x h. r.same x h ∙ l.same x (omega arith) }
 
 starts_past : (a : List Piece) → AreRuns a → EndsPast 0 a
 starts_past [] runs = tt
 starts_past (p ∷ a) runs = omega (arith, runs.0.not_empty)
 
-pub IsLeft-start : (a : List Piece) → AreRuns a → IsLeft a 0 a
+pub IsLeft-start : (a : List Piece) → AreRuns a → IsRestFrom a 0 a
 IsLeft-start a runs = record { runs = runs; first = starts_past a runs; same = λ x h. refl }
 
 pub EndsFrom-less : (pieces : List Piece) (at until : ℕ) → at ≤ until → EndsFrom until pieces → EndsFrom at pieces

@@ -7,7 +7,7 @@ use Rattle.plain_file.specs.declared.pieces.Piece.{Piece}
 use Rattle.plain_file.specs.Newest.{covers, survives, newer, newest, newest_at}
 use Rattle.plain_file.specs.Sources.{Source, source_of, source_in, source_at, has_byte}
 use Rattle.plain_file.specs.Runs.{AreRuns, ArePieces}
-use Rattle.plain_file.proofs.RunLemmas.{has-before}
+use Rattle.plain_file.proofs.Facts.{has-before}
 use Rattle.interval_merge.specs.Sweep.{AllEndBy, Extends}
 use Rattle.interval_merge.specs.Lists.{joined, ArePiecesOfEach}
 use Rattle.interval_merge.specs.Writer.{piece_of, AscendFrom}

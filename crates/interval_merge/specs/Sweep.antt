@@ -1,6 +1,7 @@
 -- What a sweep over two lists of pieces keeps.
-use Rattle.std.specs.Prelude.{ℕ, ◌+◌, ◌<◌, ◌≤◌, ◌≡◌, List, [], ◌∷◌, ◌++◌, Option, option_map, MatchOption, ◌^◌}
+use Rattle.std.specs.Prelude.{ℕ, ◌+◌, ◌<◌, ◌≤◌, ◌≡◌, List, [], ◌∷◌, ◌++◌, Option, option_map, MatchOption}
 use Rattle.std.specs.List.{AllByRecursion}
+use Rattle.plfs_types.specs.declared.limits.TheConstants.{MAX_SIZE}
 use Rattle.plain_file.specs.declared.pieces.Piece.{Piece}
 use Rattle.plain_file.specs.Sources.{source_at, source_in}
 use Rattle.plain_file.specs.Runs.{AreRuns, EndsPast, IsPiece}
@@ -29,13 +30,13 @@ pub record Holds (from until : ℕ) (p : Piece) : Type 0 where
 -- from one byte up to another the pieces say the same: this piece, or nothing
 pub record SaysUntil (pieces : List Piece) (from : ℕ) (piece : Option Piece) (until : ℕ) : Type 0 where
   pub more : from < until
-  pub within : until ≤ 2 ^ 40
+  pub within : until ≤ MAX_SIZE
   pub first : EndsFrom until pieces
   pub holds : MatchOption piece (Unit {0}) (Holds from until)
   pub same : (x : ℕ) → from ≤ x → x < until → source_at pieces x ≡ option_map (source_in x) piece
 
 -- what is left of the pieces from a byte on
-pub record IsLeft (whole : List Piece) (from : ℕ) (left : List Piece) : Type 0 where
+pub record IsRestFrom (whole : List Piece) (from : ℕ) (left : List Piece) : Type 0 where
   pub runs : AreRuns left
   pub first : EndsPast from left
   pub same : (x : ℕ) → from ≤ x → source_at left x ≡ source_at whole x

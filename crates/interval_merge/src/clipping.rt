@@ -1,6 +1,6 @@
 //! What truncates leave of pieces.
 
-ghost use Rattle.std.specs.Prelude.{◌≡◌, ◌≤◌, ◌<◌, ◌-◌, ◌^◌, ℕ, [], List, IfOk, length, slice_index_or};
+ghost use Rattle.std.specs.Prelude.{◌≡◌, ◌≤◌, ◌<◌, ◌-◌, ℕ, [], List, IfOk, length, slice_index_or};
 ghost use Rattle.plfs_types.specs.declared.entries.Entry.{Entry};
 ghost use Rattle.plfs_types.specs.declared.entries.Trunc.{Trunc};
 ghost use Rattle.plain_file.specs.Sources.{source_at, kept_source};
@@ -111,7 +111,7 @@ fn later_count(cuts: &[Trunc], stamp: u64) -> usize
     requires lower { SizesFall cuts.now }
     requires within { AreWithin cuts.now }
     ensures within { result ≤ length cuts.now }
-    ensures no_later { result ≡ 0 → limit cuts.now stamp ≡ 2 ^ 40 }
+    ensures no_later { result ≡ 0 → limit cuts.now stamp ≡ MAX_SIZE }
     ensures last_of_later { (d : Trunc) → 0 < result → limit cuts.now stamp ≡ (slice_index_or cuts.now (result - 1) d).size }
 {
     cuts.partition_point(|cut| cut.stamp >= stamp)

@@ -19,6 +19,3 @@ pub use sweep::merge;
 pub use threads::merge_on;
 pub use tournament::{PiecesList, merge_all};
 pub use writer::of_writer;
-
-#[cfg(test)]
-mod tests;

@@ -1,10 +1,10 @@
 //! A sweep over two lists of pieces, from the first byte to the last.
 
-ghost use Rattle.std.specs.Prelude.{◌≡◌, ◌⊎◌, List, ℕ, ◌+◌, ◌-◌, ◌<◌, ◌≤◌, ◌^◌, [], ◌∷◌, ◌++◌, IfOk, None, Option, option_map, option_to_list};
+ghost use Rattle.std.specs.Prelude.{◌≡◌, ◌⊎◌, List, ℕ, ◌+◌, ◌-◌, ◌<◌, ◌≤◌, [], ◌∷◌, ◌++◌, IfOk, None, Option, option_map, option_to_list};
 ghost use Rattle.plfs_types.specs.declared.entries.Entry.{Entry};
 ghost use Rattle.plain_file.specs.Sources.{source_at, source_in, newer_source};
 ghost use Rattle.plain_file.specs.Runs.{AreRuns, ArePieces, IsPiece, EndsPast};
-ghost use Rattle.interval_merge.specs.Sweep.{AllEndBy, Extends, EndsFrom, Holds, SaysUntil, IsLeft};
+ghost use Rattle.interval_merge.specs.Sweep.{AllEndBy, Extends, EndsFrom, Holds, SaysUntil, IsRestFrom};
 
 use plain_file::{Piece, PieceList, Pieces};
 use plfs_types::{MAX_SIZE, NoMemory};
@@ -112,7 +112,7 @@ fn newer(p: Option<Piece>, q: Option<Piece>) -> Option<Piece>
 fn says_until(pieces: &[Piece], from: u64) -> (Option<Piece>, u64)
     requires runs { AreRuns pieces.now }
     requires first { EndsPast from pieces.now }
-    requires from { from < 2 ^ 40 }
+    requires from { from < MAX_SIZE }
     ensures { SaysUntil pieces.now from result.0 result.1 }
 {
     match pieces {
@@ -131,7 +131,7 @@ fn says_until(pieces: &[Piece], from: u64) -> (Option<Piece>, u64)
 fn past(pieces: &[Piece], at: u64) -> &[Piece]
     requires runs { AreRuns pieces.now }
     requires first { EndsFrom at pieces.now }
-    ensures { IsLeft pieces.now at result.now }
+    ensures { IsRestFrom pieces.now at result.now }
 {
     match pieces {
         [piece, rest @ ..] if piece.at + piece.len <= at => rest,
@@ -142,7 +142,7 @@ fn past(pieces: &[Piece], at: u64) -> &[Piece]
 /// The bytes of the piece from one place up to another.
 fn part_of(piece: &Piece, from: u64, until: u64) -> Piece
     requires more { from < until }
-    requires within { until ≤ 2 ^ 40 }
+    requires within { until ≤ MAX_SIZE }
     requires holds { Holds from until piece.now }
     ensures at { result.at ≡ from }
     ensures len { result.len ≡ until - from }

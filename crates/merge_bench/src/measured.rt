@@ -18,7 +18,7 @@ const PLANS: u64 = 100_000;
 const NEAR: u64 = 10_000 * BLOCK;
 
 /// Why a run ends before its end.
-#[derive(Clone, Copy, Debug)]
+#[derive(Clone, Copy)]
 pub enum Failure {
     /// Memory was refused.
     Memory,

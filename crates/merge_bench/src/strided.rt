@@ -11,7 +11,7 @@ use std::alloc::Global;
 pub const BLOCK: u64 = 4096;
 
 /// What is measured.
-#[derive(Clone, Copy, Debug)]
+#[derive(Clone, Copy)]
 pub struct Task {
     /// How many entries there are.
     pub count: u64,

@@ -1,17 +1,23 @@
 -- A roll stays regular where a serial is drawn, and where a writer is added or taken from the end.
-use Rattle.std.proofs.Common.{◌≡◌, ℕ, zero, suc, ◌+◌, ◌-◌, ◌^◌, ◌<◌, ◌≤◌, List, [], ◌∷◌, ◌++◌, length, take, refl, sym, subst, arith, inl, None, false, nat_eq}
-use Rattle.std.specs.Prelude.{◌≢◌, nat_le}
+use Rattle.std.proofs.Common.{◌≡◌, ℕ, zero, suc, ◌+◌, ◌-◌, ◌^◌, ◌<◌, ◌≤◌, List, [], ◌∷◌, ◌++◌, length, take, refl, sym, ap, subst, arith, inl, inr, ◌⊎◌, Option, Some, None, Err, false, nat_eq}
+use Rattle.std.specs.Prelude.{◌≢◌, nat_le, MatchOption}
 use Rattle.std.specs.List.{All}
 use Rattle.std.proofs.lemmas.List.{take_at, length_push}
 use Rattle.std.proofs.lemmas.List.Elements.{All-nil, All-push, All-weaker, All-take}
 use Rattle.std.proofs.lemmas.Bool.Decides.{nat_tests}
 use Rattle.index_entry.specs.Valid.{IsValidEntry}
+use Rattle.store_api.specs.declared.store.Trouble.TheVariants as trouble
+use Rattle.store_api.specs.Acts.{Stored}
 use Rattle.mount_model.specs.declared.row.Row.{Row}
+use Rattle.mount_model.specs.declared.reply.Refusal.{Refusal}
+use Rattle.mount_model.specs.declared.reply.Reply.{Reply}
 use Rattle.mount_model.specs.State.{State}
-use Rattle.mount_model.specs.Entering.{entered, enter_check, next_id}
+use Rattle.mount_model.specs.Entering.{entered, enter_check, next_id, EntersAs, Enters}
+use Rattle.mount_model.specs.Making.{Refuses}
 use Rattle.mount_model.specs.Regular.{IsCounted, IsDrawn, AreAscending}
-use Rattle.mount_core.specs.Roll.{Roll, IsRegularRoll, bare}
-use Rattle.mount_core.specs.Admitting.{with_next, with_writers, IsNextId, IsNewcomer}
+use Rattle.mount_model.proofs.Facts.{drawn_later as drawn_more}
+use Rattle.mount_core.specs.Roll.{Roll, IsRegularRoll, bare, state_of}
+use Rattle.mount_core.specs.Admitting.{with_next, with_writers, IsNextId, IsNewcomer, IsTurnedAway}
 use Rattle.mount_core.proofs.Rows.{ascending_push}
 
 pub drawn_later : (roll : Roll) (id : ℕ) → IsDrawn (bare roll) id → IsDrawn (bare (with_next roll)) id
@@ -25,6 +31,8 @@ next_keeps roll regular fits = record {
   ascending = regular.ascending;
   drawn = All-weaker (λ (row : Row). IsDrawn (bare roll) row.id) (λ (row : Row). IsDrawn (bare (with_next roll)) row.id) (λ row drawn. drawn_later roll row.id drawn) roll.table.writers regular.drawn;
   apart = regular.apart;
+  holders = drawn_more roll.mount roll.serial roll.marks _ _ regular.holders;
+  flattenings = drawn_more roll.mount roll.serial roll.marks _ _ regular.flattenings;
 }
 
 -- no reason refuses it
@@ -47,6 +55,8 @@ add_keeps roll row regular new = record {
   ascending = ascending_push roll.table.writers row regular.ascending new.above;
   drawn = All-push (λ (r : Row). IsDrawn (bare roll) r.id) roll.table.writers row regular.drawn new.drawn;
   apart = All-push (λ (r : Row). r.room ≢ roll.marks) roll.table.writers row regular.apart new.apart;
+  holders = regular.holders;
+  flattenings = regular.flattenings;
 }
 
 ascending_take : (n : ℕ) (rows : List Row) → AreAscending rows → AreAscending (take n rows)
@@ -62,6 +72,8 @@ take_keeps roll n regular = record {
   ascending = ascending_take n roll.table.writers regular.ascending;
   drawn = All-take (λ (r : Row). IsDrawn (bare roll) r.id) n roll.table.writers regular.drawn;
   apart = All-take (λ (r : Row). r.room ≢ roll.marks) n roll.table.writers regular.apart;
+  holders = regular.holders;
+  flattenings = regular.flattenings;
 }
 
 -- without its last row
@@ -70,10 +82,13 @@ front rows writers row is =
     let count : length rows ≡ length (rows ++ row ∷ []) - 1 = omega (arith, length_push rows row) in
     subst (λ (l : List Row). take (length l - 1) l ≡ rows) (sym is) (take_at rows (row ∷ []) (length (rows ++ row ∷ []) - 1) count)
 
-pub entered_counted : (state : State) (caller room host capacity : ℕ) → host < 2 ^ 32 → capacity ≤ 4096 → IsCounted (entered state caller room host capacity)
-entered_counted state caller room host capacity host_fits few = record {
+pub entered_counted : (state : State) (caller room host capacity : ℕ) → host < 2 ^ 32 → 1 ≤ capacity → capacity ≤ 4096 → IsCounted (entered state caller room host capacity)
+entered_counted state caller room host capacity host_fits some few = record {
   host_fits = host_fits;
+  some_cap = some;
   cap_fits = few;
+  log_marked = omega arith;
+  index_marked = omega arith;
   within_cap = omega arith;
   valid = All-nil IsValidEntry;
   entries = omega arith;
@@ -84,11 +99,20 @@ entered_counted state caller room host capacity host_fits few = record {
   written = inl (refl, refl, refl);
 }
 
-pub newcomer : (old new : Roll) (id caller room host capacity : ℕ) → IsNextId room old id new → host < 2 ^ 32 → capacity ≤ 4096 → IsNewcomer new (entered (bare old) caller room host capacity)
-newcomer old new id caller room host capacity next host_fits few =
+pub newcomer : (old new : Roll) (id caller room host capacity : ℕ) → IsNextId room old id new → host < 2 ^ 32 → 1 ≤ capacity → capacity ≤ 4096 → IsNewcomer new (entered (bare old) caller room host capacity)
+newcomer old new id caller room host capacity next host_fits some few =
     subst (λ (r : Roll). IsNewcomer r (entered (bare old) caller room host capacity)) (sym next.left) (record {
-      counted = entered_counted (bare old) caller room host capacity host_fits few;
+      counted = entered_counted (bare old) caller room host capacity host_fits some few;
       drawn = (old.serial + 1, omega arith, omega arith, refl);
       apart = next.apart;
       above = subst (λ (n : ℕ). All (λ (row : Row). row.id < n) old.table.writers) next.id_is next.above;
     })
+
+-- a call that was turned away, seen as a state's
+pub turned_away : (caller room host capacity : ℕ) (store opened : Stored) (times : Option (List ℕ)) (old new : Roll) (reply : Reply) → host < 2 ^ 32 → IsTurnedAway room old reply new → Enters caller room host capacity (state_of store opened times old) reply (state_of store opened times new)
+turned_away caller room host capacity store opened times old new reply fits (inl (why, check, is, same)) =
+    subst (λ (o : Option Refusal). MatchOption o (EntersAs caller room host capacity (state_of store opened times old) reply (state_of store opened times new)) (λ because. Refuses because (state_of store opened times old) reply (state_of store opened times new))) (sym check)
+    (is, ap (λ (r : Roll). state_of store opened times r) same)
+turned_away caller room host capacity store opened times old new reply fits (inr (none, is, left)) =
+    subst (λ (o : Option Refusal). MatchOption o (EntersAs caller room host capacity (state_of store opened times old) reply (state_of store opened times new)) (λ because. Refuses because (state_of store opened times old) reply (state_of store opened times new))) (sym none)
+    (record { host_fits = fits; makes = record { told = Err trouble.NoMemory; made = refl; answered = is; after = ap (λ (r : Roll). state_of store opened times r) left } })

@@ -6,4 +6,5 @@ pub mod Timed
 pub mod Scans
 pub mod Admits
 pub mod Logical
+pub mod Ended
 pub mod Mounts

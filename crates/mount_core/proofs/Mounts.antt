@@ -8,35 +8,19 @@ use Rattle.store_api.specs.Step.{Step}
 use Rattle.store_api.specs.Acts.{Stored, Acts}
 use Rattle.mount_model.specs.Making.{Told}
 use Rattle.mount_model.specs.Paths.{Name}
-use Rattle.mount_model.specs.Mounting.{IsMounted}
-use Rattle.mount_core.specs.declared.scanning.Listing.TheVariants.{Marks}
-use Rattle.mount_core.specs.Scanning.{IsGreatest}
+use Rattle.mount_model.specs.Listed.{IsGreatest, IsMarkOf}
+use Rattle.mount_model.specs.Mounting.{marks_step, list_step, mark_step, DrawsMark, IsMounted}
+use Rattle.mount_model.specs.Failing.{trouble_of, LeavesNone, FailsToMount, no_room, no_names, no_next, no_mark}
 use Rattle.mount_core.specs.Roll.{new_roll, state_of}
-use Rattle.mount_core.specs.declared.trouble.MountTrouble.{MountTrouble}
-use Rattle.mount_core.specs.declared.trouble.MountTrouble.TheVariants.{Fault}
-use Rattle.mount_core.specs.Opening.{marks_step, list_step, mark_step, room_told, trouble_of, DrawsMark, LeavesNone, FailsToMount, no_room, no_names, no_next, no_mark}
-use Rattle.mount_core.proofs.Scans.{mark_known}
+use Rattle.mount_model.specs.declared.trouble.MountTrouble.{MountTrouble}
+use Rattle.mount_model.specs.declared.trouble.MountTrouble.TheVariants.{Fault}
 
-pub mark_fits : (names : List Name) (greatest : ℕ) → IsGreatest Marks names greatest → greatest < 2 ^ 32
-mark_fits names greatest known = elim known.reached [ inl none ↦ omega (arith, none.1) | inr any ↦ any.4.1 ]
-
-number_or_old : (opened roomed : Stored) (room : ℕ) (told : Told) → Acts marks_step opened roomed told → room_told told ≡ Some room → Acts marks_step opened roomed (Ok (Number room)) ⊎ Acts marks_step opened roomed (Ok (Old room))
-number_or_old opened roomed room (Ok (Number number)) made is = inl (subst (λ (n : ℕ). Acts marks_step opened roomed (Ok (Number n))) (same_Some number room is) made)
-number_or_old opened roomed room (Ok (Old number)) made is = inr (subst (λ (n : ℕ). Acts marks_step opened roomed (Ok (Old n))) (same_Some number room is) made)
-number_or_old opened roomed room told made is = absurd (cc)
+pub mark_fits : (names : List Name) (greatest : ℕ) → IsGreatest IsMarkOf names greatest → greatest < 2 ^ 32
+mark_fits names greatest known = elim known.reached [ inl none ↦ omega (arith, none.1) | inr any ↦ any.4.0.1 ]
 
 pub mounted : (opened new : Stored) (times : Option (List ℕ)) (room mount serial : ℕ) → DrawsMark opened room mount new → serial < 2 ^ 32 → IsMounted serial times opened (state_of new opened times (new_roll room mount serial))
 mounted opened new times room mount serial draws fits = record {
-  roomed = draws.roomed;
-  listed = draws.listed;
-  names = draws.names;
-  greatest = draws.next.greatest;
-  made = number_or_old opened draws.roomed room draws.tells.told draws.tells.made draws.tells.tells;
-  lists = draws.lists;
-  found = mark_known draws.names draws.next.greatest draws.next.found;
-  next = draws.next.next;
-  fits = draws.next.fits;
-  marked = draws.marked;
+  draws = draws;
   opened_is = refl;
   times_are = refl;
   serial_is = refl;
@@ -49,7 +33,7 @@ mounted opened new times room mount serial draws fits = record {
 -- ---- a fault has a cause
 
 faults_stay : (step : Step) (old new : Stored) (told : Told) → Acts step old new told → old.faults ≤ new.faults
-faults_stay step old new (Ok answer) made = made.faults
+faults_stay step old new (Ok answer) made = let same : new.faults ≡ old.faults = made.faults in omega (arith, same)
 faults_stay step old new (Err trouble.Fault) made = made.faults
 faults_stay step old new (Err trouble.NoMemory) made = let same = ap (λ (s : Stored). s.faults) made in omega arith
 

@@ -52,6 +52,8 @@ put_keeps roll now place row new view regular lt is counted same_id same_room =
       ascending = ascending_set rows place row new regular.ascending stands same_id;
       drawn = All-set (λ (r : Row). IsDrawn state r.id) rows place new (subst (IsDrawn state) (sym same_id) drawn_row) regular.drawn;
       apart = All-set (λ (r : Row). r.room ≢ roll.marks) rows place new (subst (λ (n : ℕ). n ≢ roll.marks) (sym same_room) apart_row) regular.apart;
+      holders = regular.holders;
+      flattenings = regular.flattenings;
     }
 
 -- then the roll is the one in which the writer's row was changed so
@@ -81,6 +83,8 @@ take_out_keeps roll place regular =
       ascending = ascending_remove rows place regular.ascending;
       drawn = All-remove (λ (r : Row). IsDrawn state r.id) rows place regular.drawn;
       apart = All-remove (λ (r : Row). r.room ≢ roll.marks) rows place regular.apart;
+      holders = regular.holders;
+      flattenings = regular.flattenings;
     }
 
 pub take_out_is : (roll now : Roll) (place : ℕ) → roll ≡ now → IsRegularRoll roll → AtPlace now.table place (λ row. with_table (record roll.table { writers = remove roll.table.writers place }) roll ≡ with_table (take_out row.id now.table) now)
@@ -97,4 +101,6 @@ regular_as store opened times roll regular = record {
   ascending = regular.ascending;
   drawn = regular.drawn;
   apart = regular.apart;
+  holders = regular.holders;
+  flattenings = regular.flattenings;
 }

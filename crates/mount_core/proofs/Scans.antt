@@ -1,5 +1,5 @@
 -- One more name of a listing.
-use Rattle.std.proofs.Common.{◌≡◌, ◌≢◌, ℕ, ◌+◌, ◌<◌, ◌≤◌, ◌^◌, max, List, [], ◌∷◌, ◌++◌, length, take, get_or, Option, Some, None, refl, ap, sym, ◌∙◌, subst, arith, inl, inr, ◌⊎◌}
+use Rattle.std.proofs.Common.{◌≡◌, ◌≢◌, ℕ, ◌+◌, ◌<◌, ◌≤◌, max, List, [], ◌∷◌, ◌++◌, length, take, get_or, Option, Some, None, refl, ap, sym, ◌∙◌, subst, arith, inl, inr, ◌⊎◌}
 use Rattle.std.specs.List.{Any}
 use Rattle.std.specs.Ordering.{nat_cmp, ordering_reverse}
 use Rattle.std.specs.Cmp.Lexicographic.{slice_cmp}
@@ -11,16 +11,14 @@ use Rattle.std.proofs.lemmas.List.{length-append, get_or_append_left, take_more}
 use Rattle.std.proofs.lemmas.List.Elements.{All-nil, All-push, All-weaker}
 use Rattle.std.proofs.lemmas.List.Quantifiers.{Any-push}
 use Rattle.std.proofs.lemmas.Option.{none-some}
+use Rattle.plfs_types.specs.declared.limits.TheConstants.{MAX_STAMP}
 use Rattle.container_layout.specs.declared.items.Item.{Item}
 use Rattle.container_layout.specs.declared.items.Item.TheVariants.{Trunc}
 use Rattle.container_layout.specs.Paths.{IsAt, IsIn}
-use Rattle.container_layout.proofs.Places.{elsewhere, first_of_folder}
-use Rattle.mount_model.specs.Paths.{Name, truncs, mark_name}
-use Rattle.mount_model.specs.Flooring.{IsFloorOf, IsLeastForeign, IsForeign}
-use Rattle.mount_model.specs.Mounting.{IsGreatestMark}
-use Rattle.mount_core.specs.declared.scanning.Listing.TheVariants.{Truncates, Marks}
+use Rattle.mount_model.specs.Paths.{Name, truncs}
+use Rattle.mount_model.specs.Listed.{HasNone, IsGreatest, IsLeastOther, HasStamp}
 use Rattle.mount_core.specs.declared.scanning.Listing.{Listing}
-use Rattle.mount_core.specs.Scanning.{HasNumber, HasNone, IsGreatest, IsLeastOther, IsScanned, IsLesser}
+use Rattle.mount_core.specs.Scanning.{numbered, IsScanned, IsLesser}
 
 -- ---- byte order
 
@@ -52,119 +50,89 @@ still_there {X} P xs ys any =
     (any.0, any.1, omega (arith, any.2, length-append xs ys), get_or_append_left xs ys any.1 any.0 any.2 ∙ any.3, any.4)
 
 pub scanned_nothing : (listing : Listing) → IsScanned listing [] 0 None
-scanned_nothing listing = record { numbers = All-nil (λ name. (number : ℕ) × HasNumber listing name number × (number ≤ 0)); reached = inl (refl, refl); fits = omega arith }
+scanned_nothing listing = (record { numbers = All-nil (λ name. (number : ℕ) × numbered listing name number × (number ≤ 0)); reached = inl (refl, refl) }, omega arith)
 
-reach : (listing : Listing) (names : List Name) (greatest number : ℕ) (name : Name) → IsGreatest listing names greatest → HasNumber listing name number → (number < greatest) ⊎ (greatest ≤ number) → Any (λ n. HasNumber listing n (max number greatest)) (names ++ name ∷ [])
+reach : (listing : Listing) (names : List Name) (greatest number : ℕ) (name : Name) → IsGreatest (numbered listing) names greatest → numbered listing name number → (number < greatest) ⊎ (greatest ≤ number) → Any (λ n. numbered listing n (max number greatest)) (names ++ name ∷ [])
 reach listing names greatest number name known has (inl lt) =
     let same : greatest ≡ max number greatest = omega arith in
-    subst (λ (k : ℕ). Any (λ n. HasNumber listing n k) (names ++ name ∷ [])) same
-    (still_there (λ n. HasNumber listing n greatest) names (name ∷ [])
+    subst (λ (k : ℕ). Any (λ n. numbered listing n k) (names ++ name ∷ [])) same
+    (still_there (λ n. numbered listing n greatest) names (name ∷ [])
     (elim known.reached [ inl none ↦ absurd (omega (arith, none.1)) | inr any ↦ any ]))
 reach listing names greatest number name known has (inr le) =
     let same : number ≡ max number greatest = omega arith in
-    subst (λ (k : ℕ). Any (λ n. HasNumber listing n k) (names ++ name ∷ [])) same (Any-push (λ n. HasNumber listing n number) names name has)
+    subst (λ (k : ℕ). Any (λ n. numbered listing n k) (names ++ name ∷ [])) same (Any-push (λ n. numbered listing n number) names name has)
 
-grown : (listing : Listing) (names : List Name) (greatest number : ℕ) (name : Name) → IsGreatest listing names greatest → HasNumber listing name number → number < 2 ^ 63 → IsGreatest listing (names ++ name ∷ []) (max number greatest)
-grown listing names greatest number name known has fits = record {
-  numbers = All-push (λ n. (k : ℕ) × HasNumber listing n k × (k ≤ max number greatest)) names name
-      (All-weaker (λ n. (k : ℕ) × HasNumber listing n k × (k ≤ greatest)) (λ n. (k : ℕ) × HasNumber listing n k × (k ≤ max number greatest)) (λ n h. (h.0, h.1, omega (arith, h.2))) names known.numbers)
+grown : (listing : Listing) (names : List Name) (greatest number : ℕ) (name : Name) → IsGreatest (numbered listing) names greatest → numbered listing name number → IsGreatest (numbered listing) (names ++ name ∷ []) (max number greatest)
+grown listing names greatest number name known has = record {
+  numbers = All-push (λ n. (k : ℕ) × numbered listing n k × (k ≤ max number greatest)) names name
+      (All-weaker (λ n. (k : ℕ) × numbered listing n k × (k ≤ greatest)) (λ n. (k : ℕ) × numbered listing n k × (k ≤ max number greatest)) (λ n h. (h.0, h.1, omega (arith, h.2))) names known.numbers)
       (number, has, omega arith);
   reached = inr (reach listing names greatest number name known has (cases_lt number greatest));
-  fits = omega (arith, known.fits);
 }
 
 -- the least other name stays where the next one has a number
-passed_by : (listing : Listing) (names : List Name) (number : ℕ) (name other : Name) → IsLeastOther listing names other → HasNumber listing name number → IsLeastOther listing (names ++ name ∷ []) other
+passed_by : (listing : Listing) (names : List Name) (number : ℕ) (name other : Name) → IsLeastOther (numbered listing) names other → numbered listing name number → IsLeastOther (numbered listing) (names ++ name ∷ []) other
 passed_by listing names number name other known has = record {
   there = still_there (λ n. n ≡ other) names (name ∷ []) known.there;
   foreign = known.foreign;
-  least = All-push (λ n. HasNone listing n → slice_cmp nat_cmp other n ≢ Greater) names name known.least (λ none. absurd (none number has));
+  least = All-push (λ n. HasNone (numbered listing) n → slice_cmp nat_cmp other n ≢ Greater) names name known.least (λ none. absurd (none number has));
 }
 
 -- it is the first other name
-first_other : (listing : Listing) (names : List Name) (greatest : ℕ) (name : Name) → IsGreatest listing names greatest → HasNone listing name → IsLeastOther listing (names ++ name ∷ []) name
+first_other : (listing : Listing) (names : List Name) (greatest : ℕ) (name : Name) → IsGreatest (numbered listing) names greatest → HasNone (numbered listing) name → IsLeastOther (numbered listing) (names ++ name ∷ []) name
 first_other listing names greatest name known none = record {
   there = Any-push (λ n. n ≡ name) names name refl;
   foreign = none;
-  least = All-push (λ n. HasNone listing n → slice_cmp nat_cmp name n ≢ Greater) names name
-      (All-weaker (λ n. (k : ℕ) × HasNumber listing n k × (k ≤ greatest)) (λ n. HasNone listing n → slice_cmp nat_cmp name n ≢ Greater) (λ n h isnt. absurd (isnt h.0 h.1)) names known.numbers)
+  least = All-push (λ n. HasNone (numbered listing) n → slice_cmp nat_cmp name n ≢ Greater) names name
+      (All-weaker (λ n. (k : ℕ) × numbered listing n k × (k ≤ greatest)) (λ n. HasNone (numbered listing) n → slice_cmp nat_cmp name n ≢ Greater) (λ n h isnt. absurd (isnt h.0 h.1)) names known.numbers)
       (λ _. alike name);
 }
 
 -- the least other name stays where it is not above the next one
-stays : (listing : Listing) (names : List Name) (name other : Name) → IsLeastOther listing names other → slice_cmp nat_cmp other name ≢ Greater → IsLeastOther listing (names ++ name ∷ []) other
+stays : (listing : Listing) (names : List Name) (name other : Name) → IsLeastOther (numbered listing) names other → slice_cmp nat_cmp other name ≢ Greater → IsLeastOther (numbered listing) (names ++ name ∷ []) other
 stays listing names name other known fine = record {
   there = still_there (λ n. n ≡ other) names (name ∷ []) known.there;
   foreign = known.foreign;
-  least = All-push (λ n. HasNone listing n → slice_cmp nat_cmp other n ≢ Greater) names name known.least (λ _. fine);
+  least = All-push (λ n. HasNone (numbered listing) n → slice_cmp nat_cmp other n ≢ Greater) names name known.least (λ _. fine);
 }
 
-replaced : (listing : Listing) (names : List Name) (name other : Name) → IsLeastOther listing names other → HasNone listing name → slice_cmp nat_cmp other name ≡ Greater → IsLeastOther listing (names ++ name ∷ []) name
+replaced : (listing : Listing) (names : List Name) (name other : Name) → IsLeastOther (numbered listing) names other → HasNone (numbered listing) name → slice_cmp nat_cmp other name ≡ Greater → IsLeastOther (numbered listing) (names ++ name ∷ []) name
 replaced listing names name other known none above = record {
   there = Any-push (λ n. n ≡ name) names name refl;
   foreign = none;
-  least = All-push (λ n. HasNone listing n → slice_cmp nat_cmp name n ≢ Greater) names name
-      (All-weaker (λ n. HasNone listing n → slice_cmp nat_cmp other n ≢ Greater) (λ n. HasNone listing n → slice_cmp nat_cmp name n ≢ Greater) (λ n h isnt. below other name n above (h isnt)) names known.least)
+  least = All-push (λ n. HasNone (numbered listing) n → slice_cmp nat_cmp name n ≢ Greater) names name
+      (All-weaker (λ n. HasNone (numbered listing) n → slice_cmp nat_cmp other n ≢ Greater) (λ n. HasNone (numbered listing) n → slice_cmp nat_cmp name n ≢ Greater) (λ n h isnt. below other name n above (h isnt)) names known.least)
       (λ _. alike name);
 }
 
-pub scanned_number : (listing : Listing) (names : List Name) (greatest : ℕ) (other : Option Name) (number : ℕ) (name : Name) → IsScanned listing names greatest other → HasNumber listing name number → number < 2 ^ 63 → IsScanned listing (names ++ name ∷ []) (max number greatest) other
-scanned_number listing names greatest None number name known has fits = grown listing names greatest number name known has fits
+pub scanned_number : (listing : Listing) (names : List Name) (greatest : ℕ) (other : Option Name) (number : ℕ) (name : Name) → IsScanned listing names greatest other → numbered listing name number → number ≤ MAX_STAMP → IsScanned listing (names ++ name ∷ []) (max number greatest) other
+scanned_number listing names greatest None number name known has fits = (grown listing names greatest number name known.0 has, omega (arith, known.1, fits))
 scanned_number listing names greatest (Some other) number name known has fits = passed_by listing names number name other known has
 
-pub scanned_other : (listing : Listing) (names : List Name) (greatest : ℕ) (other : Option Name) (name lesser : Name) → IsScanned listing names greatest other → HasNone listing name → IsLesser other name lesser → IsScanned listing (names ++ name ∷ []) greatest (Some lesser)
+pub scanned_other : (listing : Listing) (names : List Name) (greatest : ℕ) (other : Option Name) (name lesser : Name) → IsScanned listing names greatest other → HasNone (numbered listing) name → IsLesser other name lesser → IsScanned listing (names ++ name ∷ []) greatest (Some lesser)
 scanned_other listing names greatest None name lesser known none is =
-    subst (IsLeastOther listing (names ++ name ∷ [])) (sym is) (first_other listing names greatest name known none)
+    subst (IsLeastOther (numbered listing) (names ++ name ∷ [])) (sym is) (first_other listing names greatest name known.0 none)
 scanned_other listing names greatest (Some old) name lesser known none (inl kept) =
-    subst (IsLeastOther listing (names ++ name ∷ [])) (sym kept.0) (stays listing names name old known kept.1)
+    subst (IsLeastOther (numbered listing) (names ++ name ∷ [])) (sym kept.0) (stays listing names name old known kept.1)
 scanned_other listing names greatest (Some old) name lesser known none (inr new) =
-    subst (IsLeastOther listing (names ++ name ∷ [])) (sym new.0) (replaced listing names name old known none new.1)
+    subst (IsLeastOther (numbered listing) (names ++ name ∷ [])) (sym new.0) (replaced listing names name old known none new.1)
 
 -- ---- the same, as a loop goes on
 
 pub next_number : (listing : Listing) (names : List Name) (i : ℕ) (name : Name) (greatest number : ℕ) (other : Option Name) (new_greatest : ℕ) (new_other : Option Name) → IsScanned listing (take i names) greatest other → i < length names → name ≡ get_or names i name
-    → HasNumber listing name number → number < 2 ^ 63 → new_greatest ≡ max number greatest → new_other ≡ other → IsScanned listing (take (i + 1) names) new_greatest new_other
+    → numbered listing name number → number ≤ MAX_STAMP → new_greatest ≡ max number greatest → new_other ≡ other → IsScanned listing (take (i + 1) names) new_greatest new_other
 next_number listing names i name greatest number other new_greatest new_other known lt is has fits greatest_is other_is =
     let more : take (i + 1) names ≡ take i names ++ name ∷ [] = take_more names i name lt ∙ ap (λ (n : Name). take i names ++ n ∷ []) (sym is) in
     rw (more, greatest_is, other_is) (scanned_number listing (take i names) greatest other number name known has fits)
 
 pub next_other : (listing : Listing) (names : List Name) (i : ℕ) (name : Name) (greatest : ℕ) (other : Option Name) (lesser : Name) (new_greatest : ℕ) (new_other : Option Name) → IsScanned listing (take i names) greatest other → i < length names → name ≡ get_or names i name
-    → HasNone listing name → IsLesser other name lesser → new_greatest ≡ greatest → new_other ≡ Some lesser → IsScanned listing (take (i + 1) names) new_greatest new_other
+    → HasNone (numbered listing) name → IsLesser other name lesser → new_greatest ≡ greatest → new_other ≡ Some lesser → IsScanned listing (take (i + 1) names) new_greatest new_other
 next_other listing names i name greatest other lesser new_greatest new_other known lt is none least greatest_is other_is =
     let more : take (i + 1) names ≡ take i names ++ name ∷ [] = take_more names i name lt ∙ ap (λ (n : Name). take i names ++ n ∷ []) (sym is) in
     rw (more, greatest_is, other_is) (scanned_other listing (take i names) greatest other name lesser known none least)
 
--- ---- the names of a container's truncates, and of the marks
+-- ---- the names of a container's truncates
 
-pub none_read : (folder name : Name) → folder ≡ truncs → ((item : Item) → IsAt (record { folder = folder; file = name }) item → None ≡ Some item) → HasNone Truncates name
+pub none_read : (folder name : Name) → folder ≡ truncs → ((item : Item) → IsAt (record { folder = folder; file = name }) item → None ≡ Some item) → HasNone HasStamp name
 none_read folder name is only =
     λ stamp h. none-some (Trunc stamp h.0) (only (Trunc stamp h.0) (subst (λ (f : Name). IsIn f name (Trunc stamp h.0)) (sym is) h.1))
-
-pub floor_known : (names : List Name) (floor : ℕ) → IsGreatest Truncates names floor → IsFloorOf names floor
-floor_known names floor known = record {
-  truncates = All-weaker (λ name. (stamp : ℕ) × HasNumber Truncates name stamp × (stamp ≤ floor)) (λ name. (stamp size : ℕ) × IsIn truncs name (Trunc stamp size) × (stamp ≤ floor)) (λ name h. (h.0, h.1.0, h.1.1, h.2)) names known.numbers;
-  greatest = known.reached;
-}
-
-not_item : (name : Name) → HasNone Truncates name → (item : Item) → IsIn truncs name item → ⊥
-not_item name none (Trunc stamp size) is = none stamp (size, is)
-not_item name none item is = elsewhere (first_of_folder is.printed) refl
-
-foreign_here : (name : Name) → HasNone Truncates name → IsForeign truncs name
-foreign_here name none = λ item is. not_item name none item is
-
-pub foreign_known : (names : List Name) (name : Name) → IsLeastOther Truncates names name → IsLeastForeign truncs names name
-foreign_known names name known = record {
-  there = known.there;
-  foreign = foreign_here name known.foreign;
-  least = All-weaker (λ other. HasNone Truncates other → slice_cmp nat_cmp name other ≢ Greater) (λ other. IsForeign truncs other → slice_cmp nat_cmp name other ≢ Greater) (λ other h foreign. h (λ stamp is. foreign (Trunc stamp is.0) is.1)) names known.least;
-}
-
-Any-weaker : {X : Type 0} (P Q : X → Type 0) → ((x : X) → P x → Q x) → (xs : List X) → Any P xs → Any Q xs
-Any-weaker P Q more xs any = (any.0, any.1, any.2, any.3, more any.1 any.4)
-
-pub mark_known : (names : List Name) (greatest : ℕ) → IsGreatest Marks names greatest → IsGreatestMark names greatest
-mark_known names greatest known = record {
-  marks = All-weaker (λ name. (n : ℕ) × HasNumber Marks name n × (n ≤ greatest)) (λ name. (n : ℕ) × (1 ≤ n) × (n ≤ greatest) × (name ≡ mark_name n)) (λ name h. (h.0, h.1.0, h.2, h.1.2)) names known.numbers;
-  reached = elim known.reached [ inl none ↦ inl none | inr any ↦ inr (Any-weaker (λ name. HasNumber Marks name greatest) (λ name. name ≡ mark_name greatest) (λ name h. h.2) names any) ];
-}

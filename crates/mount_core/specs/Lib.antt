@@ -4,6 +4,6 @@ pub mod Stages
 pub mod Writable
 pub mod Settling
 pub mod Standing
+pub mod Breaking
 pub mod Admitting
 pub mod Scanning
-pub mod Opening

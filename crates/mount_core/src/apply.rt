@@ -9,15 +9,25 @@ use store_api::Store;
 
 impl<S: Store + Drop, C: Clock + Drop> Mount<S, C> {
     /// Makes the caller's call, which is a check and at most one act. A caller owes a capacity of 1 to 4096 where it
-    /// enters a writer, and stops no call. What was fine stays so: the table is regular, and where the store told a
+    /// enters a writer. Broken off, the call makes a part of its act, and its caller is at its end. What was fine stays so: the table is regular, and where the store told a
     /// sound tree as it was mounted, the state is sound.
-    #[tactic(auto, using(mount_sound::proofs::Fine::step_fine))]
+    #[tactic(auto, using(mount_sound::proofs::Facts::step_fine))]
     pub fn apply(&mut self, caller: u64, ask: &Ask) -> Reply
         requires { IsOwed ask.now }
         ensures step { IsStep self.old caller ask.now result self.new }
         ensures fine { IsFine self.old → IsFine self.new }
     {
-        self.answer(caller, &ask.call)
+        self.make_step(caller, ask)
+    }
+
+    fn make_step(&mut self, caller: u64, ask: &Ask) -> Reply
+        requires { IsOwed ask.now }
+        ensures { IsStep self.old caller ask.now result self.new }
+    {
+        match ask.stop {
+            None => self.answer(caller, &ask.call),
+            Some(k) => self.stop(caller, k, &ask.call),
+        }
     }
 
     fn answer(&mut self, caller: u64, call: &Call) -> Reply

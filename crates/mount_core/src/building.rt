@@ -2,7 +2,7 @@
 ghost use Rattle.std.specs.Prelude.{◌<◌, [], length};
 ghost use Rattle.container_layout.specs.Paths.{hostdir_of};
 ghost use Rattle.mount_model.specs.declared.row.Stage.TheVariants.{Housed, Indexed, Open};
-ghost use Rattle.mount_model.specs.Making.{Makes};
+ghost use Rattle.mount_model.specs.Making.{MakesAct};
 ghost use Rattle.mount_model.specs.Paths.{index_path as index_path_of, log_path as log_path_of};
 ghost use Rattle.mount_model.specs.Building.{build_outcome, hostdir_step, index_step, log_step, MakesHostdir, MakesIndex, MakesLog};
 ghost use Rattle.mount_core.specs.Settling.{IsSettled};
@@ -42,7 +42,7 @@ impl Roster {
 }
 
 impl<S: Store + Drop, C: Clock + Drop> Mount<S, C> {
-    /// Makes the folder of the droppings of the caller's floored writer.
+    /// MakesAct the folder of the droppings of the caller's floored writer.
     pub(crate) fn make_hostdir(&mut self, caller: u64, writer: u64) -> Reply
         ensures { MakesHostdir caller writer self.old result self.new }
     {
@@ -57,7 +57,7 @@ impl<S: Store + Drop, C: Clock + Drop> Mount<S, C> {
 
     fn make_hostdir_at(&mut self, place: usize) -> Reply
         requires { place < length self.old.table.writers }
-        ensures { AtPlace self.old.table place (λ row. Makes (hostdir_step row) (build_outcome Housed (hostdir_of row.host) [] row self.old.table) self.old result self.new) }
+        ensures { AtPlace self.old.table place (λ row. MakesAct (hostdir_step row) (build_outcome Housed (hostdir_of row.host) [] row self.old.table) self.old result self.new) }
     {
         let row = self.roster.row(place);
         let room = row.room;
@@ -69,7 +69,7 @@ impl<S: Store + Drop, C: Clock + Drop> Mount<S, C> {
         self.roster.built(place, Stage::Housed, &at, told)
     }
 
-    /// Makes the index dropping of the caller's housed writer.
+    /// MakesAct the index dropping of the caller's housed writer.
     pub(crate) fn make_index(&mut self, caller: u64, writer: u64) -> Reply
         ensures { MakesIndex caller writer self.old result self.new }
     {
@@ -84,7 +84,7 @@ impl<S: Store + Drop, C: Clock + Drop> Mount<S, C> {
 
     fn make_index_at(&mut self, place: usize) -> Reply
         requires { place < length self.old.table.writers }
-        ensures { AtPlace self.old.table place (λ row. Makes (index_step row) (build_outcome Indexed (hostdir_of row.host) (index_path_of row.host row.id).file row self.old.table) self.old result self.new) }
+        ensures { AtPlace self.old.table place (λ row. MakesAct (index_step row) (build_outcome Indexed (hostdir_of row.host) (index_path_of row.host row.id).file row self.old.table) self.old result self.new) }
     {
         let row = self.roster.row(place);
         let room = row.room;
@@ -97,7 +97,7 @@ impl<S: Store + Drop, C: Clock + Drop> Mount<S, C> {
         self.roster.built(place, Stage::Indexed, &at, told)
     }
 
-    /// Makes the log of the caller's writer, which may write from then on.
+    /// MakesAct the log of the caller's writer, which may write from then on.
     pub(crate) fn make_log(&mut self, caller: u64, writer: u64) -> Reply
         ensures { MakesLog caller writer self.old result self.new }
     {
@@ -112,7 +112,7 @@ impl<S: Store + Drop, C: Clock + Drop> Mount<S, C> {
 
     fn make_log_at(&mut self, place: usize) -> Reply
         requires { place < length self.old.table.writers }
-        ensures { AtPlace self.old.table place (λ row. Makes (log_step row) (build_outcome Open (hostdir_of row.host) (log_path_of row.host row.id).file row self.old.table) self.old result self.new) }
+        ensures { AtPlace self.old.table place (λ row. MakesAct (log_step row) (build_outcome Open (hostdir_of row.host) (log_path_of row.host row.id).file row self.old.table) self.old result self.new) }
     {
         let row = self.roster.row(place);
         let room = row.room;

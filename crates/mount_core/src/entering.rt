@@ -2,7 +2,7 @@
 ghost use Rattle.std.specs.Prelude.{◌≡◌, ◌≤◌, List, [], ◌∷◌, ◌++◌, Some, IfOk, IfErr, OnOk, OnErr};
 ghost use Rattle.store_api.specs.Step.{create};
 ghost use Rattle.mount_model.specs.declared.row.Row.{Row};
-ghost use Rattle.mount_model.specs.Making.{Makes};
+ghost use Rattle.mount_model.specs.Making.{MakesAct};
 ghost use Rattle.mount_model.specs.Paths.{openhosts as openhosts_name, open_path as open_path_of};
 ghost use Rattle.mount_model.specs.Entering.{enter_check as enter_refusal, enter_outcome, Enters};
 ghost use Rattle.mount_core.specs.Roll.{bare};
@@ -25,7 +25,7 @@ const SERIALS: u64 = 1 << 32;
 
 impl Roster {
     /// Draws the next serial, and gives its id.
-    fn draw(&mut self, room: u64) -> Result<u64, Refusal>
+    pub(crate) fn draw(&mut self, room: u64) -> Result<u64, Refusal>
         ensures ok { IfOk result (λ id. IsNextId room self.old id self.new) }
         ensures refused { IfErr result (λ why. enter_refusal (bare self.old) room ≡ Some why) }
         ensures kept { OnErr result (self.new ≡ self.old) }
@@ -81,6 +81,8 @@ impl Roster {
             stored: 0,
             end: 0,
             landed: 0,
+            log_mark: 0,
+            index_mark: 0,
             pending,
             has_meta: false,
             stage: Stage::Entered,
@@ -135,10 +137,10 @@ impl<S: Store + Drop, C: Clock + Drop> Mount<S, C> {
         }
     }
 
-    /// Makes the entry of the writer that was added last.
+    /// MakesAct the entry of the writer that was added last.
     fn enter_as(&mut self, id: u64, room: u64, host: u32) -> Reply
         ensures { (rows : List Row) (row : Row) → self.old.table.writers ≡ rows ++ row ∷ [] → row.id ≡ id → row.host ≡ host
-            → Makes (create room openhosts_name (open_path_of host id).file) (enter_outcome row (record self.old.table { writers = rows })) self.old result self.new }
+            → MakesAct (create room openhosts_name (open_path_of host id).file) (enter_outcome row (record self.old.table { writers = rows })) self.old result self.new }
     {
         let at = open_path(host, id);
         let told = self.store.act(&Step::Create {

@@ -1,7 +1,7 @@
 //! Calls that find, make and name containers.
 ghost use Rattle.std.specs.Prelude.{◌≡◌, ◌↔◌, [], IsTrue, codes};
 ghost use Rattle.plfs_types.specs.Names.{IsLogicalName};
-ghost use Rattle.mount_model.specs.Making.{Makes};
+ghost use Rattle.mount_model.specs.Making.{MakesAct};
 ghost use Rattle.mount_model.specs.Finding.{Finds, MakesContainer, make_outcome, AreLogicalOf, RoomsReply, NamesRooms};
 ghost use Rattle.mount_model.specs.Paths.{new_folders, new_files};
 ghost use Rattle.store_api.specs.Step.{make_room};
@@ -25,7 +25,7 @@ fn nowhere() -> Path
 }
 
 /// The top file of a container.
-fn access() -> Name
+pub(crate) fn access() -> Name
     ensures { result ≡ codes "access" }
 {
     Name::from_bytes(b"access").unwrap()
@@ -72,7 +72,7 @@ impl<S: Store + Drop, C: Clock + Drop> Mount<S, C> {
         }
     }
 
-    /// Makes a container of this name, where there is none.
+    /// MakesAct a container of this name, where there is none.
     pub(crate) fn make_container(&mut self, name: &LogicalName) -> Reply
         ensures { MakesContainer name.now self.old result self.new }
     {
@@ -80,7 +80,7 @@ impl<S: Store + Drop, C: Clock + Drop> Mount<S, C> {
     }
 
     fn make_room(&mut self, name: Name) -> Reply
-        ensures { Makes (make_room name new_folders new_files) (make_outcome self.old.table) self.old result self.new }
+        ensures { MakesAct (make_room name new_folders new_files) (make_outcome self.old.table) self.old result self.new }
     {
         let told = self.store.act(&Step::MakeRoom {
             name,

@@ -1,7 +1,6 @@
 //! A writer's floor is found: its stamps will be above those of the truncates that are there.
-ghost use Rattle.std.specs.Prelude.{◌≡◌, ◌<◌, ◌^◌, length, IfOk, IfErr};
-ghost use Rattle.mount_model.specs.Paths.{truncs as truncs_name};
-ghost use Rattle.mount_model.specs.Flooring.{IsFloorOf, IsLeastForeign, FloorOutcome, FloorsRow, Floors};
+ghost use Rattle.std.specs.Prelude.{◌≡◌, ◌<◌, length};
+ghost use Rattle.mount_model.specs.Flooring.{FloorOutcome, FloorsRow, Floors};
 ghost use Rattle.mount_core.specs.Roll.{with_table};
 ghost use Rattle.mount_core.specs.Standing.{AtPlace};
 
@@ -16,18 +15,6 @@ use mount_model::{Refusal, Reply, Stage};
 use plfs_types::{Name, Path};
 use store_api::{Answer, Step, Store, Trouble};
 
-/// The floor that truncates of these names make, or the least name that is no item's.
-fn floor_of(names: &[Name]) -> Result<u64, Name>
-    ensures ok { IfOk result (IsFloorOf names.now) }
-    ensures fits { IfOk result (λ floor. floor < 2 ^ 63) }
-    ensures err { IfErr result (IsLeastForeign truncs_name names.now) }
-{
-    match greatest(Listing::Truncates, names) {
-        Ok(floor) => Ok(floor),
-        Err(name) => Err(name),
-    }
-}
-
 impl Roster {
     /// Settles the listing of the truncates.
     fn floored(&mut self, place: usize, told: Result<Answer, Trouble>) -> Reply
@@ -40,7 +27,7 @@ impl Roster {
             file: Name::empty(),
         };
         match told {
-            Ok(Answer::Names(names)) => match floor_of(names.as_slice()) {
+            Ok(Answer::Names(names)) => match greatest(Listing::Truncates, names.as_slice()) {
                 Ok(floor) => {
                     self.set_floor(place, floor);
                     Reply::Floored { floor }

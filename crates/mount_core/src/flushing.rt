@@ -1,8 +1,8 @@
 //! A writer's pending entries go to its index dropping, and its droppings are synced.
 ghost use Rattle.std.specs.Prelude.{◌≡◌, ◌<◌, length};
 ghost use Rattle.container_layout.specs.Paths.{hostdir_of};
-ghost use Rattle.mount_model.specs.Making.{Makes};
-ghost use Rattle.mount_model.specs.Paths.{index_path as index_path_of};
+ghost use Rattle.mount_model.specs.Making.{MakesAct};
+ghost use Rattle.mount_model.specs.Paths.{index_path as index_path_of, log_path as log_path_of};
 ghost use Rattle.mount_model.specs.Flushing.{FlushesRow, Flushes, flush_step, flush_outcome, SyncsLog, sync_log_step, sync_log_outcome, SyncsIndex, sync_index_step, sync_index_outcome};
 ghost use Rattle.mount_core.specs.Settling.{IsSettled};
 ghost use Rattle.mount_core.specs.Standing.{AtPlace};
@@ -14,7 +14,7 @@ use crate::stages::Stages;
 use crate::telling::otherwise;
 use edge_io::Clock;
 use mount_model::{Refusal, Reply, Stage};
-use plfs_types::Path;
+use plfs_types::{ENTRY_SIZE, Path};
 use store_api::{Answer, Step, Store, Trouble};
 
 impl Roster {
@@ -31,6 +31,36 @@ impl Roster {
             }
             Ok(answer) => otherwise(at, Ok(answer)),
             Err(trouble) => otherwise(at, Err(trouble)),
+        }
+    }
+
+    /// Settles the sync of the log at this path.
+    fn synced_log(&mut self, place: usize, at: &Path, told: Result<Answer, Trouble>) -> Reply
+        requires within { place < length self.old.table.writers }
+        requires of_writer { AtPlace self.old.table place (λ row. at.now ≡ log_path_of row.host row.id) }
+        ensures { AtPlace self.old.table place (λ row. IsSettled (sync_log_outcome row self.old.table told) self.old result self.new) }
+    {
+        match told {
+            Ok(Answer::Made) => {
+                self.set_log_synced(place);
+                Reply::Done
+            }
+            other => otherwise(at, other),
+        }
+    }
+
+    /// Settles the sync of the index dropping at this path.
+    fn synced_index(&mut self, place: usize, at: &Path, told: Result<Answer, Trouble>) -> Reply
+        requires within { place < length self.old.table.writers }
+        requires of_writer { AtPlace self.old.table place (λ row. at.now ≡ index_path_of row.host row.id) }
+        ensures { AtPlace self.old.table place (λ row. IsSettled (sync_index_outcome row self.old.table told) self.old result self.new) }
+    {
+        match told {
+            Ok(Answer::Made) => {
+                let landed = self.set_index_synced(place);
+                Reply::Synced { landed }
+            }
+            other => otherwise(at, other),
         }
     }
 }
@@ -59,7 +89,7 @@ impl<S: Store + Drop, C: Clock + Drop> Mount<S, C> {
 
     fn flush_pending(&mut self, place: usize) -> Reply
         requires { place < length self.old.table.writers }
-        ensures { AtPlace self.old.table place (λ row. Makes (flush_step row) (flush_outcome row self.old.table) self.old result self.new) }
+        ensures { AtPlace self.old.table place (λ row. MakesAct (flush_step row) (flush_outcome row self.old.table) self.old result self.new) }
     {
         let row = self.roster.row(place);
         let at = index_path(row.host, row.id);
@@ -67,7 +97,7 @@ impl<S: Store + Drop, C: Clock + Drop> Mount<S, C> {
             room: row.room,
             folder: at.folder,
             file: at.file,
-            at: 40 * row.landed,
+            at: ENTRY_SIZE as u64 * row.landed,
             bytes: row.pending.bytes(),
         });
         self.roster.flushed(place, &at, told)
@@ -85,7 +115,7 @@ impl<S: Store + Drop, C: Clock + Drop> Mount<S, C> {
 
     fn sync_log_at(&mut self, place: usize) -> Reply
         requires { place < length self.old.table.writers }
-        ensures { AtPlace self.old.table place (λ row. Makes (sync_log_step row) (sync_log_outcome row self.old.table) self.old result self.new) }
+        ensures { AtPlace self.old.table place (λ row. MakesAct (sync_log_step row) (sync_log_outcome row self.old.table) self.old result self.new) }
     {
         let row = self.roster.row(place);
         let at = log_path(row.host, row.id);
@@ -94,11 +124,7 @@ impl<S: Store + Drop, C: Clock + Drop> Mount<S, C> {
             folder: at.folder,
             file: at.file,
         });
-        match told {
-            Ok(Answer::Made) => Reply::Done,
-            Ok(answer) => otherwise(&at, Ok(answer)),
-            Err(trouble) => otherwise(&at, Err(trouble)),
-        }
+        self.roster.synced_log(place, &at, told)
     }
 
     /// Syncs the index dropping of the caller's open writer.
@@ -113,20 +139,15 @@ impl<S: Store + Drop, C: Clock + Drop> Mount<S, C> {
 
     fn sync_index_at(&mut self, place: usize) -> Reply
         requires { place < length self.old.table.writers }
-        ensures { AtPlace self.old.table place (λ row. Makes (sync_index_step row) (sync_index_outcome row self.old.table) self.old result self.new) }
+        ensures { AtPlace self.old.table place (λ row. MakesAct (sync_index_step row) (sync_index_outcome row self.old.table) self.old result self.new) }
     {
         let row = self.roster.row(place);
-        let landed = row.landed;
         let at = index_path(row.host, row.id);
         let told = self.store.act(&Step::Sync {
             room: row.room,
             folder: at.folder,
             file: at.file,
         });
-        match told {
-            Ok(Answer::Made) => Reply::Synced { landed },
-            Ok(answer) => otherwise(&at, Ok(answer)),
-            Err(trouble) => otherwise(&at, Err(trouble)),
-        }
+        self.roster.synced_index(place, &at, told)
     }
 }

@@ -1,6 +1,6 @@
 //! A writer leaves: its metadata dropping is made, and its entry in the folder of who has the container open goes.
 ghost use Rattle.std.specs.Prelude.{◌≡◌, ◌<◌, length};
-ghost use Rattle.mount_model.specs.Making.{Makes, UnlessRefused};
+ghost use Rattle.mount_model.specs.Making.{MakesAct, UnlessRefused};
 ghost use Rattle.mount_model.specs.Paths.{metadata, open_path as open_path_of};
 ghost use Rattle.mount_model.specs.Leaving.{put_meta_check as put_meta_refusal, put_meta_step, put_meta_outcome, meta_file, PutsMeta, exit_check as exit_refusal, exit_step, exit_outcome, Exits};
 ghost use Rattle.mount_core.specs.Settling.{IsSettled};
@@ -17,10 +17,10 @@ use plfs_types::Path;
 use store_api::{Answer, Step, Store, Trouble};
 
 /// Why the writer's metadata dropping is not made.
-fn put_meta_check(row: &Row) -> Option<Refusal>
+pub(crate) fn put_meta_check(row: &Row) -> Option<Refusal>
     ensures { result ≡ put_meta_refusal row.now }
 {
-    if row.pending.pending() > 0 {
+    if row.pending.pending() > 0 || row.log_mark != row.stored || row.index_mark != row.landed {
         Some(Refusal::NotFlushed)
     } else {
         None
@@ -28,7 +28,7 @@ fn put_meta_check(row: &Row) -> Option<Refusal>
 }
 
 /// Why the writer may not leave.
-fn exit_check(row: &Row) -> Option<Refusal>
+pub(crate) fn exit_check(row: &Row) -> Option<Refusal>
     ensures { result ≡ exit_refusal row.now }
 {
     if row.stored > 0 && !row.has_meta {
@@ -85,7 +85,7 @@ impl Roster {
 }
 
 impl<S: Store + Drop, C: Clock + Drop> Mount<S, C> {
-    /// Makes the metadata dropping of the caller's writer, which has nothing pending.
+    /// MakesAct the metadata dropping of the caller's writer, which has nothing pending or unsynced.
     pub(crate) fn put_meta(&mut self, caller: u64, writer: u64) -> Reply
         ensures { PutsMeta caller writer self.old result self.new }
     {
@@ -98,7 +98,7 @@ impl<S: Store + Drop, C: Clock + Drop> Mount<S, C> {
     fn put_meta_at(&mut self, place: usize) -> Reply
         requires { place < length self.old.table.writers }
         ensures { AtPlace self.old.table place (λ row. UnlessRefused (put_meta_refusal row) self.old result self.new
-            (Makes (put_meta_step row) (put_meta_outcome row self.old.table) self.old result self.new)) }
+            (MakesAct (put_meta_step row) (put_meta_outcome row self.old.table) self.old result self.new)) }
     {
         match put_meta_check(self.roster.row(place)) {
             Some(why) => Reply::Refused(why),
@@ -108,7 +108,7 @@ impl<S: Store + Drop, C: Clock + Drop> Mount<S, C> {
 
     fn make_meta(&mut self, place: usize) -> Reply
         requires { place < length self.old.table.writers }
-        ensures { AtPlace self.old.table place (λ row. Makes (put_meta_step row) (put_meta_outcome row self.old.table) self.old result self.new) }
+        ensures { AtPlace self.old.table place (λ row. MakesAct (put_meta_step row) (put_meta_outcome row self.old.table) self.old result self.new) }
     {
         let row = self.roster.row(place);
         let at = meta_path(row);
@@ -133,7 +133,7 @@ impl<S: Store + Drop, C: Clock + Drop> Mount<S, C> {
     fn exit_at(&mut self, place: usize) -> Reply
         requires { place < length self.old.table.writers }
         ensures { AtPlace self.old.table place (λ row. UnlessRefused (exit_refusal row) self.old result self.new
-            (Makes (exit_step row) (exit_outcome row self.old.table) self.old result self.new)) }
+            (MakesAct (exit_step row) (exit_outcome row self.old.table) self.old result self.new)) }
     {
         match exit_check(self.roster.row(place)) {
             Some(why) => Reply::Refused(why),
@@ -143,7 +143,7 @@ impl<S: Store + Drop, C: Clock + Drop> Mount<S, C> {
 
     fn remove_entry(&mut self, place: usize) -> Reply
         requires { place < length self.old.table.writers }
-        ensures { AtPlace self.old.table place (λ row. Makes (exit_step row) (exit_outcome row self.old.table) self.old result self.new) }
+        ensures { AtPlace self.old.table place (λ row. MakesAct (exit_step row) (exit_outcome row self.old.table) self.old result self.new) }
     {
         let row = self.roster.row(place);
         let at = open_path(row.host, row.id);

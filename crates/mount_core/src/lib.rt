@@ -22,10 +22,9 @@ mod roster;
 mod scanning;
 mod shared;
 mod stages;
+mod stopping;
 mod telling;
-mod trouble;
 mod writing;
 
 pub use mount::Mount;
-pub use mount_model::{Ask, Call, Look, Refusal, Reply};
-pub use trouble::MountTrouble;
+pub use mount_model::{Ask, Call, Look, MountTrouble, Refusal, Reply};

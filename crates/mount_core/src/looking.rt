@@ -1,8 +1,8 @@
 //! A look at a container: the reply is what the store answered, where that is an answer to such a step.
 ghost use Rattle.std.specs.Prelude.{◌≡◌, []};
 ghost use Rattle.store_api.specs.Step.{list_folder, length_of, read_at};
-ghost use Rattle.mount_model.specs.Making.{Makes, says};
-ghost use Rattle.mount_model.specs.Looking.{listing_reply, length_reply, read_reply, look_step, look_outcome, Looks};
+ghost use Rattle.mount_model.specs.Making.{MakesAct, says};
+ghost use Rattle.mount_model.specs.Looking.{listing_reply, length_reply, read_reply, look_step, look_outcome, LooksAt};
 
 use crate::mount::Mount;
 use crate::telling::otherwise;
@@ -63,9 +63,9 @@ fn read(at: &Path, len: u64, told: Result<Answer, Trouble>) -> Reply
 }
 
 impl<S: Store + Drop, C: Clock + Drop> Mount<S, C> {
-    /// Looks at the container.
+    /// LooksAt at the container.
     pub(crate) fn look(&mut self, room: u64, look: &Look) -> Reply
-        ensures { Looks room look.now self.old result self.new }
+        ensures { LooksAt room look.now self.old result self.new }
     {
         if room == self.roster.marks() {
             return Reply::Refused(Refusal::NoRoom);
@@ -74,7 +74,7 @@ impl<S: Store + Drop, C: Clock + Drop> Mount<S, C> {
     }
 
     fn look_in(&mut self, room: u64, look: &Look) -> Reply
-        ensures { Makes (look_step room look.now) (look_outcome look.now self.old) self.old result self.new }
+        ensures { MakesAct (look_step room look.now) (look_outcome look.now self.old) self.old result self.new }
     {
         match *look {
             Look::Top => self.list(room, Name::empty()),
@@ -85,14 +85,14 @@ impl<S: Store + Drop, C: Clock + Drop> Mount<S, C> {
     }
 
     fn list(&mut self, room: u64, folder: Name) -> Reply
-        ensures { Makes (list_folder room folder) (λ told. says (listing_reply folder told) self.old.table) self.old result self.new }
+        ensures { MakesAct (list_folder room folder) (λ told. says (listing_reply folder told) self.old.table) self.old result self.new }
     {
         let told = self.store.act(&Step::List { room, folder });
         listed(folder, told)
     }
 
     fn length(&mut self, room: u64, at: &Path) -> Reply
-        ensures { Makes (length_of room at.now.folder at.now.file) (λ told. says (length_reply at.now told) self.old.table) self.old result self.new }
+        ensures { MakesAct (length_of room at.now.folder at.now.file) (λ told. says (length_reply at.now told) self.old.table) self.old result self.new }
     {
         let told = self.store.act(&Step::Length {
             room,
@@ -103,7 +103,7 @@ impl<S: Store + Drop, C: Clock + Drop> Mount<S, C> {
     }
 
     fn read(&mut self, room: u64, path: &Path, at: u64, len: u64) -> Reply
-        ensures { Makes (read_at room path.now.folder path.now.file at len) (λ told. says (read_reply path.now len told) self.old.table) self.old result self.new }
+        ensures { MakesAct (read_at room path.now.folder path.now.file at len) (λ told. says (read_reply path.now len told) self.old.table) self.old result self.new }
     {
         let told = self.store.act(&Step::ReadAt {
             room,

@@ -3,16 +3,16 @@ ghost use Rattle.std.specs.Prelude.{◌≡◌, [], None, Ok, false, IfOk, IfErr,
 ghost use Rattle.plfs_types.specs.Counts.{HasRisen};
 ghost use Rattle.store_api.specs.declared.step.Answer.TheVariants.{Made, Names};
 ghost use Rattle.store_api.specs.Acts.{Acts};
-ghost use Rattle.mount_model.specs.Mounting.{IsMounted};
+ghost use Rattle.mount_model.specs.Mounting.{marks_step, list_step, mark_step, room_told, TellsRoom, IsNextMark, DrawsMark, IsMounted};
+ghost use Rattle.mount_model.specs.Failing.{names_told, made_told, FailsAt, LeavesNone, FailsToMount};
 ghost use Rattle.mount_model.specs.Paths.{marks_name as marks_room_name, marks_folder as marks_folder_name};
-ghost use Rattle.mount_core.specs.Opening.{marks_step, list_step, mark_step, room_told, names_told, made_told, TellsRoom, FailsAt, LeavesNone, IsNextMark, FailsToMount, DrawsMark};
 
 use crate::mount::Mount;
 use crate::roster::Roster;
 use crate::scanning::{Listing, greatest};
-use crate::trouble::MountTrouble;
 use container_layout::print_number;
 use edge_io::Clock;
+use mount_model::MountTrouble;
 use plfs_types::{Name, NameList};
 use std::alloc::Global;
 use std::snapshot::Snapshot;

@@ -1,11 +1,12 @@
 //! The mount's table, and what draws ids for it.
-ghost use Rattle.std.specs.Prelude.{◌≡◌, ◌<◌, ◌^◌, length, Some, slice_get, IfNone, IfSome, None};
+ghost use Rattle.std.specs.Prelude.{◌≡◌, ◌<◌, ◌≤◌, length, Some, slice_get, IfNone, IfSome, None};
+ghost use Rattle.plfs_types.specs.declared.limits.TheConstants.{MAX_STAMP};
 ghost use Rattle.mount_model.specs.Table.{writer_of, at_stage};
 ghost use Rattle.mount_model.specs.State.{put, take_out};
 ghost use Rattle.mount_model.specs.Regular.{IsCounted};
 ghost use Rattle.mount_model.specs.Flooring.{floored};
 ghost use Rattle.mount_model.specs.Writing.{wrote};
-ghost use Rattle.mount_model.specs.Flushing.{flushed};
+ghost use Rattle.mount_model.specs.Flushing.{flushed, log_synced, index_synced};
 ghost use Rattle.mount_model.specs.Leaving.{closed};
 ghost use Rattle.mount_core.specs.Roll.{new_roll, with_table, IsRegularRoll};
 ghost use Rattle.mount_core.specs.Writable.{MayTake, IsStampFor};
@@ -108,7 +109,7 @@ impl Roster {
     /// Sets the floor of the writer at this place.
     pub(crate) fn set_floor(&mut self, place: usize, floor: u64)
         requires within { place < length self.old.table.writers }
-        requires fits { floor < 2 ^ 63 }
+        requires fits { floor ≤ MAX_STAMP }
         ensures { AtPlace self.old.table place (λ row. self.new ≡ with_table (put (floored floor row) self.old.table) self.old) }
     {
         let row = &mut self.writers[place];
@@ -124,6 +125,26 @@ impl Roster {
         let row = &mut self.writers[place];
         row.has_meta = true;
         row.stage = Stage::Closing;
+    }
+
+    /// Notes that all that the writer at this place stored is synced.
+    pub(crate) fn set_log_synced(&mut self, place: usize)
+        requires { place < length self.old.table.writers }
+        ensures { AtPlace self.old.table place (λ row. self.new ≡ with_table (put (log_synced row) self.old.table) self.old) }
+    {
+        let row = &mut self.writers[place];
+        row.log_mark = row.stored;
+    }
+
+    /// Notes that all entries that landed of the writer at this place are synced: how many they are.
+    pub(crate) fn set_index_synced(&mut self, place: usize) -> u64
+        requires { place < length self.old.table.writers }
+        ensures count { AtPlace self.old.table place (λ row. result ≡ row.landed) }
+        ensures left { AtPlace self.old.table place (λ row. self.new ≡ with_table (put (index_synced row) self.old.table) self.old) }
+    {
+        let row = &mut self.writers[place];
+        row.index_mark = row.landed;
+        row.landed
     }
 
     /// Keeps the entry of a write of so many bytes from the logical place `at` on.

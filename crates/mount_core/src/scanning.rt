@@ -1,6 +1,8 @@
 //! Listings whose names have a number each.
-ghost use Rattle.std.specs.Prelude.{◌≡◌, ◌≢◌, ℕ, ◌<◌, ◌^◌, IfSome, IfNone, IfOk, IfErr};
-ghost use Rattle.mount_core.specs.Scanning.{HasNumber, HasNone, IsGreatest, IsLeastOther, IsLesser};
+ghost use Rattle.std.specs.Prelude.{◌≡◌, ◌≢◌, ℕ, ◌≤◌, IfSome, IfNone, IfOk, IfErr};
+ghost use Rattle.plfs_types.specs.declared.limits.TheConstants.{MAX_STAMP};
+ghost use Rattle.mount_model.specs.Listed.{HasNone, IsGreatest, IsLeastOther, HasStamp, IsMarkOf};
+ghost use Rattle.mount_core.specs.Scanning.{numbered, IsLesser};
 
 use container_layout::{Item, read, read_number, truncs};
 use plfs_types::{Name, Path};
@@ -17,8 +19,9 @@ pub(crate) enum Listing {
 
 /// The greatest number of these names, 0 where there are none, or the least name in byte order that has no number.
 pub(crate) fn greatest(listing: Listing, names: &[Name]) -> Result<u64, Name>
-    ensures ok { IfOk result (IsGreatest listing names.now) }
-    ensures err { IfErr result (IsLeastOther listing names.now) }
+    ensures ok { IfOk result (IsGreatest (numbered listing) names.now) }
+    ensures fits { IfOk result (λ number. number ≤ MAX_STAMP) }
+    ensures err { IfErr result (IsLeastOther (numbered listing) names.now) }
 {
     let mut greatest = 0;
     let mut other = None;
@@ -49,8 +52,8 @@ fn lesser(other: Option<Name>, name: Name) -> Name
 
 /// The number of a name in such a listing.
 fn number_in(listing: Listing, name: &Name) -> Option<u64>
-    ensures some { IfSome result (λ number. HasNumber listing name.now number × (number < 2 ^ 63)) }
-    ensures none { IfNone result (HasNone listing name.now) }
+    ensures some { IfSome result (λ number. numbered listing name.now number × (number ≤ MAX_STAMP)) }
+    ensures none { IfNone result (HasNone (numbered listing) name.now) }
 {
     match listing {
         Listing::Truncates => stamp_of(name),
@@ -60,8 +63,8 @@ fn number_in(listing: Listing, name: &Name) -> Option<u64>
 
 /// The stamp of the truncate of this name.
 fn stamp_of(name: &Name) -> Option<u64>
-    ensures some { IfSome result (λ stamp. HasNumber Listing.Truncates name.now stamp × (stamp < 2 ^ 63)) }
-    ensures none { IfNone result (HasNone Listing.Truncates name.now) }
+    ensures some { IfSome result (λ stamp. HasStamp name.now stamp × (stamp ≤ MAX_STAMP)) }
+    ensures none { IfNone result (HasNone HasStamp name.now) }
 {
     let path = Path {
         folder: truncs(),
@@ -86,8 +89,8 @@ fn stamp_in(item: &Item) -> Option<u64>
 
 /// The number of the mount that put this mark.
 fn mark_of(name: &Name) -> Option<u64>
-    ensures some { IfSome result (λ mark. HasNumber Listing.Marks name.now mark × (mark < 2 ^ 63)) }
-    ensures none { IfNone result (HasNone Listing.Marks name.now) }
+    ensures some { IfSome result (λ mark. IsMarkOf name.now mark × (mark ≤ MAX_STAMP)) }
+    ensures none { IfNone result (HasNone IsMarkOf name.now) }
 {
     let mark = read_number(name)?;
     if mark == 0 || mark > u64::from(u32::MAX) {

@@ -8,7 +8,7 @@ use turn_object::Object;
 impl<S: Store + Drop, C: Clock + Drop> Object for Mount<S, C> {
     ghost use Rattle.mount_model.specs.Step.{IsStep, IsOwed};
     ghost use Rattle.mount_sound.specs.Sound.{IsFine};
-    ghost use Rattle.mount_sound.proofs.Fine.{step_fine};
+    ghost use Rattle.mount_sound.proofs.Facts.{step_fine};
 
     type Ask = Ask;
 

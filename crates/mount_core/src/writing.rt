@@ -1,6 +1,6 @@
 //! A writer's bytes go to its log, and their entry to its buffer.
-ghost use Rattle.std.specs.Prelude.{◌≡◌, ◌<◌, ◌≤◌, ◌-◌, ◌^◌, length, None};
-ghost use Rattle.mount_model.specs.Making.{Makes, UnlessRefused};
+ghost use Rattle.std.specs.Prelude.{◌≡◌, ◌<◌, ◌≤◌, length, None};
+ghost use Rattle.mount_model.specs.Making.{MakesAct, UnlessRefused};
 ghost use Rattle.mount_model.specs.Paths.{log_path as log_path_of};
 ghost use Rattle.mount_model.specs.Writing.{write_check as write_refusal, stamp_at as stamp_of, write_step, write_outcome, WritesAt, Writes};
 ghost use Rattle.mount_core.specs.Settling.{IsSettled};
@@ -14,26 +14,17 @@ use crate::stages::Stages;
 use crate::telling::otherwise;
 use edge_io::Clock;
 use mount_model::{Refusal, Reply, Row, Stage};
-use plfs_types::{Block, MAX_SIZE, Path};
+use plfs_types::{Block, MAX_LOG, MAX_SIZE, MAX_STAMP, Path};
 use store_api::{Answer, Step, Store, Trouble};
 
-/// The most bytes of one log.
-const MOST_STORED: u64 = 1 << 56;
-
-const GREATEST_STAMP: u64 = (1 << 63) - 1;
-
 /// Why the writer may not write so many bytes from this place on.
-fn write_check(row: &Row, at: u64, len: u64) -> Option<Refusal>
+pub(crate) fn write_check(row: &Row, at: u64, len: u64) -> Option<Refusal>
     ensures { result ≡ write_refusal row.now at len }
 {
-    if at > MAX_SIZE
-        || len > MAX_SIZE - at
-        || row.stored > MOST_STORED
-        || len > MOST_STORED - row.stored
-    {
+    if at > MAX_SIZE || len > MAX_SIZE - at || row.stored > MAX_LOG || len > MAX_LOG - row.stored {
         return Some(Refusal::TooFar);
     }
-    if row.last >= GREATEST_STAMP || row.floor >= GREATEST_STAMP {
+    if row.last >= MAX_STAMP || row.floor >= MAX_STAMP {
         return Some(Refusal::StampsSpent);
     }
     if row.pending.pending() >= u64::from(row.pending.capacity()) {
@@ -45,8 +36,8 @@ fn write_check(row: &Row, at: u64, len: u64) -> Option<Refusal>
 /// The clock's time cut to 2^62, but above the writer's last stamp and its floor.
 #[tactic(auto, unfolding(mount_model::specs::Writing::stamp_at))]
 fn stamp_at(time: u64, row: &Row) -> u64
-    requires last { row.now.last < 2 ^ 63 - 1 }
-    requires floor { row.now.floor < 2 ^ 63 - 1 }
+    requires last { row.now.last < MAX_STAMP }
+    requires floor { row.now.floor < MAX_STAMP }
     ensures same { result ≡ stamp_of time row.now }
     ensures stamp { IsStampFor row.now result }
 {
@@ -118,7 +109,7 @@ impl<S: Store + Drop, C: Clock + Drop> Mount<S, C> {
     fn log(&mut self, place: usize, time: u64, at: u64, bytes: &[u8]) -> Reply
         requires within { place < length self.old.table.writers }
         requires fine { AtPlace self.old.table place (λ row. MayTake row at (length bytes.now)) }
-        ensures { AtPlace self.old.table place (λ row. Makes (write_step row bytes.now) (write_outcome (stamp_of time row) row at (length bytes.now) self.old.table) self.old result self.new) }
+        ensures { AtPlace self.old.table place (λ row. MakesAct (write_step row bytes.now) (write_outcome (stamp_of time row) row at (length bytes.now) self.old.table) self.old result self.new) }
     {
         let row = self.roster.row(place);
         let stamp = stamp_at(time, row);

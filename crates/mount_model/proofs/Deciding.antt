@@ -2,15 +2,18 @@
 use Rattle.std.proofs.Common.{◌≡◌, ℕ, ◌+◌, ◌-◌, ◌<◌, ◌≤◌, ◌^◌, List, length, Bool, true, false, nat_eq, nat_le, nat_lt, ◌||◌, ◌&&◌, Option, Some, None, refl, ◌⊎◌, inl, inr, subst, arith, if◌then◌else◌}
 use Rattle.std.specs.Prelude.{MatchOption}
 use Rattle.std.proofs.lemmas.Bool.Decides.{nat_tests}
+use Rattle.mount_model.specs.declared.call.Ask.{Ask}
 use Rattle.mount_model.specs.declared.row.Row.{Row}
 use Rattle.mount_model.specs.declared.row.Stage.{Stage}
 use Rattle.mount_model.specs.declared.reply.Refusal.{Refusal}
 use Rattle.mount_model.specs.declared.reply.Reply.{Reply}
 use Rattle.mount_model.specs.State.{State}
 use Rattle.mount_model.specs.Table.{row_of, rank, only, held_by, writer_of}
-use Rattle.mount_model.specs.Entering.{enter_check}
+use Rattle.mount_model.specs.Entering.{serial_check, enter_check}
 use Rattle.mount_model.specs.Writing.{write_check}
-use Rattle.mount_model.specs.Making.{OnWriter, UnlessRefused}
+use Rattle.mount_model.specs.Making.{room_check, or_reason, OnWriter, UnlessRefused}
+use Rattle.mount_model.specs.Stopping.{Stops}
+use Rattle.mount_model.specs.Step.{Answers, IsStep}
 use Rattle.mount_model.proofs.Tables.{alike, apart, row_of_id}
 
 -- ---- the caller's writer
@@ -84,11 +87,16 @@ not_below a b t = grind (arith, nat_tests)
 above : (a b : ℕ) → nat_le a b ≡ false → b < a
 above a b t = grind (arith, nat_tests)
 
+neither_reason : (first other : Option Refusal) → or_reason first other ≡ None → (first ≡ None) × (other ≡ None)
+neither_reason None other e = (refl, e)
+neither_reason (Some why) other e = absurd (cc)
+
 -- the room is no marks' room, and there is a serial left
 pub may_enter : (old : State) (room : ℕ) → enter_check old room ≡ None → (room ≡ old.marks → ⊥) × (old.serial < 2 ^ 32 - 1)
 may_enter old room e =
-    let first = unless (nat_eq room old.marks) _ _ e in
-    let second = unless (nat_le (2 ^ 32 - 1) old.serial) _ _ first.1 in
+    let parts = neither_reason (room_check old room) (serial_check old) e in
+    let first = unless (nat_eq room old.marks) _ _ parts.0 in
+    let second = unless (nat_le (2 ^ 32 - 1) old.serial) _ _ parts.1 in
     (apart room old.marks first.0, above (2 ^ 32 - 1) old.serial second.0)
 
 -- a write that is not too far, may have a stamp, and has a place in the buffer
@@ -113,3 +121,13 @@ may_write row at len e =
       floor = above (2 ^ 63 - 1) row.floor spent_parts.1;
       free = above row.pending.capacity (length row.pending.entries) full.0;
     }
+
+-- ---- a step
+
+-- a call is answered, or broken off
+pub step_cases : (old : State) (caller : ℕ) (ask : Ask) (reply : Reply) (new : State) (R : Type 0) → IsStep old caller ask reply new
+    → (ask.stop ≡ None → Answers old caller ask.call reply new → R) → ((k : ℕ) → ask.stop ≡ Some k → Stops caller k ask.call old reply new → R) → R
+step_cases old caller ask reply new R step answered stopped = elim (match_cases ask.stop _ _ step.does) as (λ _. R) [
+  | inl (none, a) ↦ answered none a
+  | inr (k, some, s) ↦ stopped k some s
+]

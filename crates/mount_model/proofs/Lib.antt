@@ -1,10 +1,16 @@
-pub mod Tables
-pub mod Deciding
-pub mod Places
-pub mod Ranges
-pub mod Rows
-pub mod Outcomes
-pub mod Lasting
-pub mod Holding
-pub mod Replying
-pub mod Beginning
+mod Beginning
+mod Broken
+mod Deciding
+pub mod Facts
+mod Foreign
+mod Histories
+mod Holding
+mod Idle
+mod Lasting
+mod Outcomes
+mod Places
+mod Ranges
+mod Replying
+mod Rows
+mod Stopping
+mod Tables

@@ -13,7 +13,7 @@ use Rattle.mount_model.specs.Finding.{find_outcome, make_outcome}
 use Rattle.mount_model.specs.Entering.{enter_outcome}
 use Rattle.mount_model.specs.Building.{build_outcome}
 use Rattle.mount_model.specs.Writing.{write_outcome, wrote}
-use Rattle.mount_model.specs.Flushing.{flush_outcome, flushed, sync_log_outcome, sync_index_outcome}
+use Rattle.mount_model.specs.Flushing.{flush_outcome, flushed, log_synced, sync_log_outcome, index_synced, sync_index_outcome}
 use Rattle.mount_model.specs.Leaving.{put_meta_outcome, closed, closing, exit_outcome}
 
 module _ (P : Table → Type 0) (table : Table) (kept : P table) where
@@ -45,13 +45,13 @@ module _ (P : Table → Type 0) (table : Table) (kept : P table) where
   flush_table row landed (Ok Made) = landed
   flush_table row landed told = kept
 
-  pub sync_log_table : (row : Row) (told : Told) → P (sync_log_outcome row table told).table
-  sync_log_table row (Ok Made) = kept
-  sync_log_table row told = kept
+  pub sync_log_table : (row : Row) → P (put (log_synced row) table) → (told : Told) → P (sync_log_outcome row table told).table
+  sync_log_table row synced (Ok Made) = synced
+  sync_log_table row synced told = kept
 
-  pub sync_index_table : (row : Row) (told : Told) → P (sync_index_outcome row table told).table
-  sync_index_table row (Ok Made) = kept
-  sync_index_table row told = kept
+  pub sync_index_table : (row : Row) → P (put (index_synced row) table) → (told : Told) → P (sync_index_outcome row table told).table
+  sync_index_table row synced (Ok Made) = synced
+  sync_index_table row synced told = kept
 
   pub put_meta_table : (row : Row) → P (put (closed row) table) → P (put (closing row) table) → (told : Told) → P (put_meta_outcome row table told).table
   put_meta_table row done asked (Ok Made) = done

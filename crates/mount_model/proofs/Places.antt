@@ -1,7 +1,9 @@
 -- No call changes where the mount stands.
-use Rattle.std.proofs.Common.{◌≡◌, ℕ, List, [], ◌∷◌, Bool, Option, refl, sym, ap, ◌∙◌, inl, inr, subst, arith}
+use Rattle.std.proofs.Common.{◌≡◌, ℕ, List, [], ◌∷◌, Bool, Option, Some, None, refl, sym, ap, ◌∙◌, inl, inr, subst, arith, Ok, Err}
 use Rattle.plfs_types.specs.declared.entries.Entry.{Entry}
+use Rattle.store_api.specs.declared.store.Trouble.TheVariants as trouble
 use Rattle.store_api.specs.Step.{Step}
+use Rattle.store_api.specs.Acts.{Stored}
 use Rattle.mount_model.specs.declared.row.Row.{Row}
 use Rattle.mount_model.specs.declared.row.Stage.{Stage}
 use Rattle.mount_model.specs.declared.call.Call.{Call}
@@ -9,16 +11,17 @@ use Rattle.mount_model.specs.declared.call.Call.TheVariants.{Greet, Find, MakeCo
 use Rattle.mount_model.specs.declared.call.Ask.{Ask}
 use Rattle.mount_model.specs.declared.reply.Refusal.{Refusal}
 use Rattle.mount_model.specs.declared.reply.Reply.{Reply}
-use Rattle.mount_model.specs.State.{State, drawn, timed}
-use Rattle.mount_model.specs.Making.{Told, Outcome, Makes, OnWriter, UnlessRefused}
+use Rattle.mount_model.specs.State.{State, Table, drawn, timed}
+use Rattle.mount_model.specs.Making.{Told, CallOutcome, MakesAct, OnWriter, UnlessRefused}
 use Rattle.mount_model.specs.Finding.{NamesRooms}
-use Rattle.mount_model.specs.Entering.{EntersAs}
+use Rattle.mount_model.specs.Entering.{EntersAs, enter_check}
 use Rattle.mount_model.specs.Flooring.{FloorsRow}
 use Rattle.mount_model.specs.Writing.{WritesAt}
 use Rattle.mount_model.specs.Flushing.{FlushesRow}
 use Rattle.mount_model.specs.Step.{Answers, IsStep}
+use Rattle.mount_model.specs.Stopping.{without_caller, drawn_unless, begun, IsEndedBy}
 use Rattle.mount_model.specs.Places.{KeepsPlace}
-use Rattle.mount_model.proofs.Deciding.{on_writer, unless_refused}
+use Rattle.mount_model.proofs.Deciding.{on_writer, unless_refused, step_cases}
 
 pub place_as : (old new : State) → new ≡ old → KeepsPlace old new
 place_as old new e = record {
@@ -29,7 +32,7 @@ place_as old new e = record {
 }
 
 -- a call whose act is made once serials were drawn, or the clock asked
-pub makes_place : (step : Step) (outcome : Told → Outcome) (old from : State) (reply : Reply) (new : State) → KeepsPlace old from → Makes step outcome from reply new → KeepsPlace old new
+pub makes_place : (step : Step) (outcome : Told → CallOutcome) (old from : State) (reply : Reply) (new : State) → KeepsPlace old from → MakesAct step outcome from reply new → KeepsPlace old new
 makes_place step outcome old from reply new k m = record {
   opened = ap (λ (s : State). s.opened) m.after ∙ k.opened;
   marks = ap (λ (s : State). s.marks) m.after ∙ k.marks;
@@ -46,7 +49,7 @@ timed_place times old = record { opened = refl; marks = refl; mount = refl; seri
 same_place : (old : State) → KeepsPlace old old
 same_place old = place_as old old refl
 
-made_place : (step : Step) (outcome : Told → Outcome) (old : State) (reply : Reply) (new : State) → Makes step outcome old reply new → KeepsPlace old new
+made_place : (step : Step) (outcome : Told → CallOutcome) (old : State) (reply : Reply) (new : State) → MakesAct step outcome old reply new → KeepsPlace old new
 made_place step outcome old reply new m = makes_place step outcome old old reply new (same_place old) m
 
 rooms_place : (old : State) (reply : Reply) (new : State) → NamesRooms old reply new → KeepsPlace old new
@@ -58,10 +61,7 @@ rooms_place old reply new n = record {
 }
 
 enter_place : (caller room host cap : ℕ) (old : State) (reply : Reply) (new : State) → EntersAs caller room host cap old reply new → KeepsPlace old new
-enter_place caller room host cap old reply new e = elim (e.does) as (λ _. KeepsPlace old new) [
-  | inl makes ↦ makes_place _ _ old (drawn old) reply new (drawn_place old) makes
-  | inr (no_memory, is) ↦ subst (KeepsPlace old) (sym is) (drawn_place old)
-]
+enter_place caller room host cap old reply new e = makes_place _ _ old (drawn old) reply new (drawn_place old) e.makes
 
 floor_place : (row : Row) (old : State) (reply : Reply) (new : State) → FloorsRow row old reply new → KeepsPlace old new
 floor_place row old reply new f = record {
@@ -103,6 +103,30 @@ answers_place old caller (SyncIndex writer) reply new a = by_writer caller _ wri
 answers_place old caller (PutMeta writer) reply new a = by_writer caller _ writer old reply new _ a (λ row u. by_check _ old reply new _ u (λ m. made_place _ _ old reply new m))
 answers_place old caller (Exit writer) reply new a = by_writer caller _ writer old reply new _ a (λ row u. by_check _ old reply new _ u (λ m. made_place _ _ old reply new m))
 
+drawn_by : (check : Option Refusal) (old : State) → KeepsPlace old (drawn_unless check old)
+drawn_by None old = drawn_place old
+drawn_by (Some why) old = same_place old
+
+pub begun_place : (old : State) (call : Call) → KeepsPlace old (begun old call)
+begun_place old (Enter room host most) = drawn_by (enter_check old room) old
+begun_place old call = same_place old
+
+-- a state that differs in store and table alone
+beside : (old from new : State) (store : Stored) (table : Table) → KeepsPlace old from → new ≡ record from { store = store; table = table } → KeepsPlace old new
+beside old from new store table k e = record {
+  opened = ap (λ (s : State). s.opened) e ∙ k.opened;
+  marks = ap (λ (s : State). s.marks) e ∙ k.marks;
+  mount = ap (λ (s : State). s.mount) e ∙ k.mount;
+  serial = omega (arith, ap (λ (s : State). s.serial) e, k.serial);
+}
+
+end_place : (told : Told) (reply : Reply) (old from : State) (store : Stored) (caller : ℕ) (new : State) → KeepsPlace old from → IsEndedBy told reply (record from { store = store }) caller new → KeepsPlace old new
+end_place (Err trouble.NoMemory) reply old from store caller new k e = beside old from new store from.table k e.1
+end_place (Err trouble.Fault) reply old from store caller new k e = beside old from new store (without_caller caller from.table) k e.1
+end_place (Ok answer) reply old from store caller new k e = beside old from new store (without_caller caller from.table) k e.1
+
 -- Each step leaves the mount where it stands.
 pub step_place : (old new : State) (caller : ℕ) (ask : Ask) (reply : Reply) → IsStep old caller ask reply new → KeepsPlace old new
-step_place old new caller ask reply s = answers_place old caller ask.call reply new s.answers
+step_place old new caller ask reply s = step_cases old caller ask reply new (KeepsPlace old new) s
+    (λ none a. answers_place old caller ask.call reply new a)
+    (λ k some x. end_place x.told reply old (begun old ask.call) x.store caller new (begun_place old ask.call) x.after)

@@ -9,19 +9,23 @@ use Rattle.mount_model.specs.declared.row.Row.{Row}
 use Rattle.mount_model.specs.State.{State}
 use Rattle.mount_model.specs.Regular.{IsCounted}
 use Rattle.mount_model.specs.Entering.{entered}
-use Rattle.mount_model.specs.Flooring.{IsFloorOf, floored}
+use Rattle.mount_model.specs.Listed.{IsGreatest, HasStamp}
+use Rattle.mount_model.specs.Flooring.{floored}
 use Rattle.mount_model.specs.Paths.{Name}
 use Rattle.mount_model.specs.Table.{at_stage}
 use Rattle.mount_model.specs.declared.row.Stage.{Stage}
 use Rattle.mount_model.specs.Writing.{entry_of, wrote, stamp_at}
-use Rattle.mount_model.specs.Flushing.{flushed}
+use Rattle.mount_model.specs.Flushing.{flushed, log_synced, index_synced}
 use Rattle.mount_model.specs.Leaving.{closed}
 use Rattle.mount_model.proofs.Deciding.{MayWrite}
 
-pub counted_entered : (old : State) (caller room host most : ℕ) → host < 2 ^ 32 → most ≤ 4096 → IsCounted (entered old caller room host most)
-counted_entered old caller room host most fits few = record {
+pub counted_entered : (old : State) (caller room host most : ℕ) → host < 2 ^ 32 → 1 ≤ most → most ≤ 4096 → IsCounted (entered old caller room host most)
+counted_entered old caller room host most fits some few = record {
   host_fits = fits;
+  some_cap = some;
   cap_fits = few;
+  log_marked = omega arith;
+  index_marked = omega arith;
   within_cap = omega arith;
   valid = All-nil IsValidEntry;
   entries = omega arith;
@@ -35,7 +39,44 @@ counted_entered old caller room host most fits few = record {
 pub counted_staged : (stage : Stage) (row : Row) → IsCounted row → IsCounted (at_stage stage row)
 counted_staged stage row c = record {
   host_fits = c.host_fits;
+  some_cap = c.some_cap;
   cap_fits = c.cap_fits;
+  log_marked = c.log_marked;
+  index_marked = c.index_marked;
+  within_cap = c.within_cap;
+  valid = c.valid;
+  entries = c.entries;
+  stored_fits = c.stored_fits;
+  end_fits = c.end_fits;
+  last_fits = c.last_fits;
+  floor_fits = c.floor_fits;
+  written = c.written;
+}
+
+pub counted_log_synced : (row : Row) → IsCounted row → IsCounted (log_synced row)
+counted_log_synced row c = record {
+  host_fits = c.host_fits;
+  some_cap = c.some_cap;
+  cap_fits = c.cap_fits;
+  log_marked = omega arith;
+  index_marked = c.index_marked;
+  within_cap = c.within_cap;
+  valid = c.valid;
+  entries = c.entries;
+  stored_fits = c.stored_fits;
+  end_fits = c.end_fits;
+  last_fits = c.last_fits;
+  floor_fits = c.floor_fits;
+  written = c.written;
+}
+
+pub counted_index_synced : (row : Row) → IsCounted row → IsCounted (index_synced row)
+counted_index_synced row c = record {
+  host_fits = c.host_fits;
+  some_cap = c.some_cap;
+  cap_fits = c.cap_fits;
+  log_marked = c.log_marked;
+  index_marked = omega arith;
   within_cap = c.within_cap;
   valid = c.valid;
   entries = c.entries;
@@ -49,7 +90,10 @@ counted_staged stage row c = record {
 pub counted_closed : (row : Row) → IsCounted row → IsCounted (closed row)
 counted_closed row c = record {
   host_fits = c.host_fits;
+  some_cap = c.some_cap;
   cap_fits = c.cap_fits;
+  log_marked = c.log_marked;
+  index_marked = c.index_marked;
   within_cap = c.within_cap;
   valid = c.valid;
   entries = c.entries;
@@ -63,21 +107,27 @@ counted_closed row c = record {
 pub counted_floored : (floor : ℕ) (row : Row) → floor < 2 ^ 63 → IsCounted row → IsCounted (floored floor row)
 counted_floored floor row fits c = record {
   host_fits = c.host_fits;
+  some_cap = c.some_cap;
   cap_fits = c.cap_fits;
+  log_marked = c.log_marked;
+  index_marked = c.index_marked;
   within_cap = c.within_cap;
   valid = c.valid;
   entries = c.entries;
   stored_fits = c.stored_fits;
   end_fits = c.end_fits;
   last_fits = c.last_fits;
-  floor_fits = fits;
+  floor_fits = omega (arith, fits);
   written = c.written;
 }
 
 pub counted_flushed : (row : Row) → IsCounted row → IsCounted (flushed row)
 counted_flushed row c = record {
   host_fits = c.host_fits;
+  some_cap = c.some_cap;
   cap_fits = c.cap_fits;
+  log_marked = c.log_marked;
+  index_marked = omega (arith, c.index_marked);
   within_cap = omega arith;
   valid = All-nil IsValidEntry;
   entries = omega (arith, c.entries);
@@ -99,7 +149,7 @@ pub next_is_stamp : (time last floor : ℕ) → last < 2 ^ 63 - 1 → floor < 2 
 next_is_stamp time last floor l f = record { some = omega arith; later = omega arith; above = omega arith; fits = omega arith }
 
 pub valid_entry : (stamp : ℕ) (row : Row) (at len : ℕ) → 1 ≤ len → at + len ≤ 2 ^ 40 → 1 ≤ stamp → stamp < 2 ^ 63 → IsValidEntry (entry_of stamp row at len)
-valid_entry stamp row at len some near stamped fits = record { not_empty = some; near = near; stamped = stamped; stamp_fits = fits }
+valid_entry stamp row at len some near stamped fits = record { not_empty = some; near = near; stamped = stamped; stamp_fits = omega (arith, fits) }
 
 one_more : (entries : List Entry) (e : Entry) → length (entries ++ e ∷ []) ≡ length entries + 1
 one_more entries e = omega (arith, length-append entries (e ∷ []))
@@ -115,14 +165,17 @@ counted_by stamp row at len some may s c =
     let longer : length (row.pending.entries ++ entry_of stamp row at len ∷ []) ≡ length row.pending.entries + 1 = one_more row.pending.entries (entry_of stamp row at len) in
     record {
       host_fits = c.host_fits;
+      some_cap = c.some_cap;
       cap_fits = c.cap_fits;
+      log_marked = omega (arith, c.log_marked);
+      index_marked = c.index_marked;
       within_cap = omega (arith, longer, may.free);
       valid = All-append IsValidEntry row.pending.entries (entry_of stamp row at len ∷ []) c.valid
           (All-cons IsValidEntry (entry_of stamp row at len) [] (valid_entry stamp row at len some may.near s.some s.fits) (All-nil IsValidEntry));
       entries = omega (arith, longer, c.entries, some);
       stored_fits = may.few;
       end_fits = greater_fits row.end (at + len) (2 ^ 40) c.end_fits may.near;
-      last_fits = s.fits;
+      last_fits = omega (arith, s.fits);
       floor_fits = c.floor_fits;
       written = inr (omega (arith, some), greater_some row.end (at + len) (omega (arith, some)), s.some);
     }
@@ -131,8 +184,8 @@ pub counted_wrote : (time : ℕ) (row : Row) (at len : ℕ) → 1 ≤ len → Ma
 counted_wrote time row at len some may c = counted_by (stamp_at time row) row at len some may (next_is_stamp time row.last row.floor may.last may.floor) c
 
 -- the floor is a truncate's stamp, or 0
-pub floor_fits : (names : List Name) (floor : ℕ) → IsFloorOf names floor → floor < 2 ^ 63
-floor_fits names floor is = elim (is.greatest) as (λ _. floor < 2 ^ 63) [
+pub floor_fits : (names : List Name) (floor : ℕ) → IsGreatest HasStamp names floor → floor < 2 ^ 63
+floor_fits names floor is = elim (is.reached) as (λ _. floor < 2 ^ 63) [
   | inl (none, zero_is) ↦ omega (arith, zero_is)
-  | inr any ↦ any.4.1.is_item.in_range.stamp_fits
+  | inr any ↦ omega (arith, any.4.1.is_item.in_range.stamp_fits)
 ]

@@ -1,16 +1,12 @@
 -- The rows of a table stay regular where one of them changes.
-use Rattle.std.proofs.Common.{◌≡◌, ◌≢◌, ℕ, ◌+◌, ◌<◌, ◌≤◌, ◌^◌, List, [], ◌∷◌, ◌++◌, Some, arith}
+use Rattle.std.proofs.Common.{◌≡◌, ◌≢◌, ℕ, ◌+◌, ◌<◌, ◌≤◌, ◌^◌, List, [], ◌∷◌, ◌++◌, map, filter, Bool, true, false, Some, arith, if◌then◌else◌}
 use Rattle.std.specs.List.{All}
-use Rattle.std.proofs.lemmas.List.Elements.{All-nil, All-cons, All-append, All-weaker}
+use Rattle.std.proofs.lemmas.List.Elements.{All-nil, All-cons, All-head, All-tail, All-append, All-weaker}
 use Rattle.mount_model.specs.declared.row.Row.{Row}
 use Rattle.mount_model.specs.State.{State, Table, id_of}
 use Rattle.mount_model.specs.Table.{row_of, with_row, without_row}
-use Rattle.mount_model.specs.Regular.{IsCounted, AreAscending, IsRegular}
+use Rattle.mount_model.specs.Regular.{IsCounted, AreAscending, IsOfSerial, Ascend, AreDrawn, AreHolders, AreFlattenings, IsRegular}
 use Rattle.mount_model.proofs.Tables.{row_of_all, all-with_row, ascending-with_row, all-without_row, ascending-without_row, ascending-push}
-
--- the id is of a serial of this mount up to this one
-abbrev pub IsOfSerial : ℕ → ℕ → ℕ → Type 0
-IsOfSerial mount last id = (serial : ℕ) × (1 ≤ serial) × (serial ≤ last) × (id ≡ id_of mount serial)
 
 -- what is regular of the rows, of a mount whose last serial and marks' room these are
 pub record AreRegular (mount last marks : ℕ) (rows : List Row) : Type 0 where
@@ -19,20 +15,37 @@ pub record AreRegular (mount last marks : ℕ) (rows : List Row) : Type 0 where
   pub drawn : All (λ (row : Row). IsOfSerial mount last row.id) rows
   pub apart : All (λ (row : Row). row.room ≢ marks) rows
 
-abbrev pub AreRegularFor : State → Table → Type 0
-AreRegularFor state table = AreRegular state.mount state.serial state.marks table.writers
+-- what is regular of a table, in a state
+pub record AreRegularFor (state : State) (table : Table) : Type 0 where
+  pub writers : AreRegular state.mount state.serial state.marks table.writers
+  pub holders : AreHolders state.mount state.serial state.marks table.holders
+  pub flattenings : AreFlattenings state.mount state.serial state.marks table.flattenings
 
 pub rows_of : (state : State) → IsRegular state → AreRegularFor state state.table
-rows_of state r = record { counted = r.counted; ascending = r.ascending; drawn = r.drawn; apart = r.apart }
+rows_of state r = record {
+  writers = record { counted = r.counted; ascending = r.ascending; drawn = r.drawn; apart = r.apart };
+  holders = r.holders;
+  flattenings = r.flattenings;
+}
 
 pub regular_of : (state : State) → state.mount < 2 ^ 32 → state.serial < 2 ^ 32 → AreRegularFor state state.table → IsRegular state
 regular_of state mount serial r = record {
   mount_fits = mount;
   serial_fits = serial;
-  counted = r.counted;
-  ascending = r.ascending;
-  drawn = r.drawn;
-  apart = r.apart;
+  counted = r.writers.counted;
+  ascending = r.writers.ascending;
+  drawn = r.writers.drawn;
+  apart = r.writers.apart;
+  holders = r.holders;
+  flattenings = r.flattenings;
+}
+
+-- another state of the same mount, with the same serials
+pub regular_for : (state other : State) (table : Table) → other.mount ≡ state.mount → other.serial ≡ state.serial → other.marks ≡ state.marks → AreRegularFor state table → AreRegularFor other table
+regular_for state other table mount serial marks r = record {
+  writers = rw (mount, serial, marks) r.writers;
+  holders = rw (mount, serial, marks) r.holders;
+  flattenings = rw (mount, serial, marks) r.flattenings;
 }
 
 -- ---- one row
@@ -97,3 +110,45 @@ regular_pushed mount last marks rows new is counted apart r =
           (All-cons (λ (x : Row). IsOfSerial mount (last + 1) x.id) new [] (last + 1, omega arith, omega arith, is) (All-nil (λ (x : Row). IsOfSerial mount (last + 1) x.id)));
       apart = All-append (λ (x : Row). x.room ≢ marks) rows (new ∷ []) r.apart (All-cons (λ (x : Row). x.room ≢ marks) new [] apart (All-nil (λ (x : Row). x.room ≢ marks)));
     }
+
+-- ---- who holds a room, and flattenings
+
+none_drawn : (mount last marks : ℕ) → AreDrawn mount last marks [] []
+none_drawn mount last marks = record { ascending = tt; drawn = All-nil (IsOfSerial mount last); apart = All-nil (λ room. room ≢ marks) }
+
+pub no_holders : (mount last marks : ℕ) → AreHolders mount last marks []
+no_holders mount last marks = none_drawn mount last marks
+
+pub no_flattenings : (mount last marks : ℕ) → AreFlattenings mount last marks []
+no_flattenings mount last marks = none_drawn mount last marks
+
+-- a serial is drawn
+pub drawn_later : (mount last marks : ℕ) (numbers rooms : List ℕ) → AreDrawn mount last marks numbers rooms → AreDrawn mount (last + 1) marks numbers rooms
+drawn_later mount last marks numbers rooms d = record {
+  ascending = d.ascending;
+  drawn = All-weaker (IsOfSerial mount last) (IsOfSerial mount (last + 1)) (λ id is. later_serial mount last id is) numbers d.drawn;
+  apart = d.apart;
+}
+
+-- some of them go
+module _ {X : Type 0} (number room : X → ℕ) (stays : X → Bool) where
+  all_some : (P : ℕ → Type 0) (of : X → ℕ) (xs : List X) → All P (map of xs) → All P (map of (filter stays xs))
+  all_some P of [] all = all
+  all_some P of (x ∷ xs) all = elim (stays x) as (λ b. All P (map of (if b then x ∷ filter stays xs else filter stays xs))) [
+    | true ↦ All-cons P (of x) (map of (filter stays xs)) (All-head P (of x) (map of xs) all) (all_some P of xs (All-tail P (of x) (map of xs) all))
+    | false ↦ all_some P of xs (All-tail P (of x) (map of xs) all)
+  ]
+
+  ascend_some : (xs : List X) → Ascend (map number xs) → Ascend (map number (filter stays xs))
+  ascend_some [] a = tt
+  ascend_some (x ∷ xs) a = elim (stays x) as (λ b. Ascend (map number (if b then x ∷ filter stays xs else filter stays xs))) [
+    | true ↦ (all_some (λ later. number x < later) number xs a.0, ascend_some xs a.1)
+    | false ↦ ascend_some xs a.1
+  ]
+
+  pub some_drawn : (mount last marks : ℕ) (xs : List X) → AreDrawn mount last marks (map number xs) (map room xs) → AreDrawn mount last marks (map number (filter stays xs)) (map room (filter stays xs))
+  some_drawn mount last marks xs d = record {
+    ascending = ascend_some xs d.ascending;
+    drawn = all_some (IsOfSerial mount last) number xs d.drawn;
+    apart = all_some (λ room. room ≢ marks) room xs d.apart;
+  }

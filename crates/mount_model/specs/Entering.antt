@@ -1,22 +1,23 @@
 -- A writer enters a container.
-use Rattle.std.specs.Prelude.{◌≡◌, ◌⊎◌, ℕ, ◌+◌, ◌-◌, ◌^◌, ◌<◌, [], ◌∷◌, ◌++◌, nat_le, ◌==◌, false, Option, Some, None, Ok, if◌then◌else◌}
+use Rattle.std.specs.Prelude.{ℕ, ◌+◌, ◌-◌, ◌^◌, ◌<◌, [], ◌∷◌, ◌++◌, nat_le, false, Option, Some, None, Ok, if◌then◌else◌}
 use Rattle.store_api.specs.declared.step.Answer.TheVariants.{Made, NoFolder}
 use Rattle.store_api.specs.Step.{Step, create}
 use Rattle.mount_model.specs.declared.row.Row.{Row}
 use Rattle.mount_model.specs.declared.row.Stage.TheVariants as stage
 use Rattle.mount_model.specs.declared.reply.Reply.{Reply}
-use Rattle.mount_model.specs.declared.reply.Reply.TheVariants.{Entered, Refused, NoMemory}
+use Rattle.mount_model.specs.declared.reply.Reply.TheVariants.{Entered, Refused}
 use Rattle.mount_model.specs.declared.reply.Refusal.{Refusal}
-use Rattle.mount_model.specs.declared.reply.Refusal.TheVariants.{NoRoom, Held, IdsSpent}
+use Rattle.mount_model.specs.declared.reply.Refusal.TheVariants.{Held, IdsSpent}
 use Rattle.mount_model.specs.Paths.{openhosts, open_path}
 use Rattle.mount_model.specs.State.{State, Table, id_of, drawn}
-use Rattle.mount_model.specs.Making.{Told, Outcome, says, otherwise, Makes, UnlessRefused}
+use Rattle.mount_model.specs.Making.{Told, CallOutcome, says, otherwise, MakesAct, room_check, or_reason, UnlessRefused}
+
+-- each serial is drawn once
+abbrev pub serial_check : State → Option Refusal
+serial_check old = if nat_le (2 ^ 32 - 1) old.serial then Some IdsSpent else None
 
 abbrev pub enter_check : State → ℕ → Option Refusal
-enter_check old room =
-    if room == old.marks then Some NoRoom
-    else if nat_le (2 ^ 32 - 1) old.serial then Some IdsSpent
-    else None
+enter_check old room = or_reason (room_check old room) (serial_check old)
 
 -- the id of the next serial
 abbrev pub next_id : State → ℕ
@@ -34,6 +35,8 @@ entered old caller room host cap = record {
   stored = 0;
   end = 0;
   landed = 0;
+  log_mark = 0;
+  index_mark = 0;
   pending = record { entries = []; capacity = cap };
   has_meta = false;
   stage = stage.Entered;
@@ -42,17 +45,15 @@ entered old caller room host cap = record {
 abbrev pub enter_step : State → ℕ → ℕ → Step
 enter_step old room host = create room openhosts (open_path host (next_id old)).file
 
-abbrev pub enter_outcome : Row → Table → Told → Outcome
+abbrev pub enter_outcome : Row → Table → Told → CallOutcome
 enter_outcome row table (Ok Made) = says (Entered row.id) (record table { writers = table.writers ++ row ∷ [] })
 enter_outcome row table (Ok NoFolder) = says (Refused Held) table
 enter_outcome row table told = says (otherwise openhosts (open_path row.host row.id).file told) table
 
--- Where it isn't refused, the next serial is drawn, whatever the act tells, also where memory is refused before it.
+-- Where it isn't refused, the next serial is drawn, whatever the act tells.
 pub record EntersAs (caller room host cap : ℕ) (old : State) (reply : Reply) (new : State) : Type 0 where
   pub host_fits : host < 2 ^ 32
-  pub does :
-      Makes (enter_step old room host) (enter_outcome (entered old caller room host cap) old.table) (drawn old) reply new
-      ⊎ ((reply ≡ NoMemory) × (new ≡ drawn old))
+  pub makes : MakesAct (enter_step old room host) (enter_outcome (entered old caller room host cap) old.table) (drawn old) reply new
 
 abbrev pub Enters : ℕ → ℕ → ℕ → ℕ → State → Reply → State → Type 0
 Enters caller room host cap old reply new = UnlessRefused (enter_check old room) old reply new

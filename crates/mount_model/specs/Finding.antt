@@ -9,25 +9,25 @@ use Rattle.mount_model.specs.declared.reply.Reply.TheVariants.{Room, Rooms, Refu
 use Rattle.mount_model.specs.declared.reply.Refusal.TheVariants.{NoRoom}
 use Rattle.mount_model.specs.Paths.{Name, new_folders, new_files}
 use Rattle.mount_model.specs.State.{State, Table}
-use Rattle.mount_model.specs.Making.{Told, Outcome, says, otherwise, Makes}
+use Rattle.mount_model.specs.Making.{Told, CallOutcome, says, otherwise, MakesAct}
 
-abbrev pub find_outcome : Table → Told → Outcome
+abbrev pub find_outcome : Table → Told → CallOutcome
 find_outcome table (Ok (Number room)) = says (Room room) table
 find_outcome table (Ok Absent) = says (Refused NoRoom) table
 find_outcome table told = says (otherwise [] [] told) table
 
 pub record Finds (name : Name) (old : State) (reply : Reply) (new : State) : Type 0 where
   pub named : IsLogicalName name
-  pub makes : Makes (find_room name) (find_outcome old.table) old reply new
+  pub makes : MakesAct (find_room name) (find_outcome old.table) old reply new
 
-abbrev pub make_outcome : Table → Told → Outcome
+abbrev pub make_outcome : Table → Told → CallOutcome
 make_outcome table (Ok (Number room)) = says (Room room) table
 make_outcome table (Ok (Old room)) = says (Room room) table
 make_outcome table told = says (otherwise [] [] told) table
 
 pub record MakesContainer (name : Name) (old : State) (reply : Reply) (new : State) : Type 0 where
   pub named : IsLogicalName name
-  pub makes : Makes (make_room name new_folders new_files) (make_outcome old.table) old reply new
+  pub makes : MakesAct (make_room name new_folders new_files) (make_outcome old.table) old reply new
 
 -- the logical names among these, in their order
 abbrev pub AreLogicalOf : List Name → List Name → Type 0

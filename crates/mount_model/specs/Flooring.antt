@@ -1,12 +1,5 @@
 -- A writer's floor is found: its stamps will be above those of the truncates that are there.
-use Rattle.std.specs.Prelude.{◌≡◌, ◌≢◌, ◌⊎◌, ℕ, ◌≤◌, List, [], Ok}
-use Rattle.std.specs.List.{All, Any}
-use Rattle.std.specs.Ordering.{nat_cmp}
-use Rattle.std.specs.Cmp.Lexicographic.{slice_cmp}
-use Rattle.std.specs.declared.cmp.Ordering.TheVariants.{Greater}
-use Rattle.container_layout.specs.declared.items.Item.{Item}
-use Rattle.container_layout.specs.declared.items.Item.TheVariants.{Trunc}
-use Rattle.container_layout.specs.Paths.{IsIn}
+use Rattle.std.specs.Prelude.{◌≡◌, ◌⊎◌, ℕ, [], Ok}
 use Rattle.store_api.specs.declared.step.Answer.TheVariants.{Names}
 use Rattle.store_api.specs.Step.{list_folder}
 use Rattle.store_api.specs.Acts.{Acts}
@@ -15,24 +8,10 @@ use Rattle.mount_model.specs.declared.row.Stage.TheVariants as stage
 use Rattle.mount_model.specs.declared.reply.Reply.{Reply}
 use Rattle.mount_model.specs.declared.reply.Reply.TheVariants.{Floored, Damaged}
 use Rattle.mount_model.specs.Paths.{Name, truncs}
+use Rattle.mount_model.specs.Listed.{IsGreatest, IsLeastOther, HasStamp}
 use Rattle.mount_model.specs.Table.{only}
 use Rattle.mount_model.specs.State.{State, Table, put}
 use Rattle.mount_model.specs.Making.{Told, otherwise, OnWriter}
-
--- no item of this folder has the name
-abbrev pub IsForeign : Name → Name → Type 0
-IsForeign folder name = (item : Item) → IsIn folder name item → ⊥
-
--- of these names the least one in byte order that is no item's
-pub record IsLeastForeign (folder : Name) (names : List Name) (name : Name) : Type 0 where
-  pub there : Any (λ other. other ≡ name) names
-  pub foreign : IsForeign folder name
-  pub least : All (λ other. IsForeign folder other → slice_cmp nat_cmp name other ≢ Greater) names
-
--- each of these names is a truncate's, and this is the greatest of their stamps, or 0 where there are none
-pub record IsFloorOf (names : List Name) (floor : ℕ) : Type 0 where
-  pub truncates : All (λ name. (stamp size : ℕ) × IsIn truncs name (Trunc stamp size) × (stamp ≤ floor)) names
-  pub greatest : ((names ≡ []) × (floor ≡ 0)) ⊎ Any (λ name. (size : ℕ) × IsIn truncs name (Trunc floor size)) names
 
 abbrev pub floored : ℕ → Row → Row
 floored floor row = record row { floor = floor; stage = stage.Floored }
@@ -40,8 +19,8 @@ floored floor row = record row { floor = floor; stage = stage.Floored }
 -- what is answered to what the store told of the truncates, and the table then
 abbrev pub FloorOutcome : Row → Table → Told → Reply → Table → Type 0
 FloorOutcome row table (Ok (Names names)) reply after =
-    ((floor : ℕ) × IsFloorOf names floor × (reply ≡ Floored floor) × (after ≡ put (floored floor row) table))
-    ⊎ ((name : Name) × IsLeastForeign truncs names name × (reply ≡ Damaged truncs name) × (after ≡ table))
+    ((floor : ℕ) × IsGreatest HasStamp names floor × (reply ≡ Floored floor) × (after ≡ put (floored floor row) table))
+    ⊎ ((name : Name) × IsLeastOther HasStamp names name × (reply ≡ Damaged truncs name) × (after ≡ table))
 FloorOutcome row table told reply after = (reply ≡ otherwise truncs [] told) × (after ≡ table)
 
 pub record FloorsRow (row : Row) (old : State) (reply : Reply) (new : State) : Type 0 where

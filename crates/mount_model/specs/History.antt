@@ -12,15 +12,25 @@ use Rattle.mount_model.specs.Step.{IsStep, IsOwed}
 abbrev pub Event : Type 0
 Event = turn.Entry Ask Reply State
 
--- each event is a step from the state before it, and its caller owed it no more than it met
+-- each event is a step from the state before it
 abbrev pub IsLegal : State → List Event → Type 0
 IsLegal start [] = Unit {0}
-IsLegal start (event ∷ events) = IsOwed event.ask × IsStep start event.caller event.ask event.reply event.after × IsLegal event.after events
+IsLegal start (event ∷ events) = IsStep start event.caller event.ask event.reply event.after × IsLegal event.after events
+
+-- no caller owed more than it met
+abbrev pub AreOwed : List Event → Type 0
+AreOwed [] = Unit {0}
+AreOwed (event ∷ events) = IsOwed event.ask × AreOwed events
+
+-- both at once
+abbrev pub IsLawful : State → List Event → Type 0
+IsLawful start [] = Unit {0}
+IsLawful start (event ∷ events) = IsOwed event.ask × IsStep start event.caller event.ask event.reply event.after × IsLawful event.after events
 
 -- the state after the events
 abbrev pub state_after : State → List Event → State
 state_after start events = history.state_after start events
 
 -- the tree that the store tells after them
-abbrev pub tree_after : State → List Event → Option Tree
-tree_after start events = (state_after start events).store.tree
+abbrev pub told_tree_after : State → List Event → Option Tree
+told_tree_after start events = (state_after start events).store.tree

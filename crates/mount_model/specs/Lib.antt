@@ -1,6 +1,7 @@
 pub mod Table
 pub mod State
 pub mod Paths
+pub mod Listed
 pub mod Making
 pub mod Finding
 pub mod Looking
@@ -10,10 +11,17 @@ pub mod Building
 pub mod Writing
 pub mod Flushing
 pub mod Leaving
+pub mod Acting
+pub mod Stopping
 pub mod Step
+pub mod Stopped
 pub mod Regular
 pub mod Places
+pub mod Refusals
+pub mod Shown
 pub mod Replies
+pub mod Unchanged
 pub mod History
 pub mod Mounting
+pub mod Failing
 pub mod Codes

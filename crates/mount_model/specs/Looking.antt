@@ -1,5 +1,5 @@
 -- A look at a container: the reply is what the store answered, where that is an answer to such a step.
-use Rattle.std.specs.Prelude.{ℕ, [], length, nat_le, ◌==◌, Option, Some, None, Ok, if◌then◌else◌}
+use Rattle.std.specs.Prelude.{ℕ, [], length, nat_le, Ok, if◌then◌else◌}
 use Rattle.plfs_types.specs.declared.names.Path.{Path}
 use Rattle.store_api.specs.declared.step.Answer.TheVariants.{Names, NoFolder, Absent, Number, Bytes}
 use Rattle.store_api.specs.Step as store
@@ -7,15 +7,9 @@ use Rattle.mount_model.specs.declared.call.Look.{Look}
 use Rattle.mount_model.specs.declared.call.Look.TheVariants.{Top, List as ListFolder, Length, Read}
 use Rattle.mount_model.specs.declared.reply.Reply.{Reply}
 use Rattle.mount_model.specs.declared.reply.Reply.TheVariants.{Looked, Damaged}
-use Rattle.mount_model.specs.declared.reply.Refusal.{Refusal}
-use Rattle.mount_model.specs.declared.reply.Refusal.TheVariants.{NoRoom}
 use Rattle.mount_model.specs.Paths.{Name}
 use Rattle.mount_model.specs.State.{State}
-use Rattle.mount_model.specs.Making.{Told, Outcome, says, otherwise, Makes, UnlessRefused}
-
--- the room of the mounts' marks is no container
-abbrev pub room_check : State → ℕ → Option Refusal
-room_check old room = if room == old.marks then Some NoRoom else None
+use Rattle.mount_model.specs.Making.{Told, CallOutcome, says, otherwise, MakesAct, room_check, UnlessRefused}
 
 abbrev pub look_step : ℕ → Look → store.Step
 look_step room Top = store.list_folder room []
@@ -47,9 +41,9 @@ look_reply (ListFolder folder) told = listing_reply folder told
 look_reply (Length path) told = length_reply path told
 look_reply (Read path at len) told = read_reply path len told
 
-abbrev pub look_outcome : Look → State → Told → Outcome
+abbrev pub look_outcome : Look → State → Told → CallOutcome
 look_outcome look old told = says (look_reply look told) old.table
 
-abbrev pub Looks : ℕ → Look → State → Reply → State → Type 0
-Looks room look old reply new = UnlessRefused (room_check old room) old reply new
-    (Makes (look_step room look) (look_outcome look old) old reply new)
+abbrev pub LooksAt : ℕ → Look → State → Reply → State → Type 0
+LooksAt room look old reply new = UnlessRefused (room_check old room) old reply new
+    (MakesAct (look_step room look) (look_outcome look old) old reply new)

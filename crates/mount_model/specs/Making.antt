@@ -1,5 +1,5 @@
 -- A call that is refused, or makes one act.
-use Rattle.std.specs.Prelude.{◌≡◌, ℕ, Bool, [], Option, Result, Ok, Err, MatchOption}
+use Rattle.std.specs.Prelude.{◌≡◌, ℕ, ◌==◌, Bool, [], Option, Some, None, Result, Ok, Err, MatchOption, if◌then◌else◌}
 use Rattle.store_api.specs.declared.step.Answer.{Answer}
 use Rattle.store_api.specs.declared.step.Answer.TheVariants as answer
 use Rattle.store_api.specs.declared.store.Trouble.{Trouble}
@@ -21,11 +21,11 @@ abbrev pub Told : Type 0
 Told = Result Answer Trouble
 
 -- what a call answers, and the table after it
-pub record Outcome : Type 0 where
+pub record CallOutcome : Type 0 where
   pub reply : Reply
   pub table : Table
 
-abbrev pub says : Reply → Table → Outcome
+abbrev pub says : Reply → Table → CallOutcome
 says reply table = record { reply = reply; table = table }
 
 -- the reply where the call has no line of its own for what its act on this folder and file told
@@ -41,7 +41,7 @@ abbrev pub Refuses : Refusal → State → Reply → State → Type 0
 Refuses why old reply new = (reply ≡ Refused why) × (new ≡ old)
 
 -- The call makes its act, and what that told decides the reply and the table.
-pub record Makes (step : Step) (outcome : Told → Outcome) (old : State) (reply : Reply) (new : State) : Type 0 where
+pub record MakesAct (step : Step) (outcome : Told → CallOutcome) (old : State) (reply : Reply) (new : State) : Type 0 where
   pub told : Told
   pub made : Acts step old.store new.store told
   pub answered : reply ≡ (outcome told).reply
@@ -52,6 +52,15 @@ abbrev pub OnWriter : ℕ → (Stage → Bool) → ℕ → State → Reply → S
 OnWriter caller stages id old reply new does = MatchOption (writer_of caller stages id old.table.writers)
     (Refuses NotOpen old reply new)
     does
+
+-- the room of the mounts' marks is no container
+abbrev pub room_check : State → ℕ → Option Refusal
+room_check old room = if room == old.marks then Some NoRoom else None
+
+-- the first reason, or else the other one
+abbrev pub or_reason : Option Refusal → Option Refusal → Option Refusal
+or_reason None other = other
+or_reason (Some why) other = Some why
 
 -- The call is refused where there is a reason to.
 abbrev pub UnlessRefused : Option Refusal → State → Reply → State → Type 0 → Type 0

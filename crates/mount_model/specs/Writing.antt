@@ -1,5 +1,6 @@
 -- A writer's bytes go to its log, and their entry to its buffer.
-use Rattle.std.specs.Prelude.{ℕ, ◌+◌, ◌-◌, ◌^◌, ◌≤◌, ◌<◌, List, [], ◌∷◌, ◌++◌, length, max, ◌||◌, nat_le, nat_lt, Option, Some, None, Ok, if◌then◌else◌}
+use Rattle.std.specs.Prelude.{ℕ, ◌+◌, ◌^◌, ◌≤◌, ◌<◌, List, [], ◌∷◌, ◌++◌, length, max, ◌||◌, nat_le, nat_lt, Option, Some, None, Ok, if◌then◌else◌}
+use Rattle.plfs_types.specs.declared.limits.TheConstants.{MAX_LOG, MAX_SIZE, MAX_STAMP}
 use Rattle.plfs_types.specs.declared.entries.Entry.{Entry}
 use Rattle.plfs_types.specs.Stamps.{next_stamp}
 use Rattle.container_layout.specs.Paths.{hostdir_of}
@@ -15,13 +16,13 @@ use Rattle.mount_model.specs.declared.reply.Refusal.TheVariants.{TooFar, StampsS
 use Rattle.mount_model.specs.Paths.{log_path}
 use Rattle.mount_model.specs.Table.{only}
 use Rattle.mount_model.specs.State.{State, Table, timed, put}
-use Rattle.mount_model.specs.Making.{Told, Outcome, says, otherwise, Makes, OnWriter, UnlessRefused}
+use Rattle.mount_model.specs.Making.{Told, CallOutcome, says, otherwise, MakesAct, OnWriter, UnlessRefused}
 
 -- why the writer may not write so many bytes from this place on
 abbrev pub write_check : Row → ℕ → ℕ → Option Refusal
 write_check row at len =
-    if nat_lt (2 ^ 40) (at + len) || nat_lt (2 ^ 56) (row.stored + len) then Some TooFar
-    else if nat_le (2 ^ 63 - 1) row.last || nat_le (2 ^ 63 - 1) row.floor then Some StampsSpent
+    if nat_lt MAX_SIZE (at + len) || nat_lt MAX_LOG (row.stored + len) then Some TooFar
+    else if nat_le MAX_STAMP row.last || nat_le MAX_STAMP row.floor then Some StampsSpent
     else if nat_le row.pending.capacity (length row.pending.entries) then Some Full
     else None
 
@@ -45,7 +46,7 @@ wrote stamp row at len = record row {
 abbrev pub write_step : Row → List ℕ → Step
 write_step row bytes = write_at row.room (hostdir_of row.host) (log_path row.host row.id).file row.stored bytes
 
-abbrev pub write_outcome : ℕ → Row → ℕ → ℕ → Table → Told → Outcome
+abbrev pub write_outcome : ℕ → Row → ℕ → ℕ → Table → Told → CallOutcome
 write_outcome stamp row at len table (Ok Made) = says (Wrote stamp) (put (wrote stamp row at len) table)
 write_outcome stamp row at len table told = says (otherwise (hostdir_of row.host) (log_path row.host row.id).file told) table
 
@@ -56,7 +57,7 @@ pub record WritesAt (row : Row) (at : ℕ) (bytes : List ℕ) (old : State) (rep
   pub times : Option (List ℕ)
   pub in_range : time < 2 ^ 64
   pub ticks : Ticks old.times times time
-  pub makes : Makes (write_step row bytes) (write_outcome (stamp_at time row) row at (length bytes) old.table) (timed times old) reply new
+  pub makes : MakesAct (write_step row bytes) (write_outcome (stamp_at time row) row at (length bytes) old.table) (timed times old) reply new
 
 abbrev pub Writes : ℕ → ℕ → ℕ → List ℕ → State → Reply → State → Type 0
 Writes caller writer at bytes old reply new = OnWriter caller (only stage.Open) writer old reply new (λ row.

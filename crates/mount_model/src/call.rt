@@ -21,21 +21,21 @@ pub enum Call {
     Greet,
     /// Finds a container.
     Find { name: LogicalName },
-    /// Makes a container, where there is none of this name.
+    /// MakesAct a container, where there is none of this name.
     MakeContainer { name: LogicalName },
     /// Names all containers.
     Rooms,
-    /// Looks at a container.
+    /// LooksAt at a container.
     Look { room: u64, look: Look },
     /// Enters a writer, whose buffer has room for `cap` entries, 1 to 4096.
     Enter { room: u64, host: u32, cap: u32 },
     /// Finds the writer's floor.
     Floor { writer: u64 },
-    /// Makes the folder of the writer's droppings.
+    /// MakesAct the folder of the writer's droppings.
     MakeHostdir { writer: u64 },
-    /// Makes the writer's index dropping.
+    /// MakesAct the writer's index dropping.
     MakeIndex { writer: u64 },
-    /// Makes the writer's log.
+    /// MakesAct the writer's log.
     MakeLog { writer: u64 },
     /// Appends the block to the writer's log, as the bytes from the logical place `at` on.
     Write { writer: u64, at: u64, block: Block },
@@ -45,7 +45,7 @@ pub enum Call {
     SyncLog { writer: u64 },
     /// Syncs the writer's index dropping.
     SyncIndex { writer: u64 },
-    /// Makes the writer's metadata dropping.
+    /// MakesAct the writer's metadata dropping.
     PutMeta { writer: u64 },
     /// Takes the writer out of the folder of who has the container open, and out of the table.
     Exit { writer: u64 },

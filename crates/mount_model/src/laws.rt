@@ -7,8 +7,13 @@ ghost use Rattle.mount_model.specs.State.{State};
 ghost use Rattle.mount_model.specs.Step.{IsOwed, IsStep};
 ghost use Rattle.mount_model.specs.Regular.{IsRegular};
 ghost use Rattle.mount_model.specs.Places.{KeepsPlace};
-ghost use Rattle.mount_model.specs.Replies.{Fits, HasItsCause};
+ghost use Rattle.mount_model.specs.Replies.{FitsAsk, HasItsCause};
+ghost use Rattle.mount_model.specs.Unchanged.{IsGivenUp, ChangesNothing};
 ghost use Rattle.mount_model.specs.Mounting.{IsMounted};
+ghost use Rattle.mount_model.specs.Stopping.{Stops};
+ghost use Rattle.mount_model.specs.Stopped.{IsLeftBy};
+ghost use Rattle.mount_model.specs.declared.call.Call.{Call};
+ghost use Rattle.mount_model.specs.History.{Event, IsLegal, AreOwed, IsLawful};
 
 /// A mount begins with a regular table.
 pub fn mounting_is_regular()
@@ -25,14 +30,32 @@ pub fn place_lasts()
     ensures { (old new : State) (caller : ℕ) (ask : Ask) (reply : Reply) → IsStep old caller ask reply new → KeepsPlace old new }
 {}
 
-/// Each reply is one that its call has.
+/// Each reply is one that its call has; a call that is broken off is answered so, or by want of memory.
 pub fn replies_fit()
-    ensures { (old new : State) (caller : ℕ) (ask : Ask) (reply : Reply) → IsStep old caller ask reply new → Fits ask.call reply }
+    ensures { (old new : State) (caller : ℕ) (ask : Ask) (reply : Reply) → IsStep old caller ask reply new → FitsAsk ask reply }
+{}
+
+/// Where a call is refused or wants memory, the tree that the store tells is as it was, and so is the table: only a writer
+/// whose metadata dropping's room was told not to be there may only leave from then on.
+pub fn a_refusal_changes_nothing()
+    ensures { (old new : State) (caller : ℕ) (ask : Ask) (reply : Reply) → IsStep old caller ask reply new → IsGivenUp reply → ChangesNothing caller ask.call old reply new }
 {}
 
 /// The store's count of faults never falls, and a fault is answered only where it rose in this step.
 pub fn faults_have_causes()
     ensures { (old new : State) (caller : ℕ) (ask : Ask) (reply : Reply) → IsStep old caller ask reply new → HasItsCause old new reply }
+{}
+
+/// What a stop leaves of tree and table, the call's own fault could leave, or want of memory, or nothing did; and then
+/// its caller is at its end.
+pub fn a_stop_is_a_fault_and_an_end()
+    ensures { (old new : State) (caller k : ℕ) (call : Call) (reply : Reply) → Stops caller k call old reply new → IsLeftBy old caller call new }
+{}
+
+/// A history is lawful where it is legal and no caller owes more than it met.
+pub fn lawful_is_legal_and_owed()
+    ensures to { (start : State) (events : List Event) → IsLawful start events → IsLegal start events × AreOwed events }
+    ensures from { (start : State) (events : List Event) → IsLegal start events → AreOwed events → IsLawful start events }
 {}
 
 /// Mounting never lowers the store's count of faults.

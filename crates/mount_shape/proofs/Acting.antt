@@ -13,7 +13,7 @@ use Rattle.store_api.specs.declared.step.Answer.{Answer}
 use Rattle.store_api.specs.declared.step.Answer.TheVariants.{Old}
 use Rattle.store_api.specs.declared.store.Trouble.{Trouble}
 use Rattle.store_api.specs.declared.store.Trouble.TheVariants.{Fault, NoMemory}
-use Rattle.store_api.specs.Step.{Step, make_room, make_folder, create, remove, write_at}
+use Rattle.store_api.specs.Step.{Step, make_room, make_folder, create, remove, write_at, sync}
 use Rattle.store_api.specs.Names.{same_name}
 use Rattle.store_api.specs.Room.{stays, becomes, has_folder, folder_made}
 use Rattle.store_api.specs.Effect.{Effect, tree_after, or_no_room}
@@ -23,10 +23,7 @@ use Rattle.store_laws.specs.Differ.{is_listed}
 use Rattle.store_laws.specs.Tells.{Tells}
 use Rattle.store_laws.specs.Changes.{with_room, Wrote, FolderMade}
 use Rattle.store_laws.specs.Outcomes.{IsLook}
-use Rattle.store_laws.proofs.Answering.{look_told}
-use Rattle.store_laws.proofs.Telling.{create_told, remove_told, make_room_told, write_told}
-use Rattle.store_laws.proofs.Folders.{with_folder, make_folder_cases}
-use Rattle.store_laws.proofs.Keeping.{changed_room}
+use Rattle.store_laws.proofs.Facts.{look_told, create_told, remove_told, make_room_told, write_told, sync_told, with_folder, make_folder_cases, changed_room}
 use Rattle.mount_model.specs.Paths.{Name, new_folders, new_files, access_path}
 use Rattle.mount_shape.specs.Marks.{HasMark}
 use Rattle.mount_shape.specs.Container.{IsContainerFolder, MayHold, IsWritersOf}
@@ -108,6 +105,16 @@ module _ (last last' marks mount : ℕ) (tree : Tree) (grows : last ≤ last') (
       | inl same ↦ stays_shaped same
       | inr part ↦ wrote_shape n path at (take part.0 bytes) item apart is_at holds writer part.2
     ]
+  ]
+
+  -- the file of an item that may hold any bytes is synced
+  pub sync_shape : (n : ℕ) (path : Path) (item : Item) → (n ≡ marks → ⊥) → IsAt path item → ((b : List ℕ) → MayHold item b) → ((t : Tree) → HasMark t mount → IsWritersOf (IsDrawnBy last' t) item)
+      → Tells (sync n path.folder path.file) tree told after → IsShapedFor last' marks mount after
+  sync_shape n path item apart at holds writer t = elim ((sync_told n path tree told after t).either) as (λ _. IsShapedFor last' marks mount after) [
+    | inl c ↦ subst (IsShapedFor last' marks mount) (sym c.gives)
+        (shape_changed last last' marks mount n tree c.room c.new grows s apart c.has_room c.others.name
+        (λ mark was. container_filed (IsDrawnBy last' (with_room tree n c.new)) c.room c.new path c.others c.differ was item c.old at (holds c.old) (writer (with_room tree n c.new) mark) c.folder c.now))
+    | inr same ↦ stays_shaped same
   ]
 
   -- a file is removed, and not `access`

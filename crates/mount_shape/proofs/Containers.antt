@@ -5,7 +5,7 @@ use Rattle.std.proofs.lemmas.Bool.Decides.{nat_tests}
 use Rattle.plfs_types.specs.Names.{IsLogicalName}
 use Rattle.plfs_types.specs.declared.names.Path.{Path}
 use Rattle.container_layout.specs.declared.items.Item.{Item}
-use Rattle.container_layout.specs.declared.items.Item.TheVariants.{Access, OpenHost, Meta, Trunc, Flat, TmpFlat, Index, Log}
+use Rattle.container_layout.specs.declared.items.Item.TheVariants.{Access, OpenHost, Meta, Trunc, Flat, TmpFlat, Index, Log, Packed, TmpPacked}
 use Rattle.container_layout.specs.Paths.{IsAt}
 use Rattle.store_api.specs.declared.tree.Room.{Room}
 use Rattle.store_api.specs.declared.tree.Tree.{Tree}
@@ -14,8 +14,7 @@ use Rattle.store_api.specs.Room.{is_top, has_folder}
 use Rattle.store_laws.specs.Files.{file_at, AreTwo, SameButFile, SameButFolder}
 use Rattle.store_laws.specs.Differ.{is_listed, FoldersDiffer, PathsDiffer}
 use Rattle.store_laws.specs.Changes.{RoomMade}
-use Rattle.store_laws.proofs.Naming.{name_eq, name_cases, path_cases, path_eq}
-use Rattle.store_laws.proofs.Keeping.{folder_kept, folders_differ_kept, each_file, file_kept, paths_differ_kept, each_folder, each_new_file, has_new_file, has_new_folder, new_folders_differ}
+use Rattle.store_laws.proofs.Facts.{name_eq, name_cases, path_cases, path_eq, folder_kept, folders_differ_kept, each_file, file_kept, paths_differ_kept, each_folder, each_new_file, has_new_file, has_new_folder, new_folders_differ}
 use Rattle.mount_model.specs.Paths.{Name, openhosts, metadata, truncs, flats, new_folders, new_files, access_path}
 use Rattle.mount_shape.specs.Container.{IsContainerFolder, MayHold, IsWritersOf, IsItemFile, IsContainer}
 use Rattle.mount_shape.proofs.Items.{access_is_at, access_holds}
@@ -27,10 +26,12 @@ writers_wider few many (OpenHost host writer) more is = more writer is
 writers_wider few many (Meta last bytes stamp host writer) more is = more writer is
 writers_wider few many (Index host writer) more is = more writer is
 writers_wider few many (Log host writer) more is = more writer is
+writers_wider few many (Packed host writer) more is = more writer is
 writers_wider few many Access more is = tt
 writers_wider few many (Trunc stamp size) more is = tt
 writers_wider few many (Flat id) more is = tt
 writers_wider few many (TmpFlat id) more is = tt
+writers_wider few many (TmpPacked host id) more is = tt
 
 -- a container stays one where more ids are allowed
 pub container_wider : (few many : ℕ → Type 0) (room : Room) → ((id : ℕ) → few id → many id) → IsContainer few room → IsContainer many room

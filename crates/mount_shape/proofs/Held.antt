@@ -1,17 +1,17 @@
 -- What a file at an item's path says, in a room of a sound tree.
 use Rattle.std.proofs.Common.{◌≡◌, ◌<◌, ℕ, List, [], true, slice_get, Option, Some, None, refl, sym, ap, ◌∙◌, subst, arith}
 use Rattle.container_layout.specs.declared.items.Item.{Item}
-use Rattle.container_layout.specs.declared.items.Item.TheVariants.{OpenHost, Meta, Index, Log}
+use Rattle.container_layout.specs.declared.items.Item.TheVariants.{OpenHost, Meta, Index, Log, Packed}
 use Rattle.container_layout.specs.Items.{IsItem}
 use Rattle.container_layout.specs.Paths.{path_of, IsAt}
-use Rattle.container_layout.proofs.Places.{one_item}
+use Rattle.container_layout.proofs.Facts.{one_item}
 use Rattle.store_api.specs.declared.tree.Room.{Room}
 use Rattle.store_api.specs.declared.tree.Tree.{Tree}
 use Rattle.store_api.specs.Room.{has_folder}
 use Rattle.store_laws.specs.Files.{file_at}
 use Rattle.mount_shape.specs.Marks.{IsOfMark}
 use Rattle.mount_shape.specs.Container.{MayHold, IsWritersOf, IsContainer}
-use Rattle.mount_shape.specs.Shape.{IsShapedTree, IsDrawnBy, HasShape}
+use Rattle.mount_shape.specs.Shape.{IsShapedTree, IsDrawnBy, IsShaped}
 use Rattle.mount_model.specs.State.{State, last_id}
 use Rattle.mount_shape.proofs.Trees.{IsShapedFor, container_at, room_kept}
 
@@ -38,6 +38,7 @@ IsOfWriter id (OpenHost host writer) = writer ≡ id
 IsOfWriter id (Meta last bytes stamp host writer) = writer ≡ id
 IsOfWriter id (Index host writer) = writer ≡ id
 IsOfWriter id (Log host writer) = writer ≡ id
+IsOfWriter id (Packed host writer) = writer ≡ id
 IsOfWriter id item = ⊥
 
 allowed_of : (allowed : ℕ → Type 0) (id : ℕ) (item : Item) → IsOfWriter id item → IsWritersOf allowed item → allowed id
@@ -45,6 +46,7 @@ allowed_of allowed id (OpenHost host writer) of w = subst allowed of w
 allowed_of allowed id (Meta last bytes stamp host writer) of w = subst allowed of w
 allowed_of allowed id (Index host writer) of w = subst allowed of w
 allowed_of allowed id (Log host writer) of w = subst allowed of w
+allowed_of allowed id (Packed host writer) of w = subst allowed of w
 allowed_of allowed id item of w = absurd of
 
 no_bytes : (found : Option (List ℕ)) → ((bytes : List ℕ) → found ≡ Some bytes → ⊥) → found ≡ None
@@ -73,7 +75,7 @@ empty_shaped tree none = record {
     no_room n room at = let both : None ≡ Some room = ap (λ rooms. slice_get rooms n) (sym none) ∙ at in cc
 
 -- the tree that a mount leaves
-pub left_shaped : (state : State) (shape : HasShape state) → IsShapedTree (IsOfMark shape.tree) shape.tree
+pub left_shaped : (state : State) (shape : IsShaped state) → IsShapedTree (IsOfMark shape.tree) shape.tree
 left_shaped state shape = record {
   rooms_differ = shape.shaped.rooms_differ;
   rooms = λ n room there. room_kept (IsDrawnBy (last_id state) shape.tree) (IsOfMark shape.tree) room (λ id drawn. drawn.0) (shape.shaped.rooms n room there);

@@ -7,7 +7,7 @@ use Rattle.container_layout.specs.declared.items.Item.{Item}
 use Rattle.container_layout.specs.declared.items.Item.TheVariants.{Access, OpenHost, Meta, Index, Log}
 use Rattle.container_layout.specs.Items.{IsMetaRange}
 use Rattle.container_layout.specs.Paths.{IsAt, hostdir_of}
-use Rattle.container_layout.proofs.Places.{one_item}
+use Rattle.container_layout.proofs.Facts.{one_item}
 use Rattle.store_laws.specs.Files.{AreTwo}
 use Rattle.mount_model.specs.Paths.{access_path, open_path, index_path, log_path, meta_path}
 use Rattle.mount_model.specs.State.{id_of}

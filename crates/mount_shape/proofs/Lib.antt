@@ -1,7 +1,9 @@
-pub mod Items
-pub mod Containers
-pub mod Trees
-pub mod Acting
-pub mod Steps
-pub mod Mounts
-pub mod Held
+mod Acting
+mod Containers
+pub mod Facts
+mod Held
+mod Items
+mod Losing
+mod Mounts
+mod Steps
+mod Trees

@@ -5,12 +5,12 @@ use Rattle.store_api.specs.declared.tree.Tree.{Tree}
 use Rattle.store_laws.specs.Files.{file_at}
 use Rattle.store_laws.specs.There.{IsFree}
 use Rattle.store_laws.specs.Changes.{with_room}
-use Rattle.store_laws.proofs.Keeping.{other_room, each_room, earlier_room, each_with_added, rooms_differ_kept, rooms_differ_added}
+use Rattle.store_laws.proofs.Facts.{other_room, each_room, earlier_room, each_with_added, rooms_differ_kept, rooms_differ_added}
 use Rattle.mount_model.specs.Paths.{marks_name, mark_path}
 use Rattle.mount_model.specs.State.{State, id_of, last_id}
 use Rattle.mount_shape.specs.Marks.{IsMarksRoom, HasMark, IsOfMark}
 use Rattle.mount_shape.specs.Container.{IsContainer}
-use Rattle.mount_shape.specs.Shape.{IsShapedTree, IsDrawnBy, HasShape}
+use Rattle.mount_shape.specs.Shape.{IsShapedTree, IsDrawnBy, IsShaped}
 use Rattle.mount_shape.proofs.Containers.{container_wider}
 
 -- the shape of a tree in which the mount has its mark in the room of this number, where this is the last id drawn
@@ -21,10 +21,10 @@ pub record IsShapedFor (last marks mount : ℕ) (tree : Tree) : Type 0 where
   pub is_marks : IsMarksRoom room
   pub mark : file_at room (mark_path mount) ≡ Some []
 
-pub shape_of : (state : State) (shape : HasShape state) → IsShapedFor (last_id state) state.marks state.mount shape.tree
+pub shape_of : (state : State) (shape : IsShaped state) → IsShapedFor (last_id state) state.marks state.mount shape.tree
 shape_of state shape = record { shaped = shape.shaped; room = shape.marks; has_room = shape.has_marks; is_marks = shape.is_marks; mark = shape.mark }
 
-pub has_shape : (state : State) (tree : Tree) → state.store.tree ≡ Some tree → IsShapedFor (last_id state) state.marks state.mount tree → HasShape state
+pub has_shape : (state : State) (tree : Tree) → state.store.tree ≡ Some tree → IsShapedFor (last_id state) state.marks state.mount tree → IsShaped state
 has_shape state tree told s = record { tree = tree; told = told; shaped = s.shaped; marks = s.room; has_marks = s.has_room; is_marks = s.is_marks; mark = s.mark }
 
 -- the mount's mark is there

@@ -3,7 +3,7 @@ use Rattle.std.specs.Prelude.{◌≡◌, ◌⊎◌, ℕ, ◌<◌, List, [], true
 use Rattle.plfs_types.specs.declared.names.Path.{Path}
 use Rattle.plfs_types.specs.Names.{IsLogicalName}
 use Rattle.container_layout.specs.declared.items.Item.{Item}
-use Rattle.container_layout.specs.declared.items.Item.TheVariants.{OpenHost, Meta, Flat, TmpFlat, Index, Log}
+use Rattle.container_layout.specs.declared.items.Item.TheVariants.{OpenHost, Meta, Flat, TmpFlat, Index, Log, Packed, TmpPacked}
 use Rattle.container_layout.specs.Paths.{IsAt, hostdir_of}
 use Rattle.store_api.specs.declared.tree.Room.{Room}
 use Rattle.store_api.specs.Room.{has_folder}
@@ -17,12 +17,14 @@ IsContainerFolder folder =
     (folder ≡ []) ⊎ (folder ≡ openhosts) ⊎ (folder ≡ metadata) ⊎ (folder ≡ truncs) ⊎ (folder ≡ flats)
     ⊎ ((host : ℕ) × (host < 32) × (folder ≡ hostdir_of host))
 
--- an item may hold these bytes: droppings hold any, all others none; there are no flattened indices yet
+-- an item may hold these bytes: droppings hold any, all others none; there are no flattened or packed indices yet
 abbrev pub MayHold : Item → List ℕ → Type 0
 MayHold (Index host writer) bytes = Unit {0}
 MayHold (Log host writer) bytes = Unit {0}
 MayHold (Flat id) bytes = ⊥
 MayHold (TmpFlat id) bytes = ⊥
+MayHold (Packed host writer) bytes = ⊥
+MayHold (TmpPacked host id) bytes = ⊥
 MayHold item bytes = bytes ≡ []
 
 -- the writer of the item, where it has one, has an id of which this holds
@@ -31,6 +33,7 @@ IsWritersOf allowed (OpenHost host writer) = allowed writer
 IsWritersOf allowed (Meta last bytes stamp host writer) = allowed writer
 IsWritersOf allowed (Index host writer) = allowed writer
 IsWritersOf allowed (Log host writer) = allowed writer
+IsWritersOf allowed (Packed host writer) = allowed writer
 IsWritersOf allowed item = Unit {0}
 
 -- the file is that of an item, in a folder that is there

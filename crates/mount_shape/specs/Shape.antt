@@ -19,7 +19,7 @@ abbrev pub IsDrawnBy : ℕ → Tree → ℕ → Type 0
 IsDrawnBy last tree id = IsOfMark tree id × (id ≤ last)
 
 -- The store tells a tree of this shape, in which the mount has its mark.
-pub record HasShape (state : State) : Type 0 where
+pub record IsShaped (state : State) : Type 0 where
   pub tree : Tree
   pub told : state.store.tree ≡ Some tree
   pub shaped : IsShapedTree (IsDrawnBy (last_id state) tree) tree

@@ -6,4 +6,7 @@
 
 mod laws;
 
-pub use laws::{a_left_tree_is_shaped, an_empty_tree_is_shaped, mounting_has_shape, shape_lasts};
+pub use laws::{
+    a_failed_mounting_leaves_a_shaped_tree, a_left_tree_is_shaped, a_lost_tree_is_shaped,
+    an_empty_tree_is_shaped, mounting_has_shape, shape_lasts,
+};

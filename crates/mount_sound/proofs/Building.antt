@@ -2,7 +2,7 @@
 use Rattle.std.proofs.Common.{◌≡◌, ◌≤◌, ◌<◌, ℕ, List, [], Option, Some, None, true, refl, ap, sym, ◌∙◌, ◌⊎◌, inl, inr, subst, arith}
 use Rattle.std.specs.Prelude.{slice_get, MatchOption, Ok}
 use Rattle.plfs_types.specs.declared.entries.Entry.{Entry}
-use Rattle.container_layout.specs.declared.items.Item.TheVariants.{OpenHost, Index}
+use Rattle.container_layout.specs.declared.items.Item.TheVariants.{OpenHost, Index, Log}
 use Rattle.container_layout.specs.Paths.{hostdir_of}
 use Rattle.store_api.specs.declared.step.Answer.TheVariants.{Made, Old}
 use Rattle.store_api.specs.declared.tree.Room.{Room}
@@ -12,27 +12,27 @@ use Rattle.store_laws.specs.Files.{file_at}
 use Rattle.store_laws.specs.Changes.{Created}
 use Rattle.store_laws.specs.Tells.{Tells, made}
 use Rattle.store_laws.specs.There.{HoldsFile}
-use Rattle.store_laws.proofs.Telling.{create_told}
+use Rattle.store_laws.proofs.Facts.{create_told}
 use Rattle.mount_model.specs.declared.row.Row.{Row}
 use Rattle.mount_model.specs.declared.row.Stage.{Stage}
 use Rattle.mount_model.specs.declared.row.Stage.TheVariants as stage
 use Rattle.mount_model.specs.declared.row.Stage.TheVariants.{Closing}
 use Rattle.mount_model.specs.declared.reply.Reply.{Reply}
 use Rattle.mount_model.specs.Building.{build_outcome, index_step, MakesIndex}
-use Rattle.mount_model.specs.Making.{Told, Makes}
+use Rattle.mount_model.specs.Making.{Told, MakesAct}
 use Rattle.mount_model.specs.Paths.{Name, index_path, log_path}
 use Rattle.mount_model.specs.Regular.{IsRegular}
 use Rattle.mount_model.specs.State.{State, Table, last_id}
 use Rattle.mount_model.specs.Table.{with_row, rank, only, at_stage}
-use Rattle.mount_model.proofs.Deciding.{at_only}
+use Rattle.mount_model.proofs.Facts.{at_only}
 use Rattle.mount_sound.specs.Ledger.{Written, entries_in, Ledger}
 use Rattle.mount_sound.specs.Kept.{Begins, IsAtStage, IsKept}
 use Rattle.mount_sound.specs.Sound.{AreSound}
 use Rattle.mount_sound.proofs.Frames.{Fits}
-use Rattle.mount_sound.proofs.Items.{SameButItem, same_but_item, is_index, is_open}
+use Rattle.mount_sound.proofs.Items.{SameButItem, same_but_item, is_index, is_log, is_open}
 use Rattle.mount_sound.proofs.Live.{Own, own_kept, had_meta_but, has_meta_but, had_trunc_but}
 use Rattle.mount_sound.proofs.Making.{AreRight, IsAccounted, makes_accounted}
-use Rattle.mount_sound.proofs.Stages.{on_writer, working, live_stage, kept_at, own_at}
+use Rattle.mount_sound.proofs.Stages.{on_writer, working, live_stage, kept_staged, own_at}
 use Rattle.mount_sound.proofs.Working.{Working, Holds, Turned, turned_same, turned_put, spares, works_on, turns, its_fit, its_kept, its_stage, its_own}
 
 -- what the table becomes
@@ -80,8 +80,10 @@ indexed_holds : (room new : Room) (row : Row) (s : Stage) (issued : List Written
 indexed_holds room new row s issued fits at far near k a o b none now = record {
   kept = record {
     in_order = k.in_order;
-    numbers = record { stored = k.numbers.stored; last = k.numbers.last; end = k.numbers.end; landed = k.numbers.landed; pending = k.numbers.pending };
+    numbers = record { stored = k.numbers.stored; last = k.numbers.last; end = k.numbers.end; landed = k.numbers.landed; pending = k.numbers.pending; log_mark = k.numbers.log_mark; index_mark = k.numbers.index_mark };
     index = empty_index (entries_in issued) row.landed (file_at new (index_path row.host row.id)) (no_index (entries_in issued) row.landed (file_at room (index_path row.host row.id)) k.index none) now;
+    log_kept = omega (arith, k.log_kept, b.kepts (Log row.host row.id) (is_log row.host row.id fits.host fits.id) (λ e. cc));
+    index_kept = omega (arith, k.numbers.index_mark, no_index (entries_in issued) row.landed (file_at room (index_path row.host row.id)) k.index none);
     alive = λ live. indexed_stage room new row s (entries_in issued) fits at far near a b now;
   };
   live = live_stage s (omega arith);
@@ -118,7 +120,7 @@ pub turned_stage : (last : ℕ) (issued : Ledger) (rows rows' : List Row) (tree 
 turned_stage last issued rows rows' tree row s room w there live turned a =
     turns last issued rows rows' tree row (at_stage s row) room w there refl refl refl turned
     (record {
-      kept = kept_at room row s (issued row.room row.id) (its_kept last issued rows tree row w room there) a;
+      kept = kept_staged room row s (issued row.room row.id) (its_kept last issued rows tree row w room there) a;
       live = live_stage s live;
       own = own_at room row s (issued row.room row.id) (its_own last issued rows tree row w room there);
     })
@@ -146,7 +148,7 @@ index_told last issued table tree row at holders flattenings w told after t =
 -- Making an index dropping keeps soundness.
 pub index_keeps : (issued : Ledger) (old : State) (caller writer : ℕ) (reply : Reply) (new : State) → IsRegular old → MakesIndex caller writer old reply new → IsAccounted issued old → IsAccounted issued new
 index_keeps issued old caller writer reply new r f a =
-    on_writer issued old caller (only stage.Housed) writer reply new (λ row. Makes (index_step row) (build_outcome stage.Indexed (hostdir_of row.host) (index_path row.host row.id).file row old.table) old reply new) f a
+    on_writer issued old caller (only stage.Housed) writer reply new (λ row. MakesAct (index_step row) (build_outcome stage.Indexed (hostdir_of row.host) (index_path row.host row.id).file row old.table) old reply new) f a
     (λ row stands at makes.
     let is : rank row.stage ≡ 2 = at_only stage.Housed row.stage at in
     makes_accounted (index_step row) (build_outcome stage.Indexed (hostdir_of row.host) (index_path row.host row.id).file row old.table) (λ x. issued) old reply new a.tree a.told

@@ -1,6 +1,6 @@
 -- Making a metadata dropping keeps soundness.
 use Rattle.std.proofs.Common.{◌≡◌, ◌≤◌, ◌<◌, ◌^◌, ℕ, suc, List, [], ◌∷◌, length, Some, None, Bool, true, false, nat_eq, refl, sym, ◌∙◌, ◌⊎◌, inl, inr, subst, arith}
-use Rattle.std.specs.Prelude.{MatchOption, Ok, Err, nat_lt, ◌||◌, if◌then◌else◌}
+use Rattle.std.specs.Prelude.{MatchOption, Ok, Err, nat_lt, not, ◌||◌, if◌then◌else◌}
 use Rattle.std.proofs.lemmas.Bool.{cases_eq}
 use Rattle.std.proofs.lemmas.Bool.Decides.{nat_tests}
 use Rattle.plfs_types.specs.declared.entries.Entry.{Entry}
@@ -15,18 +15,18 @@ use Rattle.store_api.specs.declared.tree.Tree.{Tree}
 use Rattle.store_laws.specs.Changes.{Created}
 use Rattle.store_laws.specs.Tells.{Tells, made}
 use Rattle.store_laws.specs.There.{HoldsFile}
-use Rattle.store_laws.proofs.Telling.{create_told}
+use Rattle.store_laws.proofs.Facts.{create_told}
 use Rattle.mount_model.specs.declared.row.Row.{Row}
 use Rattle.mount_model.specs.declared.row.Stage.TheVariants as stage
 use Rattle.mount_model.specs.declared.reply.Reply.{Reply}
 use Rattle.mount_model.specs.declared.reply.Refusal.TheVariants.{NotFlushed}
 use Rattle.mount_model.specs.Leaving.{put_meta_check, put_meta_step, put_meta_outcome, closing as closing_row, closed, PutsMeta}
-use Rattle.mount_model.specs.Making.{Told, Makes, UnlessRefused}
+use Rattle.mount_model.specs.Making.{Told, MakesAct, UnlessRefused}
 use Rattle.mount_model.specs.Paths.{meta_path}
 use Rattle.mount_model.specs.Regular.{IsRegular, IsCounted}
 use Rattle.mount_model.specs.State.{State, Table, last_id, put}
 use Rattle.mount_model.specs.Table.{with_row, rank, may_close}
-use Rattle.mount_model.proofs.Tables.{row_of_all}
+use Rattle.mount_model.proofs.Facts.{row_of_all}
 use Rattle.mount_sound.specs.Items.{HasItem, HasMeta}
 use Rattle.mount_sound.specs.Ledger.{Written, entries_in, content, Ledger}
 use Rattle.mount_sound.specs.Dropping.{IsToldOf}
@@ -48,7 +48,7 @@ meta_item row c id = record {
   in_range = record {
     last_fits = c.end_fits;
     bytes_fit = c.stored_fits;
-    stamp_fits = c.last_fits;
+    stamp_fits = omega (arith, c.last_fits);
     all_or_none = elim c.written [
       | inl none ↦ inl (none.1, none.0, none.2)
       | inr some ↦ inr (some.1, some.0, some.2)
@@ -66,6 +66,8 @@ pub record IsClosing (row : Row) : Type 0 where
   pub far : 4 ≤ rank row.stage
   pub live : rank row.stage < 6
   pub flushed : row.pending.entries ≡ []
+  pub log_synced : row.log_mark ≡ row.stored
+  pub index_synced : row.index_mark ≡ row.landed
 
 other_last : (l l' c c' t t' h h' w w' : ℕ) → Meta l c t h w ≡ Meta l' c' t' h' w' → (l ≡ l') × (c ≡ c') × (t ≡ t')
 other_last l l' c c' t t' h h' w w' e = (cc, cc, cc)
@@ -93,7 +95,7 @@ closing_stage room row has es is a there = record {
   housed = λ some. a.housed (omega (arith, is.far));
   indexed = λ some. a.indexed (omega (arith, is.far));
   logged = λ some. a.logged is.far;
-  closing = λ m. (refl, is.flushed);
+  closing = λ m. (refl, is.flushed, is.log_synced, is.index_synced);
   has_meta = there;
 }
 
@@ -102,8 +104,10 @@ closing_holds : (room : Room) (row : Row) (has : Bool) (issued : List Written) �
 closing_holds room row has issued is k a o there = record {
   kept = record {
     in_order = k.in_order;
-    numbers = record { stored = k.numbers.stored; last = k.numbers.last; end = k.numbers.end; landed = k.numbers.landed; pending = k.numbers.pending };
+    numbers = record { stored = k.numbers.stored; last = k.numbers.last; end = k.numbers.end; landed = k.numbers.landed; pending = k.numbers.pending; log_mark = k.numbers.log_mark; index_mark = k.numbers.index_mark };
     index = k.index;
+    log_kept = k.log_kept;
+    index_kept = k.index_kept;
     alive = λ live. closing_stage room row has (entries_in issued) is a there;
   };
   live = refl;
@@ -115,8 +119,10 @@ meta_holds : (room new : Room) (row : Row) (has : Bool) (issued : List Written) 
 meta_holds room new row has issued fits is k a o b m = record {
   kept = record {
     in_order = k.in_order;
-    numbers = record { stored = k.numbers.stored; last = k.numbers.last; end = k.numbers.end; landed = k.numbers.landed; pending = k.numbers.pending };
+    numbers = record { stored = k.numbers.stored; last = k.numbers.last; end = k.numbers.end; landed = k.numbers.landed; pending = k.numbers.pending; log_mark = k.numbers.log_mark; index_mark = k.numbers.index_mark };
     index = subst (λ f. MatchOption f (row.landed ≡ 0) (Begins (entries_in issued) row.landed)) (sym (b.others (Index row.host row.id) (is_index row.host row.id fits.host fits.id) (λ e. cc))) k.index;
+    log_kept = omega (arith, k.log_kept, b.kepts (Log row.host row.id) (is_log row.host row.id fits.host fits.id) (λ e. cc));
+    index_kept = omega (arith, k.index_kept, b.kepts (Index row.host row.id) (is_index row.host row.id fits.host fits.id) (λ e. cc));
     alive = λ live. record {
       opened = b.others (OpenHost row.host row.id) (is_open row.host row.id fits.host fits.id) (λ e. cc) ∙ a.opened;
       unopened = λ early. absurd (omega arith);
@@ -124,7 +130,7 @@ meta_holds room new row has issued fits is k a o b m = record {
       housed = λ some. b.folders (hostdir_of row.host) (a.housed (omega (arith, is.far)));
       indexed = λ some. let i = a.indexed (omega (arith, is.far)) in (i.0, b.others (Index row.host row.id) (is_index row.host row.id fits.host fits.id) (λ e. cc) ∙ i.1);
       logged = λ some. let l = a.logged is.far in (l.0, b.others (Log row.host row.id) (is_log row.host row.id fits.host fits.id) (λ e. cc) ∙ l.1);
-      closing = λ m. (refl, is.flushed);
+      closing = λ m. (refl, is.flushed, is.log_synced, is.index_synced);
       has_meta = λ e. m;
     };
   };
@@ -201,22 +207,33 @@ open_or_closing a e = (grind (arith, nat_tests), grind (arith, nat_tests))
 positive : (n : ℕ) → nat_lt 0 (suc n) ≡ false → ⊥
 positive n e = grind (arith, nat_tests)
 
-nothing : (entries : List Entry) → (if nat_lt 0 (length entries) then Some NotFlushed else None) ≡ None → entries ≡ []
+no_reason : (a b c : Bool) → (if a || not b || not c then Some NotFlushed else None) ≡ None → (a ≡ false) × (b ≡ true) × (c ≡ true)
+no_reason true b c e = absurd (cc)
+no_reason false false c e = absurd (cc)
+no_reason false true false e = absurd (cc)
+no_reason false true true e = (refl, refl, refl)
+
+equal : (x y : ℕ) → nat_eq x y ≡ true → x ≡ y
+equal x y e = grind (arith, nat_tests)
+
+nothing : (entries : List Entry) → nat_lt 0 (length entries) ≡ false → entries ≡ []
 nothing [] e = refl
-nothing (x ∷ entries) e = elim (nat_lt 0 (length (x ∷ entries))) as (λ b. nat_lt 0 (length (x ∷ entries)) ≡ b → (if b then Some NotFlushed else None) ≡ None → x ∷ entries ≡ []) [
-  | true ↦ λ t f. absurd (cc)
-  | false ↦ λ t f. absurd (positive (length entries) t)
-] refl e
+nothing (x ∷ entries) e = absurd (positive (length entries) e)
+
+passed : (row : Row) → put_meta_check row ≡ None → (row.pending.entries ≡ []) × (row.log_mark ≡ row.stored) × (row.index_mark ≡ row.landed)
+passed row e =
+    let is = no_reason (nat_lt 0 (length row.pending.entries)) (nat_eq row.log_mark row.stored) (nat_eq row.index_mark row.landed) e in
+    (nothing row.pending.entries is.0, equal row.log_mark row.stored is.1, equal row.index_mark row.landed is.2)
 
 -- Making a metadata dropping keeps soundness.
 pub meta_keeps : (issued : Ledger) (old : State) (caller writer : ℕ) (reply : Reply) (new : State) → IsRegular old → PutsMeta caller writer old reply new → IsAccounted issued old → IsAccounted issued new
 meta_keeps issued old caller writer reply new r f a =
-    on_writer issued old caller may_close writer reply new (λ row. UnlessRefused (put_meta_check row) old reply new (Makes (put_meta_step row) (put_meta_outcome row old.table) old reply new)) f a
+    on_writer issued old caller may_close writer reply new (λ row. UnlessRefused (put_meta_check row) old reply new (MakesAct (put_meta_step row) (put_meta_outcome row old.table) old reply new)) f a
     (λ row stands at does.
     let far = open_or_closing (rank row.stage) at in
     let w = working issued old writer row r a stands far.1 in
-    unless_refused issued (put_meta_check row) old reply new (Makes (put_meta_step row) (put_meta_outcome row old.table) old reply new) does a
+    unless_refused issued (put_meta_check row) old reply new (MakesAct (put_meta_step row) (put_meta_outcome row old.table) old reply new) does a
     (λ none makes.
-    let is : IsClosing row = record { far = far.0; live = far.1; flushed = nothing row.pending.entries none } in
+    let is : IsClosing row = record { far = far.0; live = far.1; flushed = (passed row none).0; log_synced = (passed row none).1; index_synced = (passed row none).2 } in
     makes_accounted (put_meta_step row) (put_meta_outcome row old.table) (λ x. issued) old reply new a.tree a.told
     (meta_told (last_id old) issued old.table a.tree row is (row_of_all IsCounted writer old.table.writers row r.counted stands) a.right.no_holders a.right.no_flattenings w) makes))

@@ -1,8 +1,8 @@
 -- Entering a writer keeps soundness.
-use Rattle.std.proofs.Common.{◌≡◌, ◌<◌, ◌+◌, ◌^◌, ℕ, List, [], ◌∷◌, ◌++◌, Option, Some, None, refl, sym, ◌∙◌, ◌⊎◌, inl, inr, subst, arith}
+use Rattle.std.proofs.Common.{◌≡◌, ◌<◌, ◌+◌, ◌^◌, ℕ, List, [], ◌∷◌, ◌++◌, length, Option, Some, None, refl, sym, ◌∙◌, ◌⊎◌, inl, inr, subst, arith}
 use Rattle.std.specs.Prelude.{slice_get, MatchOption, Ok}
 use Rattle.container_layout.specs.declared.items.Item.{Item}
-use Rattle.container_layout.specs.declared.items.Item.TheVariants.{Access, OpenHost, Meta, Trunc, Flat, TmpFlat, Index, Log}
+use Rattle.container_layout.specs.declared.items.Item.TheVariants.{Access, OpenHost, Meta, Trunc, Flat, TmpFlat, Index, Log, Packed, TmpPacked}
 use Rattle.container_layout.specs.Items.{IsItem}
 use Rattle.container_layout.specs.Paths.{path_of}
 use Rattle.store_api.specs.declared.step.Answer.TheVariants.{Made, NoFolder}
@@ -11,7 +11,7 @@ use Rattle.store_api.specs.declared.tree.Tree.{Tree}
 use Rattle.store_laws.specs.Files.{file_at}
 use Rattle.store_laws.specs.Changes.{Created}
 use Rattle.store_laws.specs.Tells.{Tells, made}
-use Rattle.store_laws.proofs.Telling.{create_told}
+use Rattle.store_laws.proofs.Facts.{create_told}
 use Rattle.mount_model.specs.declared.row.Row.{Row}
 use Rattle.mount_model.specs.declared.reply.Reply.{Reply}
 use Rattle.mount_model.specs.Entering.{enter_check, next_id, entered, enter_step, enter_outcome, EntersAs, Enters}
@@ -20,21 +20,19 @@ use Rattle.mount_model.specs.Paths.{open_path, index_path}
 use Rattle.mount_model.specs.Regular.{IsRegular}
 use Rattle.mount_model.specs.State.{State, Table, last_id, drawn}
 use Rattle.mount_model.specs.Table.{row_of}
-use Rattle.mount_model.proofs.Deciding.{may_enter}
-use Rattle.mount_model.proofs.Tables.{row_of_id, row_of_other-push}
+use Rattle.mount_model.proofs.Facts.{may_enter, row_of_id, row_of_other-push}
 use Rattle.mount_shape.specs.Container.{IsWritersOf, IsContainer}
-use Rattle.mount_shape.specs.Shape.{IsDrawnBy, HasShape}
-use Rattle.mount_shape.proofs.Held.{item_held}
-use Rattle.mount_shape.proofs.Items.{id_fits}
+use Rattle.mount_shape.specs.Shape.{IsDrawnBy, IsShaped}
+use Rattle.mount_shape.proofs.Facts.{item_held, id_fits}
 use Rattle.mount_sound.specs.Items.{HasItemOf}
 use Rattle.mount_sound.specs.Ledger.{Ledger}
-use Rattle.mount_sound.specs.Dropping.{IsDropping, IsWriter}
+use Rattle.mount_sound.specs.Dropping.{log_bytes, IsDropping, IsWriter}
 use Rattle.mount_sound.specs.Kept.{Begins, IsKept}
 use Rattle.mount_sound.specs.Sound.{AreSound}
 use Rattle.mount_sound.proofs.Items.{SameButItem, same_but_item, owner, is_index, is_open, same_for, same_truncates}
 use Rattle.mount_sound.proofs.Live.{one_host_kept, had_meta_but}
 use Rattle.mount_sound.proofs.Local.{local, grown}
-use Rattle.mount_sound.proofs.Making.{AreRight, IsAccounted, one_tree, makes_accounted, accounted_as, all_fit, drawn_by}
+use Rattle.mount_sound.proofs.Making.{AreRight, IsAccounted, one_tree, makes_accounted, all_fit, drawn_by}
 use Rattle.mount_sound.proofs.Stages.{unless_refused}
 use Rattle.mount_sound.proofs.Tables.{added_row}
 
@@ -53,6 +51,8 @@ allowed_owner allowed (Flat n) id o w = absurd (cc)
 allowed_owner allowed (TmpFlat n) id o w = absurd (cc)
 allowed_owner allowed (Index host writer) id o w = let same : writer ≡ id = cc in subst allowed same w
 allowed_owner allowed (Log host writer) id o w = let same : writer ≡ id = cc in subst allowed same w
+allowed_owner allowed (Packed host writer) id o w = let same : writer ≡ id = cc in subst allowed same w
+allowed_owner allowed (TmpPacked host n) id o w = absurd (cc)
 
 pub absent : (o : Option (List ℕ)) → ((bytes : List ℕ) → o ≡ Some bytes → ⊥) → o ≡ None
 absent None never = refl
@@ -64,7 +64,7 @@ new_here allowed room id never c = record {
 }
 
 -- a container has no item of the next id
-pub new_id : (old : State) (tree : Tree) (number : ℕ) (room : Room) → HasShape old → old.store.tree ≡ Some tree → (number ≡ old.marks → ⊥) → slice_get tree.rooms number ≡ Some room → IsNew room (next_id old)
+pub new_id : (old : State) (tree : Tree) (number : ℕ) (room : Room) → IsShaped old → old.store.tree ≡ Some tree → (number ≡ old.marks → ⊥) → slice_get tree.rooms number ≡ Some room → IsNew room (next_id old)
 new_id old tree number room s told apart e =
     let same : s.tree ≡ tree = one_tree s.tree tree old.store.tree s.told told in
     let there : slice_get s.tree.rooms number ≡ Some room = subst (λ (t : Tree). slice_get t.rooms number ≡ Some room) (sym same) e in
@@ -93,18 +93,21 @@ new_writer host id room new h i n b = record {
   one_host = one_host_kept (OpenHost host id) host id room new refl b (λ other has. absurd (no_items room id other n has));
   landed = 0;
   within = omega arith;
-  index = no_file_landed (file_at new (index_path host id)) 0 (IsDropping [] 0) (no_index host id room new h i n b) refl;
+  index = no_file_landed (file_at new (index_path host id)) 0 (IsDropping id [] 0 (length (log_bytes new host id))) (no_index host id room new h i n b) refl;
   log = tt;
   left = λ gone some. absurd (omega arith);
   told = λ last bytes stamp inside has. absurd (no_items room id host n (inr (inr (had_meta_but (OpenHost host id) host id room new (λ l c t e. cc) b (record { last = last; bytes = bytes; stamp = stamp; content = inside; has = has })))));
+  settled = λ m. absurd (no_items room id host n (inr (inr (had_meta_but (OpenHost host id) host id room new (λ l c t e. cc) b m))));
   beside = λ stamp size inside has. inl tt;
 }
 
 new_kept : (old : State) (caller number host most : ℕ) (room new : Room) → host < 2 ^ 32 → next_id old < 2 ^ 64 → IsNew room (next_id old) → SameButItem (OpenHost host (next_id old)) room new → file_at new (open_path host (next_id old)) ≡ Some [] → IsKept new (entered old caller number host most) []
 new_kept old caller number host most room new h i n b now = record {
   in_order = tt;
-  numbers = record { stored = refl; last = refl; end = refl; landed = omega arith; pending = refl };
+  numbers = record { stored = refl; last = refl; end = refl; landed = omega arith; pending = refl; log_mark = omega arith; index_mark = omega arith };
   index = no_file_landed (file_at new (index_path host (next_id old))) 0 (Begins [] 0) (no_index host (next_id old) room new h i n b) refl;
+  log_kept = omega arith;
+  index_kept = omega arith;
   alive = λ live. record {
     opened = now;
     unopened = λ early. refl;
@@ -118,7 +121,7 @@ new_kept old caller number host most room new h i n b now = record {
 }
 
 -- the entry was made, and the row may be in the table
-entry_made : (old : State) (issued : Ledger) (caller number host most : ℕ) (rows' : List Row) (tree after : Tree) → IsRegular old → HasShape old → old.store.tree ≡ Some tree → (number ≡ old.marks → ⊥) → host < 2 ^ 32 → next_id old < 2 ^ 64 → AreSound (last_id old) issued old.table.writers tree
+entry_made : (old : State) (issued : Ledger) (caller number host most : ℕ) (rows' : List Row) (tree after : Tree) → IsRegular old → IsShaped old → old.store.tree ≡ Some tree → (number ≡ old.marks → ⊥) → host < 2 ^ 32 → next_id old < 2 ^ 64 → AreSound (last_id old) issued old.table.writers tree
     → ((q : ℕ) → (q ≡ next_id old → ⊥) → row_of q rows' ≡ row_of q old.table.writers) → ((x : Row) → row_of (next_id old) rows' ≡ Some x → x ≡ entered old caller number host most)
     → Created tree number (open_path host (next_id old)) after → AreSound (next_id old) issued rows' after
 entry_made old issued caller number host most rows' tree after r shape told apart h i s others own c =
@@ -148,7 +151,7 @@ enter_rows row table (Ok Made) = inl refl
 enter_rows row table (Ok NoFolder) = inr refl
 enter_rows row table told = inr refl
 
-enter_told : (old : State) (issued : Ledger) (caller number host most : ℕ) (tree : Tree) → IsRegular old → HasShape old → old.store.tree ≡ Some tree → (number ≡ old.marks → ⊥) → host < 2 ^ 32 → next_id old < 2 ^ 64 → AreRight (last_id old) issued old.table tree
+enter_told : (old : State) (issued : Ledger) (caller number host most : ℕ) (tree : Tree) → IsRegular old → IsShaped old → old.store.tree ≡ Some tree → (number ≡ old.marks → ⊥) → host < 2 ^ 32 → next_id old < 2 ^ 64 → AreRight (last_id old) issued old.table tree
     → (told : Told) (after : Tree) → Tells (enter_step old number host) tree told after → AreRight (next_id old) issued (enter_outcome (entered old caller number host most) old.table told).table after
 enter_told old issued caller number host most tree r shape is apart h i a told after t =
     let row : Row = entered old caller number host most in
@@ -182,14 +185,11 @@ drawn_accounted issued old a = record {
 }
 
 -- Entering keeps soundness.
-pub enter_keeps : (issued : Ledger) (old : State) (caller room host most : ℕ) (reply : Reply) (new : State) → IsRegular old → HasShape old → Enters caller room host most old reply new → IsAccounted issued old → IsAccounted issued new
+pub enter_keeps : (issued : Ledger) (old : State) (caller room host most : ℕ) (reply : Reply) (new : State) → IsRegular old → IsShaped old → Enters caller room host most old reply new → IsAccounted issued old → IsAccounted issued new
 enter_keeps issued old caller room host most reply new r shape f a =
     unless_refused issued (enter_check old room) old reply new (EntersAs caller room host most old reply new) f a
     (λ none does.
     let c = may_enter old room none in
     let fits : next_id old < 2 ^ 64 = id_fits old.mount (old.serial + 1) r.mount_fits (omega (arith, c.1)) in
-    elim does.does as (λ _. IsAccounted issued new) [
-      | inl makes ↦ makes_accounted (enter_step old room host) (enter_outcome (entered old caller room host most) old.table) (λ x. issued) (drawn old) reply new a.tree a.told
-          (enter_told old issued caller room host most a.tree r shape a.told c.0 does.host_fits fits a.right) makes
-      | inr refused ↦ accounted_as issued (drawn old) new refused.1 (drawn_accounted issued old a)
-    ])
+    makes_accounted (enter_step old room host) (enter_outcome (entered old caller room host most) old.table) (λ x. issued) (drawn old) reply new a.tree a.told
+    (enter_told old issued caller room host most a.tree r shape a.told c.0 does.host_fits fits a.right) does.makes)

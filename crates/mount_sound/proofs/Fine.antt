@@ -6,9 +6,7 @@ use Rattle.mount_model.specs.declared.reply.Reply.{Reply}
 use Rattle.mount_model.specs.Mounting.{IsMounted}
 use Rattle.mount_model.specs.State.{State}
 use Rattle.mount_model.specs.Step.{IsStep, IsOwed}
-use Rattle.mount_model.proofs.Beginning.{mounted_regular}
-use Rattle.mount_model.proofs.Lasting.{step_regular}
-use Rattle.mount_model.proofs.Places.{step_place}
+use Rattle.mount_model.proofs.Facts.{mounted_regular, step_regular, step_place}
 use Rattle.mount_sound.specs.Issued.{issued_after}
 use Rattle.mount_sound.specs.Sound.{IsFine}
 use Rattle.mount_sound.proofs.Mounting.{mounted_sound}

@@ -6,7 +6,7 @@ use Rattle.std.proofs.lemmas.List.Elements.{recursion_from_All}
 use Rattle.plfs_types.specs.declared.entries.Entry.{Entry}
 use Rattle.container_layout.specs.declared.items.Item.TheVariants.{Trunc}
 use Rattle.container_layout.specs.Paths.{path_of, IsIn}
-use Rattle.container_layout.proofs.Places.{same_items}
+use Rattle.container_layout.proofs.Facts.{same_items}
 use Rattle.store_api.specs.declared.step.Answer.TheVariants.{Names}
 use Rattle.store_api.specs.declared.tree.Room.{Room}
 use Rattle.store_api.specs.declared.tree.Tree.{Tree}
@@ -18,20 +18,19 @@ use Rattle.store_laws.specs.Differ.{is_listed}
 use Rattle.store_laws.specs.Tells.{Tells}
 use Rattle.store_laws.specs.There.{AreNamesOf, ListsFolder}
 use Rattle.store_laws.specs.Says.{ListTells}
-use Rattle.store_laws.proofs.Naming.{name_eq}
-use Rattle.store_laws.proofs.Answering.{list_tells, look_told}
-use Rattle.store_laws.proofs.Telling.{acts_told}
+use Rattle.store_laws.proofs.Facts.{name_eq, list_tells, look_told, acts_told}
 use Rattle.mount_model.specs.declared.row.Row.{Row}
 use Rattle.mount_model.specs.declared.row.Stage.TheVariants as stage
 use Rattle.mount_model.specs.declared.reply.Reply.{Reply}
-use Rattle.mount_model.specs.Flooring.{IsFloorOf, floored, FloorOutcome, FloorsRow, Floors}
+use Rattle.mount_model.specs.Flooring.{floored, FloorOutcome, FloorsRow, Floors}
+use Rattle.mount_model.specs.Listed.{IsGreatest, HasStamp}
 use Rattle.mount_model.specs.Making.{Told}
 use Rattle.mount_model.specs.Paths.{Name, truncs}
 use Rattle.mount_model.specs.Regular.{IsRegular}
 use Rattle.mount_model.specs.State.{State, Table, last_id, put}
 use Rattle.mount_model.specs.Table.{with_row, rank, only}
-use Rattle.mount_model.proofs.Deciding.{at_only}
-use Rattle.mount_sound.specs.Entries.{AreInOrder}
+use Rattle.mount_model.proofs.Facts.{at_only}
+use Rattle.mount_sound.specs.Entries.{AreEntriesOf}
 use Rattle.mount_sound.specs.Items.{HasItem}
 use Rattle.mount_sound.specs.Ledger.{Written, entries_in, Ledger}
 use Rattle.mount_sound.specs.Kept.{IsAtStage, IsKept}
@@ -55,24 +54,26 @@ some_there None bytes b e = absurd (cc)
 some_there (Some x) bytes b e = refl
 
 -- every truncate of the room is at or below the floor that its listing gives
-below : (room : Room) (names : List Name) (floor stamp size : ℕ) (inside : List ℕ) → AreNamesOf room truncs names → IsFloorOf names floor → HasItem room (Trunc stamp size) inside → stamp ≤ floor
+below : (room : Room) (names : List Name) (floor stamp size : ℕ) (inside : List ℕ) → AreNamesOf room truncs names → IsGreatest HasStamp names floor → HasItem room (Trunc stamp size) inside → stamp ≤ floor
 below room names floor stamp size inside are f h =
     let name : Name = (path_of (Trunc stamp size)).file in
     let there : is_listed name names ≡ true = are.exactly name ∙ some_there (file_at room (path_of (Trunc stamp size))) inside _ h.there in
-    let found = listed (λ (n : Name). (t : ℕ) × (s : ℕ) × IsIn truncs n (Trunc t s) × (t ≤ floor)) name names (recursion_from_All (λ (n : Name). (t : ℕ) × (s : ℕ) × IsIn truncs n (Trunc t s) × (t ≤ floor)) names f.truncates) there in
-    let same : Trunc stamp size ≡ Trunc found.0 found.1 = same_items (Trunc stamp size) (Trunc found.0 found.1) h.is_item found.2.is_item found.2.printed in
+    let found = listed (λ (n : Name). (t : ℕ) × HasStamp n t × (t ≤ floor)) name names (recursion_from_All (λ (n : Name). (t : ℕ) × HasStamp n t × (t ≤ floor)) names f.numbers) there in
+    let same : Trunc stamp size ≡ Trunc found.0 found.1.0 = same_items (Trunc stamp size) (Trunc found.0 found.1.0) h.is_item found.1.1.is_item found.1.1.printed in
     let stamps : stamp ≡ found.0 = cc in
-    omega (arith, stamps, found.3)
+    omega (arith, stamps, found.2)
 
-order_of_none : (writer floor : ℕ) (es : List Entry) → es ≡ [] → AreInOrder writer floor 0 es
-order_of_none writer floor es e = subst (AreInOrder writer floor 0) (sym e) tt
+order_of_none : (writer floor : ℕ) (es : List Entry) → es ≡ [] → AreEntriesOf writer floor 0 es
+order_of_none writer floor es e = subst (AreEntriesOf writer floor 0) (sym e) tt
 
-floored_holds : (room : Room) (row : Row) (floor : ℕ) (names : List Name) (issued : List Written) → rank row.stage ≡ 0 → IsKept room row issued → IsAtStage room row (entries_in issued) → Own room row issued → AreNamesOf room truncs names → IsFloorOf names floor → Holds room (floored floor row) issued
+floored_holds : (room : Room) (row : Row) (floor : ℕ) (names : List Name) (issued : List Written) → rank row.stage ≡ 0 → IsKept room row issued → IsAtStage room row (entries_in issued) → Own room row issued → AreNamesOf room truncs names → IsGreatest HasStamp names floor → Holds room (floored floor row) issued
 floored_holds room row floor names issued at k a o are f = record {
   kept = record {
     in_order = order_of_none row.id floor (entries_in issued) (a.unopened (omega arith));
-    numbers = record { stored = k.numbers.stored; last = k.numbers.last; end = k.numbers.end; landed = k.numbers.landed; pending = k.numbers.pending };
+    numbers = record { stored = k.numbers.stored; last = k.numbers.last; end = k.numbers.end; landed = k.numbers.landed; pending = k.numbers.pending; log_mark = k.numbers.log_mark; index_mark = k.numbers.index_mark };
     index = k.index;
+    log_kept = k.log_kept;
+    index_kept = k.index_kept;
     alive = λ live. record {
       opened = a.opened;
       unopened = λ early. a.unopened (omega arith);
@@ -88,13 +89,13 @@ floored_holds room row floor names issued at k a o are f = record {
   own = record { one_host = o.one_host; log = o.log; told = o.told };
 }
 
-floor_found : (last : ℕ) (issued : Ledger) (rows : List Row) (tree : Tree) (row : Row) (floor : ℕ) (names : List Name) → rank row.stage ≡ 0 → Working last issued rows tree row → ListsFolder tree row.room truncs names → IsFloorOf names floor → AreSound last issued (with_row (floored floor row) rows) tree
+floor_found : (last : ℕ) (issued : Ledger) (rows : List Row) (tree : Tree) (row : Row) (floor : ℕ) (names : List Name) → rank row.stage ≡ 0 → Working last issued rows tree row → ListsFolder tree row.room truncs names → IsGreatest HasStamp names floor → AreSound last issued (with_row (floored floor row) rows) tree
 floor_found last issued rows tree row floor names at w l f =
     turns last issued rows (with_row (floored floor row) rows) tree row (floored floor row) l.room w l.has_room refl refl refl (turned_put rows (floored floor row))
     (floored_holds l.room row floor names (issued row.room row.id) at (its_kept last issued rows tree row w l.room l.has_room) (its_stage last issued rows tree row w l.room l.has_room) (its_own last issued rows tree row w l.room l.has_room) l.entries f)
 
 -- what the table becomes
-floor_cases : (row : Row) (table : Table) (told : Told) (reply : Reply) (after : Table) → FloorOutcome row table told reply after → ((names : List Name) × (floor : ℕ) × (told ≡ Ok (Names names)) × IsFloorOf names floor × (after ≡ put (floored floor row) table)) ⊎ (after ≡ table)
+floor_cases : (row : Row) (table : Table) (told : Told) (reply : Reply) (after : Table) → FloorOutcome row table told reply after → ((names : List Name) × (floor : ℕ) × (told ≡ Ok (Names names)) × IsGreatest HasStamp names floor × (after ≡ put (floored floor row) table)) ⊎ (after ≡ table)
 floor_cases row table (Ok (Names names)) reply after (inl f) = inl (names, f.0, refl, f.1, f.3)
 floor_cases row table (Ok (Names names)) reply after (inr d) = inr d.3
 floor_cases row table told reply after f = inr f.1

@@ -4,18 +4,17 @@ use Rattle.std.specs.Prelude.{MatchOption, Ok}
 use Rattle.plfs_types.specs.Bytes.{overwritten}
 use Rattle.plfs_types.specs.declared.entries.Entry.{Entry}
 use Rattle.index_entry.specs.Spelling.{spelling_all}
-use Rattle.index_entry.proofs.Spelled.{length-spelling_all, drop-spelling_all}
+use Rattle.index_entry.proofs.Facts.{length-spelling_all, drop-spelling_all}
 use Rattle.container_layout.specs.declared.items.Item.TheVariants.{OpenHost, Index, Log}
 use Rattle.container_layout.specs.Paths.{hostdir_of}
 use Rattle.store_api.specs.declared.step.Answer.TheVariants.{Made}
 use Rattle.store_api.specs.declared.tree.Room.{Room}
 use Rattle.store_api.specs.declared.tree.Tree.{Tree}
-use Rattle.store_laws.specs.Files.{file_at}
+use Rattle.store_laws.specs.Files.{file_at, kept_at}
 use Rattle.store_laws.specs.Prefix.{IsPrefix}
 use Rattle.store_laws.specs.Changes.{Wrote}
 use Rattle.store_laws.specs.Tells.{Tells, made}
-use Rattle.store_laws.proofs.Overwriting.{prefix-overwritten, length-overwritten}
-use Rattle.store_laws.proofs.Telling.{write_told}
+use Rattle.store_laws.proofs.Facts.{kept_before, prefix-overwritten, length-overwritten, write_told}
 use Rattle.mount_model.specs.declared.row.Row.{Row}
 use Rattle.mount_model.specs.declared.row.Stage.TheVariants as stage
 use Rattle.mount_model.specs.declared.reply.Reply.{Reply}
@@ -25,7 +24,7 @@ use Rattle.mount_model.specs.Paths.{index_path}
 use Rattle.mount_model.specs.Regular.{IsRegular}
 use Rattle.mount_model.specs.State.{State, Table, last_id}
 use Rattle.mount_model.specs.Table.{with_row, rank, only}
-use Rattle.mount_model.proofs.Deciding.{at_only}
+use Rattle.mount_model.proofs.Facts.{at_only}
 use Rattle.mount_sound.specs.Ledger.{Written, entries_in, Ledger}
 use Rattle.mount_sound.specs.Kept.{Begins, IsAtStage, IsKept}
 use Rattle.mount_sound.specs.Sound.{AreSound}
@@ -39,7 +38,7 @@ use Rattle.mount_sound.proofs.Stages.{on_writer, working, live_stage}
 use Rattle.mount_sound.proofs.Working.{Working, Holds, Turned, turned_same, turned_put, spares, works_on, its_fit, its_kept, its_stage, its_own}
 
 -- any first bytes of the pending entries leave a beginning of the issued ones
-begins_more : (issued : List Entry) (landed : ℕ) (old : List ℕ) (k : ℕ) → Begins issued landed old → Begins issued landed (overwritten old (40 * landed) (take k (spelling_all (drop landed issued))))
+pub begins_more : (issued : List Entry) (landed : ℕ) (old : List ℕ) (k : ℕ) → Begins issued landed old → Begins issued landed (overwritten old (40 * landed) (take k (spelling_all (drop landed issued))))
 begins_more issued landed old k b = record {
   prefix = subst (λ d. IsPrefix (overwritten old (40 * landed) (take k d)) (spelling_all issued)) (drop-spelling_all landed issued) (prefix-overwritten (spelling_all issued) old (40 * landed) k b.prefix b.long);
   long = omega (arith, length-overwritten old (40 * landed) (take k (spelling_all (drop landed issued))) b.long, b.long);
@@ -52,7 +51,7 @@ begins_all issued landed old b = record {
   long = omega (arith, length-overwritten old (40 * landed) (spelling_all (drop landed issued)) b.long, length-spelling_all (drop landed issued));
 }
 
-begins_old : (es : List Entry) (landed : ℕ) (file : Option (List ℕ)) (old : List ℕ) → MatchOption file (landed ≡ 0) (Begins es landed) → file ≡ Some old → Begins es landed old
+pub begins_old : (es : List Entry) (landed : ℕ) (file : Option (List ℕ)) (old : List ℕ) → MatchOption file (landed ≡ 0) (Begins es landed) → file ≡ Some old → Begins es landed old
 begins_old es landed file old m e = subst (λ o. MatchOption o (landed ≡ 0) (Begins es landed)) e m
 
 -- the row with so many landed, and these pending
@@ -72,15 +71,17 @@ landing_stage room new row landed entries bytes es fits at a b now = record {
 }
 
 landing_holds : (room new : Room) (row : Row) (landed : ℕ) (entries : List Entry) (bytes : List ℕ) (issued : List Written) → Fits row → rank row.stage ≡ 4 → IsKept room row issued → IsAtStage room row (entries_in issued) → Own room row issued → SameButItem (Index row.host row.id) room new
-    → file_at new (index_path row.host row.id) ≡ Some bytes → landed ≤ length (entries_in issued) → entries ≡ drop landed (entries_in issued) → Begins (entries_in issued) landed bytes → Holds new (landing row landed entries) issued
-landing_holds room new row landed entries bytes issued fits at k a o b now within pending begins =
+    → file_at new (index_path row.host row.id) ≡ Some bytes → landed ≤ length (entries_in issued) → entries ≡ drop landed (entries_in issued) → Begins (entries_in issued) landed bytes → row.landed ≤ landed → 40 * row.index_mark ≤ kept_at new (index_path row.host row.id) → Holds new (landing row landed entries) issued
+landing_holds room new row landed entries bytes issued fits at k a o b now within pending begins more kept =
     let at_stage : IsAtStage new (landing row landed entries) (entries_in issued) = landing_stage room new row landed entries bytes (entries_in issued) fits at a b now in
     let own : Own new row issued = own_kept (Index row.host row.id) room new row issued fits refl (λ e. cc) (λ l c t e. cc) b o in
     record {
       kept = record {
         in_order = k.in_order;
-        numbers = record { stored = k.numbers.stored; last = k.numbers.last; end = k.numbers.end; landed = within; pending = pending };
+        numbers = record { stored = k.numbers.stored; last = k.numbers.last; end = k.numbers.end; landed = within; pending = pending; log_mark = k.numbers.log_mark; index_mark = omega (arith, k.numbers.index_mark, more) };
         index = subst (λ o. MatchOption o (landed ≡ 0) (Begins (entries_in issued) landed)) (sym now) begins;
+        log_kept = omega (arith, k.log_kept, b.kepts (Log row.host row.id) (is_log row.host row.id fits.host fits.id) (λ e. cc));
+        index_kept = kept;
         alive = λ live. at_stage;
       };
       live = live_stage row.stage (omega arith);
@@ -89,17 +90,17 @@ landing_holds room new row landed entries bytes issued fits at k a o b now withi
 
 -- the index dropping was written
 index_written : (last : ℕ) (issued : Ledger) (rows rows' : List Row) (tree after : Tree) (row : Row) (landed : ℕ) (entries : List Entry) (bytes : List ℕ) → rank row.stage ≡ 4 → Working last issued rows tree row → Turned rows rows' row.id (landing row landed entries)
-    → landed ≤ length (entries_in (issued row.room row.id)) → entries ≡ drop landed (entries_in (issued row.room row.id))
+    → row.landed ≤ landed → landed ≤ length (entries_in (issued row.room row.id)) → entries ≡ drop landed (entries_in (issued row.room row.id))
     → ((old : List ℕ) → Begins (entries_in (issued row.room row.id)) row.landed old → Begins (entries_in (issued row.room row.id)) landed (overwritten old (40 * row.landed) bytes))
     → Wrote tree row.room (index_path row.host row.id) (40 * row.landed) bytes after → AreSound last issued rows' after
-index_written last issued rows rows' tree after row landed entries bytes at w turned within pending begins c =
+index_written last issued rows rows' tree after row landed entries bytes at w turned more within pending begins c =
     let fits = its_fit last issued rows tree row w c.room c.has_room in
     let k = its_kept last issued rows tree row w c.room c.has_room in
     let b : SameButItem (Index row.host row.id) c.room c.new = same_but_item (Index row.host row.id) c.room c.new (is_index row.host row.id fits.host fits.id) c.others in
     subst (AreSound last issued rows') (sym c.gives)
     (works_on last issued rows rows' tree row (landing row landed entries) c.room c.new w c.has_room refl refl refl turned (spares (Index row.host row.id) row.id c.room c.new refl b)
     (landing_holds c.room c.new row landed entries (overwritten c.old (40 * row.landed) bytes) (issued row.room row.id) fits at k (its_stage last issued rows tree row w c.room c.has_room) (its_own last issued rows tree row w c.room c.has_room) b c.now within pending
-    (begins c.old (begins_old (entries_in (issued row.room row.id)) row.landed (file_at c.room (index_path row.host row.id)) c.old k.index c.there))))
+    (begins c.old (begins_old (entries_in (issued row.room row.id)) row.landed (file_at c.room (index_path row.host row.id)) c.old k.index c.there)) more (omega (arith, c.kept, kept_before (kept_at c.room (index_path row.host row.id)) c.old (40 * row.landed) bytes c.within, k.index_kept, k.numbers.index_mark))))
 
 -- the table changes only where the act was made
 flush_rows : (row : Row) (table : Table) (told : Told) → (told ≡ made → ⊥) → (flush_outcome row table told).table ≡ table
@@ -112,14 +113,14 @@ flush_made last issued rows tree after row at w c =
     let k = its_kept last issued rows tree row w c.room c.has_room in
     let pending : row.pending.entries ≡ drop row.landed es = k.numbers.pending in
     let all : row.landed + length row.pending.entries ≡ length es = omega (arith, ap length pending, length-drop row.landed es, k.numbers.landed) in
-    index_written last issued rows (with_row (flushed row) rows) tree after row (row.landed + length row.pending.entries) [] (spelling_all row.pending.entries) at w (turned_put rows (flushed row)) (omega (arith, all)) (sym (drop_past (row.landed + length row.pending.entries) es (omega (arith, all))))
+    index_written last issued rows (with_row (flushed row) rows) tree after row (row.landed + length row.pending.entries) [] (spelling_all row.pending.entries) at w (turned_put rows (flushed row)) (omega arith) (omega (arith, all)) (sym (drop_past (row.landed + length row.pending.entries) es (omega (arith, all))))
     (λ old b. subst (λ p. Begins es (row.landed + length p) (overwritten old (40 * row.landed) (spelling_all p))) (sym pending) (begins_all es row.landed old b)) c
 
 flush_part : (last : ℕ) (issued : Ledger) (rows : List Row) (tree after : Tree) (row : Row) (k : ℕ) → rank row.stage ≡ 4 → Working last issued rows tree row → Wrote tree row.room (index_path row.host row.id) (40 * row.landed) (take k (spelling_all row.pending.entries)) after → AreSound last issued rows after
 flush_part last issued rows tree after row n at w c =
     let es : List Entry = entries_in (issued row.room row.id) in
     let k = its_kept last issued rows tree row w c.room c.has_room in
-    index_written last issued rows rows tree after row row.landed row.pending.entries (take n (spelling_all row.pending.entries)) at w (turned_same rows row.id row w.stands) k.numbers.landed k.numbers.pending
+    index_written last issued rows rows tree after row row.landed row.pending.entries (take n (spelling_all row.pending.entries)) at w (turned_same rows row.id row w.stands) (omega arith) k.numbers.landed k.numbers.pending
     (λ old b. subst (λ p. Begins es row.landed (overwritten old (40 * row.landed) (take n (spelling_all p)))) (sym k.numbers.pending) (begins_more es row.landed old n b)) c
 
 flush_told : (last : ℕ) (issued : Ledger) (table : Table) (tree : Tree) (row : Row) → rank row.stage ≡ 4 → table.holders ≡ [] → table.flattenings ≡ [] → Working last issued table.writers tree row → (told : Told) (after : Tree) → Tells (flush_step row) tree told after → AreRight last issued (flush_outcome row table told).table after

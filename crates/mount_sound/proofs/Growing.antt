@@ -8,9 +8,7 @@ use Rattle.store_api.specs.declared.tree.Tree.{Tree}
 use Rattle.store_api.specs.Step.{Step, rooms as all_rooms}
 use Rattle.store_laws.specs.Naming.{KeepsRooms, Lengthens, OnlyAdds}
 use Rattle.store_laws.specs.Tells.{Tells}
-use Rattle.store_laws.proofs.Lengthening.{lengthens_told}
-use Rattle.store_laws.proofs.Telling.{acts_told}
-use Rattle.store_laws.proofs.Touching.{keeps_rooms}
+use Rattle.store_laws.proofs.Facts.{lengthens_told, acts_told, keeps_rooms}
 use Rattle.mount_model.specs.declared.call.Ask.{Ask}
 use Rattle.mount_model.specs.declared.call.Call.{Call}
 use Rattle.mount_model.specs.declared.call.Call.TheVariants.{Greet, Find, MakeContainer, Rooms, Look, Enter, Floor, MakeHostdir, MakeIndex, MakeLog, Write, Flush, SyncLog, SyncIndex, PutMeta, Exit}
@@ -24,25 +22,26 @@ use Rattle.mount_model.specs.declared.reply.Refusal.{Refusal}
 use Rattle.mount_model.specs.Entering.{EntersAs}
 use Rattle.mount_model.specs.Flooring.{FloorsRow}
 use Rattle.mount_model.specs.Flushing.{FlushesRow}
-use Rattle.mount_model.specs.History.{Event, IsLegal, tree_after}
+use Rattle.mount_model.specs.History.{Event, IsLawful, told_tree_after}
 use Rattle.mount_model.specs.Leaving.{exit_step}
 use Rattle.mount_model.specs.Looking.{look_step}
-use Rattle.mount_model.specs.Making.{Told, Outcome, Makes, OnWriter, UnlessRefused}
+use Rattle.mount_model.specs.Making.{Told, CallOutcome, MakesAct, OnWriter, UnlessRefused}
 use Rattle.mount_model.specs.State.{State, drawn, timed}
 use Rattle.mount_model.specs.Step.{Answers, IsStep}
 use Rattle.mount_model.specs.Table.{row_of}
 use Rattle.mount_model.specs.Writing.{WritesAt}
-use Rattle.mount_model.proofs.Deciding.{on_writer, unless_refused}
-use Rattle.mount_sound.specs.Growing.{Grows, IsMore, IssuesMore}
+use Rattle.mount_model.specs.Stopped.{IsCutShort, IsLeftBy}
+use Rattle.mount_model.proofs.Facts.{on_writer, unless_refused, step_cases, stop_left}
+use Rattle.mount_sound.specs.Growing.{FilesGrow, IsMore, IssuesMore}
 use Rattle.mount_sound.specs.Issued.{with_write, written_by, noted_by, noted, issued_after, issued}
 use Rattle.mount_sound.specs.Ledger.{Written, Ledger}
 
 -- ---- trees
 
-pub grows_refl : (tree : Tree) → Grows tree tree
+pub grows_refl : (tree : Tree) → FilesGrow tree tree
 grows_refl tree n room path bytes there apart e = (room, bytes, there, e, omega arith)
 
-pub grows_trans : (a b c : Tree) → Grows a b → Grows b c → Grows a c
+pub grows_trans : (a b c : Tree) → FilesGrow a b → FilesGrow b c → FilesGrow a c
 grows_trans a b c f g n room path bytes there apart e =
     let x = f n room path bytes there apart e in
     let y = g n x.0 path x.1 x.2 apart x.3 in
@@ -52,15 +51,15 @@ grows_trans a b c f g n room path bytes there apart e =
 abbrev Spares : Step → Type 0
 Spares step = OnlyAdds step ⊎ ((row : Row) × (step ≡ exit_step row))
 
-lengthens_grows : (tree after : Tree) → Lengthens tree after → Grows tree after
+lengthens_grows : (tree after : Tree) → Lengthens tree after → FilesGrow tree after
 lengthens_grows tree after l n room path bytes there apart e = l n room path bytes there e
 
-exit_grows : (row : Row) (tree after : Tree) → KeepsRooms (exit_step row) tree after → Grows tree after
+exit_grows : (row : Row) (tree after : Tree) → KeepsRooms (exit_step row) tree after → FilesGrow tree after
 exit_grows row tree after k n room path bytes there apart e =
     let x = k n room there in
     (x.0, bytes, x.1, x.2.files path (λ names. apart names.1.0) ∙ e, omega arith)
 
-tells_grow : (step : Step) (tree : Tree) (told : Told) (after : Tree) → Spares step → Tells step tree told after → Grows tree after
+tells_grow : (step : Step) (tree : Tree) (told : Told) (after : Tree) → Spares step → Tells step tree told after → FilesGrow tree after
 tells_grow step tree told after (inl adds) t = lengthens_grows tree after (lengthens_told step tree told after adds t)
 tells_grow step tree told after (inr (row, is)) t = exit_grows row tree after (subst (λ s. KeepsRooms s tree after) is (keeps_rooms step tree told after t))
 
@@ -79,7 +78,7 @@ none : (old new : State) → new ≡ old → AtMostOne old new
 none old new e = inl (ap (λ (s : State). s.store) e)
 
 -- the state before the act may have drawn a serial or asked the clock
-one : (step : Step) (outcome : Told → Outcome) (old from : State) (reply : Reply) (new : State) → Spares step → from.store ≡ old.store → Makes step outcome from reply new → AtMostOne old new
+one : (step : Step) (outcome : Told → CallOutcome) (old from : State) (reply : Reply) (new : State) → Spares step → from.store ≡ old.store → MakesAct step outcome from reply new → AtMostOne old new
 one step outcome old from reply new spares same m = inr (record { step = step; told = m.told; spares = spares; made = subst (λ s. Acts step s new.store m.told) same m.made })
 
 looking : (room : ℕ) (l : look.Look) → OnlyAdds (look_step room l)
@@ -89,10 +88,7 @@ looking room (Length path) = tt
 looking room (Read path at len) = tt
 
 entering : (caller room host most : ℕ) (old : State) (reply : Reply) (new : State) → EntersAs caller room host most old reply new → AtMostOne old new
-entering caller room host most old reply new e = elim e.does as (λ _. AtMostOne old new) [
-  | inl makes ↦ one _ _ old (drawn old) reply new (inl tt) refl makes
-  | inr refused ↦ inl (ap (λ (s : State). s.store) refused.1)
-]
+entering caller room host most old reply new e = one _ _ old (drawn old) reply new (inl tt) refl e.makes
 
 flooring : (row : Row) (old : State) (reply : Reply) (new : State) → FloorsRow row old reply new → AtMostOne old new
 flooring row old reply new f = inr (record { step = _; told = f.told; spares = inl tt; made = f.made })
@@ -128,7 +124,7 @@ acting old caller (Exit writer) reply new a = by_writer caller _ writer old repl
 
 -- the tree that is told then has all that the one before it had
 abbrev GoesOn : Tree → State → Type 0
-GoesOn tree new = (after : Tree) × (new.store.tree ≡ Some after) × Grows tree after
+GoesOn tree new = (after : Tree) × (new.store.tree ≡ Some after) × FilesGrow tree after
 
 stored_grows : (old new : State) (tree : Tree) → AtMostOne old new → old.store.tree ≡ Some tree → GoesOn tree new
 stored_grows old new tree (inl same) told = (tree, ap (λ (s : Stored). s.tree) same ∙ told, grows_refl tree)
@@ -136,12 +132,25 @@ stored_grows old new tree (inr act) told =
     let t = acts_told act.step old.store new.store tree act.told told act.made in
     (t.0, t.1, tells_grow act.step tree act.told t.0 act.spares t.2)
 
+-- a call that was cut short made at most one act
+pub cut_acts : (old : State) (caller : ℕ) (call : Call) (cut : State) → IsCutShort old caller call cut → AtMostOne old cut
+cut_acts old caller call cut (inl same) = none old cut same
+cut_acts old caller call cut (inr (reply, which, a)) = acting old caller call reply cut a
+
+-- what a stop leaves has all that was there
+left_grows : (old : State) (caller : ℕ) (call : Call) (new : State) (tree : Tree) → IsLeftBy old caller call new → old.store.tree ≡ Some tree → GoesOn tree new
+left_grows old caller call new tree left told =
+    let g = stored_grows (timed None old) left.cut tree (cut_acts (timed None old) caller call left.cut left.short) told in
+    (g.0, left.like.tree ∙ g.1, g.2)
+
 -- Each step leaves every file but an entry of an open writer, and shortens none of them.
-pub step_grows : (old new : State) (caller : ℕ) (ask : Ask) (reply : Reply) (tree : Tree) → IsStep old caller ask reply new → old.store.tree ≡ Some tree → (after : Tree) × (new.store.tree ≡ Some after) × Grows tree after
-step_grows old new caller ask reply tree s told = stored_grows old new tree (acting old caller ask.call reply new s.answers) told
+pub step_grows : (old new : State) (caller : ℕ) (ask : Ask) (reply : Reply) (tree : Tree) → IsStep old caller ask reply new → old.store.tree ≡ Some tree → (after : Tree) × (new.store.tree ≡ Some after) × FilesGrow tree after
+step_grows old new caller ask reply tree s told = step_cases old caller ask reply new (GoesOn tree new) s
+    (λ whole a. stored_grows old new tree (acting old caller ask.call reply new a) told)
+    (λ k some x. left_grows old caller ask.call new tree (stop_left old caller k ask.call reply new x) told)
 
 -- So does each legal history.
-pub history_grows : (start : State) (events : List Event) (tree : Tree) → IsLegal start events → start.store.tree ≡ Some tree → (after : Tree) × (tree_after start events ≡ Some after) × Grows tree after
+pub history_grows : (start : State) (events : List Event) (tree : Tree) → IsLawful start events → start.store.tree ≡ Some tree → (after : Tree) × (told_tree_after start events ≡ Some after) × FilesGrow tree after
 history_grows start [] tree legal told = (tree, told, grows_refl tree)
 history_grows start (e ∷ events) tree legal told =
     let x = step_grows start e.after e.caller e.ask e.reply tree legal.1 told in

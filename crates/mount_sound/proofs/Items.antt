@@ -1,14 +1,14 @@
 -- Items of a room: two of them have two paths, and a change of one leaves the others.
 use Rattle.std.proofs.Common.{◌≡◌, ◌<◌, ◌^◌, ℕ, List, true, Option, Some, None, refl, ap, sym, ◌∙◌, inl, inr}
 use Rattle.container_layout.specs.declared.items.Item.{Item}
-use Rattle.container_layout.specs.declared.items.Item.TheVariants.{Access, OpenHost, Meta, Trunc, Flat, TmpFlat, Index, Log}
+use Rattle.container_layout.specs.declared.items.Item.TheVariants.{Access, OpenHost, Meta, Trunc, Flat, TmpFlat, Index, Log, Packed, TmpPacked}
 use Rattle.container_layout.specs.Items.{IsItem}
 use Rattle.container_layout.specs.Paths.{path_of}
-use Rattle.container_layout.proofs.Places.{same_items}
+use Rattle.container_layout.proofs.Facts.{same_items}
 use Rattle.store_api.specs.declared.tree.Room.{Room}
 use Rattle.store_api.specs.Room.{has_folder}
-use Rattle.store_laws.specs.Files.{file_at, AreTwo, SameButFile}
-use Rattle.store_laws.proofs.Rooms.{has_folder_same, file_at_same}
+use Rattle.store_laws.specs.Files.{file_at, kept_at, AreTwo, SameButFile}
+use Rattle.store_laws.proofs.Facts.{has_folder_same, file_at_same, kept_at_same}
 use Rattle.mount_model.specs.Paths.{Name}
 use Rattle.mount_sound.specs.Items.{HasItem, HasMeta, HasItemOf}
 
@@ -22,6 +22,8 @@ owner (Flat id) = None
 owner (TmpFlat id) = None
 owner (Index host writer) = Some writer
 owner (Log host writer) = Some writer
+owner (Packed host writer) = Some writer
+owner (TmpPacked host id) = None
 
 abbrev pub host_of : Item → Option ℕ
 host_of Access = None
@@ -32,6 +34,8 @@ host_of (Flat id) = None
 host_of (TmpFlat id) = None
 host_of (Index host writer) = Some host
 host_of (Log host writer) = Some host
+host_of (Packed host writer) = Some host
+host_of (TmpPacked host id) = None
 
 pub is_index : (host writer : ℕ) → host < 2 ^ 32 → writer < 2 ^ 64 → IsItem (Index host writer)
 is_index host writer h w = record { in_range = tt; widths = (h, w) }
@@ -50,23 +54,26 @@ apart a b is_a is_b other = λ folder file. other (same_items a b is_a is_b (λ 
 pub record SameButItem (changed : Item) (room new : Room) : Type 0 where
   pub is_item : IsItem changed
   pub others : (item : Item) → IsItem item → (item ≡ changed → ⊥) → file_at new (path_of item) ≡ file_at room (path_of item)
+  pub kepts : (item : Item) → IsItem item → (item ≡ changed → ⊥) → kept_at new (path_of item) ≡ kept_at room (path_of item)
   pub folders : (folder : Name) → has_folder room folder ≡ true → has_folder new folder ≡ true
 
 pub same_but_item : (changed : Item) (room new : Room) → IsItem changed → SameButFile (path_of changed) room new → SameButItem changed room new
 same_but_item changed room new is s = record {
   is_item = is;
   others = λ item is_other other. s.files (path_of item) (apart item changed is_other is other);
+  kepts = λ item is_other other. s.kepts (path_of item) (apart item changed is_other is other);
   folders = λ folder there. has_folder_same room new folder s.folders ∙ there;
 }
 
 -- the room has the same of this writer, the same truncates, and no fewer folders
 pub record SameFor (writer : ℕ) (room new : Room) : Type 0 where
   pub owned : (item : Item) → IsItem item → owner item ≡ Some writer → file_at new (path_of item) ≡ file_at room (path_of item)
+  pub kepts : (item : Item) → IsItem item → owner item ≡ Some writer → kept_at new (path_of item) ≡ kept_at room (path_of item)
   pub truncates : (stamp size : ℕ) → IsItem (Trunc stamp size) → file_at new (path_of (Trunc stamp size)) ≡ file_at room (path_of (Trunc stamp size))
   pub folders : (folder : Name) → has_folder room folder ≡ true → has_folder new folder ≡ true
 
 pub same_refl : (writer : ℕ) (room : Room) → SameFor writer room room
-same_refl writer room = record { owned = λ item is o. refl; truncates = λ stamp size is. refl; folders = λ folder there. there }
+same_refl writer room = record { owned = λ item is o. refl; kepts = λ item is o. refl; truncates = λ stamp size is. refl; folders = λ folder there. there }
 
 pub other_owner : (item changed : Item) (a b : ℕ) → owner item ≡ Some a → owner changed ≡ Some b → (a ≡ b → ⊥) → item ≡ changed → ⊥
 other_owner item changed a b of_a of_b other same = let owners : owner item ≡ owner changed = ap owner same in other (cc)
@@ -81,6 +88,7 @@ other_host item changed a b of_a of_b other same = let hosts : host_of item ≡ 
 pub same_for : (changed : Item) (writer q : ℕ) (room new : Room) → owner changed ≡ Some writer → (q ≡ writer → ⊥) → SameButItem changed room new → SameFor q room new
 same_for changed writer q room new of_writer other s = record {
   owned = λ item is o. s.others item is (other_owner item changed q writer o of_writer other);
+  kepts = λ item is o. s.kepts item is (other_owner item changed q writer o of_writer other);
   truncates = λ stamp size is. s.others (Trunc stamp size) is (no_owner (Trunc stamp size) changed writer refl of_writer);
   folders = s.folders;
 }
@@ -93,6 +101,7 @@ same_truncates changed writer room new of_writer s stamp size is = s.others (Tru
 pub same_for_files : (writer : ℕ) (room new : Room) → new.files ≡ room.files → ((folder : Name) → has_folder room folder ≡ true → has_folder new folder ≡ true) → SameFor writer room new
 same_for_files writer room new same folders = record {
   owned = λ item is o. file_at_same room new (path_of item) same;
+  kepts = λ item is o. kept_at_same room new (path_of item) same;
   truncates = λ stamp size is. file_at_same room new (path_of (Trunc stamp size)) same;
   folders = folders;
 }

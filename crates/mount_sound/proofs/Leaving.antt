@@ -1,37 +1,37 @@
 -- Leaving keeps soundness.
-use Rattle.std.proofs.Common.{◌≡◌, ◌≤◌, ℕ, List, [], length, Some, None, Bool, true, false, refl, ap, sym, ◌⊎◌, inl, inr, subst, arith, Option}
+use Rattle.std.proofs.Common.{◌≡◌, ◌≤◌, ℕ, List, [], length, take, Some, None, Bool, true, false, refl, ap, sym, ◌⊎◌, inl, inr, subst, arith, Option}
 use Rattle.std.specs.Prelude.{slice_get, MatchOption, Ok, Err, nat_lt, not, ◌&&◌, if◌then◌else◌}
 use Rattle.std.proofs.lemmas.Bool.Decides.{nat_tests}
 use Rattle.std.proofs.lemmas.List.{length-map}
-use Rattle.container_layout.specs.declared.items.Item.TheVariants.{OpenHost, Meta, Index}
+use Rattle.container_layout.specs.declared.items.Item.TheVariants.{OpenHost, Meta, Index, Log}
 use Rattle.store_api.specs.declared.step.Answer.{Answer}
 use Rattle.store_api.specs.declared.step.Answer.TheVariants.{Made}
 use Rattle.store_api.specs.declared.store.Trouble.TheVariants as trouble
 use Rattle.store_api.specs.declared.tree.Room.{Room}
 use Rattle.store_api.specs.declared.tree.Tree.{Tree}
-use Rattle.store_laws.specs.Files.{file_at}
+use Rattle.store_laws.specs.Files.{file_at, kept_at}
 use Rattle.store_laws.specs.Changes.{with_room, Removed}
 use Rattle.store_laws.specs.Tells.{Tells, made}
-use Rattle.store_laws.proofs.Telling.{remove_told}
+use Rattle.store_laws.proofs.Facts.{remove_told}
 use Rattle.mount_model.specs.declared.row.Row.{Row}
 use Rattle.mount_model.specs.declared.row.Stage.TheVariants as stage
 use Rattle.mount_model.specs.declared.reply.Reply.{Reply}
 use Rattle.mount_model.specs.declared.reply.Refusal.TheVariants.{NoMeta}
 use Rattle.mount_model.specs.Leaving.{exit_check, exit_step, exit_outcome, Exits}
-use Rattle.mount_model.specs.Making.{Told, Makes, UnlessRefused}
-use Rattle.mount_model.specs.Paths.{open_path, index_path}
+use Rattle.mount_model.specs.Making.{Told, MakesAct, UnlessRefused}
+use Rattle.mount_model.specs.Paths.{open_path, index_path, log_path}
 use Rattle.mount_model.specs.Regular.{IsRegular, AreAscending}
 use Rattle.mount_model.specs.State.{State, Table, last_id}
 use Rattle.mount_model.specs.Table.{row_of, with_row, without_row, is_live, at_stage}
-use Rattle.mount_model.proofs.Tables.{row_of_other-without_row, row_of-without_row}
+use Rattle.mount_model.proofs.Facts.{row_of_other-without_row, row_of-without_row}
 use Rattle.mount_sound.specs.Items.{HasMeta}
 use Rattle.mount_sound.specs.Ledger.{Written, entries_in, content, Ledger}
-use Rattle.mount_sound.specs.Dropping.{IsDropping, IsWriter}
+use Rattle.mount_sound.specs.Dropping.{IsWriter}
 use Rattle.mount_sound.specs.Kept.{Begins, IsAtStage, IsKept}
 use Rattle.mount_sound.specs.Sound.{AreSound}
-use Rattle.mount_sound.proofs.Frames.{Fits}
-use Rattle.mount_sound.proofs.Items.{SameButItem, same_but_item, is_index, is_open, had, same_refl}
-use Rattle.mount_sound.proofs.Live.{one_host_kept, log_kept, has_meta_but, had_trunc_but, its_host}
+use Rattle.mount_sound.proofs.Frames.{Fits, dropping_frame, settled_frame}
+use Rattle.mount_sound.proofs.Items.{SameButItem, same_but_item, is_index, is_log, is_open, had, same_refl}
+use Rattle.mount_sound.proofs.Live.{one_host_kept, log_kept, had_meta_but, has_meta_but, had_trunc_but, its_host}
 use Rattle.mount_sound.proofs.Local.{local, same_tree}
 use Rattle.mount_sound.proofs.Making.{AreRight, IsAccounted, makes_accounted}
 use Rattle.mount_sound.proofs.Orders.{some_logged}
@@ -53,22 +53,32 @@ left_writer room new row issued fits k a w may b =
       one_host = one_host_kept (OpenHost row.host row.id) w.host row.id room new (ap (λ h. Some h) same) b w.one_host;
       landed = w.landed;
       within = w.within;
-      index = subst (λ o. MatchOption o (w.landed ≡ 0) (IsDropping issued w.landed)) (sym index_same) w.index;
+      index = dropping_frame room new w.host row.id issued w.landed index_same (b.others (Log w.host row.id) (is_log w.host row.id w.host_fits fits.id) (λ e. cc)) w.index;
       log = log_kept (OpenHost row.host row.id) w.host row.id room new (content issued) w.host_fits fits.id (λ e. cc) b w.log;
       left = λ gone some.
           let wrote : 1 ≤ length (entries_in issued) = omega (arith, some, w.within, length-map issued (λ (x : Written). x.entry)) in
           let bytes : 1 ≤ row.stored = omega (arith, k.numbers.stored, some_logged row.id row.floor 0 (entries_in issued) k.in_order wrote) in
           subst (λ h. HasMeta new h row.id) same (has_meta_but (OpenHost row.host row.id) row.host row.id room new (λ l c t e. cc) b (a.has_meta (may bytes)));
       told = λ last bytes stamp inside h. w.told last bytes stamp inside (had room new (Meta last bytes stamp w.host row.id) inside (λ is. b.others (Meta last bytes stamp w.host row.id) is (λ e. cc)) h);
+      settled = λ m. settled_frame room new w.host row.id (take w.landed (entries_in issued)) index_same (b.kepts (Index w.host row.id) (is_index w.host row.id w.host_fits fits.id) (λ e. cc)) (b.kepts (Log w.host row.id) (is_log w.host row.id w.host_fits fits.id) (λ e. cc))
+          (w.settled (had_meta_but (OpenHost row.host row.id) w.host row.id room new (λ l c t e. cc) b m));
       beside = λ stamp size inside h. w.beside stamp size inside (had_trunc_but (OpenHost row.host row.id) row.id room new stamp size inside refl b h);
     }
 
+-- the writer's droppings are as they were
+record SameDroppings (room new : Room) (row : Row) : Type 0 where
+  index : file_at new (index_path row.host row.id) ≡ file_at room (index_path row.host row.id)
+  index_kept : kept_at new (index_path row.host row.id) ≡ kept_at room (index_path row.host row.id)
+  log_kept : kept_at new (log_path row.host row.id) ≡ kept_at room (log_path row.host row.id)
+
 -- a dead writer keeps its numbers and its index dropping
-dead_kept : (room new : Room) (row : Row) (issued : List Written) → file_at new (index_path row.host row.id) ≡ file_at room (index_path row.host row.id) → IsKept room row issued → IsKept new (at_stage stage.Dead row) issued
+dead_kept : (room new : Room) (row : Row) (issued : List Written) → SameDroppings room new row → IsKept room row issued → IsKept new (at_stage stage.Dead row) issued
 dead_kept room new row issued same k = record {
   in_order = k.in_order;
-  numbers = record { stored = k.numbers.stored; last = k.numbers.last; end = k.numbers.end; landed = k.numbers.landed; pending = k.numbers.pending };
-  index = subst (λ o. MatchOption o (row.landed ≡ 0) (Begins (entries_in issued) row.landed)) (sym same) k.index;
+  numbers = record { stored = k.numbers.stored; last = k.numbers.last; end = k.numbers.end; landed = k.numbers.landed; pending = k.numbers.pending; log_mark = k.numbers.log_mark; index_mark = k.numbers.index_mark };
+  index = subst (λ o. MatchOption o (row.landed ≡ 0) (Begins (entries_in issued) row.landed)) (sym same.index) k.index;
+  log_kept = omega (arith, k.log_kept, same.log_kept);
+  index_kept = omega (arith, k.index_kept, same.index_kept);
   alive = λ live. absurd (cc);
 }
 
@@ -87,7 +97,7 @@ left_dead rows row = let t : Turned rows (with_row (at_stage stage.Dead row) row
 
 -- the row has left, with its entry or without
 leaves : (last : ℕ) (issued : Ledger) (rows rows' : List Row) (tree : Tree) (row : Row) (room new : Room) (w : Working last issued rows tree row) (there : slice_get tree.rooms row.room ≡ Some room) → IsLeft rows rows' row → Spares row.id room new
-    → file_at new (index_path row.host row.id) ≡ file_at room (index_path row.host row.id) → IsWriter new row.id (issued row.room row.id) → AreSound last issued rows' (with_room tree row.room new)
+    → SameDroppings room new row → IsWriter new row.id (issued row.room row.id) → AreSound last issued rows' (with_room tree row.room new)
 leaves last issued rows rows' tree row room new w there left s same writer =
     local row.room row.id room new issued issued rows rows' tree
     (record {
@@ -109,7 +119,8 @@ entry_removed last issued rows rows' tree after row may w left c =
     let fits = its_fit last issued rows tree row w c.room c.has_room in
     let b : SameButItem (OpenHost row.host row.id) c.room c.new = same_but_item (OpenHost row.host row.id) c.room c.new (is_open row.host row.id fits.host fits.id) c.others in
     subst (AreSound last issued rows') (sym c.gives)
-    (leaves last issued rows rows' tree row c.room c.new w c.has_room left (spares (OpenHost row.host row.id) row.id c.room c.new refl b) (b.others (Index row.host row.id) (is_index row.host row.id fits.host fits.id) (λ e. cc))
+    (leaves last issued rows rows' tree row c.room c.new w c.has_room left (spares (OpenHost row.host row.id) row.id c.room c.new refl b)
+    (record { index = b.others (Index row.host row.id) (is_index row.host row.id fits.host fits.id) (λ e. cc); index_kept = b.kepts (Index row.host row.id) (is_index row.host row.id fits.host fits.id) (λ e. cc); log_kept = b.kepts (Log row.host row.id) (is_log row.host row.id fits.host fits.id) (λ e. cc) })
     (left_writer c.room c.new row (issued row.room row.id) fits (its_kept last issued rows tree row w c.room c.has_room) (its_stage last issued rows tree row w c.room c.has_room) (its_writer last issued rows tree row w c.room c.has_room) may b))
 
 -- it was not, and the writer is dead
@@ -117,7 +128,7 @@ entry_stays : (last : ℕ) (issued : Ledger) (rows rows' : List Row) (tree : Tre
 entry_stays last issued rows rows' tree row w left =
     let p = w.sound.placed row.id row w.stands in
     subst (AreSound last issued rows') (same_tree tree row.room p.0 p.1)
-    (leaves last issued rows rows' tree row p.0 p.0 w p.1 left (spares_all row.id p.0 p.0 (λ q. same_refl q p.0)) refl (its_writer last issued rows tree row w p.0 p.1))
+    (leaves last issued rows rows' tree row p.0 p.0 w p.1 left (spares_all row.id p.0 p.0 (λ q. same_refl q p.0)) (record { index = refl; index_kept = refl; log_kept = refl }) (its_writer last issued rows tree row w p.0 p.1))
 
 -- what the table becomes
 exit_cases : (row : Row) (table : Table) (told : Told) → (told ≡ made) ⊎ (told ≡ Err trouble.Fault) ⊎ ((told ≡ Err trouble.NoMemory) × ((exit_outcome row table told).table ≡ table)) ⊎ ((answer : Answer) × (told ≡ Ok answer) × (answer ≡ Made → ⊥) × ((exit_outcome row table told).table ≡ table))
@@ -165,10 +176,10 @@ may_exit row e some = passes (nat_lt 0 row.stored) row.has_meta (positive row.st
 -- Leaving keeps soundness.
 pub exit_keeps : (issued : Ledger) (old : State) (caller writer : ℕ) (reply : Reply) (new : State) → IsRegular old → Exits caller writer old reply new → IsAccounted issued old → IsAccounted issued new
 exit_keeps issued old caller writer reply new r f a =
-    on_writer issued old caller is_live writer reply new (λ row. UnlessRefused (exit_check row) old reply new (Makes (exit_step row) (exit_outcome row old.table) old reply new)) f a
+    on_writer issued old caller is_live writer reply new (λ row. UnlessRefused (exit_check row) old reply new (MakesAct (exit_step row) (exit_outcome row old.table) old reply new)) f a
     (λ row stands at does.
     let w = working issued old writer row r a stands (stage_live row.stage at) in
-    unless_refused issued (exit_check row) old reply new (Makes (exit_step row) (exit_outcome row old.table) old reply new) does a
+    unless_refused issued (exit_check row) old reply new (MakesAct (exit_step row) (exit_outcome row old.table) old reply new) does a
     (λ none makes.
     makes_accounted (exit_step row) (exit_outcome row old.table) (λ x. issued) old reply new a.tree a.told
     (exit_told (last_id old) issued old.table a.tree row r.ascending (may_exit row none) a.right.no_holders a.right.no_flattenings w) makes))

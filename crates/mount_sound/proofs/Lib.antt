@@ -1,31 +1,33 @@
-pub mod Orders
-pub mod Items
-pub mod Frames
-pub mod Tables
-pub mod Local
-pub mod Live
-pub mod Making
-pub mod Working
-pub mod Stages
-pub mod Building
-pub mod Openings
-pub mod Flushes
-pub mod WriteEntries
-pub mod Writes
-pub mod Flooring
-pub mod Entering
-pub mod Closing
-pub mod Leaving
-pub mod NewRooms
-pub mod Looking
-pub mod Steps
-pub mod Landing
-pub mod Trees
-pub mod Mounting
-pub mod Fine
-pub mod Growing
-pub mod HasLanded
-pub mod Undamaged
-pub mod UndamagedLooks
-pub mod UndamagedWriters
-pub mod UndamagedSteps
+mod Building
+mod Closing
+mod Ending
+mod Entering
+pub mod Facts
+mod Fine
+mod Fitting
+mod Flooring
+mod Flushes
+mod Frames
+mod Growing
+mod HasLanded
+mod Items
+mod LandedLater
+mod Landing
+mod Leaving
+mod Live
+mod Local
+mod Looking
+mod Making
+mod Mounting
+mod NewRooms
+mod Openings
+mod Orders
+mod Stages
+mod Steps
+mod Syncing
+mod Tables
+mod There
+mod Trees
+mod Working
+mod WriteEntries
+mod Writes

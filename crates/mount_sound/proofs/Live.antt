@@ -1,23 +1,23 @@
 -- What a room holds of a live writer says what it holds of the writer.
-use Rattle.std.proofs.Common.{◌≡◌, ◌≤◌, ◌<◌, ◌^◌, ℕ, List, [], ◌++◌, length, take, drop, Option, Some, None, refl, ap, sym, ◌∙◌, inl, inr, subst, arith, length-drop, length-append}
+use Rattle.std.proofs.Common.{◌≡◌, ◌≤◌, ◌<◌, ◌^◌, ℕ, zero, suc, List, [], ◌∷◌, ◌++◌, length, take, drop, Option, Some, None, refl, ap, sym, ◌∙◌, inl, inr, subst, arith, length-drop, length-append}
 use Rattle.std.specs.Prelude.{MatchOption}
 use Rattle.std.proofs.lemmas.Bool.{cases_eq, cases_lt}
-use Rattle.std.proofs.lemmas.List.{length-take-le, length-map}
+use Rattle.std.proofs.lemmas.List.{length-take-le, length-map, append-nil}
 use Rattle.plfs_types.specs.declared.entries.Entry.{Entry}
 use Rattle.index_entry.specs.Spelling.{spelling, spelling_all}
-use Rattle.index_entry.proofs.Spelled.{length-spelling, length-spelling_all}
+use Rattle.index_entry.proofs.Facts.{length-spelling, length-spelling_all}
 use Rattle.container_layout.specs.declared.items.Item.{Item}
 use Rattle.container_layout.specs.declared.items.Item.TheVariants.{Meta, Trunc, Log}
 use Rattle.store_api.specs.declared.tree.Room.{Room}
 use Rattle.store_laws.specs.Files.{file_at}
 use Rattle.store_laws.specs.Prefix.{IsPrefix}
-use Rattle.store_laws.proofs.Overwriting.{whole_items}
+use Rattle.store_laws.proofs.Facts.{whole_items}
 use Rattle.mount_model.specs.declared.row.Row.{Row}
 use Rattle.mount_model.specs.Paths.{open_path, index_path}
 use Rattle.mount_model.specs.Table.{rank}
 use Rattle.mount_sound.specs.Ledger.{Written, entries_in, content}
 use Rattle.mount_sound.specs.Items.{HasItem, HasMeta, HasItemOf}
-use Rattle.mount_sound.specs.Dropping.{log_bytes, IsDropping, IsToldOf, AreBeside, IsWriter}
+use Rattle.mount_sound.specs.Dropping.{bytes_of, log_bytes, IsDropping, IsKeptWhole, IsToldOf, AreBeside, IsWriter}
 use Rattle.mount_sound.specs.Kept.{Begins, IsAtStage, IsKept}
 use Rattle.mount_sound.proofs.Items.{SameButItem, owner, host_of, other_host, no_owner, had, has_still, had_item_of, is_open, is_log}
 use Rattle.mount_sound.proofs.Frames.{Fits, log_frame}
@@ -44,19 +44,52 @@ landed_of issued landed (Some bytes) m =
 no_more : (issued : List Entry) (landed : ℕ) → drop landed issued ≡ [] → length issued ≤ landed
 no_more issued landed e = omega (arith, length-drop landed issued, ap length e)
 
-pub dropping : (issued : List Written) (count : ℕ) (file : Option (List ℕ)) → MatchOption file (count ≡ 0) (AreFirst (entries_in issued) count) → MatchOption file (count ≡ 0) (IsDropping issued count)
-dropping issued count None m = m
-dropping issued count (Some bytes) m = record { tail = m.tail; spelled = m.spelled; torn = m.torn }
-
-pub first_of : (issued : List Written) (count : ℕ) (file : Option (List ℕ)) → MatchOption file (count ≡ 0) (IsDropping issued count) → MatchOption file (count ≡ 0) (AreFirst (entries_in issued) count)
-first_of issued count None m = m
-first_of issued count (Some bytes) m = record { tail = m.tail; spelled = m.spelled; torn = m.torn }
+-- all of them end within the log
+pub dropping : (writer : ℕ) (issued : List Written) (count log : ℕ) (file : Option (List ℕ)) → MatchOption file (count ≡ 0) (AreFirst (entries_in issued) count) → MatchOption file (count ≡ 0) (IsDropping writer issued count log)
+dropping writer issued count log None m = m
+dropping writer issued count log (Some bytes) m = record {
+  more = [];
+  tail = m.tail;
+  spelled = m.spelled ∙ ap (λ es. spelling_all es ++ m.tail) (sym (append-nil (take count (entries_in issued))));
+  torn = m.torn;
+  in_order = tt;
+  few = omega arith;
+  past = tt;
+  behind = inl refl;
+}
 
 -- once nothing is pending all have landed
 pub all_landed : (issued : List Entry) (landed count : ℕ) (file : Option (List ℕ)) → MatchOption file (landed ≡ 0) (Begins issued landed) → MatchOption file (count ≡ 0) (AreFirst issued count) → count ≤ length issued → drop landed issued ≡ [] → take count issued ≡ issued
 all_landed issued landed count None m f within e = take_all issued count (omega (arith, no_more issued landed e, m))
 all_landed issued landed count (Some bytes) m f within e =
     take_all issued count (omega (arith, no_more issued landed e, m.long, ap length f.spelled, length-append (spelling_all (take count issued)) f.tail, length-spelling_all (take count issued), f.torn, length-take-le count issued within))
+
+take_short : {X : Type 0} (n : ℕ) (xs : List X) → length (take n xs) ≤ n
+take_short zero [] = omega arith
+take_short zero (x ∷ xs) = omega arith
+take_short (suc n) [] = omega arith
+take_short (suc n) (x ∷ xs) = omega (arith, take_short n xs)
+
+no_entries : (issued : List Entry) → length issued ≤ 0 → issued ≡ []
+no_entries [] l = refl
+no_entries (e ∷ es) l = absurd (omega arith)
+
+prefix_whole : (a b : List ℕ) → IsPrefix a b → length b ≤ length a → a ≡ b
+prefix_whole [] [] p l = refl
+prefix_whole [] (y ∷ b) p l = absurd (omega arith)
+prefix_whole (x ∷ a) [] p l = absurd p
+prefix_whole (x ∷ a) (y ∷ b) p l = ap (λ z. z ∷ a) p.0 ∙ ap (λ c. y ∷ c) (prefix_whole a b p.1 (omega arith))
+
+-- so the index dropping is exactly the entries
+index_whole : (issued : List Entry) (landed : ℕ) (file : Option (List ℕ)) → MatchOption file (landed ≡ 0) (Begins issued landed) → drop landed issued ≡ [] → bytes_of file ≡ spelling_all issued
+index_whole issued landed None m e = ap spelling_all (sym (no_entries issued (omega (arith, m, no_more issued landed e))))
+index_whole issued landed (Some bytes) m e = prefix_whole bytes (spelling_all issued) m.prefix (omega (arith, m.long, no_more issued landed e, length-spelling_all issued))
+
+-- and these are all of them
+all_settled : (issued : List Entry) (landed count : ℕ) (file : Option (List ℕ)) → MatchOption file (landed ≡ 0) (Begins issued landed) → bytes_of file ≡ spelling_all (take count issued) → drop landed issued ≡ [] → take count issued ≡ issued
+all_settled issued landed count file m is e =
+    let both : spelling_all issued ≡ spelling_all (take count issued) = sym (index_whole issued landed file m e) ∙ is in
+    take_all issued count (omega (arith, ap length both, length-spelling_all issued, length-spelling_all (take count issued), take_short count issued))
 
 -- what a live writer's row does not say
 pub record Own (room : Room) (row : Row) (issued : List Written) : Type 0 where
@@ -90,13 +123,22 @@ live_writer room row issued fits k a o =
       one_host = o.one_host;
       landed = l.count;
       within = omega (arith, l.within, length-entries issued);
-      index = dropping issued l.count (file_at room (index_path row.host row.id)) l.index;
+      index = dropping row.id issued l.count (length (log_bytes room row.host row.id)) (file_at room (index_path row.host row.id)) l.index;
       log = o.log;
       left = λ gone some. absurd (no_file (file_at room (open_path row.host row.id)) [] a.opened gone);
       told = λ last bytes stamp inside h.
           let m : HasMeta room row.host row.id = record { last = last; bytes = bytes; stamp = stamp; content = inside; has = h } in
           let all : take l.count (entries_in issued) ≡ entries_in issued = all_landed (entries_in issued) row.landed l.count (file_at room (index_path row.host row.id)) k.index l.index l.within (nothing_pending room row issued k a m) in
           subst (IsToldOf last bytes stamp) (sym all) (o.told last bytes stamp inside h);
+      settled = λ m.
+          let none = nothing_pending room row issued k a m in
+          let all : take l.count (entries_in issued) ≡ entries_in issued = all_landed (entries_in issued) row.landed l.count (file_at room (index_path row.host row.id)) k.index l.index l.within none in
+          let s : IsKeptWhole room row.host row.id (entries_in issued) = record {
+            index = index_whole (entries_in issued) row.landed (file_at room (index_path row.host row.id)) k.index none;
+            index_kept = omega (arith, k.index_kept, (a.closing m).3, no_more (entries_in issued) row.landed none);
+            log_kept = omega (arith, k.log_kept, (a.closing m).2, k.numbers.stored);
+          } in
+          subst (IsKeptWhole room row.host row.id) (sym all) s;
       beside = beside_of room row issued k a l.count;
     }
 
@@ -112,8 +154,8 @@ own_of room row issued fits k a w =
       log = subst (λ h. IsPrefix (content issued) (log_bytes room h row.id)) same w.log;
       told = λ last bytes stamp inside h.
           let m : HasMeta room row.host row.id = record { last = last; bytes = bytes; stamp = stamp; content = inside; has = h } in
-          let index = first_of issued w.landed (file_at room (index_path row.host row.id)) (subst (λ x. MatchOption (file_at room (index_path x row.id)) (w.landed ≡ 0) (IsDropping issued w.landed)) same w.index) in
-          let all : take w.landed (entries_in issued) ≡ entries_in issued = all_landed (entries_in issued) row.landed w.landed (file_at room (index_path row.host row.id)) k.index index (omega (arith, w.within, length-entries issued)) (nothing_pending room row issued k a m) in
+          let settled : IsKeptWhole room row.host row.id (take w.landed (entries_in issued)) = subst (λ x. IsKeptWhole room x row.id (take w.landed (entries_in issued))) same (w.settled (subst (λ x. HasMeta room x row.id) (sym same) m)) in
+          let all : take w.landed (entries_in issued) ≡ entries_in issued = all_settled (entries_in issued) row.landed w.landed (file_at room (index_path row.host row.id)) k.index settled.index (nothing_pending room row issued k a m) in
           subst (IsToldOf last bytes stamp) all (w.told last bytes stamp inside (subst (λ x. HasItem room (Meta last bytes stamp x row.id) inside) (sym same) h));
     }
 

@@ -9,7 +9,7 @@ use Rattle.store_api.specs.declared.tree.Room.{Room}
 use Rattle.store_api.specs.declared.tree.Tree.{Tree}
 use Rattle.store_laws.specs.Files.{file_at}
 use Rattle.store_laws.specs.Changes.{with_room}
-use Rattle.store_laws.proofs.Places.{slice_get-slice_set, slice_get_other-slice_set, slice_set_same}
+use Rattle.store_laws.proofs.Facts.{slice_get-slice_set, slice_get_other-slice_set, slice_set_same}
 use Rattle.mount_model.specs.declared.row.Row.{Row}
 use Rattle.mount_model.specs.Table.{row_of}
 use Rattle.mount_sound.specs.Ledger.{AreWritesOf, Ledger}
@@ -18,7 +18,7 @@ use Rattle.mount_sound.specs.Kept.{IsKept}
 use Rattle.mount_sound.specs.Sound.{IsSoundRoom, AreSoundRooms, AreSound}
 use Rattle.mount_sound.proofs.Items.{SameFor}
 use Rattle.mount_sound.proofs.Frames.{Fits, writer_frame, kept_frame, truncates_frame}
-use Rattle.mount_model.proofs.Tables.{row_of_id}
+use Rattle.mount_model.proofs.Facts.{row_of_id}
 
 -- every row's numbers are those of items
 abbrev pub AllFit : List Row → Type 0

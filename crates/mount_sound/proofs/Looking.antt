@@ -1,29 +1,24 @@
 -- Calls whose acts change nothing keep soundness.
 use Rattle.std.proofs.Common.{◌≡◌, ℕ, Some, refl, ap, sym, ◌∙◌, subst}
 use Rattle.std.specs.Prelude.{Ok}
-use Rattle.store_api.specs.declared.step.Answer.TheVariants.{Made, Number, Absent}
+use Rattle.store_api.specs.declared.step.Answer.TheVariants.{Number, Absent}
 use Rattle.store_api.specs.Step.{Step, find_room, rooms as all_rooms}
 use Rattle.store_laws.specs.Outcomes.{IsLook}
-use Rattle.store_laws.proofs.Answering.{look_told}
-use Rattle.store_laws.proofs.Telling.{acts_told}
+use Rattle.store_laws.proofs.Facts.{look_told, acts_told}
 use Rattle.mount_model.specs.declared.call.Look.{Look}
 use Rattle.mount_model.specs.declared.call.Look.TheVariants.{Top, List as ListFolder, Length, Read}
-use Rattle.mount_model.specs.declared.row.Row.{Row}
-use Rattle.mount_model.specs.declared.row.Stage.TheVariants as stage
 use Rattle.mount_model.specs.declared.reply.Reply.{Reply}
 use Rattle.mount_model.specs.Finding.{find_outcome, Finds, NamesRooms}
-use Rattle.mount_model.specs.Flushing.{sync_log_step, sync_log_outcome, SyncsLog, sync_index_step, sync_index_outcome, SyncsIndex}
-use Rattle.mount_model.specs.Looking.{room_check, look_step, look_outcome, Looks}
-use Rattle.mount_model.specs.Making.{Told, Outcome, Makes}
+use Rattle.mount_model.specs.Looking.{look_step, look_outcome, LooksAt}
+use Rattle.mount_model.specs.Making.{Told, CallOutcome, MakesAct, room_check}
 use Rattle.mount_model.specs.Paths.{Name}
 use Rattle.mount_model.specs.State.{State, Table, last_id}
-use Rattle.mount_model.specs.Table.{only}
 use Rattle.mount_sound.specs.Ledger.{Ledger}
 use Rattle.mount_sound.proofs.Making.{AreRight, IsAccounted, makes_accounted}
-use Rattle.mount_sound.proofs.Stages.{on_writer, unless_refused}
+use Rattle.mount_sound.proofs.Stages.{unless_refused}
 
 -- the tree stays, and so does the table
-looks_keep : (issued : Ledger) (step : Step) (outcome : Told → Outcome) (old : State) (reply : Reply) (new : State) → IsLook step → ((told : Told) → (outcome told).table ≡ old.table) → Makes step outcome old reply new → IsAccounted issued old → IsAccounted issued new
+looks_keep : (issued : Ledger) (step : Step) (outcome : Told → CallOutcome) (old : State) (reply : Reply) (new : State) → IsLook step → ((told : Told) → (outcome told).table ≡ old.table) → MakesAct step outcome old reply new → IsAccounted issued old → IsAccounted issued new
 looks_keep issued step outcome old reply new look same makes a =
     makes_accounted step outcome (λ x. issued) old reply new a.tree a.told
     (λ told after t. subst (λ x. AreRight (last_id old) issued x after) (sym (same told)) (subst (AreRight (last_id old) issued old.table) (sym (look_told step a.tree told after look t)) a.right))
@@ -36,9 +31,9 @@ is_look room (Length path) = tt
 is_look room (Read path at len) = tt
 
 -- Looking at a container keeps soundness.
-pub look_keeps : (issued : Ledger) (old : State) (room : ℕ) (look : Look) (reply : Reply) (new : State) → Looks room look old reply new → IsAccounted issued old → IsAccounted issued new
+pub look_keeps : (issued : Ledger) (old : State) (room : ℕ) (look : Look) (reply : Reply) (new : State) → LooksAt room look old reply new → IsAccounted issued old → IsAccounted issued new
 look_keeps issued old room look reply new f a =
-    unless_refused issued (room_check old room) old reply new (Makes (look_step room look) (look_outcome look old) old reply new) f a
+    unless_refused issued (room_check old room) old reply new (MakesAct (look_step room look) (look_outcome look old) old reply new) f a
     (λ none makes. looks_keep issued (look_step room look) (look_outcome look old) old reply new (is_look room look) (λ told. refl) makes a)
 
 find_rows : (table : Table) (told : Told) → (find_outcome table told).table ≡ table
@@ -57,23 +52,3 @@ rooms_keep issued old reply new f a =
     let same : t.0 ≡ a.tree = look_told all_rooms a.tree f.told t.0 tt t.2 in
     let after : IsAccounted issued (record old { store = new.store }) = record { tree = a.tree; told = t.1 ∙ ap (λ x. Some x) same; right = a.right } in
     subst (IsAccounted issued) (sym f.after) after
-
-log_rows : (row : Row) (table : Table) (told : Told) → (sync_log_outcome row table told).table ≡ table
-log_rows row table (Ok Made) = refl
-log_rows row table told = refl
-
--- Syncing a log keeps soundness.
-pub sync_log_keeps : (issued : Ledger) (old : State) (caller writer : ℕ) (reply : Reply) (new : State) → SyncsLog caller writer old reply new → IsAccounted issued old → IsAccounted issued new
-sync_log_keeps issued old caller writer reply new f a =
-    on_writer issued old caller (only stage.Open) writer reply new (λ row. Makes (sync_log_step row) (sync_log_outcome row old.table) old reply new) f a
-    (λ row stands at makes. looks_keep issued (sync_log_step row) (sync_log_outcome row old.table) old reply new tt (log_rows row old.table) makes a)
-
-index_rows : (row : Row) (table : Table) (told : Told) → (sync_index_outcome row table told).table ≡ table
-index_rows row table (Ok Made) = refl
-index_rows row table told = refl
-
--- Syncing an index dropping keeps soundness.
-pub sync_index_keeps : (issued : Ledger) (old : State) (caller writer : ℕ) (reply : Reply) (new : State) → SyncsIndex caller writer old reply new → IsAccounted issued old → IsAccounted issued new
-sync_index_keeps issued old caller writer reply new f a =
-    on_writer issued old caller (only stage.Open) writer reply new (λ row. Makes (sync_index_step row) (sync_index_outcome row old.table) old reply new) f a
-    (λ row stands at makes. looks_keep issued (sync_index_step row) (sync_index_outcome row old.table) old reply new tt (index_rows row old.table) makes a)

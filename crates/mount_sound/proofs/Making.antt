@@ -3,17 +3,17 @@ use Rattle.std.proofs.Common.{◌≡◌, ◌≤◌, ◌<◌, ◌^◌, ℕ, [], O
 use Rattle.store_api.specs.declared.tree.Tree.{Tree}
 use Rattle.store_api.specs.Step.{Step}
 use Rattle.store_laws.specs.Tells.{Tells}
-use Rattle.store_laws.proofs.Telling.{acts_told}
+use Rattle.store_laws.proofs.Facts.{acts_told}
 use Rattle.mount_model.specs.declared.row.Row.{Row}
 use Rattle.mount_model.specs.declared.reply.Reply.{Reply}
 use Rattle.mount_model.specs.declared.reply.Refusal.{Refusal}
 use Rattle.mount_model.specs.Table.{row_of}
 use Rattle.mount_model.specs.State.{State, Table, last_id}
-use Rattle.mount_model.specs.Making.{Told, Outcome, Makes, Refuses}
+use Rattle.mount_model.specs.Making.{Told, CallOutcome, MakesAct, Refuses}
 use Rattle.mount_model.specs.Regular.{IsRegular, IsCounted, IsDrawn}
-use Rattle.mount_model.proofs.Tables.{row_of_all}
-use Rattle.mount_shape.specs.Shape.{HasShape}
-use Rattle.mount_shape.proofs.Items.{id_fits}
+use Rattle.mount_model.proofs.Facts.{row_of_all}
+use Rattle.mount_shape.specs.Shape.{IsShaped}
+use Rattle.mount_shape.proofs.Facts.{id_fits}
 use Rattle.mount_sound.specs.Ledger.{Ledger}
 use Rattle.mount_sound.specs.Sound.{AreSound, IsSoundFor}
 use Rattle.mount_sound.proofs.Local.{AllFit}
@@ -36,7 +36,7 @@ accounted issued state s = record { tree = s.shape.tree; told = s.shape.told; ri
 pub one_tree : (a b : Tree) (o : Option Tree) → o ≡ Some a → o ≡ Some b → a ≡ b
 one_tree a b o p q = cc
 
-pub sound_for : (issued : Ledger) (state : State) → IsRegular state → HasShape state → IsAccounted issued state → IsSoundFor issued state
+pub sound_for : (issued : Ledger) (state : State) → IsRegular state → IsShaped state → IsAccounted issued state → IsSoundFor issued state
 sound_for issued state regular shape a = record {
   regular = regular;
   shape = shape;
@@ -49,9 +49,9 @@ pub accounted_as : (issued : Ledger) (old new : State) → new ≡ old → IsAcc
 accounted_as issued old new e a = subst (IsAccounted issued) (sym e) a
 
 -- The state before the act may have drawn a serial or asked the clock. What was issued then depends on the reply.
-pub makes_accounted : (step : Step) (outcome : Told → Outcome) (issued : Reply → Ledger) (old : State) (reply : Reply) (new : State) (tree : Tree) → old.store.tree ≡ Some tree
+pub makes_accounted : (step : Step) (outcome : Told → CallOutcome) (issued : Reply → Ledger) (old : State) (reply : Reply) (new : State) (tree : Tree) → old.store.tree ≡ Some tree
     → ((told : Told) (after : Tree) → Tells step tree told after → AreRight (last_id old) (issued (outcome told).reply) (outcome told).table after)
-    → Makes step outcome old reply new → IsAccounted (issued reply) new
+    → MakesAct step outcome old reply new → IsAccounted (issued reply) new
 makes_accounted step outcome issued old reply new tree e keeps m =
     let t = acts_told step old.store new.store tree m.told e m.made in
     let a : IsAccounted (issued (outcome m.told).reply) (record old { store = new.store; table = (outcome m.told).table }) = record { tree = t.0; told = t.1; right = keeps m.told t.0 t.2 } in

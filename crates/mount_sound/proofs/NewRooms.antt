@@ -14,8 +14,7 @@ use Rattle.store_api.specs.Room.{is_top}
 use Rattle.store_laws.specs.Files.{file_at}
 use Rattle.store_laws.specs.Differ.{is_listed}
 use Rattle.store_laws.specs.Changes.{RoomMade}
-use Rattle.store_laws.proofs.Places.{slice_get_before, slice_get_more}
-use Rattle.store_laws.proofs.Telling.{make_room_told}
+use Rattle.store_laws.proofs.Facts.{slice_get_before, slice_get_more, make_room_told}
 use Rattle.mount_model.specs.declared.row.Row.{Row}
 use Rattle.mount_model.specs.declared.reply.Reply.{Reply}
 use Rattle.mount_model.specs.Finding.{make_outcome, MakesContainer}
@@ -24,7 +23,7 @@ use Rattle.mount_model.specs.Paths.{Name, new_folders, new_files, index_path}
 use Rattle.mount_model.specs.State.{State, Table, last_id}
 use Rattle.mount_sound.specs.Items.{HasItem, HasItemOf}
 use Rattle.mount_sound.specs.Ledger.{Ledger}
-use Rattle.mount_sound.specs.Dropping.{IsDropping, IsWriter}
+use Rattle.mount_sound.specs.Dropping.{log_bytes, IsDropping, IsWriter}
 use Rattle.mount_sound.specs.Sound.{TruncatesDiffer, IsSoundRoom, AreSound}
 use Rattle.mount_sound.proofs.Entering.{no_file_landed}
 use Rattle.mount_sound.proofs.Making.{AreRight, IsAccounted, makes_accounted}
@@ -56,10 +55,11 @@ bare_writer room writer bare = record {
   one_host = λ other h. absurd (no_items room other writer bare h);
   landed = 0;
   within = omega arith;
-  index = no_file_landed (file_at room (index_path 0 writer)) 0 (IsDropping [] 0) (bare.none (Index 0 writer) (hostdir_below 0)) refl;
+  index = no_file_landed (file_at room (index_path 0 writer)) 0 (IsDropping writer [] 0 (length (log_bytes room 0 writer))) (bare.none (Index 0 writer) (hostdir_below 0)) refl;
   log = tt;
   left = λ gone some. absurd (omega arith);
   told = λ last bytes stamp inside h. absurd (no_item room (Meta last bytes stamp 0 writer) inside bare refl h);
+  settled = λ m. absurd (no_item room (Meta m.last m.bytes m.stamp 0 writer) m.content bare refl m.has);
   beside = λ stamp size inside h. inl tt;
 }
 

@@ -13,18 +13,19 @@ use Rattle.store_laws.specs.Changes.{Created, FolderMade}
 use Rattle.store_laws.specs.Prefix.{IsPrefix}
 use Rattle.store_laws.specs.Tells.{Tells}
 use Rattle.store_laws.specs.There.{HoldsFile, HoldsFolder}
-use Rattle.store_laws.proofs.Telling.{create_told, make_folder_told}
+use Rattle.store_laws.proofs.Facts.{create_told, make_folder_told}
 use Rattle.mount_model.specs.declared.row.Row.{Row}
 use Rattle.mount_model.specs.declared.row.Stage.{Stage}
 use Rattle.mount_model.specs.declared.row.Stage.TheVariants as stage
 use Rattle.mount_model.specs.declared.reply.Reply.{Reply}
 use Rattle.mount_model.specs.Building.{build_outcome, hostdir_step, MakesHostdir, log_step, MakesLog}
-use Rattle.mount_model.specs.Making.{Told, Makes}
+use Rattle.mount_model.specs.Making.{Told, MakesAct}
 use Rattle.mount_model.specs.Paths.{Name, log_path}
 use Rattle.mount_model.specs.Regular.{IsRegular}
 use Rattle.mount_model.specs.State.{State, Table, last_id}
 use Rattle.mount_model.specs.Table.{with_row, rank, only, at_stage}
-use Rattle.mount_model.proofs.Deciding.{at_only}
+use Rattle.mount_model.proofs.Facts.{at_only}
+use Rattle.mount_sound.specs.Entries.{logged}
 use Rattle.mount_sound.specs.Ledger.{Written, entries_in, content, Ledger}
 use Rattle.mount_sound.specs.Dropping.{log_bytes}
 use Rattle.mount_sound.specs.Kept.{Begins, IsAtStage, IsKept}
@@ -34,7 +35,7 @@ use Rattle.mount_sound.proofs.Frames.{Fits, kept_frame, writer_frame}
 use Rattle.mount_sound.proofs.Items.{SameFor, SameButItem, same_but_item, same_for_files, is_index, is_log, is_open, had}
 use Rattle.mount_sound.proofs.Live.{Own, own_of, one_host_kept, had_meta_but, has_meta_but, had_trunc_but}
 use Rattle.mount_sound.proofs.Making.{AreRight, IsAccounted, makes_accounted}
-use Rattle.mount_sound.proofs.Stages.{on_writer, working, live_stage, kept_at, own_at}
+use Rattle.mount_sound.proofs.Stages.{on_writer, working, live_stage, kept_staged, own_at}
 use Rattle.mount_sound.proofs.Working.{Working, Holds, Turned, turned_same, turned_put, spares, spares_all, works_on, its_fit, its_kept, its_stage, its_own, its_writer}
 
 -- ---- the log
@@ -59,8 +60,10 @@ logged_holds : (room new : Room) (row : Row) (s : Stage) (issued : List Written)
 logged_holds room new row s issued fits at far near k a o b now = record {
   kept = record {
     in_order = k.in_order;
-    numbers = record { stored = k.numbers.stored; last = k.numbers.last; end = k.numbers.end; landed = k.numbers.landed; pending = k.numbers.pending };
+    numbers = record { stored = k.numbers.stored; last = k.numbers.last; end = k.numbers.end; landed = k.numbers.landed; pending = k.numbers.pending; log_mark = k.numbers.log_mark; index_mark = k.numbers.index_mark };
     index = subst (λ o. MatchOption o (row.landed ≡ 0) (Begins (entries_in issued) row.landed)) (sym (b.others (Index row.host row.id) (is_index row.host row.id fits.host fits.id) (λ e. cc))) k.index;
+    log_kept = omega (arith, k.numbers.log_mark, k.numbers.stored, ap logged (a.unopened (omega arith)));
+    index_kept = omega (arith, k.index_kept, b.kepts (Index row.host row.id) (is_index row.host row.id fits.host fits.id) (λ e. cc));
     alive = λ live. logged_stage room new row s (entries_in issued) fits at far near a b now;
   };
   live = live_stage s (omega arith);
@@ -102,7 +105,7 @@ log_told last issued table tree row at holders flattenings w told after t =
 -- Making a log keeps soundness.
 pub log_keeps : (issued : Ledger) (old : State) (caller writer : ℕ) (reply : Reply) (new : State) → IsRegular old → MakesLog caller writer old reply new → IsAccounted issued old → IsAccounted issued new
 log_keeps issued old caller writer reply new r f a =
-    on_writer issued old caller (only stage.Indexed) writer reply new (λ row. Makes (log_step row) (build_outcome stage.Open (hostdir_of row.host) (log_path row.host row.id).file row old.table) old reply new) f a
+    on_writer issued old caller (only stage.Indexed) writer reply new (λ row. MakesAct (log_step row) (build_outcome stage.Open (hostdir_of row.host) (log_path row.host row.id).file row old.table) old reply new) f a
     (λ row stands at makes.
     let is : rank row.stage ≡ 3 = at_only stage.Indexed row.stage at in
     makes_accounted (log_step row) (build_outcome stage.Open (hostdir_of row.host) (log_path row.host row.id).file row old.table) (λ x. issued) old reply new a.tree a.told
@@ -123,7 +126,7 @@ folder_made last issued rows rows' tree after row s at far near w turned c =
     subst (AreSound last issued rows') (sym c.gives)
     (works_on last issued rows rows' tree row (at_stage s row) c.room c.new w c.has_room refl refl refl turned (spares_all row.id c.room c.new same)
     (record {
-      kept = kept_at c.new row s (issued row.room row.id) k (stage_with c.new row s (entries_in (issued row.room row.id)) (omega arith) a (λ some. omega arith) (λ some. c.now) (λ past. absurd (omega arith)) (λ past. absurd (omega arith)));
+      kept = kept_staged c.new row s (issued row.room row.id) k (stage_with c.new row s (entries_in (issued row.room row.id)) (omega arith) a (λ some. omega arith) (λ some. c.now) (λ past. absurd (omega arith)) (λ past. absurd (omega arith)));
       live = live_stage s (omega arith);
       own = own_at c.new row s (issued row.room row.id) (own_of c.new row (issued row.room row.id) fits k a (writer_frame c.room c.new row.id (issued row.room row.id) fits.id (same row.id) (its_writer last issued rows tree row w c.room c.has_room)));
     }))
@@ -151,7 +154,7 @@ folder_told last issued table tree row at holders flattenings w told after t =
 -- Making the folder of a writer's droppings keeps soundness.
 pub hostdir_keeps : (issued : Ledger) (old : State) (caller writer : ℕ) (reply : Reply) (new : State) → IsRegular old → MakesHostdir caller writer old reply new → IsAccounted issued old → IsAccounted issued new
 hostdir_keeps issued old caller writer reply new r f a =
-    on_writer issued old caller (only stage.Floored) writer reply new (λ row. Makes (hostdir_step row) (build_outcome stage.Housed (hostdir_of row.host) [] row old.table) old reply new) f a
+    on_writer issued old caller (only stage.Floored) writer reply new (λ row. MakesAct (hostdir_step row) (build_outcome stage.Housed (hostdir_of row.host) [] row old.table) old reply new) f a
     (λ row stands at makes.
     let is : rank row.stage ≡ 1 = at_only stage.Floored row.stage at in
     makes_accounted (hostdir_step row) (build_outcome stage.Housed (hostdir_of row.host) [] row old.table) (λ x. issued) old reply new a.tree a.told

@@ -2,13 +2,13 @@
 use Rattle.std.proofs.Common.{◌≡◌, ℕ, zero, suc, ◌+◌, ◌≤◌, ◌<◌, List, [], ◌∷◌, ◌++◌, length, take, drop, refl, ap, subst, arith, add-zero, max}
 use Rattle.std.specs.List.{AllByRecursion}
 use Rattle.plfs_types.specs.declared.entries.Entry.{Entry}
-use Rattle.mount_sound.specs.Entries.{MayFollow, AreInOrder, logged, last_stamp, greatest_end}
+use Rattle.mount_sound.specs.Entries.{MayFollow, AreEntriesOf, logged, last_stamp, greatest_end}
 
-pub in_order_from_0 : (writer last offset : ℕ) (es : List Entry) → AreInOrder writer last offset es → AreInOrder writer 0 offset es
+pub in_order_from_0 : (writer last offset : ℕ) (es : List Entry) → AreEntriesOf writer last offset es → AreEntriesOf writer 0 offset es
 in_order_from_0 writer last offset [] o = tt
 in_order_from_0 writer last offset (e ∷ es) o = (record { some = o.0.some; within = o.0.within; owner = o.0.owner; later = omega (arith, o.0.later); in_range = o.0.in_range; place = o.0.place }, o.1)
 
-pub in_order_push : (writer last offset : ℕ) (es : List Entry) (e : Entry) → AreInOrder writer last offset es → MayFollow writer (last_stamp last es) (offset + logged es) e → AreInOrder writer last offset (es ++ e ∷ [])
+pub in_order_push : (writer last offset : ℕ) (es : List Entry) (e : Entry) → AreEntriesOf writer last offset es → MayFollow writer (last_stamp last es) (offset + logged es) e → AreEntriesOf writer last offset (es ++ e ∷ [])
 in_order_push writer last offset [] e o m = (rw add-zero at m, tt)
 in_order_push writer last offset (x ∷ es) e o m = (o.0, in_order_push writer x.stamp (offset + x.len) es e o.1 (subst (λ n. MayFollow writer (last_stamp x.stamp es) n e) (omega arith) m))
 
@@ -51,13 +51,13 @@ take_of_none zero = refl
 take_of_none (suc n) = refl
 
 -- the first ones of entries above a floor are above it
-pub above_floor : (writer last offset stamp : ℕ) (es : List Entry) (n : ℕ) → stamp ≤ last → AreInOrder writer last offset es → AllByRecursion (λ (e : Entry). stamp < e.stamp) (take n es)
+pub above_floor : (writer last offset stamp : ℕ) (es : List Entry) (n : ℕ) → stamp ≤ last → AreEntriesOf writer last offset es → AllByRecursion (λ (e : Entry). stamp < e.stamp) (take n es)
 above_floor writer last offset stamp [] zero l o = tt
 above_floor writer last offset stamp [] (suc n) l o = tt
 above_floor writer last offset stamp (e ∷ es) zero l o = tt
 above_floor writer last offset stamp (e ∷ es) (suc n) l o = (omega (arith, o.0.later), above_floor writer e.stamp (offset + e.len) stamp es n (omega (arith, o.0.later)) o.1)
 
 -- entries in order have bytes
-pub some_logged : (writer last offset : ℕ) (es : List Entry) → AreInOrder writer last offset es → 1 ≤ length es → 1 ≤ logged es
+pub some_logged : (writer last offset : ℕ) (es : List Entry) → AreEntriesOf writer last offset es → 1 ≤ length es → 1 ≤ logged es
 some_logged writer last offset [] o l = absurd (omega arith)
 some_logged writer last offset (e ∷ es) o l = omega (arith, o.0.some)

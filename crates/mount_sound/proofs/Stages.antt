@@ -12,8 +12,7 @@ use Rattle.mount_model.specs.Making.{OnWriter, UnlessRefused}
 use Rattle.mount_model.specs.Regular.{IsRegular}
 use Rattle.mount_model.specs.State.{State, last_id}
 use Rattle.mount_model.specs.Table.{row_of, rank, is_live, at_stage}
-use Rattle.mount_model.proofs.Deciding.{on_writer as by_writer, unless_refused as by_check}
-use Rattle.mount_model.proofs.Tables.{row_of_id}
+use Rattle.mount_model.proofs.Facts.{on_writer as by_writer, unless_refused as by_check, row_of_id}
 use Rattle.mount_sound.specs.Ledger.{Written, entries_in, Ledger}
 use Rattle.mount_sound.specs.Kept.{AreItsNumbers, IsAtStage, IsKept}
 use Rattle.mount_sound.proofs.Live.{Own}
@@ -55,13 +54,15 @@ working issued old writer row r a stands live =
 -- ---- a row in another stage
 
 pub numbers_at : (row : Row) (stage : Stage) (es : List Entry) → AreItsNumbers row es → AreItsNumbers (at_stage stage row) es
-numbers_at row stage es n = record { stored = n.stored; last = n.last; end = n.end; landed = n.landed; pending = n.pending }
+numbers_at row stage es n = record { stored = n.stored; last = n.last; end = n.end; landed = n.landed; pending = n.pending; log_mark = n.log_mark; index_mark = n.index_mark }
 
-pub kept_at : (room : Room) (row : Row) (stage : Stage) (issued : List Written) → IsKept room row issued → IsAtStage room (at_stage stage row) (entries_in issued) → IsKept room (at_stage stage row) issued
-kept_at room row stage issued k a = record {
+pub kept_staged : (room : Room) (row : Row) (stage : Stage) (issued : List Written) → IsKept room row issued → IsAtStage room (at_stage stage row) (entries_in issued) → IsKept room (at_stage stage row) issued
+kept_staged room row stage issued k a = record {
   in_order = k.in_order;
   numbers = numbers_at row stage (entries_in issued) k.numbers;
   index = k.index;
+  log_kept = k.log_kept;
+  index_kept = k.index_kept;
   alive = λ live. a;
 }
 

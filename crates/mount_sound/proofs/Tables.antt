@@ -3,7 +3,7 @@ use Rattle.std.proofs.Common.{◌≡◌, ℕ, List, [], ◌∷◌, ◌++◌, Opt
 use Rattle.std.specs.Prelude.{if◌then◌else◌}
 use Rattle.mount_model.specs.declared.row.Row.{Row}
 use Rattle.mount_model.specs.Table.{row_of, with_row}
-use Rattle.mount_model.proofs.Tables.{itself, row_of-push}
+use Rattle.mount_model.proofs.Facts.{itself, row_of-push}
 
 some_eq : (a b : Row) (o : Option Row) → o ≡ Some a → o ≡ Some b → a ≡ b
 some_eq a b o p q = cc

@@ -1,12 +1,15 @@
 -- Sound trees: the empty one, and that which a mount leaves.
-use Rattle.std.proofs.Common.{◌≡◌, ℕ, [], Some, None, refl, ap, sym, ◌∙◌}
+use Rattle.std.proofs.Common.{◌≡◌, ℕ, List, [], Some, None, refl, ap, sym, ◌∙◌}
 use Rattle.std.specs.Prelude.{slice_get}
 use Rattle.store_api.specs.declared.tree.Room.{Room}
 use Rattle.store_api.specs.declared.tree.Tree.{Tree}
+use Rattle.mount_model.specs.declared.row.Row.{Row}
 use Rattle.mount_model.specs.State.{State}
-use Rattle.mount_shape.proofs.Held.{left_shaped, empty_shaped}
-use Rattle.mount_sound.specs.Ledger.{Ledger}
-use Rattle.mount_sound.specs.Sound.{IsSoundFor, IsSoundTree}
+use Rattle.mount_shape.specs.Marks.{IsOfMark}
+use Rattle.mount_shape.specs.Shape.{IsShapedTree}
+use Rattle.mount_shape.proofs.Facts.{left_shaped, empty_shaped}
+use Rattle.mount_sound.specs.Ledger.{AreWritesOf, Ledger}
+use Rattle.mount_sound.specs.Sound.{AreSoundRooms, IsSoundFor, IsSoundTree}
 use Rattle.mount_sound.proofs.Landing.{no_writes, landed_ledger, whole, landed_fitting, landed_roomless, landed_valid}
 
 no_room : (tree : Tree) (n : ℕ) (room : Room) → tree.rooms ≡ [] → slice_get tree.rooms n ≡ Some room → ⊥
@@ -24,18 +27,22 @@ empty_sound tree none = record {
   roomless = λ number writer e. refl;
 }
 
--- The tree that a mount leaves is sound for the next one: what hasn't landed is lost.
-pub left_sound : (issued : Ledger) (state : State) (s : IsSoundFor issued state) → IsSoundTree s.shape.tree
-left_sound issued state s = record {
-  shaped = left_shaped state s.shape;
-  issued = landed_ledger issued state.table.writers s.shape.tree s.sound.rooms;
+-- A tree of the right shape whose rooms are sound for what was issued is sound: what hasn't landed is lost.
+pub sound_tree : (issued : Ledger) (rows : List Row) (tree : Tree) → IsShapedTree (IsOfMark tree) tree → AreSoundRooms issued rows tree → ((number writer : ℕ) → AreWritesOf writer (issued number writer)) → IsSoundTree tree
+sound_tree issued rows tree shaped rooms writes = record {
+  shaped = shaped;
+  issued = landed_ledger issued rows tree rooms;
   rooms = λ number room there. record {
-    writers = λ writer fits. (whole issued state.table.writers s.shape.tree s.sound.rooms number room there writer fits).0;
+    writers = λ writer fits. (whole issued rows tree rooms number room there writer fits).0;
     kept = λ id row e at. absurd (cc);
-    truncates = (s.sound.rooms number room there).truncates;
+    truncates = (rooms number room there).truncates;
   };
-  writes = landed_valid issued state.table.writers s.shape.tree s.sound.rooms s.sound.writes;
-  all_landed = λ number room there writer fits. (whole issued state.table.writers s.shape.tree s.sound.rooms number room there writer fits).1;
-  fitting = landed_fitting issued state.table.writers s.shape.tree s.sound.rooms;
-  roomless = landed_roomless issued state.table.writers s.shape.tree s.sound.rooms;
+  writes = landed_valid issued rows tree rooms writes;
+  all_landed = λ number room there writer fits. (whole issued rows tree rooms number room there writer fits).1;
+  fitting = landed_fitting issued rows tree rooms;
+  roomless = landed_roomless issued rows tree rooms;
 }
+
+-- The tree that a mount leaves is sound for the next one.
+pub left_sound : (issued : Ledger) (state : State) (s : IsSoundFor issued state) → IsSoundTree s.shape.tree
+left_sound issued state s = sound_tree issued state.table.writers s.shape.tree (left_shaped state s.shape) s.sound.rooms s.sound.writes

@@ -17,7 +17,7 @@ use Rattle.mount_sound.specs.Kept.{IsAtStage, IsKept}
 use Rattle.mount_sound.specs.Sound.{AreSound}
 use Rattle.mount_sound.proofs.Items.{SameFor, SameButItem, owner, same_refl, same_for, same_truncates}
 use Rattle.mount_sound.proofs.Frames.{Fits}
-use Rattle.mount_model.proofs.Tables.{row_of_other-with_row}
+use Rattle.mount_model.proofs.Facts.{row_of_other-with_row}
 use Rattle.mount_sound.proofs.Tables.{one_row, put_row}
 use Rattle.mount_sound.proofs.Local.{AllFit, SameBut, local, same_tree}
 use Rattle.mount_sound.proofs.Live.{Own, live_writer, own_of}

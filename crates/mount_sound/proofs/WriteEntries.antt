@@ -5,20 +5,19 @@ use Rattle.std.proofs.lemmas.List.{map-append, append-nil}
 use Rattle.plfs_types.specs.Bytes.{overwritten}
 use Rattle.plfs_types.specs.declared.entries.Entry.{Entry}
 use Rattle.index_entry.specs.Spelling.{spelling_all}
-use Rattle.index_entry.proofs.Spelled.{spelling_all-append}
+use Rattle.index_entry.proofs.Facts.{spelling_all-append}
 use Rattle.container_layout.specs.declared.items.Item.TheVariants.{OpenHost, Meta, Index, Log}
 use Rattle.container_layout.specs.Paths.{hostdir_of}
 use Rattle.store_api.specs.declared.tree.Room.{Room}
-use Rattle.store_laws.specs.Files.{file_at}
+use Rattle.store_laws.specs.Files.{file_at, kept_at}
 use Rattle.store_laws.specs.Prefix.{IsPrefix}
-use Rattle.store_laws.proofs.Overwriting.{prefix-append, prefix-over, prefix_front}
+use Rattle.store_laws.proofs.Facts.{prefix-append, prefix-over, prefix_front}
 use Rattle.mount_model.specs.declared.row.Row.{Row}
 use Rattle.mount_model.specs.Paths.{index_path, log_path}
 use Rattle.mount_model.specs.Table.{rank}
 use Rattle.mount_model.specs.Writing.{entry_of, wrote}
-use Rattle.mount_model.proofs.Deciding.{MayWrite}
-use Rattle.mount_model.proofs.Ranges.{IsStamp}
-use Rattle.mount_sound.specs.Entries.{MayFollow, AreInOrder, logged, last_stamp, greatest_end}
+use Rattle.mount_model.proofs.Facts.{MayWrite, IsStamp}
+use Rattle.mount_sound.specs.Entries.{MayFollow, AreEntriesOf, logged, last_stamp, greatest_end}
 use Rattle.mount_sound.specs.Ledger.{Written, entries_in, content, AreFull, AreWritesOf}
 use Rattle.mount_sound.specs.Issued.{written_by}
 use Rattle.mount_sound.specs.Items.{HasItem}
@@ -89,12 +88,14 @@ no_meta room new row es last bytes stamp inside at a b h =
 
 -- a part of the bytes was logged, and the row stays
 pub log_part_holds : (room new : Room) (row : Row) (issued : List Written) (old bytes : List ℕ) → Fits row → rank row.stage ≡ 4 → IsKept room row issued → IsAtStage room row (entries_in issued) → Own room row issued → AreFull issued → SameButItem (Log row.host row.id) room new
-    → file_at room (log_path row.host row.id) ≡ Some old → file_at new (log_path row.host row.id) ≡ Some (overwritten old row.stored bytes) → Holds new row issued
-log_part_holds room new row issued old bytes fits at k a o full b there now = record {
+    → file_at room (log_path row.host row.id) ≡ Some old → file_at new (log_path row.host row.id) ≡ Some (overwritten old row.stored bytes) → row.log_mark ≤ kept_at new (log_path row.host row.id) → Holds new row issued
+log_part_holds room new row issued old bytes fits at k a o full b there now kept = record {
   kept = record {
     in_order = k.in_order;
     numbers = k.numbers;
     index = index_same room new row (entries_in issued) fits b k.index;
+    log_kept = kept;
+    index_kept = omega (arith, k.index_kept, b.kepts (Index row.host row.id) (is_index row.host row.id fits.host fits.id) (λ e. cc));
     alive = λ live. logging_stage room new row (overwritten old row.stored bytes) (entries_in issued) fits at a b now row.last row.stored row.end row.pending.entries (entries_in issued);
   };
   live = live_stage row.stage (omega arith);
@@ -111,19 +112,19 @@ may_follow stamp row es at len stored last past above fits f some = record {
   within = f.near;
   owner = refl;
   later = last_stamp_floor row.floor es stamp above (omega (arith, last));
-  in_range = fits;
+  in_range = omega (arith, fits);
   place = omega (arith, stored);
 }
 
-in_order_wrote : (stamp : ℕ) (room : Room) (row : Row) (issued : List Written) (at : ℕ) (bytes : List ℕ) → IsKept room row issued → IsStamp row.last row.floor stamp → MayWrite row at (length bytes) → 1 ≤ length bytes → AreInOrder row.id row.floor 0 (entries_in (issued ++ written_by row stamp at bytes ∷ []))
+in_order_wrote : (stamp : ℕ) (room : Room) (row : Row) (issued : List Written) (at : ℕ) (bytes : List ℕ) → IsKept room row issued → IsStamp row.last row.floor stamp → MayWrite row at (length bytes) → 1 ≤ length bytes → AreEntriesOf row.id row.floor 0 (entries_in (issued ++ written_by row stamp at bytes ∷ []))
 in_order_wrote stamp room row issued at bytes k s f some =
-    subst (AreInOrder row.id row.floor 0) (sym (entries_push issued (written_by row stamp at bytes)))
+    subst (AreEntriesOf row.id row.floor 0) (sym (entries_push issued (written_by row stamp at bytes)))
     (in_order_push row.id row.floor 0 (entries_in issued) (entry_of stamp row at (length bytes)) k.in_order (may_follow stamp row (entries_in issued) at (length bytes) k.numbers.stored k.numbers.last s.later s.above s.fits f some))
 
 -- all bytes were logged, and the row has their entry
 pub log_whole_holds : (stamp : ℕ) (room new : Room) (row : Row) (issued : List Written) (old : List ℕ) (at : ℕ) (bytes : List ℕ) → Fits row → rank row.stage ≡ 4 → IsKept room row issued → IsAtStage room row (entries_in issued) → Own room row issued → AreFull issued → SameButItem (Log row.host row.id) room new
-    → IsStamp row.last row.floor stamp → MayWrite row at (length bytes) → 1 ≤ length bytes → file_at room (log_path row.host row.id) ≡ Some old → file_at new (log_path row.host row.id) ≡ Some (overwritten old row.stored bytes) → Holds new (wrote stamp row at (length bytes)) (issued ++ written_by row stamp at bytes ∷ [])
-log_whole_holds stamp room new row issued old at bytes fits is k a o full b s f some there now =
+    → IsStamp row.last row.floor stamp → MayWrite row at (length bytes) → 1 ≤ length bytes → file_at room (log_path row.host row.id) ≡ Some old → file_at new (log_path row.host row.id) ≡ Some (overwritten old row.stored bytes) → row.log_mark ≤ kept_at new (log_path row.host row.id) → Holds new (wrote stamp row at (length bytes)) (issued ++ written_by row stamp at bytes ∷ [])
+log_whole_holds stamp room new row issued old at bytes fits is k a o full b s f some there now kept =
     let e : Entry = entry_of stamp row at (length bytes) in
     let es : List Entry = entries_in issued in
     let push : es ++ e ∷ [] ≡ entries_in (issued ++ written_by row stamp at bytes ∷ []) = sym (entries_push issued (written_by row stamp at bytes)) in
@@ -135,10 +136,14 @@ log_whole_holds stamp room new row issued old at bytes fits is k a o full b s f 
           last = sym (last_stamp_push 0 es e) ∙ ap (last_stamp 0) push;
           end = omega (arith, k.numbers.end, greatest_end_push es e, ap greatest_end push);
           landed = omega (arith, k.numbers.landed, length-append es (e ∷ []), ap length push);
+          log_mark = omega (arith, k.numbers.log_mark);
+          index_mark = k.numbers.index_mark;
           pending = ap (λ p. p ++ e ∷ []) k.numbers.pending ∙ sym (drop_push row.landed es e k.numbers.landed) ∙ ap (drop row.landed) push;
         };
         index = subst (λ l. MatchOption (file_at new (index_path row.host row.id)) (row.landed ≡ 0) (Begins l row.landed)) push
             (begins_push es row.landed e (file_at new (index_path row.host row.id)) (index_same room new row es fits b k.index));
+        log_kept = kept;
+        index_kept = omega (arith, k.index_kept, b.kepts (Index row.host row.id) (is_index row.host row.id fits.host fits.id) (λ e. cc));
         alive = λ live. logging_stage room new row (overwritten old row.stored bytes) es fits is a b now stamp (row.stored + length bytes) (max row.end (at + length bytes)) (row.pending.entries ++ e ∷ []) (entries_in (issued ++ written_by row stamp at bytes ∷ []));
       };
       live = live_stage row.stage (omega arith);

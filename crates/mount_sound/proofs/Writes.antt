@@ -8,8 +8,9 @@ use Rattle.store_api.specs.declared.step.Answer.TheVariants.{Made}
 use Rattle.store_api.specs.declared.store.Trouble.TheVariants.{Fault, NoMemory}
 use Rattle.store_api.specs.declared.tree.Tree.{Tree}
 use Rattle.store_laws.specs.Changes.{Wrote}
+use Rattle.store_laws.specs.Files.{kept_at}
+use Rattle.store_laws.proofs.Facts.{kept_before, write_told}
 use Rattle.store_laws.specs.Tells.{Tells, made}
-use Rattle.store_laws.proofs.Telling.{write_told}
 use Rattle.mount_model.specs.declared.row.Row.{Row}
 use Rattle.mount_model.specs.declared.row.Stage.TheVariants as stage
 use Rattle.mount_model.specs.declared.reply.Reply.{Reply}
@@ -21,8 +22,7 @@ use Rattle.mount_model.specs.Regular.{IsRegular}
 use Rattle.mount_model.specs.State.{State, Table, last_id, timed}
 use Rattle.mount_model.specs.Table.{with_row, row_of, held_by, rank, only}
 use Rattle.mount_model.specs.Writing.{write_check, stamp_at, wrote, write_step, write_outcome, WritesAt, Writes}
-use Rattle.mount_model.proofs.Deciding.{at_only, match_cases, is_held, MayWrite, may_write}
-use Rattle.mount_model.proofs.Ranges.{IsStamp, next_is_stamp}
+use Rattle.mount_model.proofs.Facts.{at_only, match_cases, is_held, MayWrite, may_write, IsStamp, next_is_stamp}
 use Rattle.mount_sound.specs.Ledger.{Written, AreWritesOf, Ledger}
 use Rattle.mount_sound.specs.Issued.{with_write, written_by, noted}
 use Rattle.mount_sound.specs.Sound.{AreSound}
@@ -58,7 +58,7 @@ log_part last issued rows tree after row bytes at w c =
     let b : SameButItem (Log row.host row.id) c.room c.new = same_but_item (Log row.host row.id) c.room c.new (is_log row.host row.id fits.host fits.id) c.others in
     subst (AreSound last issued rows) (sym c.gives)
     (works_on last issued rows rows tree row row c.room c.new w c.has_room refl refl refl (turned_same rows row.id row w.stands) (spares (Log row.host row.id) row.id c.room c.new refl b)
-    (log_part_holds c.room c.new row (issued row.room row.id) c.old bytes fits at (its_kept last issued rows tree row w c.room c.has_room) (its_stage last issued rows tree row w c.room c.has_room) (its_own last issued rows tree row w c.room c.has_room) (w.sound.writes row.room row.id).full b c.there c.now))
+    (log_part_holds c.room c.new row (issued row.room row.id) c.old bytes fits at (its_kept last issued rows tree row w c.room c.has_room) (its_stage last issued rows tree row w c.room c.has_room) (its_own last issued rows tree row w c.room c.has_room) (w.sound.writes row.room row.id).full b c.there c.now (omega (arith, c.kept, kept_before (kept_at c.room (log_path row.host row.id)) c.old row.stored bytes c.within, (its_kept last issued rows tree row w c.room c.has_room).log_kept, (its_kept last issued rows tree row w c.room c.has_room).numbers.log_mark))))
 
 -- all were
 log_whole : (last stamp : ℕ) (issued : Ledger) (rows : List Row) (tree after : Tree) (row : Row) (at : ℕ) (bytes : List ℕ) → rank row.stage ≡ 4 → Working last issued rows tree row → IsStamp row.last row.floor stamp → MayWrite row at (length bytes) → 1 ≤ length bytes → Wrote tree row.room (log_path row.host row.id) row.stored bytes after
@@ -72,7 +72,7 @@ log_whole last stamp issued rows tree after row at bytes is w s f some c =
     subst (AreSound last issued' (with_row (wrote stamp row at (length bytes)) rows)) (sym c.gives)
     (works last issued issued' rows (with_row (wrote stamp row at (length bytes)) rows) tree row (wrote stamp row at (length bytes)) c.room c.new w c.has_room refl refl refl (turned_put rows (wrote stamp row at (length bytes))) (with_write_other issued row (written_by row stamp at bytes)) (spares (Log row.host row.id) row.id c.room c.new refl b)
     (subst (Holds c.new (wrote stamp row at (length bytes))) own
-    (log_whole_holds stamp c.room c.new row (issued row.room row.id) c.old at bytes fits is k (its_stage last issued rows tree row w c.room c.has_room) (its_own last issued rows tree row w c.room c.has_room) (w.sound.writes row.room row.id).full b s f some c.there c.now))
+    (log_whole_holds stamp c.room c.new row (issued row.room row.id) c.old at bytes fits is k (its_stage last issued rows tree row w c.room c.has_room) (its_own last issued rows tree row w c.room c.has_room) (w.sound.writes row.room row.id).full b s f some c.there c.now (omega (arith, c.kept, kept_before (kept_at c.room (log_path row.host row.id)) c.old row.stored bytes c.within, k.log_kept, k.numbers.log_mark))))
     (subst (AreWritesOf row.id) own (writes_wrote stamp c.room row (issued row.room row.id) at bytes k (w.sound.writes row.room row.id) s f some)))
 
 -- where the act was not made, nothing is issued and the table stays

@@ -8,8 +8,8 @@ use Rattle.mount_model.specs.Paths.{openhosts}
 use Rattle.mount_sound.specs.Ledger.{Written, Ledger}
 
 -- each file but an entry of an open writer stays, and none of them gets shorter
-abbrev pub Grows : Tree → Tree → Type 0
-Grows tree after = (n : ℕ) (room : Room) (path : Path) (bytes : List ℕ) → slice_get tree.rooms n ≡ Some room → (path.folder ≡ openhosts → ⊥) → file_at room path ≡ Some bytes
+abbrev pub FilesGrow : Tree → Tree → Type 0
+FilesGrow tree after = (n : ℕ) (room : Room) (path : Path) (bytes : List ℕ) → slice_get tree.rooms n ≡ Some room → (path.folder ≡ openhosts → ⊥) → file_at room path ≡ Some bytes
     → (new : Room) × (longer : List ℕ) × (slice_get after.rooms n ≡ Some new) × (file_at new path ≡ Some longer) × (length bytes ≤ length longer)
 
 -- the later writes are the earlier ones and more

@@ -1,7 +1,8 @@
 -- What the writers of each room issued.
-use Rattle.std.specs.Prelude.{◌≡◌, ◌≤◌, ◌^◌, ℕ, List, [], ◌∷◌, ◌++◌, length, map}
+use Rattle.std.specs.Prelude.{◌≡◌, ◌≤◌, ℕ, List, [], ◌∷◌, ◌++◌, length, map}
+use Rattle.plfs_types.specs.declared.limits.TheConstants.{MAX_LOG}
 use Rattle.plfs_types.specs.declared.entries.Entry.{Entry}
-use Rattle.mount_sound.specs.Entries.{AreInOrder, logged}
+use Rattle.mount_sound.specs.Entries.{AreEntriesOf, logged}
 
 -- one write: its entry, and its bytes
 pub record Written : Type 0 where
@@ -23,9 +24,9 @@ AreFull (w ∷ writes) = (length w.bytes ≡ w.entry.len) × AreFull writes
 
 -- the writes that a writer may have issued
 pub record AreWritesOf (writer : ℕ) (writes : List Written) : Type 0 where
-  pub in_order : AreInOrder writer 0 0 (entries_in writes)
+  pub in_order : AreEntriesOf writer 0 0 (entries_in writes)
   pub full : AreFull writes
-  pub small : logged (entries_in writes) ≤ 2 ^ 56
+  pub small : logged (entries_in writes) ≤ MAX_LOG
 
 -- for each room and writer, the writes that it issued, in order
 abbrev pub Ledger : Type 0

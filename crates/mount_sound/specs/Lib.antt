@@ -2,9 +2,10 @@ pub mod Entries
 pub mod Ledger
 pub mod Items
 pub mod Dropping
+pub mod Fitting
 pub mod Kept
 pub mod Sound
 pub mod Issued
 pub mod Growing
 pub mod Landed
-pub mod Damage
+pub mod There

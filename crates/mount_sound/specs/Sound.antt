@@ -8,7 +8,7 @@ use Rattle.mount_model.specs.Table.{row_of}
 use Rattle.mount_model.specs.State.{State, last_id}
 use Rattle.mount_model.specs.Regular.{IsRegular}
 use Rattle.mount_shape.specs.Marks.{IsOfMark}
-use Rattle.mount_shape.specs.Shape.{IsShapedTree, HasShape}
+use Rattle.mount_shape.specs.Shape.{IsShapedTree, IsShaped}
 use Rattle.mount_sound.specs.Ledger.{Written, AreWritesOf, Ledger}
 use Rattle.mount_sound.specs.Items.{HasItem}
 use Rattle.mount_sound.specs.Dropping.{IsWriter}
@@ -39,7 +39,7 @@ pub record AreSound (last : ℕ) (issued : Ledger) (rows : List Row) (tree : Tre
 -- The mount's store tells a tree of the right shape, and it is sound for what was issued. Nobody holds a room, or flattens, yet.
 pub record IsSoundFor (issued : Ledger) (state : State) : Type 0 where
   pub regular : IsRegular state
-  pub shape : HasShape state
+  pub shape : IsShaped state
   pub sound : AreSound (last_id state) issued state.table.writers shape.tree
   pub no_holders : state.table.holders ≡ []
   pub no_flattenings : state.table.flattenings ≡ []

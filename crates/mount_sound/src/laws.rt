@@ -1,5 +1,5 @@
 //! Laws of soundness.
-ghost use Rattle.std.specs.Prelude.{◌≡◌, ℕ, List, [], Option, Some, slice_get};
+ghost use Rattle.std.specs.Prelude.{◌≡◌, ◌≤◌, ℕ, List, [], length, min, take, Option, Some, slice_get};
 ghost use Rattle.container_layout.specs.declared.items.Item.TheVariants.{Index};
 ghost use Rattle.store_api.specs.declared.tree.Room.{Room};
 ghost use Rattle.store_api.specs.declared.tree.Tree.{Tree};
@@ -8,14 +8,16 @@ ghost use Rattle.mount_model.specs.declared.call.Ask.{Ask};
 ghost use Rattle.mount_model.specs.declared.reply.Reply.{Reply};
 ghost use Rattle.mount_model.specs.State.{State};
 ghost use Rattle.mount_model.specs.Step.{IsStep, IsOwed};
+ghost use Rattle.mount_model.specs.declared.trouble.MountTrouble.{MountTrouble};
+ghost use Rattle.mount_model.specs.Failing.{FailsToMount};
 ghost use Rattle.mount_model.specs.Mounting.{IsMounted};
-ghost use Rattle.mount_model.specs.History.{Event, IsLegal, state_after, tree_after};
-ghost use Rattle.mount_sound.specs.Ledger.{Ledger};
+ghost use Rattle.mount_model.specs.History.{Event, IsLawful, state_after, told_tree_after};
+ghost use Rattle.mount_sound.specs.Ledger.{Ledger, entries_in};
 ghost use Rattle.mount_sound.specs.Items.{HasItem};
 ghost use Rattle.mount_sound.specs.Sound.{IsSoundFor, IsSoundTree, IsFine};
-ghost use Rattle.mount_sound.specs.Landed.{HasLanded};
-ghost use Rattle.mount_sound.specs.Damage.{ShowsNoDamage};
-ghost use Rattle.mount_sound.specs.Growing.{Grows, IssuesMore};
+ghost use Rattle.mount_sound.specs.Landed.{HasLanded, whole};
+ghost use Rattle.mount_sound.specs.There.{landed_entries, landed_in};
+ghost use Rattle.mount_sound.specs.Growing.{FilesGrow, IssuesMore};
 ghost use Rattle.mount_sound.specs.Issued.{issued, issued_after};
 
 /// A tree with no rooms is sound.
@@ -28,6 +30,12 @@ pub fn mounting_is_sound()
     ensures { (serial : ℕ) (times : Option (List ℕ)) (opened : Stored) (new : State) (tree : Tree) → IsMounted serial times opened new → opened.tree ≡ Some tree → (sound : IsSoundTree tree) → IsSoundFor sound.issued new }
 {}
 
+/// What the acts of a mounting that broke off left of a sound tree is sound for the next mount, whatever the store told.
+pub fn a_failed_mounting_leaves_a_sound_tree()
+    ensures { (opened left : Stored) (trouble : MountTrouble) (tree : Tree) → FailsToMount opened trouble left → opened.tree ≡ Some tree → IsSoundTree tree
+        → (after : Tree) × (left.tree ≡ Some after) × IsSoundTree after }
+{}
+
 /// A step of the mount whose caller owed no more than it met keeps soundness, for what was issued by then.
 pub fn steps_keep_soundness()
     ensures { (before : Ledger) (old new : State) (caller : ℕ) (ask : Ask) (reply : Reply) → IsOwed ask → IsStep old caller ask reply new → IsSoundFor before old → IsSoundFor (issued_after before old ask.call reply) new }
@@ -35,7 +43,7 @@ pub fn steps_keep_soundness()
 
 /// Soundness lasts along each legal history, for what was issued in it.
 pub fn soundness_lasts()
-    ensures { (before : Ledger) (start : State) (events : List Event) → IsLegal start events → IsSoundFor before start → IsSoundFor (issued before start events) (state_after start events) }
+    ensures { (before : Ledger) (start : State) (events : List Event) → IsLawful start events → IsSoundFor before start → IsSoundFor (issued before start events) (state_after start events) }
 {}
 
 /// The tree that a sound mount leaves is sound for the next one.
@@ -53,21 +61,31 @@ pub fn fineness_lasts()
     ensures { (old new : State) (caller : ℕ) (ask : Ask) (reply : Reply) → IsOwed ask → IsStep old caller ask reply new → IsFine old → IsFine new }
 {}
 
-/// No step of a sound mount shows damage, whatever fault the store answers.
-pub fn a_sound_mount_shows_no_damage()
-    ensures { (issued : Ledger) (old new : State) (caller : ℕ) (ask : Ask) (reply : Reply) → IsStep old caller ask reply new → IsSoundFor issued old → ShowsNoDamage reply }
-{}
-
 /// The whole entries of each index dropping of a sound mount are the first that its writer issued, and its log begins
 /// with the bytes of their writes.
 pub fn what_landed_was_issued()
     ensures { (issued : Ledger) (state : State) (sound : IsSoundFor issued state) (number : ℕ) (room : Room) → slice_get sound.shape.tree.rooms number ≡ Some room → (host writer : ℕ) (bytes : List ℕ) → HasItem room (Index host writer) bytes → HasLanded room host writer (issued number writer) bytes }
 {}
 
-/// Along a legal history each file but an entry of an open writer stays, and none of them gets shorter: what has landed
-/// never falls.
+/// Of an index dropping of a sound mount, the entries that its bytes and those of its log tell are the ones that have
+/// landed: the first that its writer issued.
+pub fn what_is_told_has_landed()
+    ensures { (issued : Ledger) (state : State) (sound : IsSoundFor issued state) (number : ℕ) (room : Room) → slice_get sound.shape.tree.rooms number ≡ Some room → (host writer : ℕ) (bytes : List ℕ) → HasItem room (Index host writer) bytes
+        → landed_entries room host writer ≡ take (min (whole bytes) (length (issued number writer))) (entries_in (issued number writer)) }
+{}
+
+/// Along a history of a sound mount the entries that have landed in an index dropping stay, and more come or none.
+pub fn landed_never_falls()
+    ensures { (before : Ledger) (start : State) (events : List Event) → IsLawful start events → IsSoundFor before start
+        → (tree after : Tree) → start.store.tree ≡ Some tree → told_tree_after start events ≡ Some after
+        → (number : ℕ) (room new : Room) → slice_get tree.rooms number ≡ Some room → slice_get after.rooms number ≡ Some new
+        → (host writer : ℕ) (bytes : List ℕ) → HasItem room (Index host writer) bytes
+        → (landed_in room host writer ≤ landed_in new host writer) × (take (landed_in room host writer) (landed_entries new host writer) ≡ landed_entries room host writer) }
+{}
+
+/// Along a legal history each file but an entry of an open writer stays, and none of them gets shorter.
 pub fn files_only_grow()
-    ensures { (start : State) (events : List Event) (tree : Tree) → IsLegal start events → start.store.tree ≡ Some tree → (after : Tree) × (tree_after start events ≡ Some after) × Grows tree after }
+    ensures { (start : State) (events : List Event) (tree : Tree) → IsLawful start events → start.store.tree ≡ Some tree → (after : Tree) × (told_tree_after start events ≡ Some after) × FilesGrow tree after }
 {}
 
 /// Along a history more is issued, or nothing.

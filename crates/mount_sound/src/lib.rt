@@ -8,7 +8,8 @@
 mod laws;
 
 pub use laws::{
-    a_left_tree_is_sound, a_sound_mount_shows_no_damage, an_empty_tree_is_sound, files_only_grow,
-    fineness_lasts, issues_only_grow, mounting_is_fine, mounting_is_sound, soundness_lasts,
-    steps_keep_soundness, what_landed_was_issued,
+    a_failed_mounting_leaves_a_sound_tree, a_left_tree_is_sound, an_empty_tree_is_sound,
+    files_only_grow, fineness_lasts, issues_only_grow, landed_never_falls, mounting_is_fine,
+    mounting_is_sound, soundness_lasts, steps_keep_soundness, what_is_told_has_landed,
+    what_landed_was_issued,
 };

@@ -12,19 +12,19 @@ use std::test::Fail;
 use store_api::Answer;
 use store_memory::MemoryStore;
 
-type Tried = Mount<MemoryStore, ListClock>;
+pub(crate) type Tried = Mount<MemoryStore, ListClock>;
 
 // The act by which the writer leaves, counted from the first of the mounting.
 const LAST_ACT: u64 = 14;
 
-fn done(rt: &impl Abort, mount: &mut Tried, call: Call)
+pub(crate) fn done(rt: &impl Abort, mount: &mut Tried, call: Call)
     requires { OwedBy call }
 {
     assert!(rt; matches!(answer(mount, &asks(call)), Reply::Done));
 }
 
 // A writer of host 0, which has its floor.
-fn entered(rt: &impl Abort, mount: &mut Tried, room: u64) -> u64 {
+pub(crate) fn entered(rt: &impl Abort, mount: &mut Tried, room: u64) -> u64 {
     let enter = asks(Call::Enter {
         room,
         host: 0,
@@ -39,7 +39,7 @@ fn entered(rt: &impl Abort, mount: &mut Tried, room: u64) -> u64 {
     writer
 }
 
-fn opened(rt: &impl Abort, mount: &mut Tried, writer: u64) {
+pub(crate) fn opened(rt: &impl Abort, mount: &mut Tried, writer: u64) {
     done(rt, mount, Call::MakeHostdir { writer });
     done(rt, mount, Call::MakeIndex { writer });
     done(rt, mount, Call::MakeLog { writer });
@@ -72,7 +72,14 @@ fn left(rt: &impl Abort, mount: &mut Tried, writer: u64, dead: bool) {
     }
 }
 
-fn measures(rt: &impl Abort, mount: &mut Tried, room: u64, folder: &str, file: &str, want: u64) {
+pub(crate) fn measures(
+    rt: &impl Abort,
+    mount: &mut Tried,
+    room: u64,
+    folder: &str,
+    file: &str,
+    want: u64,
+) {
     let path = Path {
         folder: name(rt, folder),
         file: name(rt, file),

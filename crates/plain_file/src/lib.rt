@@ -16,6 +16,3 @@ pub use laws::{
     pieces_lie_in_logs, pieces_name_bytes, size_is_from_pieces,
 };
 pub use pieces::{Piece, PieceList, Pieces};
-
-#[cfg(test)]
-mod tests;

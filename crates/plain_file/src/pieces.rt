@@ -7,7 +7,7 @@ use plfs_types::{Sequence, fits};
 use std::marker::Model;
 
 /// A run of bytes of one write.
-#[derive(Clone, Copy, Debug, PartialEq, Eq)]
+#[derive(Clone, Copy, PartialEq, Eq)]
 pub struct Piece {
     /// Where it begins in the file, in bytes.
     pub at: u64,
@@ -22,7 +22,7 @@ pub struct Piece {
 }
 
 impl Piece {
-    /// Whether it has bytes, ends within 2^40 in the file, and ends in the log within 64 bits.
+    /// Whether it has bytes, ends within the greatest size of a file, and ends in the log within 64 bits.
     pub fn is_valid(&self) -> bool
         ensures { IsTrue result ↔ IsPiece self.now }
     {
@@ -65,7 +65,7 @@ impl Model for Pieces {
 
 impl Pieces {
     /// The list as pieces. It is handed back exactly where it is out of order, two pieces share a
-    /// byte, one is empty or ends past 2^40 or, in the log, past 64 bits, or two neighbours are
+    /// byte, one is empty or ends past the greatest size or, in the log, past 64 bits, or two neighbours are
     /// joinable. It takes no memory.
     pub fn read(list: PieceList) -> Result<Pieces, PieceList>
         ensures ok { IfOk result (λ pieces. (pieces ≡ list) × AreRuns list) }

@@ -7,19 +7,17 @@ use Rattle.mount_model.specs.declared.call.Ask.{Ask}
 use Rattle.mount_model.specs.declared.reply.Reply.{Reply}
 use Rattle.mount_model.specs.State.{State}
 use Rattle.mount_model.specs.Step.{IsOwed, IsStep}
-use Rattle.mount_model.specs.History.{Event, IsLegal, state_after}
+use Rattle.mount_model.specs.History.{Event, IsLawful, state_after}
 use Rattle.mount_model.specs.Mounting.{IsMounted}
 use Rattle.mount_sound.specs.Sound.{IsSoundFor, IsSoundTree}
 use Rattle.mount_sound.specs.Issued.{issued}
-use Rattle.mount_sound.proofs.Mounting.{mounted_sound}
-use Rattle.mount_sound.proofs.Steps.{history_keeps}
-use Rattle.mount_sound.proofs.Trees.{left_sound}
+use Rattle.mount_sound.proofs.Facts.{mounted_sound, history_keeps, left_sound}
 use Rattle.plfs_program.specs.Calling.{GoesOn, IsRun}
 
 pub no_call : (state : State) → GoesOn state state
 no_call state = record { events = []; legal = tt; ends = refl }
 
-legal_push : (start : State) (events : List Event) (event : Event) → IsLegal start events → IsOwed event.ask → IsStep (state_after start events) event.caller event.ask event.reply event.after → IsLegal start (events ++ event ∷ [])
+legal_push : (start : State) (events : List Event) (event : Event) → IsLawful start events → IsOwed event.ask → IsStep (state_after start events) event.caller event.ask event.reply event.after → IsLawful start (events ++ event ∷ [])
 legal_push start [] event legal owed step = (owed, step, tt)
 legal_push start (first ∷ events) event legal owed step = (legal.0, legal.1, legal_push first.after events event legal.2 owed step)
 

@@ -6,7 +6,7 @@ use Rattle.report_text.specs.Text.{text_of}
 use Rattle.plfs_program.specs.Calling.{Leaves}
 use Rattle.plfs_program.specs.Outcomes.{status_of}
 use Rattle.plfs_program.specs.Output.{IsPrinted, IsCutOff}
-use Rattle.plfs_program.specs.Course.{Ends, IsSaid, IsPlayedAs, IsLeft, InputCourse, played, cut_off}
+use Rattle.plfs_program.specs.Course.{Ends, IsSaid, IsPlayedAs, IsStoreLeft, InputCourse, played, cut_off}
 
 -- a run whose lines were printed, or cut off
 pub reported : (bytes : List ℕ) (lines shown : List Line) (text printed : List ℕ) (e : Ends) (status : ℕ) → IsPlayedAs bytes lines e → text ≡ text_of lines → printed ≡ text → shown ≡ lines
@@ -19,7 +19,7 @@ reported bytes lines shown text printed e status as_played is_text is_printed is
     cut_off lines as_played (subst P (is_printed ∙ is_text) part) told
 
 -- what the work on a store left, where memory was refused then
-pub left_so : (e : Ends) (after : Stored) → e.stored_after ≡ Some after → Leaves e.times e.stored after → IsLeft e
+pub left_so : (e : Ends) (after : Stored) → e.stored_after ≡ Some after → Leaves e.times e.stored after → IsStoreLeft e
 left_so e after is lawful = record { after = after; left = is; lawful = lawful }
 
 -- what was said of a text is said of a line that is the same

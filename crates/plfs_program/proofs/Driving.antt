@@ -3,62 +3,68 @@ use Rattle.std.proofs.Common.{◌≡◌, ◌⊎◌, inl, inr, Bool, true, false,
 use Rattle.mount_model.specs.declared.call.Call.{Call}
 use Rattle.mount_model.specs.declared.reply.Reply.{Reply}
 use Rattle.mount_model.specs.declared.reply.Reply.TheVariants.{Fault, NoMemory}
-use Rattle.mount_model.specs.Replies.{Fits}
-use Rattle.flow.specs.Program.{Program, done, ask}
-use Rattle.flow.specs.Standing.{Standing, ready, asked, next_of, Rest, over, rest_of, replied, IsFresh}
-use Rattle.plfs_program.specs.Ending.{EndsIn, EndsFrom}
+use Rattle.mount_model.specs.Replies.{FitsCall}
+use Rattle.story.specs.Program.{Program, done, ask}
+use Rattle.flow.specs.Standing.{Standing, ready, asked, next_of, Rest, over, rest_of, replied, Awaits, IsFresh}
+use Rattle.plfs_program.specs.Ending.{EndsIn, EndsStanding}
 
 some_call : (a b : Call) → Some a ≡ Some b → a ≡ b
 some_call a b e = cc
 
-same_result : {R : Type 0} (a b : R) (x y : Rest Call R) → x ≡ over a → y ≡ over b → x ≡ y → a ≡ b
+same_result : {R : Type 0} (a b : R) (x y : Rest Call Reply R) → x ≡ over a → y ≡ over b → x ≡ y → a ≡ b
 same_result a b x y is are e = cc
 
+-- a machine that gave a question awaits its reply
+pub gave_awaits : {R : Type 0} (s s1 : Standing Call Reply R) (call : Option Call) (q : Call) → call ≡ next_of s → call ≡ Some q → rest_of s1 ≡ rest_of s → Awaits (rest_of s1)
+gave_awaits (ready (done r)) s1 call q next some rest = absurd (cc)
+gave_awaits (ready (ask asks k)) s1 call q next some rest = subst Awaits (sym rest) tt
+gave_awaits (asked k) s1 call q next some rest = absurd (cc)
+
 -- a reply that fits takes it on, or a fault was answered
-pub goes_on : {R : Type 0} (fine : R → Bool) (s : Standing Call R) (q : Call) (reply : Reply) → IsFresh s → next_of s ≡ Some q → Fits q reply → (reply ≡ NoMemory → ⊥) → EndsFrom fine s
-    → (reply ≡ Fault) ⊎ EndsFrom fine (ready (replied (rest_of s) reply))
+pub goes_on : {R : Type 0} (fine : R → Bool) (s : Standing Call Reply R) (q : Call) (reply : Reply) → IsFresh s → next_of s ≡ Some q → FitsCall q reply → (reply ≡ NoMemory → ⊥) → EndsStanding fine s
+    → (reply ≡ Fault) ⊎ EndsStanding fine (ready (replied (rest_of s) reply))
 goes_on fine (ready (done r)) q reply fresh is fits memory ends = absurd (cc)
 goes_on fine (ready (ask asks k)) q reply fresh is fits memory ends =
     let same : asks ≡ q = some_call asks q is in
-    elim (ends reply (subst (λ c. Fits c reply) (sym same) fits)) as (λ _. (reply ≡ Fault) ⊎ EndsIn fine (k reply)) [
+    elim (ends reply (subst (λ c. FitsCall c reply) (sym same) fits)) as (λ _. (reply ≡ Fault) ⊎ EndsIn fine (k reply)) [
       | inl e ↦ absurd (memory e)
       | inr rest ↦ rest
     ]
 goes_on fine (asked k) q reply fresh is fits memory ends = absurd (fresh)
 
 -- at its end the result is one of these
-pub ends_so : {R : Type 0} (fine : R → Bool) (s : Standing Call R) (out : R) → IsFresh s → next_of s ≡ None → rest_of s ≡ over out → EndsFrom fine s → fine out ≡ true
+pub ends_so : {R : Type 0} (fine : R → Bool) (s : Standing Call Reply R) (out : R) → IsFresh s → next_of s ≡ None → rest_of s ≡ over out → EndsStanding fine s → fine out ≡ true
 ends_so fine (ready (done r)) out fresh none is ends = subst (λ x. fine x ≡ true) (same_result r out (over r) (over out) refl refl is) ends
 ends_so fine (ready (ask q k)) out fresh none is ends = absurd (cc)
 ends_so fine (asked k) out fresh none is ends = absurd (fresh)
 
-fresh_as : {R : Type 0} (s : Standing Call R) (p : Program Call R) → s ≡ ready p → IsFresh s
+fresh_as : {R : Type 0} (s : Standing Call Reply R) (p : Program Call Reply R) → s ≡ ready p → IsFresh s
 fresh_as s p is = subst IsFresh (sym is) tt
 
 -- a machine that took a reply has no question out
-pub taken_fresh : {R : Type 0} (s s1 : Standing Call R) (reply : Reply) → s1 ≡ ready (replied (rest_of s) reply) → IsFresh s1
+pub taken_fresh : {R : Type 0} (s s1 : Standing Call Reply R) (reply : Reply) → s1 ≡ ready (replied (rest_of s) reply) → IsFresh s1
 taken_fresh s s1 reply is = fresh_as s1 (replied (rest_of s) reply) is
 
 -- one call of a machine that is driven: it was answered a fault, or goes on as well as before
-pub driven : {R : Type 0} (fine : R → Bool) (s s1 s2 : Standing Call R) (call : Option Call) (q : Call) (reply : Reply) (before after : Bool) → IsFresh s → call ≡ next_of s → call ≡ Some q → rest_of s1 ≡ rest_of s
-    → s2 ≡ ready (replied (rest_of s1) reply) → Fits q reply → (reply ≡ NoMemory → ⊥) → (reply ≡ Fault → after ≡ true) → (before ≡ true → after ≡ true)
-    → (before ≡ true) ⊎ EndsFrom fine s → (after ≡ true) ⊎ EndsFrom fine s2
+pub driven : {R : Type 0} (fine : R → Bool) (s s1 s2 : Standing Call Reply R) (call : Option Call) (q : Call) (reply : Reply) (before after : Bool) → IsFresh s → call ≡ next_of s → call ≡ Some q → rest_of s1 ≡ rest_of s
+    → s2 ≡ ready (replied (rest_of s1) reply) → FitsCall q reply → (reply ≡ NoMemory → ⊥) → (reply ≡ Fault → after ≡ true) → (before ≡ true → after ≡ true)
+    → (before ≡ true) ⊎ EndsStanding fine s → (after ≡ true) ⊎ EndsStanding fine s2
 driven fine s s1 s2 call q reply before after fresh next some rest is fits memory cause kept (inl e) = inl (kept e)
 driven fine s s1 s2 call q reply before after fresh next some rest is fits memory cause kept (inr ends) =
-    elim (goes_on fine s q reply fresh (sym next ∙ some) fits memory ends) as (λ _. (after ≡ true) ⊎ EndsFrom fine s2) [
+    elim (goes_on fine s q reply fresh (sym next ∙ some) fits memory ends) as (λ _. (after ≡ true) ⊎ EndsStanding fine s2) [
       | inl e ↦ inl (cause e)
-      | inr more ↦ inr (subst (EndsFrom fine) (sym (is ∙ ap (λ r. ready (replied r reply)) rest)) more)
+      | inr more ↦ inr (subst (EndsStanding fine) (sym (is ∙ ap (λ r. ready (replied r reply)) rest)) more)
     ]
 
 -- a machine that has no further call
-pub ended : {R : Type 0} (fine : R → Bool) (s s1 : Standing Call R) (call : Option Call) (out : R) (before : Bool) → IsFresh s → call ≡ next_of s → call ≡ None → rest_of s1 ≡ rest_of s → rest_of s1 ≡ over out
-    → (before ≡ true) ⊎ EndsFrom fine s → (before ≡ true) ⊎ (fine out ≡ true)
+pub ended : {R : Type 0} (fine : R → Bool) (s s1 : Standing Call Reply R) (call : Option Call) (out : R) (before : Bool) → IsFresh s → call ≡ next_of s → call ≡ None → rest_of s1 ≡ rest_of s → rest_of s1 ≡ over out
+    → (before ≡ true) ⊎ EndsStanding fine s → (before ≡ true) ⊎ (fine out ≡ true)
 ended fine s s1 call out before fresh next none rest is (inl e) = inl e
 ended fine s s1 call out before fresh next none rest is (inr ends) = inr (ends_so fine s out fresh (sym next ∙ none) (sym rest ∙ is) ends)
 
 -- a driven machine that did not end so has met a fault
-pub met_fault : {R : Type 0} (fine : R → Bool) (s : Standing Call R) (p : Program Call R) (out : R) (faulted : Bool) → s ≡ ready p → EndsIn fine p → (EndsFrom fine s → (faulted ≡ true) ⊎ (fine out ≡ true)) → fine out ≡ false → faulted ≡ true
-met_fault fine s p out faulted is well ends bad = elim (ends (subst (EndsFrom fine) (sym is) well)) as (λ _. faulted ≡ true) [
+pub met_fault : {R : Type 0} (fine : R → Bool) (s : Standing Call Reply R) (p : Program Call Reply R) (out : R) (faulted : Bool) → s ≡ ready p → EndsIn fine p → (EndsStanding fine s → (faulted ≡ true) ⊎ (fine out ≡ true)) → fine out ≡ false → faulted ≡ true
+met_fault fine s p out faulted is well ends bad = elim (ends (subst (EndsStanding fine) (sym is) well)) as (λ _. faulted ≡ true) [
   | inl e ↦ e
   | inr good ↦ absurd (let wrong : false ≡ true = sym bad ∙ good in cc)
 ]

@@ -5,7 +5,7 @@ use Rattle.std.specs.List.{AllByRecursion}
 use Rattle.plfs_types.specs.declared.entries.Entry.{Entry}
 use Rattle.plain_file.specs.Keys.{KeysDiffer, same_key}
 use Rattle.plfs_program.specs.declared.indices.Found.{Found}
-use Rattle.plfs_program.specs.Entries.{entries_in, IsUpTo, IsNear, AreFound, AreReplayable, AreSoFar}
+use Rattle.plfs_program.specs.Entries.{found_entries, IsUpTo, IsNear, AreEntriesFound, AreReplayable, AreSoFar}
 
 -- an entry with a later stamp of the same writer has another key
 apart : (writer stamp : ℕ) (f new : Found) → IsUpTo writer stamp f → new.entry.writer ≡ writer → stamp < new.entry.stamp → same_key f.entry new.entry ≡ false
@@ -17,13 +17,13 @@ pub all_and_one : {X : Type 0} (P : X → Type 0) (xs : List X) (x : X) → AllB
 all_and_one P [] x all one = (one, tt)
 all_and_one P (y ∷ ys) x (first, rest) one = (first, all_and_one P ys x rest one)
 
-others_apart : (e : Entry) (found : List Found) (new : Found) → AllByRecursion (λ (d : Entry). same_key e d ≡ false) (entries_in found) → same_key e new.entry ≡ false
-    → AllByRecursion (λ (d : Entry). same_key e d ≡ false) (entries_in (found ++ new ∷ []))
+others_apart : (e : Entry) (found : List Found) (new : Found) → AllByRecursion (λ (d : Entry). same_key e d ≡ false) (found_entries found) → same_key e new.entry ≡ false
+    → AllByRecursion (λ (d : Entry). same_key e d ≡ false) (found_entries (found ++ new ∷ []))
 others_apart e [] new all one = (one, tt)
 others_apart e (f ∷ found) new (first, rest) one = (first, others_apart e found new rest one)
 
-keys_differ : (writer stamp : ℕ) (found : List Found) (new : Found) → AllByRecursion (IsUpTo writer stamp) found → KeysDiffer (entries_in found)
-    → new.entry.writer ≡ writer → stamp < new.entry.stamp → KeysDiffer (entries_in (found ++ new ∷ []))
+keys_differ : (writer stamp : ℕ) (found : List Found) (new : Found) → AllByRecursion (IsUpTo writer stamp) found → KeysDiffer (found_entries found)
+    → new.entry.writer ≡ writer → stamp < new.entry.stamp → KeysDiffer (found_entries (found ++ new ∷ []))
 keys_differ writer stamp [] new up keys same later = (tt, tt)
 keys_differ writer stamp (f ∷ found) new (first, rest) (others, keys) same later =
     (others_apart f.entry found new others (apart writer stamp f new first same later), keys_differ writer stamp found new rest keys same later)
@@ -34,8 +34,8 @@ up_later writer stamp later (f ∷ found) after (inl earlier, rest) = (inl earli
 up_later writer stamp later (f ∷ found) after (inr (of, before), rest) = (inr (of, omega arith), up_later writer stamp later found after rest)
 
 -- one more entry of the writer
-pub one_more : (writer stamp : ℕ) (found : List Found) (new : Found) → AreFound writer stamp found → new.entry.writer ≡ writer → stamp < new.entry.stamp → IsNear new
-    → AreFound writer new.entry.stamp (found ++ new ∷ [])
+pub one_more : (writer stamp : ℕ) (found : List Found) (new : Found) → AreEntriesFound writer stamp found → new.entry.writer ≡ writer → stamp < new.entry.stamp → IsNear new
+    → AreEntriesFound writer new.entry.stamp (found ++ new ∷ [])
 one_more writer stamp found new so_far same later near = record {
   up_to = all_and_one (IsUpTo writer new.entry.stamp) found new (up_later writer stamp new.entry.stamp found (omega arith) so_far.up_to) (inr (same, omega arith));
   near = all_and_one IsNear found new so_far.near near;
@@ -48,7 +48,7 @@ up_to_next writer stamp next (f ∷ found) after (inl earlier, rest) = (inl (ome
 up_to_next writer stamp next (f ∷ found) after (inr (of, before), rest) = (inl (omega arith), up_to_next writer stamp next found after rest)
 
 -- the next writer begins
-pub next_writer : (last : Option ℕ) (next : ℕ) (found : List Found) → AreSoFar last found → ((writer : ℕ) → last ≡ Some writer → writer < next) → AreFound next 0 found
+pub next_writer : (last : Option ℕ) (next : ℕ) (found : List Found) → AreSoFar last found → ((writer : ℕ) → last ≡ Some writer → writer < next) → AreEntriesFound next 0 found
 next_writer None next found none after = rw none (record { up_to = tt; near = tt; keys = tt })
 next_writer (Some writer) next found (stamp, so_far) after = record {
   up_to = up_to_next writer stamp next found (after writer refl) so_far.up_to;

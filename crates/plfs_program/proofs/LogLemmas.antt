@@ -11,7 +11,7 @@ use Rattle.plain_file.specs.File.{HasItsBytes, EndsWithin}
 use Rattle.plain_file.specs.Shows.{entries_of}
 use Rattle.plain_file.specs.Keys.{KeysDiffer}
 use Rattle.plfs_program.specs.declared.indices.Found.{Found}
-use Rattle.plfs_program.specs.Entries.{entries_in, IsNear}
+use Rattle.plfs_program.specs.Entries.{found_entries, IsNear}
 use Rattle.plfs_program.specs.Logged.{AreLogged}
 use Rattle.plfs_program.proofs.EntryLemmas.{all_and_one}
 
@@ -47,13 +47,13 @@ near_at found i d inside near = All-from_recursion IsNear found near i d inside
 
 -- the write of the next entry
 pub next_write : (found : List Found) (changes : List Change) (i : ℕ) (d : Found) (bytes : List ℕ) → i < length found → AllByRecursion IsNear found
-    → AreLogged (entries_in (take i found)) changes → length bytes ≡ (slice_index_or found i d).entry.len
-    → AreLogged (entries_in (take (i + 1) found)) (changes ++ Write (slice_index_or found i d).entry bytes ∷ [])
+    → AreLogged (found_entries (take i found)) changes → length bytes ≡ (slice_index_or found i d).entry.len
+    → AreLogged (found_entries (take (i + 1) found)) (changes ++ Write (slice_index_or found i d).entry bytes ∷ [])
 next_write found changes i d bytes inside near so_far as_long =
-    let more : entries_in (take (i + 1) found) ≡ entries_in (take i found) ++ (slice_index_or found i d).entry ∷ [] =
-    ap entries_in (take_more found i d inside) ∙ map-append (λ (f : Found). f.entry) (take i found) (slice_index_or found i d ∷ []) in
+    let more : found_entries (take (i + 1) found) ≡ found_entries (take i found) ++ (slice_index_or found i d).entry ∷ [] =
+    ap found_entries (take_more found i d inside) ∙ map-append (λ (f : Found). f.entry) (take i found) (slice_index_or found i d ∷ []) in
     let P : List Entry → Type 0 = λ es. AreLogged es (changes ++ Write (slice_index_or found i d).entry bytes ∷ []) in
-    subst P (sym more) (one_write (entries_in (take i found)) changes (slice_index_or found i d).entry bytes so_far as_long (near_at found i d inside near))
+    subst P (sym more) (one_write (found_entries (take i found)) changes (slice_index_or found i d).entry bytes so_far as_long (near_at found i d inside near))
 
 -- what replaying asks for
 pub logged_bytes : (entries : List Entry) (changes : List Change) → AreLogged entries changes → All HasItsBytes changes

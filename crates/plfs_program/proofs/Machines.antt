@@ -8,10 +8,10 @@ use Rattle.mount_model.specs.declared.reply.Reply.TheVariants.{Fault, NoMemory, 
 use Rattle.mount_model.specs.Paths.{Name}
 use Rattle.mount_model.specs.Replies.{IsTrouble, refused, damaged, fault, no_memory}
 use Rattle.flow.specs.declared.trouble.Stuck.{Stuck}
-use Rattle.flow.specs.Program.{Program, done, ask, then as followed}
+use Rattle.story.specs.Program.{Program, done, ask, followed_by}
 use Rattle.writer_flow.specs.declared.handle.WriterHandle.{WriterHandle}
 use Rattle.writer_flow.specs.declared.handle.WriterOut.{WriterOut}
-use Rattle.writer_flow.specs.Handle.{flushed, closing}
+use Rattle.writer_flow.specs.Handle.{flushed_of, closing_of}
 use Rattle.writer_flow.specs.Opening.{if_done, makes_log, makes_index, makes_hostdir, if_floored, finds_floor, if_entered, enters, if_made, open_program}
 use Rattle.writer_flow.specs.Writing.{if_flushed, flush_then, if_wrote, writes, write_program}
 use Rattle.writer_flow.specs.Syncing.{if_synced, syncs_index, flushes_and_syncs, if_log_synced, sync_program}
@@ -22,15 +22,15 @@ use Rattle.plfs_program.specs.declared.stuck.Stuck.TheVariants as of_own
 use Rattle.plfs_program.specs.Stuck.{machine_stuck}
 use Rattle.plfs_program.specs.Ending.{EndsIn, is_no_fault, ends_well}
 
-abbrev GoesWell : {R : Type 0} → (R → Bool) → (Reply → Program Call R) → Reply → Type 0
+abbrev GoesWell : {R : Type 0} → (R → Bool) → (Reply → Program Call Reply R) → Reply → Type 0
 GoesWell fine k reply = (reply ≡ NoMemory) ⊎ (reply ≡ Fault) ⊎ EndsIn fine (k reply)
 
 -- it ends well after each reply that fits, if it does after the call's own, a refusal, and damage
-by_reply : {R : Type 0} (fine : R → Bool) (k : Reply → Program Call R) (own : Type 0) (reply : Reply) → own ⊎ IsTrouble reply
+by_reply : {R : Type 0} {may : Refusal → Type 0} (fine : R → Bool) (k : Reply → Program Call Reply R) (own : Type 0) (reply : Reply) → own ⊎ IsTrouble may reply
     → (own → EndsIn fine (k reply)) → ((why : Refusal) → EndsIn fine (k (Refused why))) → ((folder file : Name) → EndsIn fine (k (Damaged folder file)))
     → GoesWell fine k reply
 by_reply fine k own reply (inl is) owns refuses damages = inr (inr (owns is))
-by_reply fine k own reply (inr (refused why e)) owns refuses damages = inr (inr (subst (λ r. EndsIn fine (k r)) (sym e) (refuses why)))
+by_reply fine k own reply (inr (refused why fits e)) owns refuses damages = inr (inr (subst (λ r. EndsIn fine (k r)) (sym e) (refuses why)))
 by_reply fine k own reply (inr (damaged folder file e)) owns refuses damages = inr (inr (subst (λ r. EndsIn fine (k r)) (sym e) (damages folder file)))
 by_reply fine k own reply (inr (fault e)) owns refuses damages = inr (inl e)
 by_reply fine k own reply (inr (no_memory e)) owns refuses damages = inl e
@@ -40,7 +40,7 @@ by_reply fine k own reply (inr (no_memory e)) owns refuses damages = inl e
 abbrev pub opens_well : Result WriterHandle Stuck → Bool
 opens_well result = is_no_fault result
 
-done_well : (writer : ℕ) (next : Program Call (Result WriterHandle Stuck)) → EndsIn opens_well next → (reply : Reply) → (reply ≡ Done) ⊎ IsTrouble reply → GoesWell opens_well (if_done writer next) reply
+done_well : {may : Refusal → Type 0} (writer : ℕ) (next : Program Call Reply (Result WriterHandle Stuck)) → EndsIn opens_well next → (reply : Reply) → (reply ≡ Done) ⊎ IsTrouble may reply → GoesWell opens_well (if_done writer next) reply
 done_well writer next well reply fits = by_reply opens_well (if_done writer next) (reply ≡ Done) reply fits (λ e. subst (λ r. EndsIn opens_well (if_done writer next r)) (sym e) well) (λ why r f. inr (inr refl)) (λ folder file r f. inr (inr refl))
 
 log_well : (writer cap : ℕ) → EndsIn opens_well (makes_log writer cap)
@@ -63,15 +63,15 @@ open_well name host cap = λ reply fits. by_reply opens_well (if_made host cap) 
 
 -- ---- writing
 
-flush_well : (handle : WriterHandle) (next : Program Call WriterOut) → EndsIn ends_well next → EndsIn ends_well (flush_then handle next)
+flush_well : (handle : WriterHandle) (next : Program Call Reply WriterOut) → EndsIn ends_well next → EndsIn ends_well (flush_then handle next)
 flush_well handle next well = λ reply fits. by_reply ends_well (if_flushed handle next) ((landed : ℕ) × (reply ≡ Flushed landed)) reply fits (λ p. subst (λ r. EndsIn ends_well (if_flushed handle next r)) (sym p.1) well) (λ why. refl) (λ folder file. refl)
 
 writes_well : (handle : WriterHandle) (at : ℕ) (block : List ℕ) → EndsIn ends_well (writes handle at block)
 writes_well handle at block = λ reply fits. by_reply ends_well (if_wrote handle) ((stamp : ℕ) × (reply ≡ Wrote stamp)) reply fits (λ p. subst (λ r. EndsIn ends_well (if_wrote handle r)) (sym p.1) refl) (λ why. refl) (λ folder file. refl)
 
 pub write_well : (handle : WriterHandle) (at : ℕ) (block : List ℕ) → EndsIn ends_well (write_program handle at block)
-write_well handle at block = elim (nat_le handle.cap handle.pending) as (λ b. EndsIn ends_well (if b then flush_then handle (writes (flushed handle) at block) else writes handle at block)) [
-  | true ↦ flush_well handle (writes (flushed handle) at block) (writes_well (flushed handle) at block)
+write_well handle at block = elim (nat_le handle.cap handle.pending) as (λ b. EndsIn ends_well (if b then flush_then handle (writes (flushed_of handle) at block) else writes handle at block)) [
+  | true ↦ flush_well handle (writes (flushed_of handle) at block) (writes_well (flushed_of handle) at block)
   | false ↦ writes_well handle at block
 ]
 
@@ -81,9 +81,9 @@ index_synced : (handle : WriterHandle) → EndsIn ends_well (syncs_index handle)
 index_synced handle = λ reply fits. by_reply ends_well (if_synced handle) ((landed : ℕ) × (reply ≡ Synced landed)) reply fits (λ p. subst (λ r. EndsIn ends_well (if_synced handle r)) (sym p.1) refl) (λ why. refl) (λ folder file. refl)
 
 flushed_well : (handle : WriterHandle) → EndsIn ends_well (flushes_and_syncs handle)
-flushed_well handle = elim (nat_eq handle.pending 0) as (λ b. EndsIn ends_well (if b then syncs_index handle else flush_then handle (syncs_index (flushed handle)))) [
+flushed_well handle = elim (nat_eq handle.pending 0) as (λ b. EndsIn ends_well (if b then syncs_index handle else flush_then handle (syncs_index (flushed_of handle)))) [
   | true ↦ index_synced handle
-  | false ↦ flush_well handle (syncs_index (flushed handle)) (index_synced (flushed handle))
+  | false ↦ flush_well handle (syncs_index (flushed_of handle)) (index_synced (flushed_of handle))
 ]
 
 pub sync_well : (handle : WriterHandle) → EndsIn ends_well (sync_program handle)
@@ -95,14 +95,14 @@ exits_well : (handle : WriterHandle) → EndsIn ends_well (exits handle)
 exits_well handle = λ reply fits. by_reply ends_well (if_left handle) (reply ≡ Done) reply fits (λ e. subst (λ r. EndsIn ends_well (if_left handle r)) (sym e) refl) (λ why. refl) (λ folder file. refl)
 
 puts_well : (handle : WriterHandle) → EndsIn ends_well (puts_meta handle)
-puts_well handle = λ reply fits. by_reply ends_well (if_put (closing handle)) (reply ≡ Done) reply fits (λ e. subst (λ r. EndsIn ends_well (if_put (closing handle) r)) (sym e) (exits_well (closing handle))) (λ why. refl) (λ folder file. refl)
+puts_well handle = λ reply fits. by_reply ends_well (if_put (closing_of handle)) (reply ≡ Done) reply fits (λ e. subst (λ r. EndsIn ends_well (if_put (closing_of handle) r)) (sym e) (exits_well (closing_of handle))) (λ why. refl) (λ folder file. refl)
 
 -- one program after another ends well
-then_well : {R S : Type 0} (fine : R → Bool) (good : S → Bool) (p : Program Call R) (next : R → Program Call S) → ((r : R) → fine r ≡ true → EndsIn good (next r)) → EndsIn fine p → EndsIn good (followed p next)
+then_well : {R S : Type 0} (fine : R → Bool) (good : S → Bool) (p : Program Call Reply R) (next : R → Program Call Reply S) → ((r : R) → fine r ≡ true → EndsIn good (next r)) → EndsIn fine p → EndsIn good (followed_by p next)
 then_well fine good (done r) next goes well = goes r well
-then_well fine good (ask q k) next goes well = λ reply fits. elim (well reply fits) as (λ _. GoesWell good (λ r. followed (k r) next) reply) [
+then_well fine good (ask q k) next goes well = λ reply fits. elim (well reply fits) as (λ _. GoesWell good (λ r. followed_by (k r) next) reply) [
   | inl e ↦ inl e
-  | inr rest ↦ elim rest as (λ _. GoesWell good (λ r. followed (k r) next) reply) [
+  | inr rest ↦ elim rest as (λ _. GoesWell good (λ r. followed_by (k r) next) reply) [
     | inl e ↦ inr (inl e)
     | inr more ↦ inr (inr (then_well fine good (k reply) next goes more))
   ]

@@ -13,8 +13,7 @@ use Rattle.std.proofs.lemmas.List.Elements.{All-contains}
 use Rattle.std.proofs.lemmas.Str.Parse.{IsNumeralModel, numerals_by_value, tells_digits}
 use Rattle.store_api.specs.Step.{Name}
 use Rattle.mount_model.specs.Paths.{mark_name}
-use Rattle.mount_model.specs.Mounting.{IsGreatestMark}
-use Rattle.mount_core.specs.Scanning.{IsUnmarked, IsLeastUnmarked}
+use Rattle.mount_model.specs.Listed.{HasNone, IsGreatest, IsLeastOther, IsMarkOf}
 use Rattle.plfs_program.specs.Mounting.{AreSpent, AreDamagedAt, HaveNext}
 
 own : IsNumeralModel (AllDigits 10) (digits_value 10)
@@ -25,11 +24,11 @@ decimal_same a b a_fits b_fits same = sym (digits_value-decimal own a a_fits) �
 
 -- the name is a mark of at most this number
 abbrev pub IsUpTo : ℕ → Name → Type 0
-IsUpTo greatest name = (n : ℕ) × (1 ≤ n) × (n ≤ greatest) × (name ≡ mark_name n)
+IsUpTo greatest name = (n : ℕ) × IsMarkOf name n × (n ≤ greatest)
 
 -- no mark up to the greatest has a greater number
 pub above_greatest : (name : Name) (greatest number : ℕ) → IsUpTo greatest name → name ≡ decimal number → greatest < number → number < 2 ^ 32 → ⊥
-above_greatest name greatest number (other, some, below, named) is above fits =
+above_greatest name greatest number (other, (may, named), below) is above fits =
     let same : other ≡ number = decimal_same other number (omega arith) (omega arith) (sym named ∙ is) in
     omega arith
 
@@ -37,16 +36,16 @@ above_greatest name greatest number (other, some, below, named) is above fits =
 of_found : (P Q : Name → Type 0) (names : List Name) → All P names → Any Q names → (name : Name) × P name × Q name
 of_found P Q names all any = (any.1, All-contains P names any.1 all (any.0, any.2, any.3), any.4)
 
-none_foreign : (names : List Name) (greatest : ℕ) (name : Name) → greatest < 2 ^ 32 → IsGreatestMark names greatest → IsLeastUnmarked names name → ⊥
+none_foreign : (names : List Name) (greatest : ℕ) (name : Name) → greatest < 2 ^ 32 → IsGreatest IsMarkOf names greatest → IsLeastOther IsMarkOf names name → ⊥
 none_foreign names greatest name fits all least =
-    let (other, (n, some, below, named), is) = of_found (IsUpTo greatest) (λ x. x ≡ name) names all.marks least.there in
-    least.foreign n (some, omega arith, sym is ∙ named)
+    let (other, (n, (may, named), below), is) = of_found (IsUpTo greatest) (λ x. x ≡ name) names all.numbers least.there in
+    least.foreign n (may, sym is ∙ named)
 
 pub spent_or_next : (marks : Option (List Name)) → AreSpent marks → HaveNext marks → ⊥
 spent_or_next None spent next = spent
 spent_or_next (Some names) spent (greatest, all, less) = elim spent.reached [
   | inl none ↦ omega (arith, none.1)
-  | inr there ↦ (let (name, up, is) = of_found (IsUpTo greatest) (λ x. x ≡ mark_name (2 ^ 32 - 1)) names all.marks there in above_greatest name greatest (2 ^ 32 - 1) up is less (omega arith))
+  | inr there ↦ (let (name, up, is) = of_found (IsUpTo greatest) (λ x. IsMarkOf x (2 ^ 32 - 1)) names all.numbers there in above_greatest name greatest (2 ^ 32 - 1) up is.1 less (omega arith))
 ]
 
 pub spent_or_damaged : (marks : Option (List Name)) (name : Name) → AreSpent marks → AreDamagedAt name marks → ⊥
@@ -65,10 +64,10 @@ tied a b Less Less ab ba reverse r_not s_not = absurd (cc)
 tied a b Less Equal ab ba reverse r_not s_not = absurd (cc)
 tied a b Less Greater ab ba reverse r_not s_not = absurd (s_not refl)
 
-not_after : (names : List Name) (a b : Name) → IsLeastUnmarked names a → IsLeastUnmarked names b → slice_cmp nat_cmp a b ≢ Greater
+not_after : (names : List Name) (a b : Name) → IsLeastOther IsMarkOf names a → IsLeastOther IsMarkOf names b → slice_cmp nat_cmp a b ≢ Greater
 not_after names a b first second =
-    let (name, least, is) = of_found (λ other. IsUnmarked other → slice_cmp nat_cmp a other ≢ Greater) (λ x. x ≡ b) names first.least second.there in
-    let P : Name → Type 0 = λ x. IsUnmarked x → slice_cmp nat_cmp a x ≢ Greater in
+    let (name, least, is) = of_found (λ other. HasNone IsMarkOf other → slice_cmp nat_cmp a other ≢ Greater) (λ x. x ≡ b) names first.least second.there in
+    let P : Name → Type 0 = λ x. HasNone IsMarkOf x → slice_cmp nat_cmp a x ≢ Greater in
     subst P is least second.foreign
 
 pub one_name : (marks : Option (List Name)) (a b : Name) → AreDamagedAt a marks → AreDamagedAt b marks → a ≡ b

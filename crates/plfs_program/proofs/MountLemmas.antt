@@ -18,6 +18,7 @@ use Rattle.store_api.specs.declared.store.Trouble.TheVariants as told_trouble
 use Rattle.store_api.specs.Acts.{Stored, Goes, Acts}
 use Rattle.store_api.specs.Effect.{Effect, effect, number_of, new_room, room_made, or_no_room, room_after}
 use Rattle.store_api.specs.Names.{same_name}
+use Rattle.store_api.specs.Kept.{empty_file}
 use Rattle.store_api.specs.Room as rooms
 use Rattle.store_api.specs.Step.{Name, Step}
 use Rattle.script_lang.specs.declared.line.Line.{Line}
@@ -26,13 +27,13 @@ use Rattle.script_lang.specs.declared.script.Numbered.{Numbered}
 use Rattle.mount_model.specs.Making.{Told}
 use Rattle.mount_model.specs.Paths.{marks_name, marks_folder}
 use Rattle.mount_model.specs.State.{State}
-use Rattle.mount_model.specs.Mounting.{IsGreatestMark, IsMounted}
-use Rattle.mount_core.specs.declared.trouble.MountTrouble.{MountTrouble}
-use Rattle.mount_core.specs.declared.trouble.MountTrouble.TheVariants as trouble
-use Rattle.mount_core.specs.Opening.{marks_step, list_step, mark_step, room_told, names_told, made_told, trouble_of, LeavesNone, FailsToMount, no_room, no_names, no_next, no_mark}
-use Rattle.mount_core.proofs.Scans.{mark_known}
+use Rattle.mount_model.specs.Listed.{IsGreatest, IsMarkOf}
+use Rattle.mount_model.specs.Mounting.{marks_step, list_step, mark_step, room_told, IsMounted}
+use Rattle.mount_model.specs.declared.trouble.MountTrouble.{MountTrouble}
+use Rattle.mount_model.specs.declared.trouble.MountTrouble.TheVariants as trouble
+use Rattle.mount_model.specs.Failing.{names_told, made_told, trouble_of, LeavesNone, FailsToMount, no_room, no_names, no_next, no_mark}
 use Rattle.plfs_program.specs.Calling.{IsRun}
-use Rattle.plfs_program.specs.Mounting.{listed_in, listed_or_none, listed_at, listed_marks, AreSpent, AreDamagedAt, AreWhy, HaveNext, unmounted_of, IsUnmounted}
+use Rattle.plfs_program.specs.Mounting.{listed_in, listed_or_none, listed_in_room, listed_marks, AreSpent, AreDamagedAt, AreWhy, HaveNext, unmounted_of, IsUnmounted}
 use Rattle.script_lang.specs.declared.line.Outcome.TheVariants as of
 use Rattle.script_lang.specs.declared.line.Why.TheVariants.{MountsSpent}
 use Rattle.plfs_program.specs.Lines.{AreLinesOf, unmounted, mounted, AreInTurn}
@@ -85,7 +86,7 @@ is_marks_room room = same_name room.name marks_name
 
 -- the room that was told lists what the tree listed before
 record Finds (tree : Tree) (e : Effect) : Type 0 where
-  tells : (room : ℕ) → room_told (Ok e.answer) ≡ Some room → listed_at e.tree room ≡ listed_marks tree
+  tells : (room : ℕ) → room_told (Ok e.answer) ≡ Some room → listed_in_room e.tree room ≡ listed_marks tree
   some : room_told (Ok e.answer) ≡ None → ⊥
 
 same_number : (a b : ℕ) → Some a ≡ Some b → a ≡ b
@@ -94,17 +95,17 @@ same_number a b e = cc
 finds_where : (tree : Tree) (number : Option ℕ) → number_of tree marks_name ≡ number → Finds tree (room_made tree (new_room marks_name (marks_folder ∷ []) []) number)
 finds_where tree None is =
     let made : Tree = record { rooms = tree.rooms ++ new_room marks_name (marks_folder ∷ []) [] ∷ [] } in
-    let listed : listed_at made (length tree.rooms) ≡ listed_marks tree =
+    let listed : listed_in_room made (length tree.rooms) ≡ listed_marks tree =
     ap (λ r. option_and_then listed_in r) (slice_get_last tree.rooms (new_room marks_name (marks_folder ∷ []) [])) ∙ sym (ap listed_or_none (find_nowhere is_marks_room tree.rooms is)) in
     record {
-      tells = λ room told. subst (λ n. listed_at made n ≡ listed_marks tree) (same_number (length tree.rooms) room told) listed;
+      tells = λ room told. subst (λ n. listed_in_room made n ≡ listed_marks tree) (same_number (length tree.rooms) room told) listed;
       some = λ none. cc;
     }
 finds_where tree (Some i) is =
     let there = find_there is_marks_room tree.rooms i is in
-    let listed : listed_at tree i ≡ listed_marks tree = listed_in_place (slice_get tree.rooms i) (within_is_some tree.rooms i there.1) ∙ ap listed_or_none there.0 in
+    let listed : listed_in_room tree i ≡ listed_marks tree = listed_in_place (slice_get tree.rooms i) (within_is_some tree.rooms i there.1) ∙ ap listed_or_none there.0 in
     record {
-      tells = λ room told. subst (λ n. listed_at tree n ≡ listed_marks tree) (same_number i room told) listed;
+      tells = λ room told. subst (λ n. listed_in_room tree n ≡ listed_marks tree) (same_number i room told) listed;
       some = λ none. cc;
     }
 
@@ -115,8 +116,8 @@ finds tree = finds_where tree (number_of tree marks_name) refl
 
 -- the names that were told are those that the room lists, and the tree stays
 record Lists (tree : Tree) (n : ℕ) (e : Effect) : Type 0 where
-  tells : (names : List Name) → names_told (Ok e.answer) ≡ Some names → (e.tree ≡ tree) × (listed_at tree n ≡ Some names)
-  other : names_told (Ok e.answer) ≡ None → listed_at tree n ≡ None
+  tells : (names : List Name) → names_told (Ok e.answer) ≡ Some names → (e.tree ≡ tree) × (listed_in_room tree n ≡ Some names)
+  other : names_told (Ok e.answer) ≡ None → listed_in_room tree n ≡ None
 
 same_names : (a b : List Name) → Some a ≡ Some b → a ≡ b
 same_names a b e = cc
@@ -124,7 +125,7 @@ same_names a b e = cc
 lists_where : (tree : Tree) (n : ℕ) (room : Room) (has : Bool) → rooms.has_folder room marks_folder ≡ has → slice_get tree.rooms n ≡ Some room
     → Lists tree n (room_after tree n (if has then rooms.stays room (Names (rooms.listing room marks_folder)) else rooms.stays room NoFolder))
 lists_where tree n room true has is =
-    let listed : listed_at tree n ≡ Some (rooms.listing room marks_folder) = ap (λ r. option_and_then listed_in r) is ∙ ap (λ h. if h then Some (rooms.listing room marks_folder) else None) has in
+    let listed : listed_in_room tree n ≡ Some (rooms.listing room marks_folder) = ap (λ r. option_and_then listed_in r) is ∙ ap (λ h. if h then Some (rooms.listing room marks_folder) else None) has in
     record {
       tells = λ names told. (ap (λ rs. record { rooms = rs }) (set_found tree.rooms n room is), listed ∙ ap (λ ns. Some ns) (same_names (rooms.listing room marks_folder) names told));
       other = λ none. absurd (cc);
@@ -144,20 +145,20 @@ lists tree n = lists_in tree n (slice_get tree.rooms n) refl
 -- ---- the next mark is new
 
 abbrev nobody : File
-nobody = rooms.empty_file [] []
+nobody = empty_file [] []
 
 both_pass : (a b : Bool) → (a && b) ≡ true → (a ≡ true) × (b ≡ true)
 both_pass true true is = (refl, refl)
 both_pass true false is = cc
 both_pass false b is = cc
 
-not_there : (room : Room) (names : List Name) (greatest number place : ℕ) → rooms.listing room marks_folder ≡ names → IsGreatestMark names greatest → greatest < number → number < 2 ^ 32
+not_there : (room : Room) (names : List Name) (greatest number place : ℕ) → rooms.listing room marks_folder ≡ names → IsGreatest IsMarkOf names greatest → greatest < number → number < 2 ^ 32
     → rooms.place_of room marks_folder (decimal number) ≡ Some place → ⊥
 not_there room names greatest number place listed is above fits found =
     let (inside, passes, first) = position-Some (rooms.is_at marks_folder (decimal number)) room.files place nobody found in
     let (in_folder, named) = both_pass _ _ passes in
     let P : List Name → Type 0 = λ ns. AllByRecursion (IsUpTo greatest) ns in
-    let mark = of_listed (IsUpTo greatest) room marks_folder place nobody (subst P (sym listed) (recursion_from_All (IsUpTo greatest) names is.marks)) inside in_folder in
+    let mark = of_listed (IsUpTo greatest) room marks_folder place nobody (subst P (sym listed) (recursion_from_All (IsUpTo greatest) names is.numbers)) inside in_folder in
     above_greatest _ greatest number mark (same_text _ (decimal number) (sym named)) above fits
 
 made_where_new : (room : Room) (name : Name) (place : Option ℕ) → ((i : ℕ) → place ≡ Some i → ⊥) → (rooms.made_if_absent room marks_folder name place).answer ≡ Made
@@ -176,7 +177,7 @@ created_in : (tree : Tree) (n : ℕ) (name : Name) (names : List Name) (room : O
 created_in tree n name names None is made = cc
 created_in tree n name names (Some room) is made = created_where room name names (rooms.has_folder room marks_folder) is (made room)
 
-creates : (tree : Tree) (n number greatest : ℕ) (names : List Name) → listed_at tree n ≡ Some names → IsGreatestMark names greatest → greatest < number → number < 2 ^ 32 → (effect tree (mark_step n number)).answer ≡ Made
+creates : (tree : Tree) (n number greatest : ℕ) (names : List Name) → listed_in_room tree n ≡ Some names → IsGreatest IsMarkOf names greatest → greatest < number → number < 2 ^ 32 → (effect tree (mark_step n number)).answer ≡ Made
 creates tree n number greatest names listed all above fits =
     created_in tree n (decimal number) names (slice_get tree.rooms n) listed
     (λ room here. made_where_new room (decimal number) _ (λ place found. not_there room names greatest number place here all above fits found))
@@ -208,7 +209,7 @@ failing marks (Err told_trouble.NoMemory) why is ok = subst (AreWhy marks) (sym 
 record Roomed (tree : Tree) (room : ℕ) (roomed : Stored) : Type 0 where
   after : Tree
   told : roomed.tree ≡ Some after
-  listed : listed_at after room ≡ listed_marks tree
+  listed : listed_in_room after room ≡ listed_marks tree
 
 answer_of : (e : Effect) (after : Tree) (answer : Answer) → e ≡ record { tree = after; answer = answer } → (e.tree ≡ after) × (e.answer ≡ answer)
 answer_of e after answer is = (ap (λ (x : Effect). x.tree) is, ap (λ (x : Effect). x.answer) is)
@@ -218,7 +219,7 @@ roomed_as tree opened roomed room (Ok answer) is made tells =
     let g = goes_on marks_step opened roomed tree answer is made in
     let parts = answer_of (effect tree marks_step) g.after answer g.does in
     let found = (finds tree).tells room (ap (λ a. room_told (Ok a)) parts.1 ∙ tells) in
-    record { after = g.after; told = g.told; listed = ap (λ t. listed_at t room) (sym parts.0) ∙ found }
+    record { after = g.after; told = g.told; listed = ap (λ t. listed_in_room t room) (sym parts.0) ∙ found }
 roomed_as tree opened roomed room (Err told_trouble.Fault) is made tells = absurd (cc)
 roomed_as tree opened roomed room (Err told_trouble.NoMemory) is made tells = absurd (cc)
 
@@ -230,14 +231,14 @@ room_is_told tree opened roomed (Ok other) answer is made same none =
 room_is_told tree opened roomed (Err other) answer is made same none = absurd (cc)
 
 -- the names that the second act told are those listed before, and the tree stays
-listed_as : (tree : Tree) (room : ℕ) (roomed left : Stored) (names : List Name) → roomed.tree ≡ Some tree → Acts (list_step room) roomed left (Ok (Names names)) → (left.tree ≡ Some tree) × (listed_at tree room ≡ Some names)
+listed_as : (tree : Tree) (room : ℕ) (roomed left : Stored) (names : List Name) → roomed.tree ≡ Some tree → Acts (list_step room) roomed left (Ok (Names names)) → (left.tree ≡ Some tree) × (listed_in_room tree room ≡ Some names)
 listed_as tree room roomed left names is made =
     let g = goes_on (list_step room) roomed left tree (Names names) is made in
     let parts = answer_of (effect tree (list_step room)) g.after (Names names) g.does in
     let l = (lists tree room).tells names (ap (λ a. names_told (Ok a)) parts.1) in
     (g.told ∙ ap (λ t. Some t) (sym parts.0 ∙ l.0), l.1)
 
-none_listed : (tree : Tree) (room : ℕ) (roomed left : Stored) (told : Told) (answer : Answer) → roomed.tree ≡ Some tree → Acts (list_step room) roomed left told → told ≡ Ok answer → names_told told ≡ None → listed_at tree room ≡ None
+none_listed : (tree : Tree) (room : ℕ) (roomed left : Stored) (told : Told) (answer : Answer) → roomed.tree ≡ Some tree → Acts (list_step room) roomed left told → told ≡ Ok answer → names_told told ≡ None → listed_in_room tree room ≡ None
 none_listed tree room roomed left (Ok other) answer is made same none =
     let g = goes_on (list_step room) roomed left tree other is made in
     let parts = answer_of (effect tree (list_step room)) g.after other g.does in
@@ -246,7 +247,7 @@ none_listed tree room roomed left (Err other) answer is made same none = absurd 
 
 -- the third act makes the next mark
 mark_is_made : (tree : Tree) (room mount greatest : ℕ) (listed left : Stored) (names : List Name) (told : Told) (answer : Answer) → listed.tree ≡ Some tree → Acts (mark_step room mount) listed left told → told ≡ Ok answer
-    → listed_at tree room ≡ Some names → IsGreatestMark names greatest → greatest < mount → mount < 2 ^ 32 → made_told told ≡ false → ⊥
+    → listed_in_room tree room ≡ Some names → IsGreatest IsMarkOf names greatest → greatest < mount → mount < 2 ^ 32 → made_told told ≡ false → ⊥
 mark_is_made tree room mount greatest listed left names (Ok other) answer is made same all known above fits none =
     let g = goes_on (mark_step room mount) listed left tree other is made in
     let parts = answer_of (effect tree (mark_step room mount)) g.after other g.does in
@@ -259,7 +260,7 @@ mark_is_made tree room mount greatest listed left names (Err other) answer is ma
 
 why_none : (names : List Name) (why : MountTrouble) → LeavesNone names why → AreWhy (Some names) why
 why_none names why (inl (file, least, is)) = subst (AreWhy (Some names)) (sym is) least
-why_none names why (inr (known, is)) = subst (AreWhy (Some names)) (sym is) (mark_known names (2 ^ 32 - 1) known)
+why_none names why (inr (known, is)) = subst (AreWhy (Some names)) (sym is) known
 
 -- ---- why a mounting fails over a told tree
 
@@ -278,21 +279,17 @@ why_fails opened left why (no_mark roomed listed room names mount tells lists_th
     let r = roomed_as tree opened roomed room tells.told is tells.made tells.tells in
     let l = listed_as r.after room roomed listed names r.told lists_them in
     failing (listed_marks tree) failed.told why failed.cause (λ answer told.
-    absurd (mark_is_made r.after room mount next.greatest listed left names failed.told answer l.0 failed.made told l.1 (mark_known names next.greatest next.found) (omega (arith, next.next)) next.fits failed.other))
+    absurd (mark_is_made r.after room mount next.greatest listed left names failed.told answer l.0 failed.made told l.1 next.found (omega (arith, next.next)) next.fits failed.other))
 
 -- ---- a mounting that drew a number
 
-made_here : (tree : Tree) (opened : Stored) (new : State) (roomed : Stored) → opened.tree ≡ Some tree
-    → Acts marks_step opened roomed (Ok (Number new.marks)) ⊎ Acts marks_step opened roomed (Ok (Old new.marks)) → Roomed tree new.marks roomed
-made_here tree opened new roomed is (inl made) = roomed_as tree opened roomed new.marks (Ok (Number new.marks)) is made refl
-made_here tree opened new roomed is (inr made) = roomed_as tree opened roomed new.marks (Ok (Old new.marks)) is made refl
-
 pub has_next : (serial : ℕ) (times : Option (List ℕ)) (opened : Stored) (new : State) → IsMounted serial times opened new → (tree : Tree) → opened.tree ≡ Some tree → HaveNext (listed_marks tree)
 has_next serial times opened new m tree is =
-    let r = made_here tree opened new m.roomed is m.made in
-    let l = listed_as r.after new.marks m.roomed m.listed m.names r.told m.lists in
-    let less : m.greatest < 2 ^ 32 - 1 = omega (arith, m.next, m.fits) in
-    subst HaveNext (sym l.1 ∙ r.listed) (m.greatest, m.found, less)
+    let d = m.draws in
+    let r = roomed_as tree opened d.roomed new.marks d.tells.told is d.tells.made d.tells.tells in
+    let l = listed_as r.after new.marks d.roomed d.listed d.names r.told d.lists in
+    let less : d.next.greatest < 2 ^ 32 - 1 = omega (arith, d.next.next, d.next.fits) in
+    subst HaveNext (sym l.1 ∙ r.listed) (d.next.greatest, d.next.found, less)
 
 -- ---- the lines, where memory wasn't refused
 

@@ -10,8 +10,8 @@ use Rattle.script_lang.specs.declared.script.Statement.{Statement}
 use Rattle.script_lang.specs.declared.script.Statement.TheVariants.{Open, Write, Sync, Close, Ropen, Read}
 use Rattle.report_text.specs.Text.{HaveText, ListsLogicalNames}
 use Rattle.plfs_program.specs.declared.stuck.Stuck.{Stuck}
-use Rattle.plfs_program.specs.Answered.{IsWritten, IsAnswerTo, IsLineOf, AreAnswered, MaySee, is_trouble}
-use Rattle.plfs_program.specs.Lines.{IsAnswer, AreInTurn}
+use Rattle.plfs_program.specs.Answered.{IsWritten, IsOutcomeOf, IsLineOf, AreAnswered, MaySee, is_trouble}
+use Rattle.plfs_program.specs.Lines.{IsMadeOutcome, AreInTurn}
 use Rattle.plfs_program.specs.Outcomes.{has_line, is_fault, is_damage}
 use Rattle.plfs_program.proofs.LineLemmas.{neither, has_push, none_last, none_before}
 
@@ -33,14 +33,14 @@ answered_push file (s ∷ statements) [] line d less so_far is = (is, tt)
 answered_push file (s ∷ statements) (first ∷ lines) line d less so_far is = (so_far.0, answered_push file statements lines line d (omega arith) so_far.1 is)
 
 -- what a statement was answered is what its line says, unless that tells of a trouble
-line_of : (file : List ℕ) (s : Numbered) (made : Result Outcome Stuck) (outcome : Outcome) → IfOk made (IsAnswerTo file s.statement) → (made ≡ Ok outcome) ⊎ (is_trouble outcome ≡ true)
+line_of : (file : List ℕ) (s : Numbered) (made : Result Outcome Stuck) (outcome : Outcome) → IfOk made (IsOutcomeOf file s.statement) → (made ≡ Ok outcome) ⊎ (is_trouble outcome ≡ true)
     → IsLineOf file s (record { number = s.line; outcome = outcome })
 line_of file s made outcome answers (inl is) =
-    let P : Result Outcome Stuck → Type 0 = λ m. IfOk m (IsAnswerTo file s.statement) in
+    let P : Result Outcome Stuck → Type 0 = λ m. IfOk m (IsOutcomeOf file s.statement) in
     record { numbered = refl; answers = inl (subst P is answers) }
 line_of file s made outcome answers (inr bad) = record { numbered = refl; answers = inr bad }
 
-all_of : (file : List ℕ) (reader : Option (List ℕ)) (s : Statement) (made : Result Outcome Stuck) → MaySee reader file → IfOk made (λ outcome. (seen : List ℕ) → MaySee reader seen → IsAnswerTo seen s outcome) → IfOk made (IsAnswerTo file s)
+all_of : (file : List ℕ) (reader : Option (List ℕ)) (s : Statement) (made : Result Outcome Stuck) → MaySee reader file → IfOk made (λ outcome. (seen : List ℕ) → MaySee reader seen → IsOutcomeOf seen s outcome) → IfOk made (IsOutcomeOf file s)
 all_of file reader s (Ok outcome) sees answers = answers file sees
 all_of file reader s (Err why) sees answers = tt
 
@@ -59,7 +59,7 @@ line_with s outcome = record { number = s.line; outcome = outcome }
 
 -- the lines with that of the next statement
 next_answered : (statements : List Numbered) (old new : Option (List ℕ)) (count : ℕ) (lines : List Line) (s : Numbered) (made : Result Outcome Stuck) (outcome : Outcome) → s ≡ slice_index_or statements count s → count < length statements
-    → ArePlayed statements old count lines → ((file : List ℕ) → MaySee new file → MaySee old file) → IfOk made (λ o. (file : List ℕ) → MaySee new file → IsAnswerTo file s.statement o) → (made ≡ Ok outcome) ⊎ (is_trouble outcome ≡ true)
+    → ArePlayed statements old count lines → ((file : List ℕ) → MaySee new file → MaySee old file) → IfOk made (λ o. (file : List ℕ) → MaySee new file → IsOutcomeOf file s.statement o) → (made ≡ Ok outcome) ⊎ (is_trouble outcome ≡ true)
     → (file : List ℕ) → MaySee new file → AreAnswered file statements (lines ++ line_with s outcome ∷ [])
 next_answered statements old new count lines s made outcome there inside so_far keeps answers says file sees =
     let line : Line = line_with s outcome in
@@ -70,7 +70,7 @@ next_answered statements old new count lines s made outcome there inside so_far 
 
 -- one statement more, which doesn't end the run
 pub next_played : (statements : List Numbered) (old new : Option (List ℕ)) (count : ℕ) (lines : List Line) (s : Numbered) (made : Result Outcome Stuck) (outcome : Outcome) → s ≡ slice_index_or statements count s → count < length statements
-    → ArePlayed statements old count lines → ((file : List ℕ) → MaySee new file → MaySee old file) → IfOk made (λ o. (file : List ℕ) → MaySee new file → IsAnswerTo file s.statement o) → (made ≡ Ok outcome) ⊎ (is_trouble outcome ≡ true)
+    → ArePlayed statements old count lines → ((file : List ℕ) → MaySee new file → MaySee old file) → IfOk made (λ o. (file : List ℕ) → MaySee new file → IsOutcomeOf file s.statement o) → (made ≡ Ok outcome) ⊎ (is_trouble outcome ≡ true)
     → ListsLogicalNames outcome → (is_fault outcome || is_damage outcome) ≡ false → ArePlayed statements new (count + 1) (lines ++ line_with s outcome ∷ [])
 next_played statements old new count lines s made outcome there inside so_far keeps answers says names goes_on =
     let (no_fault, no_damage) = neither (is_fault outcome) (is_damage outcome) goes_on in
@@ -84,7 +84,7 @@ next_played statements old new count lines s made outcome there inside so_far ke
 
 -- the last statement, which ends the run
 pub last_played : (statements : List Numbered) (old new : Option (List ℕ)) (count : ℕ) (lines : List Line) (s : Numbered) (made : Result Outcome Stuck) (outcome : Outcome) → s ≡ slice_index_or statements count s → count < length statements
-    → ArePlayed statements old count lines → ((file : List ℕ) → MaySee new file → MaySee old file) → IfOk made (λ o. (file : List ℕ) → MaySee new file → IsAnswerTo file s.statement o) → (made ≡ Ok outcome) ⊎ (is_trouble outcome ≡ true)
+    → ArePlayed statements old count lines → ((file : List ℕ) → MaySee new file → MaySee old file) → IfOk made (λ o. (file : List ℕ) → MaySee new file → IsOutcomeOf file s.statement o) → (made ≡ Ok outcome) ⊎ (is_trouble outcome ≡ true)
     → (is_fault outcome || is_damage outcome) ≡ true → AreInTurn statements (lines ++ line_with s outcome ∷ [])
 last_played statements old new count lines s made outcome there inside so_far keeps answers says ends =
     let line : Line = line_with s outcome in
@@ -102,27 +102,27 @@ text_push lines s outcome so_far names = All-push (λ (l : Line). ListsLogicalNa
 
 -- ---- what is said of a statement that was made
 
-written_answer : (at : ℕ) (bytes : List ℕ) (outcome : Outcome) → IsWritten at bytes outcome → IsAnswer outcome
-written_answer at bytes outcome (inl (none, is)) = subst IsAnswer (sym is) (record { no_names = tt; no_fault = refl })
-written_answer at bytes outcome (inr (stamp, some, is)) = subst IsAnswer (sym is) (record { no_names = tt; no_fault = refl })
+written_answer : (at : ℕ) (bytes : List ℕ) (outcome : Outcome) → IsWritten at bytes outcome → IsMadeOutcome outcome
+written_answer at bytes outcome (inl (none, is)) = subst IsMadeOutcome (sym is) (record { no_names = tt; no_fault = refl })
+written_answer at bytes outcome (inr (stamp, some, is)) = subst IsMadeOutcome (sym is) (record { no_names = tt; no_fault = refl })
 
-is_answer : (file : List ℕ) (s : Statement) (outcome : Outcome) → IsAnswerTo file s outcome → IsAnswer outcome
-is_answer file (Open name) outcome (writer, is) = subst IsAnswer (sym is) (record { no_names = tt; no_fault = refl })
+is_answer : (file : List ℕ) (s : Statement) (outcome : Outcome) → IsOutcomeOf file s outcome → IsMadeOutcome outcome
+is_answer file (Open name) outcome (writer, is) = subst IsMadeOutcome (sym is) (record { no_names = tt; no_fault = refl })
 is_answer file (Write at (Text text)) outcome answer = written_answer at text outcome answer
 is_answer file (Write at (Hex bytes)) outcome answer = written_answer at bytes outcome answer
-is_answer file Sync outcome (landed, is) = subst IsAnswer (sym is) (record { no_names = tt; no_fault = refl })
-is_answer file Close outcome (landed, is) = subst IsAnswer (sym is) (record { no_names = tt; no_fault = refl })
-is_answer file (Ropen name workers) outcome (cut, truncs, is) = subst IsAnswer (sym is) (record { no_names = tt; no_fault = refl })
-is_answer file (Read at len) outcome is = subst IsAnswer (sym is) (record { no_names = tt; no_fault = refl })
+is_answer file Sync outcome (landed, is) = subst IsMadeOutcome (sym is) (record { no_names = tt; no_fault = refl })
+is_answer file Close outcome (landed, is) = subst IsMadeOutcome (sym is) (record { no_names = tt; no_fault = refl })
+is_answer file (Ropen name workers) outcome (cut, truncs, is) = subst IsMadeOutcome (sym is) (record { no_names = tt; no_fault = refl })
+is_answer file (Read at len) outcome is = subst IsMadeOutcome (sym is) (record { no_names = tt; no_fault = refl })
 is_answer file other outcome answer = absurd answer
 
 -- what a made statement is answered lists no names and is no fault
-pub all_answers : (reader : Option (List ℕ)) (s : Statement) (made : Result Outcome Stuck) → IfOk made (λ outcome. (file : List ℕ) → MaySee reader file → IsAnswerTo file s outcome) → IfOk made IsAnswer
+pub all_answers : (reader : Option (List ℕ)) (s : Statement) (made : Result Outcome Stuck) → IfOk made (λ outcome. (file : List ℕ) → MaySee reader file → IsOutcomeOf file s outcome) → IfOk made IsMadeOutcome
 all_answers reader s (Ok outcome) answers = let (file, sees) = some_file reader in is_answer file s outcome (answers file sees)
 all_answers reader s (Err why) answers = tt
 
 -- an answer to a write is one to the statement that is that write
-pub written_so : (reader : Option (List ℕ)) (s written : Statement) (made : Result Outcome Stuck) → s ≡ written → IfOk made (λ outcome. (file : List ℕ) → IsAnswerTo file written outcome)
-    → IfOk made (λ outcome. (file : List ℕ) → MaySee reader file → IsAnswerTo file s outcome)
-written_so reader s written (Ok outcome) is answers = λ file sees. let P : Statement → Type 0 = λ of. IsAnswerTo file of outcome in subst P (sym is) (answers file)
+pub written_so : (reader : Option (List ℕ)) (s written : Statement) (made : Result Outcome Stuck) → s ≡ written → IfOk made (λ outcome. (file : List ℕ) → IsOutcomeOf file written outcome)
+    → IfOk made (λ outcome. (file : List ℕ) → MaySee reader file → IsOutcomeOf file s outcome)
+written_so reader s written (Ok outcome) is answers = λ file sees. let P : Statement → Type 0 = λ of. IsOutcomeOf file of outcome in subst P (sym is) (answers file)
 written_so reader s written (Err why) is answers = tt

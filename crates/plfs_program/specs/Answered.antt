@@ -22,15 +22,15 @@ abbrev pub IsReaderOf : List ℕ → Outcome → Type 0
 IsReaderOf file outcome = (cut : List WriterCount) × (truncs : List Trunc) × (outcome ≡ says.Reader (length file) cut truncs)
 
 -- What is said of a statement that was made, of those that are played so far, where the reader sees this file.
-abbrev pub IsAnswerTo : List ℕ → Statement → Outcome → Type 0
-IsAnswerTo file (Open name) outcome = (writer : ℕ) × (outcome ≡ says.Opened writer)
-IsAnswerTo file (Write at (Text text)) outcome = IsWritten at text outcome
-IsAnswerTo file (Write at (Hex bytes)) outcome = IsWritten at bytes outcome
-IsAnswerTo file Sync outcome = (landed : ℕ) × (outcome ≡ says.Synced landed)
-IsAnswerTo file Close outcome = (landed : ℕ) × (outcome ≡ says.Closed landed)
-IsAnswerTo file (Ropen name workers) outcome = IsReaderOf file outcome
-IsAnswerTo file (Read at len) outcome = outcome ≡ says.Read at (slice file at len)
-IsAnswerTo file other outcome = ⊥
+abbrev pub IsOutcomeOf : List ℕ → Statement → Outcome → Type 0
+IsOutcomeOf file (Open name) outcome = (writer : ℕ) × (outcome ≡ says.Opened writer)
+IsOutcomeOf file (Write at (Text text)) outcome = IsWritten at text outcome
+IsOutcomeOf file (Write at (Hex bytes)) outcome = IsWritten at bytes outcome
+IsOutcomeOf file Sync outcome = (landed : ℕ) × (outcome ≡ says.Synced landed)
+IsOutcomeOf file Close outcome = (landed : ℕ) × (outcome ≡ says.Closed landed)
+IsOutcomeOf file (Ropen name workers) outcome = IsReaderOf file outcome
+IsOutcomeOf file (Read at len) outcome = outcome ≡ says.Read at (slice file at len)
+IsOutcomeOf file other outcome = ⊥
 
 -- the line tells why its statement was not made
 abbrev pub is_trouble : Outcome → Bool
@@ -39,7 +39,7 @@ is_trouble outcome = is_refusal outcome || (is_fault outcome || is_damage outcom
 -- the line is the statement's, with its answer, or with why there is none
 pub record IsLineOf (file : List ℕ) (s : Numbered) (line : Line) : Type 0 where
   pub numbered : line.number ≡ s.line
-  pub answers : IsAnswerTo file s.statement line.outcome ⊎ (is_trouble line.outcome ≡ true)
+  pub answers : IsOutcomeOf file s.statement line.outcome ⊎ (is_trouble line.outcome ≡ true)
 
 -- each line is that of its statement, in order
 abbrev pub AreAnswered : List ℕ → List Numbered → List Line → Type 0

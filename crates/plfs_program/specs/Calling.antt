@@ -3,14 +3,14 @@ use Rattle.std.specs.Prelude.{◌≡◌, ℕ, List, Option}
 use Rattle.store_api.specs.Acts.{Stored}
 use Rattle.mount_model.specs.State.{State}
 use Rattle.mount_model.specs.Mounting.{IsMounted}
-use Rattle.mount_model.specs.History.{Event, IsLegal, state_after}
-use Rattle.mount_core.specs.declared.trouble.MountTrouble.{MountTrouble}
-use Rattle.mount_core.specs.Opening.{FailsToMount}
+use Rattle.mount_model.specs.History.{Event, IsLawful, state_after}
+use Rattle.mount_model.specs.declared.trouble.MountTrouble.{MountTrouble}
+use Rattle.mount_model.specs.Failing.{FailsToMount}
 
 -- legal calls lead from one state of the mount to the other
 pub record GoesOn (old new : State) : Type 0 where
   pub events : List Event
-  pub legal : IsLegal old events
+  pub legal : IsLawful old events
   pub ends : state_after old events ≡ new
 
 -- A mount was made of the store as it was, with these times to come, and its calls led to what is left of the store.

@@ -58,7 +58,7 @@ pub record IsPlayedAs (bytes : List ℕ) (lines : List Line) (e : Ends) : Type 0
   pub cause : has_line is_fault lines ≡ true → HasRisen e.stored.faults after.faults
 
 -- memory was refused from the mounting on, and the store is as the mounting or the mount's calls left it
-pub record IsLeft (e : Ends) : Type 0 where
+pub record IsStoreLeft (e : Ends) : Type 0 where
   pub after : Stored
   pub left : e.stored_after ≡ Some after
   pub lawful : Leaves e.times e.stored after
@@ -73,7 +73,7 @@ pub data InputCourse (bytes : List ℕ) (e : Ends) (status : ℕ) : Type 0 where
   played : (lines : List Line) → IsPlayedAs bytes lines e → IsPrinted (text_of lines) e.taking e.taking_after → status ≡ status_of lines → InputCourse bytes e status
   cut_off : (lines : List Line) → IsPlayedAs bytes lines e → IsCutOff (text_of lines) e.taking e.taking_after → status ≡ 6 → InputCourse bytes e status
   starved : IsUntouched e → e.taking_after ≡ e.taking → status ≡ 3 → InputCourse bytes e status
-  exhausted : (statements : List Numbered) → IsBuiltScript bytes statements → IsLeft e → e.taking_after ≡ e.taking → status ≡ 3 → InputCourse bytes e status
+  exhausted : (statements : List Numbered) → IsBuiltScript bytes statements → IsStoreLeft e → e.taking_after ≡ e.taking → status ≡ 3 → InputCourse bytes e status
 
 -- the input was read to its end, or to one byte past the limit of a script, and these are its bytes
 abbrev pub IsInput : List ℕ → Given → Given → Type 0

@@ -3,22 +3,22 @@ use Rattle.std.specs.Prelude.{◌≡◌, ◌⊎◌, Bool, true, false, Result, O
 use Rattle.mount_model.specs.declared.call.Call.{Call}
 use Rattle.mount_model.specs.declared.reply.Reply.{Reply}
 use Rattle.mount_model.specs.declared.reply.Reply.TheVariants.{Fault, NoMemory}
-use Rattle.mount_model.specs.Replies.{Fits}
+use Rattle.mount_model.specs.Replies.{FitsCall}
 use Rattle.flow.specs.declared.trouble.Stuck.{Stuck}
 use Rattle.flow.specs.declared.trouble.Stuck.TheVariants as stuck
-use Rattle.flow.specs.Program.{Program, done, ask}
+use Rattle.story.specs.Program.{Program, done, ask}
 use Rattle.flow.specs.Standing.{Standing, ready, asked}
 use Rattle.writer_flow.specs.declared.handle.WriterOut.{WriterOut}
 
 -- Whatever its calls are answered, its result is one of these, unless a fault was answered. Want of memory ends it.
-abbrev pub EndsIn : {R : Type 0} → (R → Bool) → Program Call R → Type 0
+abbrev pub EndsIn : {R : Type 0} → (R → Bool) → Program Call Reply R → Type 0
 EndsIn fine (done r) = fine r ≡ true
-EndsIn fine (ask q k) = (reply : Reply) → Fits q reply → (reply ≡ NoMemory) ⊎ (reply ≡ Fault) ⊎ EndsIn fine (k reply)
+EndsIn fine (ask q k) = (reply : Reply) → FitsCall q reply → (reply ≡ NoMemory) ⊎ (reply ≡ Fault) ⊎ EndsIn fine (k reply)
 
 -- the same of a machine that stands at a program, with no question out
-abbrev pub EndsFrom : {R : Type 0} → (R → Bool) → Standing Call R → Type 0
-EndsFrom fine (ready p) = EndsIn fine p
-EndsFrom fine (asked k) = ⊥
+abbrev pub EndsStanding : {R : Type 0} → (R → Bool) → Standing Call Reply R → Type 0
+EndsStanding fine (ready p) = EndsIn fine p
+EndsStanding fine (asked k) = ⊥
 
 -- it is no fault
 abbrev pub is_no_fault : {A : Type 0} → Result A Stuck → Bool

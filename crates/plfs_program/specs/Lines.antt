@@ -8,8 +8,8 @@ use Rattle.script_lang.specs.declared.script.Statement.{Statement}
 use Rattle.script_lang.specs.declared.script.Statement.TheVariants.{Open, Write, Sync, Close, Ropen, Read}
 use Rattle.script_lang.specs.declared.script.Numbered.{Numbered}
 use Rattle.report_text.specs.Text.{ListsLogicalNames}
-use Rattle.mount_core.specs.declared.trouble.MountTrouble.{MountTrouble}
-use Rattle.mount_core.specs.Opening.{FailsToMount}
+use Rattle.mount_model.specs.declared.trouble.MountTrouble.{MountTrouble}
+use Rattle.mount_model.specs.Failing.{FailsToMount}
 use Rattle.plfs_program.specs.Outcomes.{has_line, is_fault, is_damage}
 use Rattle.plfs_program.specs.Answered.{AreAnswered}
 use Rattle.plfs_program.specs.Calling.{IsRun}
@@ -43,6 +43,6 @@ pub data AreLinesOf (times : Option (List ℕ)) (before after : Stored) (stateme
   mounted : IsRun times before after → AreInTurn statements lines → AreLinesOf times before after statements lines
 
 -- what is said of a statement that was made lists no names, and is no fault
-pub record IsAnswer (outcome : Outcome) : Type 0 where
+pub record IsMadeOutcome (outcome : Outcome) : Type 0 where
   pub no_names : ListsLogicalNames outcome
   pub no_fault : is_fault outcome ≡ false

@@ -9,11 +9,10 @@ use Rattle.script_lang.specs.declared.line.Line.{Line}
 use Rattle.script_lang.specs.declared.line.Outcome.{Outcome}
 use Rattle.script_lang.specs.declared.line.Outcome.TheVariants.{Refused, Fault, Damaged}
 use Rattle.script_lang.specs.declared.line.Why.TheVariants.{MountsSpent}
-use Rattle.mount_model.specs.Mounting.{IsGreatestMark}
+use Rattle.mount_model.specs.Listed.{IsGreatest, IsLeastOther, IsMarkOf}
 use Rattle.mount_model.specs.Paths.{marks_name, marks_folder}
-use Rattle.mount_core.specs.Scanning.{IsLeastUnmarked}
-use Rattle.mount_core.specs.declared.trouble.MountTrouble.{MountTrouble}
-use Rattle.mount_core.specs.declared.trouble.MountTrouble.TheVariants as trouble
+use Rattle.mount_model.specs.declared.trouble.MountTrouble.{MountTrouble}
+use Rattle.mount_model.specs.declared.trouble.MountTrouble.TheVariants as trouble
 
 -- what is listed in the folder of the marks, where the room has one
 abbrev pub listed_in : Room → Option (List Name)
@@ -28,23 +27,23 @@ abbrev pub listed_marks : Tree → Option (List Name)
 listed_marks tree = listed_or_none (find (λ r. same_name r.name marks_name) tree.rooms)
 
 -- the same in the room of this number
-abbrev pub listed_at : Tree → ℕ → Option (List Name)
-listed_at tree number = option_and_then listed_in (slice_get tree.rooms number)
+abbrev pub listed_in_room : Tree → ℕ → Option (List Name)
+listed_in_room tree number = option_and_then listed_in (slice_get tree.rooms number)
 
 -- a mounting finds all marks, the greatest of them the last number
 abbrev pub AreSpent : Option (List Name) → Type 0
 AreSpent None = ⊥
-AreSpent (Some names) = IsGreatestMark names (2 ^ 32 - 1)
+AreSpent (Some names) = IsGreatest IsMarkOf names (2 ^ 32 - 1)
 
 -- it finds a name that is no mark, or finds no folder, which is told by the empty name
 abbrev pub AreDamagedAt : Name → Option (List Name) → Type 0
 AreDamagedAt name None = name ≡ []
-AreDamagedAt name (Some names) = IsLeastUnmarked names name
+AreDamagedAt name (Some names) = IsLeastOther IsMarkOf names name
 
 -- it finds all marks, and a number is left
 abbrev pub HaveNext : Option (List Name) → Type 0
 HaveNext None = ⊥
-HaveNext (Some names) = (greatest : ℕ) × IsGreatestMark names greatest × (greatest < 2 ^ 32 - 1)
+HaveNext (Some names) = (greatest : ℕ) × IsGreatest IsMarkOf names greatest × (greatest < 2 ^ 32 - 1)
 
 -- the listed marks are why the mounting broke off, unless the store failed or memory was wanting
 abbrev pub AreWhy : Option (List Name) → MountTrouble → Type 0

@@ -20,10 +20,12 @@ outcome_of (Damaged folder file place) = Some (outcomes.Damaged folder file plac
 outcome_of Fault = Some outcomes.Fault
 outcome_of NoMemory = None
 
--- what a line says of a refusal; the last three come of no call that an actor makes
+-- what a line says of a refusal; the last five come of no call that an actor makes
 abbrev pub why_of : Refusal → Why
 why_of refusal.NoRoom = why.NoFile
 why_of refusal.Held = why.Held
+why_of (refusal.Busy host id) = why.Busy host id
+why_of refusal.Exists = why.Exists
 why_of refusal.TooFar = why.TooFar
 why_of refusal.StampsSpent = why.StampsSpent
 why_of refusal.IdsSpent = why.IdsSpent
@@ -31,6 +33,8 @@ why_of refusal.NotOpen = why.NotOpen
 why_of refusal.Full = why.NotOpen
 why_of refusal.NotFlushed = why.NotOpen
 why_of refusal.NoMeta = why.NotOpen
+why_of refusal.NotHolder = why.NotOpen
+why_of refusal.Alive = why.NotOpen
 
 -- the trouble that a reply is
 abbrev pub stuck_of : Reply → Stuck

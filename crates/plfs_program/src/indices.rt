@@ -1,7 +1,7 @@
 //! The entries of index droppings.
 ghost use Rattle.std.specs.Prelude.{◌≡◌, ◌≢◌, ◌≤◌, ◌<◌, ◌^◌, ◌+◌, ℕ, true, Some, IfOk, IfSome, IsErrOf};
 ghost use Rattle.std.specs.Bool.{OnTrue};
-ghost use Rattle.plfs_program.specs.Entries.{AreFound, AreReplayable};
+ghost use Rattle.plfs_program.specs.Entries.{AreEntriesFound, AreReplayable};
 
 use crate::finding::Dropping;
 use crate::session::Session;
@@ -78,8 +78,8 @@ fn add_entries(
     far: Far,
     found: &mut Vec<Found>,
 ) -> Result<Far, Stuck>
-    requires { AreFound dropping.writer far.stamp found.old.items }
-    ensures found { IfOk result (λ new. AreFound dropping.writer new.stamp found.new.items) }
+    requires { AreEntriesFound dropping.writer far.stamp found.old.items }
+    ensures found { IfOk result (λ new. AreEntriesFound dropping.writer new.stamp found.new.items) }
     ensures no_fault { IsErrOf result Stuck.Fault → ⊥ }
 {
     let mut far = far;
@@ -129,8 +129,8 @@ fn read_index<S: Store + Drop, C: Clock + Drop>(
     dropping: Dropping,
     found: &mut Vec<Found>,
 ) -> Result<Far, Stuck>
-    requires { AreFound dropping.writer 0 found.old.items }
-    ensures found { IfOk result (λ far. AreFound dropping.writer far.stamp found.new.items) }
+    requires { AreEntriesFound dropping.writer 0 found.old.items }
+    ensures found { IfOk result (λ far. AreEntriesFound dropping.writer far.stamp found.new.items) }
     ensures cause { IsErrOf result Stuck.Fault → session.new.faulted ≡ true }
     ensures start { session.new.start.value ≡ session.old.start.value }
 {
@@ -164,8 +164,8 @@ fn read_piece<S: Store + Drop, C: Clock + Drop>(
     found: &mut Vec<Found>,
 ) -> Result<Far, Stuck>
     requires more { far.count < whole }
-    requires found { AreFound dropping.writer far.stamp found.old.items }
-    ensures found { IfOk result (λ new. AreFound dropping.writer new.stamp found.new.items) }
+    requires found { AreEntriesFound dropping.writer far.stamp found.old.items }
+    ensures found { IfOk result (λ new. AreEntriesFound dropping.writer new.stamp found.new.items) }
     ensures cause { IsErrOf result Stuck.Fault → session.new.faulted ≡ true }
     ensures start { session.new.start.value ≡ session.old.start.value }
 {

@@ -5,7 +5,7 @@ ghost use Rattle.plfs_types.specs.declared.entries.Entry.{Entry};
 ghost use Rattle.plain_file.specs.File.{HasItsBytes, EndsWithin};
 ghost use Rattle.plain_file.specs.Keys.{KeysDiffer};
 ghost use Rattle.plain_file.specs.Shows.{entries_of};
-ghost use Rattle.plfs_program.specs.Entries.{AreReplayable, IsNear, entries_in};
+ghost use Rattle.plfs_program.specs.Entries.{AreReplayable, IsNear, found_entries};
 ghost use Rattle.plfs_program.specs.Logged.{AreLogged};
 
 use crate::indices::{Found, MAX_FILE};
@@ -62,7 +62,7 @@ fn add_writes<S: Store + Drop, C: Clock + Drop>(
 ) -> Result<(), Stuck>
     requires none { changes.old ≡ [] }
     requires near { AllByRecursion IsNear found.now }
-    ensures logged { OnOk result (AreLogged (entries_in found.now) changes.new) }
+    ensures logged { OnOk result (AreLogged (found_entries found.now) changes.new) }
     ensures cause { IsErrOf result Stuck.Fault → session.new.faulted ≡ true }
     ensures start { session.new.start.value ≡ session.old.start.value }
 {

@@ -3,8 +3,8 @@ ghost use Rattle.std.specs.Prelude.{◌≡◌, ◌⊎◌, ◌||◌, ℕ, true, f
 ghost use Rattle.plfs_program.specs.Ending.{ends_well};
 ghost use Rattle.report_text.specs.Text.{ListsLogicalNames, HaveText};
 ghost use Rattle.plain_file.specs.File.{slice};
-ghost use Rattle.plfs_program.specs.Answered.{IsAnswerTo, IsReaderOf, IsWritten, MaySee, is_trouble};
-ghost use Rattle.plfs_program.specs.Lines.{IsPlayed, IsAnswer, AreInTurn};
+ghost use Rattle.plfs_program.specs.Answered.{IsOutcomeOf, IsReaderOf, IsWritten, MaySee, is_trouble};
+ghost use Rattle.plfs_program.specs.Lines.{IsPlayed, IsMadeOutcome, AreInTurn};
 ghost use Rattle.plfs_program.specs.Outcomes.{is_fault, is_damage, has_line};
 ghost use Rattle.plfs_program.specs.Stuck.{outcome_of};
 
@@ -195,7 +195,7 @@ fn write_data<S: Store + Drop, C: Clock + Drop>(
     content: &Data,
 ) -> Result<Outcome, Stuck>
     requires { IsPlayed (Statement.Write at content.now) }
-    ensures answer { IfOk result (λ outcome. (file : List ℕ) → IsAnswerTo file (Statement.Write at content.now) outcome) }
+    ensures answer { IfOk result (λ outcome. (file : List ℕ) → IsOutcomeOf file (Statement.Write at content.now) outcome) }
     ensures reader { actor.new.reader ≡ actor.old.reader }
     ensures cause { IsErrOf result Stuck.Fault → session.new.faulted ≡ true }
     ensures start { session.new.start.value ≡ session.old.start.value }
@@ -215,7 +215,7 @@ fn make<S: Store + Drop, C: Clock + Drop>(
     statement: &Statement,
 ) -> Result<Outcome, Stuck>
     requires { IsPlayed statement.now }
-    ensures answer { IfOk result (λ outcome. (file : List ℕ) → MaySee actor.new.reader file → IsAnswerTo file statement.now outcome) }
+    ensures answer { IfOk result (λ outcome. (file : List ℕ) → MaySee actor.new.reader file → IsOutcomeOf file statement.now outcome) }
     ensures reader { (file : List ℕ) → MaySee actor.new.reader file → MaySee actor.old.reader file }
     ensures cause { IsErrOf result Stuck.Fault → session.new.faulted ≡ true }
     ensures start { session.new.start.value ≡ session.old.start.value }
@@ -256,7 +256,7 @@ pub(crate) fn trouble_of(stuck: Stuck) -> Result<Outcome, NoMemory>
 
 // What the line says of a statement that ended so.
 fn outcome_of(made: Result<Outcome, Stuck>) -> Result<Outcome, NoMemory>
-    requires { IfOk made IsAnswer }
+    requires { IfOk made IsMadeOutcome }
     ensures text { IfOk result ListsLogicalNames }
     ensures fault { IfOk result (λ outcome. is_fault outcome ≡ true → IsErrOf made Stuck.Fault) }
     ensures says { IfOk result (λ outcome. (made ≡ Ok outcome) ⊎ (is_trouble outcome ≡ true)) }

@@ -3,11 +3,11 @@ ghost use Rattle.std.specs.Prelude.{◌≡◌, ◌≤◌, ◌⊎◌, true, Bool,
 ghost use Rattle.plfs_types.specs.Counts.{next_count};
 ghost use Rattle.mount_model.specs.declared.reply.Reply.TheVariants.{Fault as Faulted};
 ghost use Rattle.mount_model.specs.Step.{OwedBy};
-ghost use Rattle.mount_model.specs.Replies.{Fits, HasItsCause};
+ghost use Rattle.mount_model.specs.Replies.{FitsCall, HasItsCause};
 ghost use Rattle.mount_model.specs.State.{State};
 ghost use Rattle.flow.specs.Standing.{IsFresh};
 ghost use Rattle.plfs_program.specs.Calling.{GoesOn};
-ghost use Rattle.plfs_program.specs.Ending.{EndsFrom};
+ghost use Rattle.plfs_program.specs.Ending.{EndsStanding};
 
 use crate::stuck::Stuck;
 use edge_io::Clock;
@@ -36,7 +36,7 @@ pub(crate) struct Session<S: Store + Drop, C: Clock + Drop> {
 // Makes the one actor's call.
 fn apply<S: Store + Drop, C: Clock + Drop>(mount: &mut Mount<S, C>, call: Call) -> Reply
     requires { OwedBy call }
-    ensures fits { Fits call result }
+    ensures fits { FitsCall call result }
     ensures goes_on { (start : State) → GoesOn start mount.old → GoesOn start mount.new }
     ensures faults { HasItsCause mount.old mount.new result }
 {
@@ -68,7 +68,7 @@ impl<S: Store + Drop, C: Clock + Drop> Session<S, C> {
     /// Makes one call. At `Fault` the store has failed.
     pub(crate) fn ask(&mut self, call: Call) -> Reply
         requires { OwedBy call }
-        ensures fits { Fits call result }
+        ensures fits { FitsCall call result }
         ensures start { self.new.start.value ≡ self.old.start.value }
         ensures cause { result ≡ Faulted → self.new.faulted ≡ true }
         ensures kept { self.old.faulted ≡ true → self.new.faulted ≡ true }
@@ -95,7 +95,7 @@ impl<S: Store + Drop, C: Clock + Drop> Session<S, C> {
         requires { IsFresh (F.standing flow) }
         ensures start { self.new.start.value ≡ self.old.start.value }
         ensures kept { self.old.faulted ≡ true → self.new.faulted ≡ true }
-        ensures ends { IfOk result (λ out. (fine : F.Out → Bool) → EndsFrom fine (F.standing flow) → (self.new.faulted ≡ true) ⊎ (fine out ≡ true)) }
+        ensures ends { IfOk result (λ out. (fine : F.Out → Bool) → EndsStanding fine (F.standing flow) → (self.new.faulted ≡ true) ⊎ (fine out ≡ true)) }
     {
         let mut flow = flow;
         while let Some(call) = flow.next()? {

@@ -25,17 +25,24 @@ pub(crate) enum Stuck {
     NoMemory,
 }
 
-// Why a line says that a call was refused. The last three come of no call that an actor makes.
+// Why a line says that a call was refused. The last five come of no call that an actor makes.
 fn why_of(refusal: Refusal) -> Why
     ensures { result ≡ why_of refusal }
 {
     match refusal {
         Refusal::NoRoom => Why::NoFile,
         Refusal::Held => Why::Held,
+        Refusal::Busy { host, id } => Why::Busy { host, writer: id },
+        Refusal::Exists => Why::Exists,
         Refusal::TooFar => Why::TooFar,
         Refusal::StampsSpent => Why::StampsSpent,
         Refusal::IdsSpent => Why::IdsSpent,
-        Refusal::NotOpen | Refusal::Full | Refusal::NotFlushed | Refusal::NoMeta => Why::NotOpen,
+        Refusal::NotOpen => Why::NotOpen,
+        Refusal::Full
+        | Refusal::NotFlushed
+        | Refusal::NoMeta
+        | Refusal::NotHolder
+        | Refusal::Alive => Why::NotOpen,
     }
 }
 

@@ -1,4 +1,5 @@
-pub mod RangeLemmas
-pub mod PlanLemmas
-mod StepLemmas
 mod BracketLemmas
+pub mod Facts
+mod PlanLemmas
+mod RangeLemmas
+mod StepLemmas

@@ -14,13 +14,12 @@ use Rattle.plain_file.specs.Shows.{entries_of, ShowsNewest}
 use Rattle.plain_file.specs.Sources.{source_at}
 use Rattle.plain_file.specs.Runs.{AreRuns, ArePiecesOf}
 use Rattle.plain_file.specs.Logs.{IsLogged, ArePlaced, logged_byte}
-use Rattle.plain_file.proofs.RunLemmas.{source_at-here, source_at-past, ArePlaced-of, file_byte-logged}
-use Rattle.plain_file.proofs.SameLemmas.{ShowsNewest-plain}
+use Rattle.plain_file.proofs.Facts.{source_at-here, source_at-past, ArePlaced-of, file_byte-logged, ShowsNewest-plain}
 use Rattle.read_plan.specs.declared.part.Part.{Part}
 use Rattle.read_plan.specs.declared.part.Part.TheVariants.{Hole}
 use Rattle.read_plan.specs.Parts.{part_len, is_logged, AreHolesApart, spelled}
-use Rattle.read_plan.specs.Ranges.{end_of, pieces_in}
-use Rattle.read_plan.specs.Plan.{part_of, hole, filled, plan_of}
+use Rattle.read_plan.specs.Ranges.{end_of, pieces_in_range}
+use Rattle.read_plan.specs.Plan.{piece_part, hole, filled, plan_of}
 use Rattle.read_plan.proofs.RangeLemmas.{Lies, Lies-range, Lies-in_range, ArePlaced-pieces_in, source_at-outside, source_at-pieces_in}
 
 -- what holds of no part and of one hole that is not empty
@@ -50,7 +49,7 @@ total_len-filled from until [] lies = total_len-hole_alone (until - from)
 total_len-filled from until (p ∷ pieces) lies =
     let end : p.at + p.len ≤ until = Lies-range (p.at + p.len) until pieces lies.2 in
     let rest : total_len (filled (p.at + p.len) until pieces) ≡ until - (p.at + p.len) = total_len-filled (p.at + p.len) until pieces lies.2 in
-    total_len-hole (p.at - from) (part_of p ∷ filled (p.at + p.len) until pieces) ∙ omega (arith, lies.0)
+    total_len-hole (p.at - from) (piece_part p ∷ filled (p.at + p.len) until pieces) ∙ omega (arith, lies.0)
 
 pub lengths-filled : (from until : ℕ) (pieces : List Piece) → Lies from until pieces → sum_by part_len (filled from until pieces) ≡ until - from
 lengths-filled from until pieces lies = sym (is_sum_by total_len part_len refl (λ _ _. refl) (filled from until pieces)) ∙ total_len-filled from until pieces lies
@@ -62,7 +61,7 @@ full-filled : (from until : ℕ) (pieces : List Piece) → Lies from until piece
 full-filled from until [] lies = hole_cases (λ holes. AllByRecursion IsFull holes) (until - from) (λ none. tt) (λ some_bytes. (some_bytes, tt))
 full-filled from until (p ∷ pieces) lies =
     let rest = full-filled (p.at + p.len) until pieces lies.2 in
-    let parts : List Part = part_of p ∷ filled (p.at + p.len) until pieces in
+    let parts : List Part = piece_part p ∷ filled (p.at + p.len) until pieces in
     hole_cases (λ holes. AllByRecursion IsFull (holes ++ parts)) (p.at - from) (λ none. (lies.1, rest)) (λ some_bytes. (some_bytes, (lies.1, rest)))
 
 none_of_no_bytes : (parts : List Part) → AllByRecursion IsFull parts → total_len parts ≡ 0 → parts ≡ []
@@ -73,15 +72,15 @@ pub AreHolesApart-filled : (from until : ℕ) (pieces : List Piece) → AreHoles
 AreHolesApart-filled from until [] = hole_cases (λ holes. AreHolesApart holes) (until - from) (λ none. tt) (λ some_bytes. (tt, tt))
 AreHolesApart-filled from until (p ∷ pieces) =
     let rest = AreHolesApart-filled (p.at + p.len) until pieces in
-    let parts : List Part = part_of p ∷ filled (p.at + p.len) until pieces in
+    let parts : List Part = piece_part p ∷ filled (p.at + p.len) until pieces in
     hole_cases (λ holes. AreHolesApart (holes ++ parts)) (p.at - from) (λ none. rest) (λ some_bytes. (tt, rest))
 
-pub filter-filled : (from until : ℕ) (pieces : List Piece) → filter is_logged (filled from until pieces) ≡ map part_of pieces
+pub filter-filled : (from until : ℕ) (pieces : List Piece) → filter is_logged (filled from until pieces) ≡ map piece_part pieces
 filter-filled from until [] = hole_cases (λ holes. filter is_logged holes ≡ []) (until - from) (λ none. refl) (λ some_bytes. refl)
 filter-filled from until (p ∷ pieces) =
-    let rest = ap (λ parts. part_of p ∷ parts) (filter-filled (p.at + p.len) until pieces) in
-    let parts : List Part = part_of p ∷ filled (p.at + p.len) until pieces in
-    hole_cases (λ holes. filter is_logged (holes ++ parts) ≡ part_of p ∷ map part_of pieces) (p.at - from) (λ none. rest) (λ some_bytes. rest)
+    let rest = ap (λ parts. piece_part p ∷ parts) (filter-filled (p.at + p.len) until pieces) in
+    let parts : List Part = piece_part p ∷ filled (p.at + p.len) until pieces in
+    hole_cases (λ holes. filter is_logged (holes ++ parts) ≡ piece_part p ∷ map piece_part pieces) (p.at - from) (λ none. rest) (λ some_bytes. rest)
 
 -- what the parts spell
 
@@ -141,7 +140,7 @@ spelled-first logs file p pieces from until lies placed within named rest =
     slices_equal file (logs p.writer) p.at p.physical p.len (omega arith) placed.0 (λ k h.
     let place : p.physical + (p.at + k - p.at) ≡ p.physical + k = omega arith in
     named (p.at + k) (omega arith) (omega arith) ∙ ap (logged_byte logs) (source_at-here p pieces (p.at + k) (omega arith) (omega arith)) ∙ ap (λ n. get_or (logs p.writer) n 0) place) in
-    spelled-hole logs (p.at - from) (part_of p ∷ filled (p.at + p.len) until pieces)
+    spelled-hole logs (p.at - from) (piece_part p ∷ filled (p.at + p.len) until pieces)
     ∙ ap (λ t. t ++ (slice (logs p.writer) p.physical p.len ++ spelled logs (filled (p.at + p.len) until pieces))) gap
     ∙ ap (λ t. slice file from (p.at - from) ++ (t ++ spelled logs (filled (p.at + p.len) until pieces))) piece
     ∙ ap (λ t. slice file from (p.at - from) ++ (slice file p.at p.len ++ t)) rest
@@ -161,21 +160,21 @@ spelled-filled logs file (p ∷ pieces) from until lies placed within named =
 there_of : (size at len : ℕ) → end_of size at len - at ≡ min len (size - at)
 there_of size at len = omega arith
 
-Lies-plan : (pieces : List Piece) (size at len : ℕ) → AreRuns pieces → Lies at (end_of size at len) (pieces_in at (end_of size at len) pieces)
+Lies-plan : (pieces : List Piece) (size at len : ℕ) → AreRuns pieces → Lies at (end_of size at len) (pieces_in_range at (end_of size at len) pieces)
 Lies-plan pieces size at len runs = Lies-in_range at (end_of size at len) pieces runs (omega arith)
 
 pub lengths-plan : (pieces : List Piece) (size at len : ℕ) → AreRuns pieces → sum_by part_len (plan_of pieces size at len) ≡ min len (size - at)
 lengths-plan pieces size at len runs =
-    lengths-filled at (end_of size at len) (pieces_in at (end_of size at len) pieces) (Lies-plan pieces size at len runs) ∙ there_of size at len
+    lengths-filled at (end_of size at len) (pieces_in_range at (end_of size at len) pieces) (Lies-plan pieces size at len runs) ∙ there_of size at len
 
 pub full-plan : (pieces : List Piece) (size at len : ℕ) → AreRuns pieces → All (λ part. 0 < part_len part) (plan_of pieces size at len)
 full-plan pieces size at len runs =
-    All-from_recursion IsFull (plan_of pieces size at len) (full-filled at (end_of size at len) (pieces_in at (end_of size at len) pieces) (Lies-plan pieces size at len runs))
+    All-from_recursion IsFull (plan_of pieces size at len) (full-filled at (end_of size at len) (pieces_in_range at (end_of size at len) pieces) (Lies-plan pieces size at len runs))
 
 -- a range that is empty has no parts
-pub filled-nothing : (at until : ℕ) (pieces : List Piece) → AreRuns pieces → until ≡ at → filled at until (pieces_in at until pieces) ≡ []
+pub filled-nothing : (at until : ℕ) (pieces : List Piece) → AreRuns pieces → until ≡ at → filled at until (pieces_in_range at until pieces) ≡ []
 filled-nothing at until pieces runs empty =
-    let within : List Piece = pieces_in at until pieces in
+    let within : List Piece = pieces_in_range at until pieces in
     let lies : Lies at until within = Lies-in_range at until pieces runs (omega arith) in
     none_of_no_bytes (filled at until within) (full-filled at until within lies) (total_len-filled at until within lies ∙ (omega arith))
 
@@ -184,9 +183,9 @@ plan-nothing pieces size at len runs none = filled-nothing at (end_of size at le
 
 -- the parts up to the range's end, with the end as the code finds it
 pub plan_is : (parts : List Part) (pieces : List Piece) (size at len left there : ℕ) → left ≡ size - at → there ≡ min len left
-    → parts ≡ filled at (at + there) (pieces_in at (at + there) pieces) → parts ≡ plan_of pieces size at len
+    → parts ≡ filled at (at + there) (pieces_in_range at (at + there) pieces) → parts ≡ plan_of pieces size at len
 plan_is parts pieces size at len left there l t exact =
-    exact ∙ ap (λ n. filled at (at + n) (pieces_in at (at + n) pieces)) (t ∙ ap (min len) l)
+    exact ∙ ap (λ n. filled at (at + n) (pieces_in_range at (at + n) pieces)) (t ∙ ap (min len) l)
 
 -- The plan spells the slice of each file that has the pieces and the size.
 pub spelled-plan : (changes : List Change) (logs : ℕ → List ℕ) (pieces : List Piece) (size at len : ℕ) → KeysDiffer (entries_of changes) → All HasItsBytes changes → All (IsLogged logs) changes
@@ -196,7 +195,7 @@ spelled-plan changes logs pieces size at len keys bytes all are is =
     let file : List ℕ = plain changes in
     let there : ℕ = min len (size - at) in
     let until : ℕ = end_of size at len in
-    let within : List Piece = pieces_in at until pieces in
+    let within : List Piece = pieces_in_range at until pieces in
     let shown : ShowsNewest changes file = ShowsNewest-plain changes keys (recursion_from_All HasItsBytes changes bytes) in
     let spells : spelled logs (plan_of pieces size at len) ≡ slice file at there =
     elim (cases_lt at size) [

@@ -6,8 +6,8 @@ use Rattle.plain_file.specs.declared.pieces.Piece.{Piece}
 use Rattle.plain_file.specs.Sources.{has_byte, source_in, source_at}
 use Rattle.plain_file.specs.Runs.{AreRuns, EndsPast}
 use Rattle.plain_file.specs.Logs.{ArePlaced}
-use Rattle.plain_file.proofs.RunLemmas.{Starts, Starts-after, has-before, source_at-here, source_at-past}
-use Rattle.read_plan.specs.Ranges.{meets, cut, pieces_in}
+use Rattle.plain_file.proofs.Facts.{Starts, Starts-after, has-before, source_at-here, source_at-past}
+use Rattle.read_plan.specs.Ranges.{meets, cut_to_range, pieces_in_range}
 
 -- runs
 
@@ -53,16 +53,16 @@ EndsPast-next p (q ∷ pieces) at runs h = let full : 0 < q.len = runs.2.0.not_e
 
 -- which pieces meet a range
 
-pub pieces_in-met : (at until : ℕ) (p : Piece) (pieces : List Piece) → max at p.at < min until (p.at + p.len) → pieces_in at until (p ∷ pieces) ≡ cut at until p ∷ pieces_in at until pieces
+pub pieces_in-met : (at until : ℕ) (p : Piece) (pieces : List Piece) → max at p.at < min until (p.at + p.len) → pieces_in_range at until (p ∷ pieces) ≡ cut_to_range at until p ∷ pieces_in_range at until pieces
 pieces_in-met at until p pieces there =
-    ap (map (cut at until)) (cond-true (meets at until p) (p ∷ filter (meets at until) pieces) (filter (meets at until) pieces) (lt-ltb (max at p.at) (min until (p.at + p.len)) there))
+    ap (map (cut_to_range at until)) (cond-true (meets at until p) (p ∷ filter (meets at until) pieces) (filter (meets at until) pieces) (lt-ltb (max at p.at) (min until (p.at + p.len)) there))
 
-pub pieces_in-missed : (at until : ℕ) (p : Piece) (pieces : List Piece) → min until (p.at + p.len) ≤ max at p.at → pieces_in at until (p ∷ pieces) ≡ pieces_in at until pieces
+pub pieces_in-missed : (at until : ℕ) (p : Piece) (pieces : List Piece) → min until (p.at + p.len) ≤ max at p.at → pieces_in_range at until (p ∷ pieces) ≡ pieces_in_range at until pieces
 pieces_in-missed at until p pieces missed =
-    ap (map (cut at until)) (cond-false (meets at until p) (p ∷ filter (meets at until) pieces) (filter (meets at until) pieces) (le-ltb (max at p.at) (min until (p.at + p.len)) missed))
+    ap (map (cut_to_range at until)) (cond-false (meets at until p) (p ∷ filter (meets at until) pieces) (filter (meets at until) pieces) (le-ltb (max at p.at) (min until (p.at + p.len)) missed))
 
 -- pieces that end at or before the range's first byte may be left out
-pub pieces_in-skipped : (at until i : ℕ) (pieces : List Piece) → AllWithin (λ (p : Piece). p.at + p.len ≤ at) pieces 0 i → i ≤ length pieces → pieces_in at until (drop i pieces) ≡ pieces_in at until pieces
+pub pieces_in-skipped : (at until i : ℕ) (pieces : List Piece) → AllWithin (λ (p : Piece). p.at + p.len ≤ at) pieces 0 i → i ≤ length pieces → pieces_in_range at until (drop i pieces) ≡ pieces_in_range at until pieces
 pieces_in-skipped at until zero pieces h l = refl
 pieces_in-skipped at until (suc i) [] h l = absurd (omega arith)
 pieces_in-skipped at until (suc i) (p ∷ pieces) h l =
@@ -71,7 +71,7 @@ pieces_in-skipped at until (suc i) (p ∷ pieces) h l =
     ∙ sym (pieces_in-missed at until p pieces (omega arith))
 
 -- none of the pieces from the range's end on meets it
-pub pieces_in-after : (at until : ℕ) (pieces : List Piece) → AreRuns pieces → Starts until pieces → pieces_in at until pieces ≡ []
+pub pieces_in-after : (at until : ℕ) (pieces : List Piece) → AreRuns pieces → Starts until pieces → pieces_in_range at until pieces ≡ []
 pieces_in-after at until [] runs starts = refl
 pieces_in-after at until (p ∷ pieces) runs starts =
     pieces_in-missed at until p pieces (omega arith) ∙ pieces_in-after at until pieces runs.2 (later until p pieces starts (Starts-after p pieces runs.1))
@@ -88,14 +88,14 @@ Lies-range from until [] lies = lies
 Lies-range from until (p ∷ pieces) lies = let rest : p.at + p.len ≤ until = Lies-range (p.at + p.len) until pieces lies.2 in omega (arith, lies.0)
 
 -- the pieces of a range, of pieces from byte n on, lie from any byte on that is not past both the range's beginning and n
-pub Lies-pieces_in : (at until n from : ℕ) (pieces : List Piece) → AreRuns pieces → Starts n pieces → at ≤ from → from ≤ until → from ≤ max at n → Lies from until (pieces_in at until pieces)
+pub Lies-pieces_in : (at until n from : ℕ) (pieces : List Piece) → AreRuns pieces → Starts n pieces → at ≤ from → from ≤ until → from ≤ max at n → Lies from until (pieces_in_range at until pieces)
 Lies-pieces_in at until n from [] runs starts low high first = high
 Lies-pieces_in at until n from (p ∷ pieces) runs starts low high first =
     let P : List Piece → Type 0 = λ ps. Lies from until ps in
     elim (cases_lt (max at p.at) (min until (p.at + p.len))) [
       | inl there ↦
           (let end : ℕ = max at p.at + (min until (p.at + p.len) - max at p.at) in
-          let rest : Lies end until (pieces_in at until pieces) =
+          let rest : Lies end until (pieces_in_range at until pieces) =
           Lies-pieces_in at until (p.at + p.len) end pieces runs.2 (Starts-after p pieces runs.1) (omega arith) (omega arith) (omega arith) in
           subst P (sym (pieces_in-met at until p pieces there)) (omega arith, omega arith, rest))
       | inr missed ↦ subst P (sym (pieces_in-missed at until p pieces missed)) (Lies-pieces_in at until n from pieces runs.2 (later n p pieces starts (Starts-after p pieces runs.1)) low high first)
@@ -105,15 +105,15 @@ Starts-0 : (pieces : List Piece) → Starts 0 pieces
 Starts-0 [] = tt
 Starts-0 (p ∷ pieces) = omega arith
 
-pub Lies-in_range : (at until : ℕ) (pieces : List Piece) → AreRuns pieces → at ≤ until → Lies at until (pieces_in at until pieces)
+pub Lies-in_range : (at until : ℕ) (pieces : List Piece) → AreRuns pieces → at ≤ until → Lies at until (pieces_in_range at until pieces)
 Lies-in_range at until pieces runs range = Lies-pieces_in at until 0 at pieces runs (Starts-0 pieces) (omega arith) range (omega arith)
 
 -- they lie in the logs where the whole pieces do
-pub ArePlaced-pieces_in : (logs : ℕ → List ℕ) (at until : ℕ) (pieces : List Piece) → ArePlaced logs pieces → ArePlaced logs (pieces_in at until pieces)
+pub ArePlaced-pieces_in : (logs : ℕ → List ℕ) (at until : ℕ) (pieces : List Piece) → ArePlaced logs pieces → ArePlaced logs (pieces_in_range at until pieces)
 ArePlaced-pieces_in logs at until [] placed = tt
 ArePlaced-pieces_in logs at until (p ∷ pieces) placed =
     let P : List Piece → Type 0 = λ ps. ArePlaced logs ps in
-    let rest : ArePlaced logs (pieces_in at until pieces) = ArePlaced-pieces_in logs at until pieces placed.1 in
+    let rest : ArePlaced logs (pieces_in_range at until pieces) = ArePlaced-pieces_in logs at until pieces placed.1 in
     elim (cases_lt (max at p.at) (min until (p.at + p.len))) [
       | inl there ↦ subst P (sym (pieces_in-met at until p pieces there)) (omega (arith, placed.0), rest)
       | inr missed ↦ subst P (sym (pieces_in-missed at until p pieces missed)) rest
@@ -130,22 +130,22 @@ source_at-outside from until [] x lies h = refl
 source_at-outside from until (p ∷ pieces) x lies h =
     source_at-before_first p pieces x (omega (arith, lies.0)) ∙ source_at-outside (p.at + p.len) until pieces x lies.2 (omega (arith, lies.0))
 
-source_in-cut : (at until : ℕ) (p : Piece) (x : ℕ) → at ≤ x → p.at ≤ x → source_in x (cut at until p) ≡ source_in x p
+source_in-cut : (at until : ℕ) (p : Piece) (x : ℕ) → at ≤ x → p.at ≤ x → source_in x (cut_to_range at until p) ≡ source_in x p
 source_in-cut at until p x low from =
     let place : p.physical + (max at p.at - p.at) + (x - max at p.at) ≡ p.physical + (x - p.at) = omega arith in
     ap (λ (n : ℕ). record { stamp = p.stamp; writer = p.writer; place = n }) place
 
 -- the pieces of a range say of its bytes what all pieces say
-pub source_at-pieces_in : (at until : ℕ) (pieces : List Piece) (x : ℕ) → at ≤ x → x < until → source_at (pieces_in at until pieces) x ≡ source_at pieces x
+pub source_at-pieces_in : (at until : ℕ) (pieces : List Piece) (x : ℕ) → at ≤ x → x < until → source_at (pieces_in_range at until pieces) x ≡ source_at pieces x
 source_at-pieces_in at until [] x low high = refl
 source_at-pieces_in at until (p ∷ pieces) x low high =
-    let rest : source_at (pieces_in at until pieces) x ≡ source_at pieces x = source_at-pieces_in at until pieces x low high in
+    let rest : source_at (pieces_in_range at until pieces) x ≡ source_at pieces x = source_at-pieces_in at until pieces x low high in
     elim (cases_lt (max at p.at) (min until (p.at + p.len))) [
       | inl there ↦ ap (λ ps. source_at ps x) (pieces_in-met at until p pieces there) ∙ elim (cases_lt x p.at) [
-        | inl before ↦ source_at-before_first (cut at until p) (pieces_in at until pieces) x (omega arith) ∙ rest ∙ sym (source_at-before_first p pieces x before)
+        | inl before ↦ source_at-before_first (cut_to_range at until p) (pieces_in_range at until pieces) x (omega arith) ∙ rest ∙ sym (source_at-before_first p pieces x before)
         | inr from ↦ elim (cases_lt x (p.at + p.len)) [
-          | inl here ↦ source_at-here (cut at until p) (pieces_in at until pieces) x (omega arith) (omega arith) ∙ ap Some (source_in-cut at until p x low from) ∙ sym (source_at-here p pieces x from here)
-          | inr past ↦ source_at-past (cut at until p) (pieces_in at until pieces) x (omega arith) ∙ rest ∙ sym (source_at-past p pieces x past)
+          | inl here ↦ source_at-here (cut_to_range at until p) (pieces_in_range at until pieces) x (omega arith) (omega arith) ∙ ap Some (source_in-cut at until p x low from) ∙ sym (source_at-here p pieces x from here)
+          | inr past ↦ source_at-past (cut_to_range at until p) (pieces_in_range at until pieces) x (omega arith) ∙ rest ∙ sym (source_at-past p pieces x past)
         ]
       ]
       | inr missed ↦ ap (λ ps. source_at ps x) (pieces_in-missed at until p pieces missed) ∙ rest ∙ elim (cases_lt x p.at) [

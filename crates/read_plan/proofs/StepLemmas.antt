@@ -2,17 +2,17 @@
 use Rattle.std.proofs.Common.{◌≡◌, ℕ, ◌+◌, ◌-◌, ◌<◌, ◌≤◌, min, max, List, [], ◌∷◌, ◌++◌, ap, ◌∙◌, sym, subst, arith, append_assoc}
 use Rattle.plain_file.specs.declared.pieces.Piece.{Piece}
 use Rattle.plain_file.specs.Runs.{AreRuns, EndsPast}
-use Rattle.plain_file.proofs.RunLemmas.{Starts}
+use Rattle.plain_file.proofs.Facts.{Starts}
 use Rattle.read_plan.specs.declared.part.Part.{Part}
 use Rattle.read_plan.specs.declared.part.Part.TheVariants.{From}
-use Rattle.read_plan.specs.Ranges.{cut, pieces_in}
-use Rattle.read_plan.specs.Plan.{part_of, hole, filled}
+use Rattle.read_plan.specs.Ranges.{cut_to_range, pieces_in_range}
+use Rattle.read_plan.specs.Plan.{piece_part, hole, filled}
 use Rattle.read_plan.proofs.RangeLemmas.{Lies, EndsPast-next, pieces_in-met, pieces_in-after}
 
 -- the parts in front go up to byte `from`, and those of the pieces that are left make them all
 pub record Planning (front all : List Part) (pieces : List Piece) (at until from : ℕ) : Type 0 where
-  pub told : front ++ filled from until (pieces_in at until pieces) ≡ all
-  pub lies : Lies from until (pieces_in at until pieces)
+  pub told : front ++ filled from until (pieces_in_range at until pieces) ≡ all
+  pub lies : Lies from until (pieces_in_range at until pieces)
   pub runs : AreRuns pieces
   pub first : EndsPast at pieces
   pub range : from ≤ until
@@ -32,16 +32,16 @@ pub Planning-step : (front all : List Part) (p : Piece) (pieces : List Piece) (a
     → Planning ((front ++ hole (begin - from)) ++ From p.writer (p.physical + (begin - p.at)) (end - begin) ∷ []) all pieces at until end
 Planning-step front all p pieces at until from begin end range before b e plan =
     let there : max at p.at < min until (p.at + p.len) = first_meets p pieces at until plan.runs plan.first range before in
-    let rest : List Piece = pieces_in at until pieces in
-    let split : pieces_in at until (p ∷ pieces) ≡ cut at until p ∷ rest = pieces_in-met at until p pieces there in
+    let rest : List Piece = pieces_in_range at until pieces in
+    let split : pieces_in_range at until (p ∷ pieces) ≡ cut_to_range at until p ∷ rest = pieces_in-met at until p pieces there in
     let P : List Piece → Type 0 = λ ps. Lies from until ps in
     let Q : ℕ → Type 0 = λ n. Lies n until rest in
     let cut_end : max at p.at + (min until (p.at + p.len) - max at p.at) ≡ end = omega arith in
     let gap : List Part = hole (begin - from) in
-    let here : gap ++ (From p.writer (p.physical + (begin - p.at)) (end - begin) ∷ filled end until rest) ≡ filled from until (cut at until p ∷ rest) =
+    let here : gap ++ (From p.writer (p.physical + (begin - p.at)) (end - begin) ∷ filled end until rest) ≡ filled from until (cut_to_range at until p ∷ rest) =
     ap (λ n. hole (n - from) ++ (From p.writer (p.physical + (n - p.at)) (end - n) ∷ filled end until rest)) b
     ∙ ap (λ n. hole (max at p.at - from) ++ (From p.writer (p.physical + (max at p.at - p.at)) (n - max at p.at) ∷ filled end until rest)) e
-    ∙ ap (λ n. hole (max at p.at - from) ++ (part_of (cut at until p) ∷ filled n until rest)) (sym cut_end) in
+    ∙ ap (λ n. hole (max at p.at - from) ++ (piece_part (cut_to_range at until p) ∷ filled n until rest)) (sym cut_end) in
     record {
       told =
           append_assoc (front ++ gap) (From p.writer (p.physical + (begin - p.at)) (end - begin) ∷ []) (filled end until rest)

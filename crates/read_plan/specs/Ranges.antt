@@ -11,8 +11,8 @@ abbrev pub meets : ℕ → ℕ → Piece → Bool
 meets at until p = nat_lt (max at p.at) (min until (p.at + p.len))
 
 -- what the piece has of the range
-abbrev pub cut : ℕ → ℕ → Piece → Piece
-cut at until p = record {
+abbrev pub cut_to_range : ℕ → ℕ → Piece → Piece
+cut_to_range at until p = record {
   at = max at p.at;
   len = min until (p.at + p.len) - max at p.at;
   physical = p.physical + (max at p.at - p.at);
@@ -21,5 +21,5 @@ cut at until p = record {
 }
 
 -- the pieces that meet the range, in order, each cut to it
-abbrev pub pieces_in : ℕ → ℕ → List Piece → List Piece
-pieces_in at until pieces = map (cut at until) (filter (meets at until) pieces)
+abbrev pub pieces_in_range : ℕ → ℕ → List Piece → List Piece
+pieces_in_range at until pieces = map (cut_to_range at until) (filter (meets at until) pieces)

@@ -11,6 +11,3 @@ mod searching;
 
 pub use part::{Part, PartList};
 pub use planning::plan;
-
-#[cfg(test)]
-mod tests;

@@ -3,7 +3,7 @@
 use plfs_types::Sequence;
 
 /// A part of what is read.
-#[derive(Clone, Copy, Debug, PartialEq, Eq)]
+#[derive(Clone, Copy, PartialEq, Eq)]
 pub enum Part {
     /// So many zeros, where no write shows.
     Hole {

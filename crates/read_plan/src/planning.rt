@@ -8,8 +8,8 @@ ghost use Rattle.plain_file.specs.Shows.{entries_of};
 ghost use Rattle.plain_file.specs.Runs.{AreRuns, ArePiecesOf, EndsPast};
 ghost use Rattle.plain_file.specs.Logs.{IsLogged};
 ghost use Rattle.read_plan.specs.Parts.{part_len, is_logged, AreHolesApart, spelled};
-ghost use Rattle.read_plan.specs.Ranges.{end_of, pieces_in};
-ghost use Rattle.read_plan.specs.Plan.{part_of, hole, filled, plan_of};
+ghost use Rattle.read_plan.specs.Ranges.{end_of, pieces_in_range};
+ghost use Rattle.read_plan.specs.Plan.{piece_part, hole, filled, plan_of};
 
 use crate::part::{Part, PartList};
 use crate::searching::first_past;
@@ -36,7 +36,7 @@ pub fn plan(
     ensures holes_apart { IfOk result AreHolesApart }
     // One part for each piece that meets the range, in order.
     ensures each_piece { IfOk result (λ parts.
-        filter is_logged parts ≡ map part_of (pieces_in at (end_of size at len) pieces.now)) }
+        filter is_logged parts ≡ map piece_part (pieces_in_range at (end_of size at len) pieces.now)) }
     ensures no_bytes { min len (size - at) ≡ 0 → IfOk result (λ parts. parts ≡ []) }
     // The slice of every plain file that has these pieces and this size.
     ensures spells { IfOk result (λ parts. (changes : List Change) (logs : ℕ → List ℕ)
@@ -55,7 +55,7 @@ const FEW_PARTS: usize = 4;
 fn parts_between(alloc: Global, pieces: &Pieces, at: u64, until: u64) -> Result<PartList, NoMemory>
     requires { at ≤ until }
     ensures runs { AreRuns pieces.now }
-    ensures exact { IfOk result (λ parts. parts ≡ filled at until (pieces_in at until pieces.now)) }
+    ensures exact { IfOk result (λ parts. parts ≡ filled at until (pieces_in_range at until pieces.now)) }
 {
     let pieces = pieces.as_slice();
     if at >= until {
@@ -73,7 +73,7 @@ fn push_parts(parts: &mut PartList, pieces: &[Piece], at: u64, until: u64) -> Re
     requires runs { AreRuns pieces.now }
     requires first { EndsPast at pieces.now }
     requires range { at < until }
-    ensures { OnOk result (parts.new ≡ parts.old ++ filled at until (pieces_in at until pieces.now)) }
+    ensures { OnOk result (parts.new ≡ parts.old ++ filled at until (pieces_in_range at until pieces.now)) }
 {
     let mut from = at;
     for piece in pieces {

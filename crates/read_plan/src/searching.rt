@@ -7,7 +7,7 @@
 
 ghost use Rattle.std.specs.Prelude.{◌≡◌, ℕ, ◌+◌, ◌-◌, ◌<◌, ◌≤◌, ◌↔◌, IsTrue, length, drop};
 ghost use Rattle.plain_file.specs.Runs.{AreRuns, EndsPast};
-ghost use Rattle.read_plan.specs.Ranges.{pieces_in};
+ghost use Rattle.read_plan.specs.Ranges.{pieces_in_range};
 ghost use Rattle.read_plan.specs.Brackets.{IsBracket};
 
 use plain_file::Piece;
@@ -28,7 +28,7 @@ pub(crate) fn first_past(pieces: &[Piece], at: u64) -> usize
     requires { AreRuns pieces.now }
     ensures within { result ≤ length pieces.now }
     ensures first { EndsPast at (drop result pieces.now) }
-    ensures skipped { (until : ℕ) → pieces_in at until (drop result pieces.now) ≡ pieces_in at until pieces.now }
+    ensures skipped { (until : ℕ) → pieces_in_range at until (drop result pieces.now) ≡ pieces_in_range at until pieces.now }
 {
     let mut bracket = Bracket {
         low: 0,
@@ -112,7 +112,7 @@ fn by_halves(pieces: &[Piece], bracket: Bracket, at: u64) -> usize
     requires holds { IsBracket pieces.now at bracket }
     ensures within { result ≤ length pieces.now }
     ensures first { EndsPast at (drop result pieces.now) }
-    ensures skipped { (until : ℕ) → pieces_in at until (drop result pieces.now) ≡ pieces_in at until pieces.now }
+    ensures skipped { (until : ℕ) → pieces_in_range at until (drop result pieces.now) ≡ pieces_in_range at until pieces.now }
 {
     let mut left = bracket;
     while left.low < left.high {

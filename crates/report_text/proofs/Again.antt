@@ -13,8 +13,8 @@ use Rattle.plfs_types.specs.declared.entries.ShareBytes.{ShareBytes}
 use Rattle.plfs_types.specs.Names.{is_name_byte, IsLogicalName}
 use Rattle.report_text.specs.Items.{pair_text, count_text, share_text, trunc_text, piece_text, list_text, stamp_text, yes_or_no, escaped, escaped_byte, place_text}
 use Rattle.report_text.specs.Words.{content_text}
-use Rattle.report_text.specs.Widths.{Is64, IsCount, IsShare, IsTrunc, IsPiece, AreBytes, IsShortName}
-use Rattle.report_text.specs.Reading.{number_at, number_field, number_before, behind_word, pair_at, count_at, share_at, trunc_at, piece_at, short_at, all_at, list_at, list_field, stamp_at, content_at, yes_at, escape_at, byte_at, name_at, short_name_at, parts_of_place, place_at}
+use Rattle.report_text.specs.Widths.{Is64, IsCount, IsShare, IsTrunc, EntryFits, AreBytes, IsShortName}
+use Rattle.report_text.specs.Reading.{number_spelled, number_field, number_before, behind_word, pair_at, count_at, share_at, trunc_at, piece_at, short_at, all_at, list_at, list_field, stamp_spelled, content_at, yes_at, escape_at, byte_at, name_at, short_name_at, parts_of_place, place_at}
 use Rattle.report_text.proofs.Numbers.{number_at-some, bytes_eq-same}
 use Rattle.report_text.proofs.Cuts.{Avoids, cut-at, cut-missing, cut-some, cut-none}
 use Rattle.report_text.proofs.Loops.{by_byte, before_others}
@@ -54,7 +54,7 @@ trunc_again : (t : Trunc) → IsTrunc t → trunc_at (trunc_text t) ≡ Some t
 unfolding trunc_at
 trunc_again t h = rw (pair_again t.stamp t.size h.0 h.1) refl
 
-piece_again : (e : Entry) → IsPiece e → piece_at (piece_text e) ≡ Some e
+piece_again : (e : Entry) → EntryFits e → piece_at (piece_text e) ≡ Some e
 unfolding piece_at
 piece_again e h =
     let regrouped : piece_text e ≡ decimal e.at ++ 43 ∷ (decimal e.len ++ 61 ∷ (decimal e.stamp ++ 46 ∷ (decimal e.writer ++ 64 ∷ decimal e.physical))) = simp append_assoc in
@@ -76,13 +76,13 @@ pair_above a b a_fits b_fits =
 pair_no_dash : (a b : ℕ) → Is64 a → NoDash (pair_text a b)
 pair_no_dash a b a_fits = NoDash-append (decimal a ++ codes ":") (decimal b) (NoDash-append (decimal a) (codes ":") (number_no_dash a a_fits))
 
-pub piece_above : (e : Entry) → IsPiece e → Above 42 (piece_text e)
+pub piece_above : (e : Entry) → EntryFits e → Above 42 (piece_text e)
 piece_above e h =
     let P : ℕ → Type 0 = λ x. 42 < x in
     let number : (n : ℕ) → Is64 n → Above 42 (decimal n) = λ n small. lower 42 47 (decimal n) (omega arith) (number_above n (omega arith)) in
     by_append P _ (decimal e.physical) (by_append P _ (codes "@") (by_append P _ (decimal e.writer) (by_append P _ (codes ".") (by_append P _ (decimal e.stamp) (by_append P _ (codes "=") (by_append P _ (decimal e.len) (by_append P (decimal e.at) (codes "+") (number e.at h.0) (omega arith, tt)) (number e.len h.1)) (omega arith, tt)) (number e.stamp h.3)) (omega arith, tt)) (number e.writer h.4)) (omega arith, tt)) (number e.physical h.2)
 
-piece_no_dash : (e : Entry) → IsPiece e → NoDash (piece_text e)
+piece_no_dash : (e : Entry) → EntryFits e → NoDash (piece_text e)
 piece_no_dash e h = NoDash-append _ (decimal e.physical) (NoDash-append _ (codes "@") (NoDash-append _ (decimal e.writer) (NoDash-append _ (codes ".") (NoDash-append _ (decimal e.stamp) (NoDash-append _ (codes "=") (NoDash-append _ (decimal e.len) (NoDash-append (decimal e.at) (codes "+") (number_no_dash e.at h.0))))))))
 
 -- ---- lists
@@ -119,9 +119,9 @@ pub list_again : {X : Type 0} (text : X → List ℕ) (read : List ℕ → Optio
 list_again text read [] h = dash_list 44 read
 list_again text read (x ∷ xs) h = joined_list 44 text read x xs h
 
-pub pieces_again : (piece : Entry) (pieces : List Entry) → AllByRecursion IsPiece (piece ∷ pieces) → list_at 32 piece_at (join_with_byte 32 (map piece_text (piece ∷ pieces))) ≡ Some (piece ∷ pieces)
+pub pieces_again : (piece : Entry) (pieces : List Entry) → AllByRecursion EntryFits (piece ∷ pieces) → list_at 32 piece_at (join_with_byte 32 (map piece_text (piece ∷ pieces))) ≡ Some (piece ∷ pieces)
 pieces_again piece pieces h =
-    joined_list 32 piece_text piece_at piece pieces (weaker IsPiece (IsItem 32 piece_text piece_at) (λ e is. record { again = piece_again e is; avoids = avoids_below 42 32 (piece_text e) (omega arith) (piece_above e is); no_dash = piece_no_dash e is }) (piece ∷ pieces) h)
+    joined_list 32 piece_text piece_at piece pieces (weaker EntryFits (IsItem 32 piece_text piece_at) (λ e is. record { again = piece_again e is; avoids = avoids_below 42 32 (piece_text e) (omega arith) (piece_above e is); no_dash = piece_no_dash e is }) (piece ∷ pieces) h)
 
 pub no_pieces_again : list_at 32 piece_at (codes "-") ≡ Some []
 no_pieces_again = dash_list 32 piece_at
@@ -158,9 +158,9 @@ truncs_word xs h = record {
   above = list_above trunc_text xs (weaker IsTrunc (λ y. Above 43 (trunc_text y)) (λ x is. lower 43 47 (trunc_text x) (omega arith) (pair_above x.stamp x.size is.0 is.1)) xs h);
 }
 
-pub ids_word : (xs : List ℕ) → AllByRecursion Is64 xs → IsWord decimal number_at xs
+pub ids_word : (xs : List ℕ) → AllByRecursion Is64 xs → IsWord decimal number_spelled xs
 ids_word xs h = record {
-  again = list_again decimal number_at xs (weaker Is64 (IsItem 44 decimal number_at) (λ x is. record { again = number_at-some x (decimal x) is refl; avoids = number_avoids_low 44 x (omega arith) (omega arith); no_dash = number_no_dash x is }) xs h);
+  again = list_again decimal number_spelled xs (weaker Is64 (IsItem 44 decimal number_spelled) (λ x is. record { again = number_at-some x (decimal x) is refl; avoids = number_avoids_low 44 x (omega arith) (omega arith); no_dash = number_no_dash x is }) xs h);
   above = list_above decimal xs (weaker Is64 (λ y. Above 43 (decimal y)) (λ x is. lower 43 47 (decimal x) (omega arith) (number_above x (omega arith))) xs h);
 }
 
@@ -187,8 +187,8 @@ list_field_again text read xs rest h = rw (cut-at 32 (list_text text xs) rest (a
 
 -- ---- stamps, contents, names
 
-pub stamp_again : (stamp : Option ℕ) → IfSome stamp Is64 → stamp_at (stamp_text stamp) ≡ Some stamp
-unfolding stamp_at
+pub stamp_again : (stamp : Option ℕ) → IfSome stamp Is64 → stamp_spelled (stamp_text stamp) ≡ Some stamp
+unfolding stamp_spelled
 stamp_again None h = refl
 stamp_again (Some n) h = rw (not_dash (decimal n) (number_no_dash n h), number_at-some n (decimal n) h refl) refl
 

@@ -14,9 +14,9 @@ use Rattle.script_lang.specs.declared.line.Why.TheVariants.{NoFile, Held, Busy, 
 use Rattle.report_text.specs.Items.{count_text, share_text, trunc_text, list_text, stamp_text, yes_or_no, place_text}
 use Rattle.report_text.specs.Words.{words_of_why, words_of_pieces, content_text}
 use Rattle.report_text.specs.Text.{spaced, text_of_outcome, ListsLogicalNames}
-use Rattle.report_text.specs.Widths.{Is64, WhyHasWidths, HasWidths}
-use Rattle.report_text.specs.Reading.{number_at, count_at, share_at}
-use Rattle.report_text.specs.ReadingOutcomes.{wrote_at, reader_at, read_at, map_at, stat_at, flattened_at, recovered_at, listed_at, damaged_at, busy_at, why_at, plain_at, counted_at, told_at, by_words, outcome_at}
+use Rattle.report_text.specs.Widths.{Is64, WhyHasWidths, OutcomeFits}
+use Rattle.report_text.specs.Reading.{number_spelled, count_at, share_at}
+use Rattle.report_text.specs.ReadingOutcomes.{wrote_at, reader_at, read_at, map_at, stat_at, flattened_at, recovered_at, names_spelled, damaged_at, busy_at, why_at, plain_at, counted_at, told_at, by_words, outcome_at}
 use Rattle.report_text.proofs.Numbers.{number_at-some, wide_at-some}
 use Rattle.report_text.proofs.Cuts.{cut-at, cut-missing}
 use Rattle.report_text.proofs.Texts.{avoids_below, avoids_word, number_avoids_low}
@@ -24,11 +24,11 @@ use Rattle.report_text.proofs.Again.{number_field_again, behind_word_again, piec
 
 -- ---- each outcome behind its first word
 
-wrote_again : (at len : ℕ) (stamp : Option ℕ) → HasWidths (Wrote at len stamp) → wrote_at (spaced (decimal at ∷ decimal len ∷ stamp_text stamp ∷ [])) ≡ Some (Wrote at len stamp)
+wrote_again : (at len : ℕ) (stamp : Option ℕ) → OutcomeFits (Wrote at len stamp) → wrote_at (spaced (decimal at ∷ decimal len ∷ stamp_text stamp ∷ [])) ≡ Some (Wrote at len stamp)
 unfolding wrote_at
 wrote_again at len stamp h = rw (number_field_again at (decimal len ++ 32 ∷ stamp_text stamp) h.0, number_field_again len (stamp_text stamp) h.1, stamp_again stamp h.2) refl
 
-reader_again : (size : ℕ) (cuts : List WriterCount) (truncs : List Trunc) → HasWidths (Reader size cuts truncs)
+reader_again : (size : ℕ) (cuts : List WriterCount) (truncs : List Trunc) → OutcomeFits (Reader size cuts truncs)
     → reader_at (spaced (decimal size ∷ codes "cut" ∷ list_text count_text cuts ∷ codes "trunc" ∷ list_text trunc_text truncs ∷ [])) ≡ Some (Reader size cuts truncs)
 unfolding reader_at
 reader_again size cuts truncs h =
@@ -42,16 +42,16 @@ reader_again size cuts truncs h =
       (truncs_word truncs h.2).again,
     ) refl
 
-read_again : (at : ℕ) (content : List ℕ) → HasWidths (Read at content) → read_at (spaced (decimal at ∷ content_text content ∷ [])) ≡ Some (Read at content)
+read_again : (at : ℕ) (content : List ℕ) → OutcomeFits (Read at content) → read_at (spaced (decimal at ∷ content_text content ∷ [])) ≡ Some (Read at content)
 unfolding read_at
 read_again at content h = rw (number_field_again at (content_text content) h.0, content_again content h.1) refl
 
-map_again : (pieces : List Entry) → HasWidths (Map pieces) → map_at (spaced (words_of_pieces pieces)) ≡ Some (Map pieces)
+map_again : (pieces : List Entry) → OutcomeFits (Map pieces) → map_at (spaced (words_of_pieces pieces)) ≡ Some (Map pieces)
 unfolding map_at
 map_again [] h = rw no_pieces_again refl
 map_again (piece ∷ pieces) h = rw (pieces_again piece pieces h) refl
 
-stat_again : (size stored : ℕ) (shares : List ShareBytes) (truncs : List Trunc) → HasWidths (Stat size stored shares truncs)
+stat_again : (size stored : ℕ) (shares : List ShareBytes) (truncs : List Trunc) → OutcomeFits (Stat size stored shares truncs)
     → stat_at (spaced (decimal size ∷ decimal stored ∷ codes "by" ∷ list_text share_text shares ∷ codes "trunc" ∷ list_text trunc_text truncs ∷ [])) ≡ Some (Stat size stored shares truncs)
 unfolding stat_at
 stat_again size stored shares truncs h =
@@ -67,7 +67,7 @@ stat_again size stored shares truncs h =
       (truncs_word truncs h.3).again,
     ) refl
 
-flattened_again : (flat pieces : ℕ) (cuts : List WriterCount) → HasWidths (Flattened flat pieces cuts)
+flattened_again : (flat pieces : ℕ) (cuts : List WriterCount) → OutcomeFits (Flattened flat pieces cuts)
     → flattened_at (spaced (decimal flat ∷ decimal pieces ∷ codes "cut" ∷ list_text count_text cuts ∷ [])) ≡ Some (Flattened flat pieces cuts)
 unfolding flattened_at
 flattened_again flat pieces cuts h =
@@ -79,7 +79,7 @@ flattened_again flat pieces cuts h =
       (counts_word cuts h.2).again,
     ) refl
 
-recovered_again : (buried : List WriterCount) (alive : List ℕ) (hold : Bool) → HasWidths (Recovered buried alive hold)
+recovered_again : (buried : List WriterCount) (alive : List ℕ) (hold : Bool) → OutcomeFits (Recovered buried alive hold)
     → recovered_at (spaced (list_text count_text buried ∷ codes "alive" ∷ list_text decimal alive ∷ codes "hold" ∷ yes_or_no hold ∷ [])) ≡ Some (Recovered buried alive hold)
 unfolding recovered_at
 recovered_again buried alive hold h =
@@ -88,16 +88,16 @@ recovered_again buried alive hold h =
     rw (
       list_field_again count_text count_at buried (codes "alive" ++ 32 ∷ behind) (counts_word buried h.0),
       behind_word_again (codes "alive") behind (avoids_word 32 (codes "alive") refl),
-      list_field_again decimal number_at alive (codes "hold" ++ 32 ∷ last) (ids_word alive h.1),
+      list_field_again decimal number_spelled alive (codes "hold" ++ 32 ∷ last) (ids_word alive h.1),
       behind_word_again (codes "hold") last (avoids_word 32 (codes "hold") refl),
       yes_again hold,
     ) refl
 
-listed_again : (names : List (List ℕ)) → ListsLogicalNames (Listed names) → listed_at (spaced (list_text (λ name. name) names ∷ [])) ≡ Some (Listed names)
-unfolding listed_at
+listed_again : (names : List (List ℕ)) → ListsLogicalNames (Listed names) → names_spelled (spaced (list_text (λ name. name) names ∷ [])) ≡ Some (Listed names)
+unfolding names_spelled
 listed_again names h = rw ((names_word names h).again) refl
 
-damaged_again : (folder file : List ℕ) (place : ℕ) → HasWidths (Damaged folder file place) → damaged_at (spaced (place_text folder file ∷ decimal place ∷ [])) ≡ Some (Damaged folder file place)
+damaged_again : (folder file : List ℕ) (place : ℕ) → OutcomeFits (Damaged folder file place) → damaged_at (spaced (place_text folder file ∷ decimal place ∷ [])) ≡ Some (Damaged folder file place)
 unfolding damaged_at
 damaged_again folder file place h =
     rw (
@@ -142,7 +142,7 @@ unfolding outcome_at by_words
 alone word whole = rw (cut-missing 32 word (avoids_word 32 word whole)) refl
 
 counted : (word : List ℕ) (n : ℕ) (o : Outcome) → Is64 n → list_all (λ b. not (b == 32)) word ≡ true → told_at word (decimal n) ≡ counted_at word (decimal n)
-    → (number_at (decimal n) ≡ Some n → counted_at word (decimal n) ≡ Some o) → outcome_at (word ++ 32 ∷ decimal n) ≡ Some o
+    → (number_spelled (decimal n) ≡ Some n → counted_at word (decimal n) ≡ Some o) → outcome_at (word ++ 32 ∷ decimal n) ≡ Some o
 counted word n o small whole told chosen = by_first word (decimal n) whole ∙ told ∙ chosen (number_at-some n (decimal n) small refl)
 
 refused_lead : (why : Why) → outcome_at (text_of_outcome (Refused why)) ≡ outcome_at (codes "refused" ++ 32 ∷ spaced (words_of_why why))
@@ -157,7 +157,7 @@ refused_lead NotOpen = refl
 refused_lead AlreadyOpen = refl
 refused_lead MountsSpent = refl
 
-pub outcome_again : (o : Outcome) → HasWidths o → ListsLogicalNames o → outcome_at (text_of_outcome o) ≡ Some o
+pub outcome_again : (o : Outcome) → OutcomeFits o → ListsLogicalNames o → outcome_at (text_of_outcome o) ≡ Some o
 unfolding told_at counted_at plain_at
 outcome_again (Opened n) h names = counted (codes "open") n (Opened n) h refl refl (λ e. rw e refl)
 outcome_again (Wrote at len stamp) h names = by_first (codes "wrote") (spaced (decimal at ∷ decimal len ∷ stamp_text stamp ∷ [])) refl ∙ wrote_again at len stamp h

@@ -6,14 +6,14 @@ use Rattle.std.proofs.lemmas.List.{length-append}
 use Rattle.std.proofs.lemmas.List.Concat.{flat_map-append}
 use Rattle.std.proofs.lemmas.List.Elements.{All-nil, All-push}
 use Rattle.std.proofs.lemmas.Option.{none-some}
-use Rattle.report_text.specs.Read.{BreaksAt}
+use Rattle.report_text.specs.Read.{BreaksAtLine}
 use Rattle.report_text.proofs.Texts.{by_recursion}
 use Rattle.script_lang.specs.declared.line.Line.{Line}
 use Rattle.report_text.specs.declared.trouble.Trouble.{Trouble}
 use Rattle.report_text.specs.declared.trouble.Trouble.TheVariants.{Bad, NoMemory}
 use Rattle.report_text.specs.Text.{text_of, text_of_line, body_of_line}
 use Rattle.report_text.specs.Widths.{IsLine}
-use Rattle.report_text.specs.Reading.{OnlyGives, Fails, cut}
+use Rattle.report_text.specs.Reading.{OnlyGives, FailsAsText, cut}
 use Rattle.report_text.proofs.Cuts.{cut-at}
 use Rattle.report_text.proofs.Lines.{body_avoids_feed}
 
@@ -29,7 +29,7 @@ pub record Continues (read : List Line) (rest : List ℕ) (all : List Line) : Ty
   pub left : rest ≡ text_of more
 
 -- an error where something is read is want of memory
-pub err_only : {X Y Z : Type 0} (view : X → Y) (e : Trouble) (read : Option Z) (z : Z) (y : Y) → read ≡ Some z → Fails e read → OnlyGives view (Err e) y
+pub err_only : {X Y Z : Type 0} (view : X → Y) (e : Trouble) (read : Option Z) (z : Z) (y : Y) → read ≡ Some z → FailsAsText e read → OnlyGives view (Err e) y
 err_only view Bad read z y is bad = absurd (none-some z (sym bad ∙ is))
 err_only view NoMemory read z y is bad = tt
 
@@ -98,7 +98,7 @@ pub breaks_only : (bytes : List ℕ) (lines : List Line) (rest : List ℕ) → P
 breaks_only bytes lines rest h some never all fit is =
     let k = h.continues all (by_recursion IsLine all fit) is in no_rest rest k.more never some k.more_fit k.left
 
-pub breaks_first : (bytes : List ℕ) (lines : List Line) (rest : List ℕ) → Progress bytes lines rest → 0 < length rest → ((l : Line) (o : List ℕ) → IsLine l → rest ≡ text_of_line l ++ o → ⊥) → BreaksAt bytes (length lines + 1)
+pub breaks_first : (bytes : List ℕ) (lines : List Line) (rest : List ℕ) → Progress bytes lines rest → 0 < length rest → ((l : Line) (o : List ℕ) → IsLine l → rest ≡ text_of_line l ++ o → ⊥) → BreaksAtLine bytes (length lines + 1)
 breaks_first bytes lines rest h some never = record { front = lines; rest = rest; parts = h.parts; front_fits = h.fit; place = refl; some_left = some; no_line = never }
 
 pub all_printed : (bytes : List ℕ) (lines : List Line) (rest : List ℕ) → Progress bytes lines rest → length rest ≡ 0 → All IsLine lines × (bytes ≡ text_of lines)

@@ -4,7 +4,7 @@ use Rattle.std.specs.Prelude.{All}
 use Rattle.std.specs.List.{AllByRecursion}
 use Rattle.std.proofs.lemmas.Option.{some_pair_parts}
 use Rattle.script_lang.specs.declared.line.Line.{Line}
-use Rattle.report_text.specs.Read.{BreaksAt}
+use Rattle.report_text.specs.Read.{BreaksAtLine}
 use Rattle.report_text.specs.Text.{text_of, text_of_line, body_of_line}
 use Rattle.report_text.specs.Widths.{IsLine}
 use Rattle.report_text.proofs.Begins.{begins, text_not_empty}
@@ -28,7 +28,7 @@ as_long (l ∷ front) (m ∷ others) rest left fits others_fit none none_left is
     sym (append_assoc (text_of_line l) (text_of front) rest) ∙ is ∙ append_assoc (text_of_line m) (text_of others) left in
     ap suc (as_long front others rest left fits.1 others_fit.1 none none_left (same_behind l m (text_of front ++ rest) (text_of others ++ left) fits.0 others_fit.0 joined))
 
-pub one_break : (bytes : List ℕ) (a b : ℕ) → BreaksAt bytes a → BreaksAt bytes b → a ≡ b
+pub one_break : (bytes : List ℕ) (a b : ℕ) → BreaksAtLine bytes a → BreaksAtLine bytes b → a ≡ b
 one_break bytes a b h k =
     let long = as_long h.front k.front h.rest k.rest (by_recursion IsLine h.front h.front_fits) (by_recursion IsLine k.front k.front_fits) h.no_line k.no_line (sym h.parts ∙ k.parts) in
     h.place ∙ ap (λ (n : ℕ). n + 1) long ∙ sym k.place
@@ -40,5 +40,5 @@ no_break (l ∷ lines) [] rest fit front_fits some none is = none l (text_of lin
 no_break (l ∷ lines) (m ∷ front) rest fit front_fits some none is =
     no_break lines front rest fit.1 front_fits.1 some none (same_behind l m (text_of lines) (text_of front ++ rest) fit.0 front_fits.0 (is ∙ append_assoc (text_of_line m) (text_of front) rest))
 
-pub breaks_nowhere : (lines : List Line) (number : ℕ) → All IsLine lines → BreaksAt (text_of lines) number → ⊥
+pub breaks_nowhere : (lines : List Line) (number : ℕ) → All IsLine lines → BreaksAtLine (text_of lines) number → ⊥
 breaks_nowhere lines number fit h = no_break lines h.front h.rest (by_recursion IsLine lines fit) (by_recursion IsLine h.front h.front_fits) h.some_left h.no_line h.parts

@@ -14,8 +14,8 @@ use Rattle.hex.specs.Hex.{IsBytes, hex_digit_value, upper_digits, decode_of}
 use Rattle.hex.proofs.HexLemmas.{decode_of-ok}
 use Rattle.plfs_types.specs.Names.{is_name_byte}
 use Rattle.report_text.specs.Items.{escaped, escaped_byte, place_text}
-use Rattle.report_text.specs.Widths.{Is64, IsCount, IsShare, IsTrunc, IsPiece, AreBytes, IsShortName}
-use Rattle.report_text.specs.Reading.{◌>>=◌, cut, number_below, number_at, wide_at, number_field, number_before, pair_at, count_at, share_at, trunc_at, piece_at, short_at, all_at, list_at, list_field, stamp_at, content_at, name_at, byte_at, short_name_at, parts_of_place, place_at}
+use Rattle.report_text.specs.Widths.{Is64, IsCount, IsShare, IsTrunc, EntryFits, AreBytes, IsShortName}
+use Rattle.report_text.specs.Reading.{◌>>=◌, cut, number_below, number_spelled, wide_at, number_field, number_before, pair_at, count_at, share_at, trunc_at, piece_at, short_at, all_at, list_at, list_field, stamp_spelled, content_at, name_at, byte_at, short_name_at, parts_of_place, place_at}
 use Rattle.report_text.proofs.Cuts.{Avoids, cut-at, cut-missing}
 use Rattle.report_text.proofs.Loops.{by_byte, before_others}
 use Rattle.report_text.proofs.Texts.{by_append, weaker, upper_above, name_byte_no_escape}
@@ -47,8 +47,8 @@ number_below_fits limit word =
     let fits : digits_value 10 word < limit = grind (arith, nat_tests, both) in
     fits) (λ _. tt)
 
-pub number_fits : (word : List ℕ) → IfSome (number_at word) Is64
-unfolding number_at
+pub number_fits : (word : List ℕ) → IfSome (number_spelled word) Is64
+unfolding number_spelled
 number_fits word = number_below_fits (2 ^ 64) word
 
 abbrev pub IsWide : ℕ → Type 0
@@ -64,11 +64,11 @@ FrontFits p = Is64 p.0
 
 pub number_field_fits : (bytes : List ℕ) → IfSome (number_field bytes) FrontFits
 unfolding number_field
-number_field_fits bytes = then_any FrontFits (cut 32 bytes) _ (λ parts. then_fits Is64 FrontFits (number_at parts.0) _ (number_fits parts.0) (λ n fits. fits))
+number_field_fits bytes = then_any FrontFits (cut 32 bytes) _ (λ parts. then_fits Is64 FrontFits (number_spelled parts.0) _ (number_fits parts.0) (λ n fits. fits))
 
 number_before_fits : (c : ℕ) (bytes : List ℕ) → IfSome (number_before c bytes) FrontFits
 unfolding number_before
-number_before_fits c bytes = then_any FrontFits (cut c bytes) _ (λ parts. then_fits Is64 FrontFits (number_at parts.0) _ (number_fits parts.0) (λ n fits. fits))
+number_before_fits c bytes = then_any FrontFits (cut c bytes) _ (λ parts. then_fits Is64 FrontFits (number_spelled parts.0) _ (number_fits parts.0) (λ n fits. fits))
 
 -- ---- items
 
@@ -78,8 +78,8 @@ PairFits p = Is64 p.0 × Is64 p.1
 pair_fits : (word : List ℕ) → IfSome (pair_at word) PairFits
 unfolding pair_at
 pair_fits word = then_any PairFits (cut 58 word) _ (λ parts.
-    then_fits Is64 PairFits (number_at parts.0) _ (number_fits parts.0) (λ a a_fits.
-    then_fits Is64 PairFits (number_at parts.1) _ (number_fits parts.1) (λ b b_fits. (a_fits, b_fits))))
+    then_fits Is64 PairFits (number_spelled parts.0) _ (number_fits parts.0) (λ a a_fits.
+    then_fits Is64 PairFits (number_spelled parts.1) _ (number_fits parts.1) (λ b b_fits. (a_fits, b_fits))))
 
 pub count_fits : (word : List ℕ) → IfSome (count_at word) IsCount
 unfolding count_at
@@ -93,14 +93,14 @@ pub trunc_fits : (word : List ℕ) → IfSome (trunc_at word) IsTrunc
 unfolding trunc_at
 trunc_fits word = then_fits PairFits IsTrunc (pair_at word) _ (pair_fits word) (λ pair fits. fits)
 
-pub piece_fits : (word : List ℕ) → IfSome (piece_at word) IsPiece
+pub piece_fits : (word : List ℕ) → IfSome (piece_at word) EntryFits
 unfolding piece_at
 piece_fits word =
-    then_fits FrontFits IsPiece (number_before 43 word) _ (number_before_fits 43 word) (λ at at_fits.
-    then_fits FrontFits IsPiece (number_before 61 at.1) _ (number_before_fits 61 at.1) (λ len len_fits.
-    then_fits FrontFits IsPiece (number_before 46 len.1) _ (number_before_fits 46 len.1) (λ stamp stamp_fits.
-    then_fits FrontFits IsPiece (number_before 64 stamp.1) _ (number_before_fits 64 stamp.1) (λ writer writer_fits.
-    then_fits Is64 IsPiece (number_at writer.1) _ (number_fits writer.1) (λ physical physical_fits. (at_fits, len_fits, physical_fits, stamp_fits, writer_fits))))))
+    then_fits FrontFits EntryFits (number_before 43 word) _ (number_before_fits 43 word) (λ at at_fits.
+    then_fits FrontFits EntryFits (number_before 61 at.1) _ (number_before_fits 61 at.1) (λ len len_fits.
+    then_fits FrontFits EntryFits (number_before 46 len.1) _ (number_before_fits 46 len.1) (λ stamp stamp_fits.
+    then_fits FrontFits EntryFits (number_before 64 stamp.1) _ (number_before_fits 64 stamp.1) (λ writer writer_fits.
+    then_fits Is64 EntryFits (number_spelled writer.1) _ (number_fits writer.1) (λ physical physical_fits. (at_fits, len_fits, physical_fits, stamp_fits, writer_fits))))))
 
 -- ---- lists
 
@@ -133,10 +133,10 @@ module _ {X : Type 0} (P : X → Type 0) (read : List ℕ → Option X) (each : 
 abbrev pub StampFits : Option ℕ → Type 0
 StampFits stamp = IfSome stamp Is64
 
-pub stamp_fits : (word : List ℕ) → IfSome (stamp_at word) StampFits
-unfolding stamp_at
+pub stamp_fits : (word : List ℕ) → IfSome (stamp_spelled word) StampFits
+unfolding stamp_spelled
 stamp_fits word =
-    chosen_fits StampFits (bytes_eq word (codes "-")) (Some None) (number_at word >>= λ stamp. Some (Some stamp)) (λ _. tt) (λ _. then_fits Is64 StampFits (number_at word) (λ stamp. Some (Some stamp)) (number_fits word) (λ n fits. fits))
+    chosen_fits StampFits (bytes_eq word (codes "-")) (Some None) (number_spelled word >>= λ stamp. Some (Some stamp)) (λ _. tt) (λ _. then_fits Is64 StampFits (number_spelled word) (λ stamp. Some (Some stamp)) (number_fits word) (λ n fits. fits))
 
 bytes_by_recursion : (bytes : List ℕ) → IsBytes bytes → AreBytes bytes
 bytes_by_recursion [] h = tt

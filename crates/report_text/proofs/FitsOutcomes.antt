@@ -14,8 +14,8 @@ use Rattle.script_lang.specs.declared.line.Why.TheVariants.{Busy}
 use Rattle.report_text.specs.Items.{count_text, share_text, trunc_text, list_text, stamp_text, yes_or_no, place_text}
 use Rattle.report_text.specs.Words.{words_of_pieces, content_text}
 use Rattle.report_text.specs.Text.{spaced, text_of_outcome, body_of_line, ListsLogicalNames}
-use Rattle.report_text.specs.Widths.{Is64, IsCount, IsShare, IsTrunc, IsPiece, AreBytes, WhyHasWidths, HasWidths, IsLine}
-use Rattle.report_text.specs.Reading.{◌>>=◌, cut, number_at, wide_at, number_field, behind_word, count_at, share_at, trunc_at, piece_at, list_at, list_field, stamp_at, content_at, yes_at, place_at}
+use Rattle.report_text.specs.Widths.{Is64, IsCount, IsShare, IsTrunc, EntryFits, AreBytes, WhyHasWidths, OutcomeFits, IsLine}
+use Rattle.report_text.specs.Reading.{◌>>=◌, cut, number_spelled, wide_at, number_field, behind_word, count_at, share_at, trunc_at, piece_at, list_at, list_field, stamp_spelled, content_at, yes_at, place_at}
 use Rattle.report_text.specs.ReadingOutcomes.{wrote_at, reader_at, read_at, map_at, stat_at, flattened_at, recovered_at, damaged_at, busy_at, why_at, counted_at, told_at, outcome_at, line_at}
 use Rattle.report_text.proofs.Cuts.{cut-at}
 use Rattle.report_text.proofs.Again.{number_field_again}
@@ -25,103 +25,103 @@ use Rattle.report_text.proofs.Fits.{from_some, then_fits, then_any, chosen_fits,
 
 -- ---- each outcome behind its first word
 
-wrote_fits : (bytes : List ℕ) → IfSome (wrote_at bytes) HasWidths
+wrote_fits : (bytes : List ℕ) → IfSome (wrote_at bytes) OutcomeFits
 unfolding wrote_at
 wrote_fits bytes =
-    then_fits FrontFits HasWidths (number_field bytes) _ (number_field_fits bytes) (λ at at_fits.
-    then_fits FrontFits HasWidths (number_field at.1) _ (number_field_fits at.1) (λ len len_fits.
-    then_fits StampFits HasWidths (stamp_at len.1) _ (stamp_fits len.1) (λ stamp fits. (at_fits, len_fits, fits))))
+    then_fits FrontFits OutcomeFits (number_field bytes) _ (number_field_fits bytes) (λ at at_fits.
+    then_fits FrontFits OutcomeFits (number_field at.1) _ (number_field_fits at.1) (λ len len_fits.
+    then_fits StampFits OutcomeFits (stamp_spelled len.1) _ (stamp_fits len.1) (λ stamp fits. (at_fits, len_fits, fits))))
 
-reader_fits : (bytes : List ℕ) → IfSome (reader_at bytes) HasWidths
+reader_fits : (bytes : List ℕ) → IfSome (reader_at bytes) OutcomeFits
 unfolding reader_at
 reader_fits bytes =
-    then_fits FrontFits HasWidths (number_field bytes) _ (number_field_fits bytes) (λ size size_fits.
-    then_any HasWidths (behind_word (codes "cut") size.1) _ (λ behind_cut.
-    then_fits (FrontEachFits IsCount) HasWidths (list_field count_at behind_cut) _ (list_field_fits IsCount count_at count_fits behind_cut) (λ counts counts_fit.
-    then_any HasWidths (behind_word (codes "trunc") counts.1) _ (λ behind_trunc.
-    then_fits (EachFits IsTrunc) HasWidths (list_at 44 trunc_at behind_trunc) _ (list_fits IsTrunc trunc_at trunc_fits 44 behind_trunc) (λ truncs truncs_fit. (size_fits, counts_fit, truncs_fit))))))
+    then_fits FrontFits OutcomeFits (number_field bytes) _ (number_field_fits bytes) (λ size size_fits.
+    then_any OutcomeFits (behind_word (codes "cut") size.1) _ (λ behind_cut.
+    then_fits (FrontEachFits IsCount) OutcomeFits (list_field count_at behind_cut) _ (list_field_fits IsCount count_at count_fits behind_cut) (λ counts counts_fit.
+    then_any OutcomeFits (behind_word (codes "trunc") counts.1) _ (λ behind_trunc.
+    then_fits (EachFits IsTrunc) OutcomeFits (list_at 44 trunc_at behind_trunc) _ (list_fits IsTrunc trunc_at trunc_fits 44 behind_trunc) (λ truncs truncs_fit. (size_fits, counts_fit, truncs_fit))))))
 
-read_fits : (bytes : List ℕ) → IfSome (read_at bytes) HasWidths
+read_fits : (bytes : List ℕ) → IfSome (read_at bytes) OutcomeFits
 unfolding read_at
 read_fits bytes =
-    then_fits FrontFits HasWidths (number_field bytes) _ (number_field_fits bytes) (λ at at_fits.
-    then_fits AreBytes HasWidths (content_at at.1) _ (content_fits at.1) (λ content fits. (at_fits, fits)))
+    then_fits FrontFits OutcomeFits (number_field bytes) _ (number_field_fits bytes) (λ at at_fits.
+    then_fits AreBytes OutcomeFits (content_at at.1) _ (content_fits at.1) (λ content fits. (at_fits, fits)))
 
-map_fits : (bytes : List ℕ) → IfSome (map_at bytes) HasWidths
+map_fits : (bytes : List ℕ) → IfSome (map_at bytes) OutcomeFits
 unfolding map_at
-map_fits bytes = then_fits (EachFits IsPiece) HasWidths (list_at 32 piece_at bytes) _ (list_fits IsPiece piece_at piece_fits 32 bytes) (λ pieces fit. fit)
+map_fits bytes = then_fits (EachFits EntryFits) OutcomeFits (list_at 32 piece_at bytes) _ (list_fits EntryFits piece_at piece_fits 32 bytes) (λ pieces fit. fit)
 
-stat_fits : (bytes : List ℕ) → IfSome (stat_at bytes) HasWidths
+stat_fits : (bytes : List ℕ) → IfSome (stat_at bytes) OutcomeFits
 unfolding stat_at
 stat_fits bytes =
-    then_fits FrontFits HasWidths (number_field bytes) _ (number_field_fits bytes) (λ size size_fits.
-    then_any HasWidths (cut 32 size.1) _ (λ parts.
-    then_fits IsWide HasWidths (wide_at parts.0) _ (wide_fits parts.0) (λ stored stored_fits.
-    then_any HasWidths (behind_word (codes "by") parts.1) _ (λ behind_by.
-    then_fits (FrontEachFits IsShare) HasWidths (list_field share_at behind_by) _ (list_field_fits IsShare share_at share_fits behind_by) (λ shares shares_fit.
-    then_any HasWidths (behind_word (codes "trunc") shares.1) _ (λ behind_trunc.
-    then_fits (EachFits IsTrunc) HasWidths (list_at 44 trunc_at behind_trunc) _ (list_fits IsTrunc trunc_at trunc_fits 44 behind_trunc) (λ truncs truncs_fit. (size_fits, stored_fits, shares_fit, truncs_fit))))))))
+    then_fits FrontFits OutcomeFits (number_field bytes) _ (number_field_fits bytes) (λ size size_fits.
+    then_any OutcomeFits (cut 32 size.1) _ (λ parts.
+    then_fits IsWide OutcomeFits (wide_at parts.0) _ (wide_fits parts.0) (λ stored stored_fits.
+    then_any OutcomeFits (behind_word (codes "by") parts.1) _ (λ behind_by.
+    then_fits (FrontEachFits IsShare) OutcomeFits (list_field share_at behind_by) _ (list_field_fits IsShare share_at share_fits behind_by) (λ shares shares_fit.
+    then_any OutcomeFits (behind_word (codes "trunc") shares.1) _ (λ behind_trunc.
+    then_fits (EachFits IsTrunc) OutcomeFits (list_at 44 trunc_at behind_trunc) _ (list_fits IsTrunc trunc_at trunc_fits 44 behind_trunc) (λ truncs truncs_fit. (size_fits, stored_fits, shares_fit, truncs_fit))))))))
 
-flattened_fits : (bytes : List ℕ) → IfSome (flattened_at bytes) HasWidths
+flattened_fits : (bytes : List ℕ) → IfSome (flattened_at bytes) OutcomeFits
 unfolding flattened_at
 flattened_fits bytes =
-    then_fits FrontFits HasWidths (number_field bytes) _ (number_field_fits bytes) (λ flat flat_fits.
-    then_fits FrontFits HasWidths (number_field flat.1) _ (number_field_fits flat.1) (λ pieces pieces_fit.
-    then_any HasWidths (behind_word (codes "cut") pieces.1) _ (λ behind_cut.
-    then_fits (EachFits IsCount) HasWidths (list_at 44 count_at behind_cut) _ (list_fits IsCount count_at count_fits 44 behind_cut) (λ counts counts_fit. (flat_fits, pieces_fit, counts_fit)))))
+    then_fits FrontFits OutcomeFits (number_field bytes) _ (number_field_fits bytes) (λ flat flat_fits.
+    then_fits FrontFits OutcomeFits (number_field flat.1) _ (number_field_fits flat.1) (λ pieces pieces_fit.
+    then_any OutcomeFits (behind_word (codes "cut") pieces.1) _ (λ behind_cut.
+    then_fits (EachFits IsCount) OutcomeFits (list_at 44 count_at behind_cut) _ (list_fits IsCount count_at count_fits 44 behind_cut) (λ counts counts_fit. (flat_fits, pieces_fit, counts_fit)))))
 
-recovered_fits : (bytes : List ℕ) → IfSome (recovered_at bytes) HasWidths
+recovered_fits : (bytes : List ℕ) → IfSome (recovered_at bytes) OutcomeFits
 unfolding recovered_at
 recovered_fits bytes =
-    then_fits (FrontEachFits IsCount) HasWidths (list_field count_at bytes) _ (list_field_fits IsCount count_at count_fits bytes) (λ buried buried_fit.
-    then_any HasWidths (behind_word (codes "alive") buried.1) _ (λ behind_alive.
-    then_fits (FrontEachFits Is64) HasWidths (list_field number_at behind_alive) _ (list_field_fits Is64 number_at number_fits behind_alive) (λ alive alive_fit.
-    then_any HasWidths (behind_word (codes "hold") alive.1) _ (λ behind_hold.
-    then_any HasWidths (yes_at behind_hold) _ (λ hold. (buried_fit, alive_fit))))))
+    then_fits (FrontEachFits IsCount) OutcomeFits (list_field count_at bytes) _ (list_field_fits IsCount count_at count_fits bytes) (λ buried buried_fit.
+    then_any OutcomeFits (behind_word (codes "alive") buried.1) _ (λ behind_alive.
+    then_fits (FrontEachFits Is64) OutcomeFits (list_field number_spelled behind_alive) _ (list_field_fits Is64 number_spelled number_fits behind_alive) (λ alive alive_fit.
+    then_any OutcomeFits (behind_word (codes "hold") alive.1) _ (λ behind_hold.
+    then_any OutcomeFits (yes_at behind_hold) _ (λ hold. (buried_fit, alive_fit))))))
 
-damaged_fits : (folder file : List ℕ) (place : ℕ) → IfSome (damaged_at (spaced (place_text folder file ∷ decimal place ∷ []))) HasWidths
+damaged_fits : (folder file : List ℕ) (place : ℕ) → IfSome (damaged_at (spaced (place_text folder file ∷ decimal place ∷ []))) OutcomeFits
 unfolding damaged_at
 damaged_fits folder file place =
     rw (cut-at 32 (place_text folder file) (decimal place) (place_no_space folder file))
-    (then_fits PlaceFits HasWidths (place_at (place_text folder file)) _ (place_fits folder file) (λ names names_fit.
-    then_fits Is64 HasWidths (number_at (decimal place)) _ (number_fits (decimal place)) (λ n fits. (names_fit.0, names_fit.1, fits))))
+    (then_fits PlaceFits OutcomeFits (place_at (place_text folder file)) _ (place_fits folder file) (λ names names_fit.
+    then_fits Is64 OutcomeFits (number_spelled (decimal place)) _ (number_fits (decimal place)) (λ n fits. (names_fit.0, names_fit.1, fits))))
 
 busy_fits : (bytes : List ℕ) → IfSome (busy_at bytes) WhyHasWidths
 unfolding busy_at
 busy_fits bytes =
     then_any WhyHasWidths (behind_word (codes "busy") bytes) _ (λ rest.
     then_fits FrontFits WhyHasWidths (number_field rest) _ (number_field_fits rest) (λ host host_fits.
-    then_fits Is64 WhyHasWidths (number_at host.1) _ (number_fits host.1) (λ writer writer_fits.
+    then_fits Is64 WhyHasWidths (number_spelled host.1) _ (number_fits host.1) (λ writer writer_fits.
     chosen_fits WhyHasWidths (nat_lt host.0 (2 ^ 32)) (Some (Busy host.0 writer)) None (λ small.
     let low : host.0 < 2 ^ 32 = grind (arith, nat_tests, small) in
     (low, writer_fits)) (λ _. tt))))
 
-counted_fits : (word bytes : List ℕ) → IfSome (counted_at word bytes) HasWidths
+counted_fits : (word bytes : List ℕ) → IfSome (counted_at word bytes) OutcomeFits
 unfolding counted_at
 counted_fits word bytes =
-    then_fits Is64 HasWidths (number_at bytes) _ (number_fits bytes) (λ n fits.
-    chosen_fits HasWidths (bytes_eq word (codes "open")) (Some (Opened n)) _ (λ _. fits) (λ _.
-    chosen_fits HasWidths (bytes_eq word (codes "synced")) (Some (Synced n)) _ (λ _. fits) (λ _.
-    chosen_fits HasWidths (bytes_eq word (codes "closed")) (Some (Closed n)) _ (λ _. fits) (λ _.
-    chosen_fits HasWidths (bytes_eq word (codes "differs")) (Some (Differs n)) _ (λ _. fits) (λ _.
-    chosen_fits HasWidths (bytes_eq word (codes "truncated")) (Some (Truncated n)) None (λ _. fits) (λ _. tt))))))
+    then_fits Is64 OutcomeFits (number_spelled bytes) _ (number_fits bytes) (λ n fits.
+    chosen_fits OutcomeFits (bytes_eq word (codes "open")) (Some (Opened n)) _ (λ _. fits) (λ _.
+    chosen_fits OutcomeFits (bytes_eq word (codes "synced")) (Some (Synced n)) _ (λ _. fits) (λ _.
+    chosen_fits OutcomeFits (bytes_eq word (codes "closed")) (Some (Closed n)) _ (λ _. fits) (λ _.
+    chosen_fits OutcomeFits (bytes_eq word (codes "differs")) (Some (Differs n)) _ (λ _. fits) (λ _.
+    chosen_fits OutcomeFits (bytes_eq word (codes "truncated")) (Some (Truncated n)) None (λ _. fits) (λ _. tt))))))
 
 -- ---- the outcome by its first word
 
-told_fits : (word rest : List ℕ) (o : Outcome) → list_all (λ b. not (b == 32)) word ≡ true → IfSome (told_at word rest) HasWidths → outcome_at (word ++ 32 ∷ rest) ≡ Some o → HasWidths o
-told_fits word rest o whole fits is = from_some HasWidths (told_at word rest) o fits (sym (by_first word rest whole) ∙ is)
+told_fits : (word rest : List ℕ) (o : Outcome) → list_all (λ b. not (b == 32)) word ≡ true → IfSome (told_at word rest) OutcomeFits → outcome_at (word ++ 32 ∷ rest) ≡ Some o → OutcomeFits o
+told_fits word rest o whole fits is = from_some OutcomeFits (told_at word rest) o fits (sym (by_first word rest whole) ∙ is)
 
 busy_refused : (host writer : ℕ) → outcome_at (text_of_outcome (Refused (Busy host writer))) ≡ Some (Refused (Busy host writer)) → WhyHasWidths (Busy host writer)
 unfolding told_at why_at
 busy_refused host writer is =
     let rest : List ℕ = spaced (codes "busy" ∷ decimal host ∷ decimal writer ∷ []) in
-    told_fits (codes "refused") rest (Refused (Busy host writer)) refl (then_fits WhyHasWidths HasWidths (why_at rest) (λ why. Some (Refused why)) (busy_fits rest) (λ why fits. fits)) is
+    told_fits (codes "refused") rest (Refused (Busy host writer)) refl (then_fits WhyHasWidths OutcomeFits (why_at rest) (λ why. Some (Refused why)) (busy_fits rest) (λ why fits. fits)) is
 
 why_fits : (why : Why) → outcome_at (text_of_outcome (Refused why)) ≡ Some (Refused why) → WhyHasWidths why
 why_fits (Busy host writer) is = busy_refused host writer is
 why_fits _ is = tt
 
-outcome_fits : (o : Outcome) → outcome_at (text_of_outcome o) ≡ Some o → HasWidths o
+outcome_fits : (o : Outcome) → outcome_at (text_of_outcome o) ≡ Some o → OutcomeFits o
 unfolding told_at
 outcome_fits (Opened n) is = told_fits (codes "open") (decimal n) (Opened n) refl (counted_fits (codes "open") (decimal n)) is
 outcome_fits (Wrote at len stamp) is =

@@ -5,7 +5,7 @@ use Rattle.std.proofs.lemmas.List.Folds.{flat_map-map}
 use Rattle.plfs_types.specs.declared.entries.Entry.{Entry}
 use Rattle.script_lang.specs.declared.line.Line.{Line}
 use Rattle.report_text.specs.Items.{list_text, piece_text}
-use Rattle.report_text.specs.Words.{words_of, words_of_pieces}
+use Rattle.report_text.specs.Words.{outcome_words, words_of_pieces}
 use Rattle.report_text.specs.Text.{body_of_line}
 use Rattle.std.specs.Fmt.{decimal}
 
@@ -22,5 +22,5 @@ pub pieces_behind : (pieces : List Entry) → 0 < length pieces → flat_map (λ
 pieces_behind [] some = absurd (omega arith)
 pieces_behind (piece ∷ pieces) some = flat_map-map (λ v. 32 ∷ v) piece_text (piece ∷ pieces)
 
-pub body_of_line_words : (line : Line) → body_of_line line ≡ decimal line.number ++ flat_map (λ w. 32 ∷ w) (words_of line.outcome)
-body_of_line_words line = join_with_byte-cons 32 (decimal line.number) (words_of line.outcome)
+pub body_of_line_words : (line : Line) → body_of_line line ≡ decimal line.number ++ flat_map (λ w. 32 ∷ w) (outcome_words line.outcome)
+body_of_line_words line = join_with_byte-cons 32 (decimal line.number) (outcome_words line.outcome)

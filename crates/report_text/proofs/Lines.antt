@@ -12,17 +12,17 @@ use Rattle.script_lang.specs.declared.line.Outcome.TheVariants.{Opened, Wrote, S
 use Rattle.script_lang.specs.declared.line.Why.{Why}
 use Rattle.script_lang.specs.declared.line.Why.TheVariants.{NoFile, Held, Busy, Exists, TooFar, StampsSpent, IdsSpent, NotOpen, AlreadyOpen, MountsSpent}
 use Rattle.report_text.specs.Items.{count_text, share_text, trunc_text, piece_text, list_text, stamp_text, yes_or_no, place_text}
-use Rattle.report_text.specs.Words.{words_of, words_of_why, content_text}
+use Rattle.report_text.specs.Words.{outcome_words, words_of_why, content_text}
 use Rattle.report_text.specs.Text.{spaced, text_of_outcome, body_of_line, ListsLogicalNames}
-use Rattle.report_text.specs.Widths.{Is64, IsPiece, AreBytes, WhyHasWidths, HasWidths, IsLine}
-use Rattle.report_text.specs.Reading.{number_at, count_at, share_at, trunc_at, short_at}
+use Rattle.report_text.specs.Widths.{Is64, EntryFits, AreBytes, WhyHasWidths, OutcomeFits, IsLine}
+use Rattle.report_text.specs.Reading.{number_spelled, count_at, share_at, trunc_at, short_at}
 use Rattle.report_text.specs.ReadingOutcomes.{line_at}
 use Rattle.report_text.proofs.Cuts.{Avoids}
 use Rattle.report_text.proofs.Texts.{by_append, Above, avoids_below, lower, number_above, content_above}
 use Rattle.report_text.proofs.Again.{number_field_again, IsWord, counts_word, shares_word, truncs_word, ids_word, names_word, place_plain, piece_above}
 use Rattle.report_text.proofs.AgainOutcomes.{outcome_again}
 
-pub body_leads : (n : ℕ) (o : Outcome) → spaced (decimal n ∷ words_of o) ≡ decimal n ++ 32 ∷ text_of_outcome o
+pub body_leads : (n : ℕ) (o : Outcome) → spaced (decimal n ∷ outcome_words o) ≡ decimal n ++ 32 ∷ text_of_outcome o
 body_leads number (Opened w) = refl
 body_leads number (Wrote at len stamp) = refl
 body_leads number (Synced n) = refl
@@ -82,7 +82,7 @@ hold_word : (hold : Bool) → Above 32 (yes_or_no hold)
 hold_word true = above_word (codes "yes") refl
 hold_word false = above_word (codes "no") refl
 
-pieces_words : (pieces : List Entry) → AllByRecursion IsPiece pieces → AreWords (map piece_text pieces)
+pieces_words : (pieces : List Entry) → AllByRecursion EntryFits pieces → AreWords (map piece_text pieces)
 pieces_words [] h = tt
 pieces_words (piece ∷ pieces) h = (lower 32 42 (piece_text piece) (omega arith) (piece_above piece h.0), pieces_words pieces h.1)
 
@@ -101,7 +101,7 @@ why_words MountsSpent h = (above_word (codes "mounts-spent") refl, tt)
 one_number : (word : List ℕ) (n : ℕ) → list_all (λ b. nat_lt 32 b) word ≡ true → Is64 n → AreWords (word ∷ decimal n ∷ [])
 one_number word n whole small = (above_word word whole, (number_word n (omega arith), tt))
 
-words_above : (o : Outcome) → HasWidths o → ListsLogicalNames o → AreWords (words_of o)
+words_above : (o : Outcome) → OutcomeFits o → ListsLogicalNames o → AreWords (outcome_words o)
 words_above (Opened n) h names = one_number (codes "open") n refl h
 words_above (Wrote at len stamp) h names = (above_word (codes "wrote") refl, (number_word at (omega (arith, h.0)), (number_word len (omega (arith, h.1)), (stamp_word stamp h.2, tt))))
 words_above (Synced n) h names = one_number (codes "synced") n refl h
@@ -117,7 +117,7 @@ words_above (Stat size stored shares truncs) h names = (above_word (codes "stat"
 words_above (Truncated n) h names = one_number (codes "truncated") n refl h
 words_above Renamed h names = (above_word (codes "renamed") refl, tt)
 words_above (Flattened flat pieces cuts) h names = (above_word (codes "flattened") refl, (number_word flat (omega (arith, h.0)), (number_word pieces (omega (arith, h.1)), (above_word (codes "cut") refl, (list_word count_text count_at cuts (counts_word cuts h.2), tt)))))
-words_above (Recovered buried alive hold) h names = (above_word (codes "recovered") refl, (list_word count_text count_at buried (counts_word buried h.0), (above_word (codes "alive") refl, (list_word decimal number_at alive (ids_word alive h.1), (above_word (codes "hold") refl, (hold_word hold, tt))))))
+words_above (Recovered buried alive hold) h names = (above_word (codes "recovered") refl, (list_word count_text count_at buried (counts_word buried h.0), (above_word (codes "alive") refl, (list_word decimal number_spelled alive (ids_word alive h.1), (above_word (codes "hold") refl, (hold_word hold, tt))))))
 words_above (Listed names) h logical = (above_word (codes "ls") refl, (list_word (λ name. name) short_at names (names_word names logical), tt))
 words_above Armed h names = (above_word (codes "armed") refl, tt)
 words_above Stopped h names = (above_word (codes "stopped") refl, tt)
@@ -132,4 +132,4 @@ spaced_above w (v ∷ ws) h = by_append (λ b. 31 < b) w (32 ∷ spaced (v ∷ w
 
 pub body_avoids_feed : (line : Line) → IsLine line → Avoids 10 (body_of_line line)
 body_avoids_feed line h =
-    avoids_below 31 10 (body_of_line line) (omega arith) (spaced_above (decimal line.number) (words_of line.outcome) (number_word line.number (omega (arith, h.number_fits)), words_above line.outcome h.widths h.logical))
+    avoids_below 31 10 (body_of_line line) (omega arith) (spaced_above (decimal line.number) (outcome_words line.outcome) (number_word line.number (omega (arith, h.number_fits)), words_above line.outcome h.widths h.logical))

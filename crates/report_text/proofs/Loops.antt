@@ -2,7 +2,7 @@
 use Rattle.std.proofs.Common.{◌≡◌, ℕ, ◌+◌, ◌*◌, ◌==◌, true, false, cond, List, [], ◌∷◌, ◌++◌, length, Option, Some, None, refl, sym, ap, ◌∙◌, append_assoc, append-nil, arith}
 use Rattle.std.specs.List.{slice_split}
 use Rattle.hex.specs.Hex.{hex_digit_value}
-use Rattle.report_text.specs.Reading.{◌>>=◌, Fails, cut, all_at, name_at, byte_at, escape_at}
+use Rattle.report_text.specs.Reading.{◌>>=◌, FailsAsText, cut, all_at, name_at, byte_at, escape_at}
 use Rattle.report_text.specs.declared.trouble.Trouble.{Trouble}
 use Rattle.report_text.specs.declared.trouble.Trouble.TheVariants.{Bad, NoMemory}
 use Rattle.report_text.proofs.Cuts.{cut-some, cut-none}
@@ -33,8 +33,8 @@ module _ {X : Type 0} (read : List ℕ → Option X) (c : ℕ) where
       rw ((cut-some c text item others found).parts, is) (with_front-cons front x (items_from others)) in
       sym step ∙ so_far
 
-  pub ends : (e : Trouble) (front : List X) (text item others : List ℕ) (total : Option (List X)) → cut c text ≡ Some (item, others) → Fails e (read item)
-      → with_front front (items_from text) ≡ total → Fails e total
+  pub ends : (e : Trouble) (front : List X) (text item others : List ℕ) (total : Option (List X)) → cut c text ≡ Some (item, others) → FailsAsText e (read item)
+      → with_front front (items_from text) ≡ total → FailsAsText e total
   unfolding all_at
   ends NoMemory front text item others total found is so_far = tt
   ends Bad front text item others total found is so_far =
@@ -48,8 +48,8 @@ module _ {X : Type 0} (read : List ℕ → Option X) (c : ℕ) where
       let step : with_front front (items_from text) ≡ Some (front ++ x ∷ []) = rw (cut-none c text found, is) refl in
       sym so_far ∙ step
 
-  pub ends_last : (e : Trouble) (front : List X) (text : List ℕ) (total : Option (List X)) → cut c text ≡ None → Fails e (read text)
-      → with_front front (items_from text) ≡ total → Fails e total
+  pub ends_last : (e : Trouble) (front : List X) (text : List ℕ) (total : Option (List X)) → cut c text ≡ None → FailsAsText e (read text)
+      → with_front front (items_from text) ≡ total → FailsAsText e total
   unfolding all_at
   ends_last NoMemory front text total found is so_far = tt
   ends_last Bad front text total found is so_far =
@@ -88,8 +88,8 @@ byte_goes_on front text b others x behind total is found so_far =
     let step : name_at text ≡ (name_at behind >>= λ name. Some (x ∷ name)) = ap name_at is ∙ by_byte b others ∙ rw found refl in
     sym (ap (with_front front) step ∙ with_front-cons front x (name_at behind)) ∙ so_far
 
-pub byte_ends : (e : Trouble) (front text : List ℕ) (b : ℕ) (others : List ℕ) (total : Option (List ℕ)) → text ≡ b ∷ others → Fails e (byte_at b others)
-    → with_front front (name_at text) ≡ total → Fails e total
+pub byte_ends : (e : Trouble) (front text : List ℕ) (b : ℕ) (others : List ℕ) (total : Option (List ℕ)) → text ≡ b ∷ others → FailsAsText e (byte_at b others)
+    → with_front front (name_at text) ≡ total → FailsAsText e total
 byte_ends NoMemory front text b others total is found so_far = tt
 byte_ends Bad front text b others total is found so_far =
     let step : name_at text ≡ None = ap name_at is ∙ by_byte b others ∙ rw found refl in

@@ -6,7 +6,7 @@ use Rattle.std.specs.Fmt.{decimal}
 use Rattle.std.proofs.lemmas.Fmt.{decimal_is_IsNumeral_wide}
 use Rattle.std.proofs.lemmas.Slice.Eq.{bytes_eq-Decides}
 use Rattle.std.proofs.lemmas.Bool.Decides.{nat_tests}
-use Rattle.report_text.specs.Reading.{number_below, number_at, wide_at}
+use Rattle.report_text.specs.Reading.{number_below, number_spelled, wide_at}
 
 pub bytes_eq-same : (bytes : List ℕ) → bytes_eq bytes bytes ≡ true
 bytes_eq-same bytes = (bytes_eq-Decides bytes bytes).1 refl
@@ -32,12 +32,12 @@ number_below-none limit word other =
     let same : bytes_eq word (decimal (digits_value 10 word)) ≡ true = grind (arith, nat_tests, both) in
     other (digits_value 10 word) fits ((bytes_eq-Decides word (decimal (digits_value 10 word))).0 same))
 
-pub number_at-some : (n : ℕ) (word : List ℕ) → n < 2 ^ 64 → word ≡ decimal n → number_at word ≡ Some n
-unfolding number_at
+pub number_at-some : (n : ℕ) (word : List ℕ) → n < 2 ^ 64 → word ≡ decimal n → number_spelled word ≡ Some n
+unfolding number_spelled
 number_at-some n word small is = number_below-some (2 ^ 64) n word (omega arith) small is
 
-pub number_at-none : (word : List ℕ) → ((n : ℕ) → n < 2 ^ 64 → word ≡ decimal n → ⊥) → number_at word ≡ None
-unfolding number_at
+pub number_at-none : (word : List ℕ) → ((n : ℕ) → n < 2 ^ 64 → word ≡ decimal n → ⊥) → number_spelled word ≡ None
+unfolding number_spelled
 number_at-none word other = number_below-none (2 ^ 64) word other
 
 pub wide_at-some : (n : ℕ) (word : List ℕ) → n < 2 ^ 128 → word ≡ decimal n → wide_at word ≡ Some n

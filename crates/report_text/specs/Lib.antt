@@ -5,3 +5,4 @@ pub mod ReadingOutcomes
 pub mod Text
 pub mod Widths
 pub mod Words
+pub mod Messages

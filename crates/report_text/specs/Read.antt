@@ -13,7 +13,7 @@ AreRead (Err (Bad line)) lines = ⊥
 AreRead (Err NoMemory) lines = Unit {0}
 
 -- the first line that is none, from 1: the bytes before it are the text of lines, some are left, and no line's text begins there
-pub record BreaksAt (bytes : List ℕ) (number : ℕ) : Type 0 where
+pub record BreaksAtLine (bytes : List ℕ) (number : ℕ) : Type 0 where
   pub front : List Line
   pub rest : List ℕ
   pub parts : bytes ≡ text_of front ++ rest
@@ -22,6 +22,6 @@ pub record BreaksAt (bytes : List ℕ) (number : ℕ) : Type 0 where
   pub some_left : 0 < length rest
   pub no_line : (line : Line) (others : List ℕ) → IsLine line → ¬ (rest ≡ text_of_line line ++ others)
 
-abbrev pub IsTroubleOf : List ℕ → ReportTrouble → Type 0
-IsTroubleOf bytes (Bad line) = BreaksAt bytes line
-IsTroubleOf bytes NoMemory = Unit {0}
+abbrev pub IsReportTrouble : List ℕ → ReportTrouble → Type 0
+IsReportTrouble bytes (Bad line) = BreaksAtLine bytes line
+IsReportTrouble bytes NoMemory = Unit {0}

@@ -19,13 +19,13 @@ abbrev pub ◌>>=◌ : {A B : Type 0} → Option A → (A → Option B) → Opti
 None >>= f = None
 
 -- what a function returned, seen by view, is what reading gives, unless memory was refused
-abbrev pub Fails : {Y : Type 0} → Trouble → Option Y → Type 0
-Fails Bad read = read ≡ None
-Fails NoMemory read = Unit {0}
+abbrev pub FailsAsText : {Y : Type 0} → Trouble → Option Y → Type 0
+FailsAsText Bad read = read ≡ None
+FailsAsText NoMemory read = Unit {0}
 
-abbrev pub Gives : {X Y : Type 0} → (X → Y) → Result X Trouble → Option Y → Type 0
-Gives view (Ok x) read = read ≡ Some (view x)
-Gives view (Err e) read = Fails e read
+abbrev pub GivesAsText : {X Y : Type 0} → (X → Y) → Result X Trouble → Option Y → Type 0
+GivesAsText view (Ok x) read = read ≡ Some (view x)
+GivesAsText view (Err e) read = FailsAsText e read
 
 -- what a function returned, seen by view, is this, unless memory was refused
 abbrev pub OnlyGives : {X Y : Type 0} → (X → Y) → Result X Trouble → Y → Type 0
@@ -44,8 +44,8 @@ unfoldable pub number_below : ℕ → List ℕ → Option ℕ
 number_below limit word =
     if nat_lt (digits_value 10 word) limit && bytes_eq word (decimal (digits_value 10 word)) then Some (digits_value 10 word) else None
 
-unfoldable pub number_at : List ℕ → Option ℕ
-number_at word = number_below (2 ^ 64) word
+unfoldable pub number_spelled : List ℕ → Option ℕ
+number_spelled word = number_below (2 ^ 64) word
 
 unfoldable pub wide_at : List ℕ → Option ℕ
 wide_at word = number_below (2 ^ 128) word
@@ -54,7 +54,7 @@ wide_at word = number_below (2 ^ 128) word
 unfoldable pub number_field : List ℕ → Option (ℕ × List ℕ)
 number_field bytes = do
   parts ← cut 32 bytes
-  number ← number_at parts.0
+  number ← number_spelled parts.0
   Some (number, parts.1)
 
 -- the bytes behind this word and a space
@@ -66,8 +66,8 @@ behind_word word bytes = do
 unfoldable pub pair_at : List ℕ → Option (ℕ × ℕ)
 pair_at word = do
   parts ← cut 58 word
-  first ← number_at parts.0
-  second ← number_at parts.1
+  first ← number_spelled parts.0
+  second ← number_spelled parts.1
   Some (first, second)
 
 unfoldable pub count_at : List ℕ → Option WriterCount
@@ -89,7 +89,7 @@ trunc_at word = do
 unfoldable pub number_before : ℕ → List ℕ → Option (ℕ × List ℕ)
 number_before c bytes = do
   parts ← cut c bytes
-  number ← number_at parts.0
+  number ← number_spelled parts.0
   Some (number, parts.1)
 
 unfoldable pub piece_at : List ℕ → Option Entry
@@ -98,7 +98,7 @@ piece_at word = do
   len ← number_before 61 at.1
   stamp ← number_before 46 len.1
   writer ← number_before 64 stamp.1
-  physical ← number_at writer.1
+  physical ← number_spelled writer.1
   Some (record { at = at.0; len = len.0; physical = physical; stamp = stamp.0; writer = writer.0 })
 
 unfoldable pub short_at : List ℕ → Option (List ℕ)
@@ -122,8 +122,8 @@ list_field read bytes = do
   items ← list_at 44 read parts.0
   Some (items, parts.1)
 
-unfoldable pub stamp_at : List ℕ → Option (Option ℕ)
-stamp_at word = if bytes_eq word (codes "-") then Some None else (number_at word >>= λ stamp. Some (Some stamp))
+unfoldable pub stamp_spelled : List ℕ → Option (Option ℕ)
+stamp_spelled word = if bytes_eq word (codes "-") then Some None else (number_spelled word >>= λ stamp. Some (Some stamp))
 
 unfoldable pub content_at : List ℕ → Option (List ℕ)
 content_at word = if bytes_eq word (codes "-") then Some [] else result_ok (decode_of word)

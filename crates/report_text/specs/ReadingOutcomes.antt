@@ -6,13 +6,13 @@ use Rattle.script_lang.specs.declared.line.Outcome.{Outcome}
 use Rattle.script_lang.specs.declared.line.Outcome.TheVariants.{Opened, Wrote, Synced, Closed, Reader, Read, Same, Differs, Map, ReaderClosed, Stat, Truncated, Renamed, Flattened, Recovered, Listed, Armed, Stopped, Gone, Refused, Fault, Damaged}
 use Rattle.script_lang.specs.declared.line.Why.{Why}
 use Rattle.script_lang.specs.declared.line.Why.TheVariants.{NoFile, Held, Busy, Exists, TooFar, StampsSpent, IdsSpent, NotOpen, AlreadyOpen, MountsSpent}
-use Rattle.report_text.specs.Reading.{◌>>=◌, cut, number_at, wide_at, number_field, behind_word, count_at, share_at, trunc_at, piece_at, short_at, list_at, list_field, stamp_at, content_at, yes_at, place_at}
+use Rattle.report_text.specs.Reading.{◌>>=◌, cut, number_spelled, wide_at, number_field, behind_word, count_at, share_at, trunc_at, piece_at, short_at, list_at, list_field, stamp_spelled, content_at, yes_at, place_at}
 
 unfoldable pub wrote_at : List ℕ → Option Outcome
 wrote_at bytes = do
   at ← number_field bytes
   len ← number_field at.1
-  stamp ← stamp_at len.1
+  stamp ← stamp_spelled len.1
   Some (Wrote at.0 len.0 stamp)
 
 unfoldable pub reader_at : List ℕ → Option Outcome
@@ -58,13 +58,13 @@ unfoldable pub recovered_at : List ℕ → Option Outcome
 recovered_at bytes = do
   buried ← list_field count_at bytes
   behind_alive ← behind_word (codes "alive") buried.1
-  alive ← list_field number_at behind_alive
+  alive ← list_field number_spelled behind_alive
   behind_hold ← behind_word (codes "hold") alive.1
   hold ← yes_at behind_hold
   Some (Recovered buried.0 alive.0 hold)
 
-unfoldable pub listed_at : List ℕ → Option Outcome
-listed_at bytes = do
+unfoldable pub names_spelled : List ℕ → Option Outcome
+names_spelled bytes = do
   names ← list_at 44 short_at bytes
   Some (Listed names)
 
@@ -72,14 +72,14 @@ unfoldable pub damaged_at : List ℕ → Option Outcome
 damaged_at bytes = do
   parts ← cut 32 bytes
   place ← place_at parts.0
-  number ← number_at parts.1
+  number ← number_spelled parts.1
   Some (Damaged place.0 place.1 number)
 
 unfoldable pub busy_at : List ℕ → Option Why
 busy_at bytes = do
   rest ← behind_word (codes "busy") bytes
   host ← number_field rest
-  writer ← number_at host.1
+  writer ← number_spelled host.1
   if nat_lt host.0 (2 ^ 32) then Some (Busy host.0 writer) else None
 
 unfoldable pub why_at : List ℕ → Option Why
@@ -110,7 +110,7 @@ plain_at word =
 -- an outcome of a word and a number
 unfoldable pub counted_at : List ℕ → List ℕ → Option Outcome
 counted_at word bytes = do
-  number ← number_at bytes
+  number ← number_spelled bytes
   if bytes_eq word (codes "open") then Some (Opened number)
       else if bytes_eq word (codes "synced") then Some (Synced number)
       else if bytes_eq word (codes "closed") then Some (Closed number)
@@ -128,7 +128,7 @@ told_at word bytes =
     else if bytes_eq word (codes "stat") then stat_at bytes
     else if bytes_eq word (codes "flattened") then flattened_at bytes
     else if bytes_eq word (codes "recovered") then recovered_at bytes
-    else if bytes_eq word (codes "ls") then listed_at bytes
+    else if bytes_eq word (codes "ls") then names_spelled bytes
     else if bytes_eq word (codes "damaged") then damaged_at bytes
     else if bytes_eq word (codes "refused") then (why_at bytes >>= λ why. Some (Refused why))
     else counted_at word bytes

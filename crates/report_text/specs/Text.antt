@@ -6,18 +6,18 @@ use Rattle.plfs_types.specs.Names.{IsLogicalName}
 use Rattle.script_lang.specs.declared.line.Line.{Line}
 use Rattle.script_lang.specs.declared.line.Outcome.{Outcome}
 use Rattle.script_lang.specs.declared.line.Outcome.TheVariants.{Listed}
-use Rattle.report_text.specs.Words.{words_of}
+use Rattle.report_text.specs.Words.{outcome_words}
 
 -- words with a space between each two
 abbrev pub spaced : List (List ℕ) → List ℕ
 spaced words = join_with_byte 32 words
 
 abbrev pub text_of_outcome : Outcome → List ℕ
-text_of_outcome outcome = spaced (words_of outcome)
+text_of_outcome outcome = spaced (outcome_words outcome)
 
 -- the number and the words of the outcome
 abbrev pub body_of_line : Line → List ℕ
-body_of_line line = spaced (decimal line.number ∷ words_of line.outcome)
+body_of_line line = spaced (decimal line.number ∷ outcome_words line.outcome)
 
 -- the same and a line feed
 abbrev pub text_of_line : Line → List ℕ

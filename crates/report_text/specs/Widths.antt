@@ -25,8 +25,8 @@ IsShare s = Is64 s.writer × Is64 s.bytes
 abbrev pub IsTrunc : Trunc → Type 0
 IsTrunc t = Is64 t.stamp × Is64 t.size
 
-abbrev pub IsPiece : Entry → Type 0
-IsPiece e = Is64 e.at × Is64 e.len × Is64 e.physical × Is64 e.stamp × Is64 e.writer
+abbrev pub EntryFits : Entry → Type 0
+EntryFits e = Is64 e.at × Is64 e.len × Is64 e.physical × Is64 e.stamp × Is64 e.writer
 
 -- bytes, each below 256
 abbrev pub AreBytes : List ℕ → Type 0
@@ -39,32 +39,32 @@ abbrev pub WhyHasWidths : Why → Type 0
 WhyHasWidths (Busy host writer) = (host < 2 ^ 32) × Is64 writer
 WhyHasWidths _ = Unit {0}
 
-abbrev pub HasWidths : Outcome → Type 0
-HasWidths (Opened writer) = Is64 writer
-HasWidths (Wrote at len stamp) = Is64 at × Is64 len × IfSome stamp Is64
-HasWidths (Synced landed) = Is64 landed
-HasWidths (Closed landed) = Is64 landed
-HasWidths (Reader size cut truncs) = Is64 size × AllByRecursion IsCount cut × AllByRecursion IsTrunc truncs
-HasWidths (Read at content) = Is64 at × AreBytes content
-HasWidths Same = Unit {0}
-HasWidths (Differs place) = Is64 place
-HasWidths (Map pieces) = AllByRecursion IsPiece pieces
-HasWidths ReaderClosed = Unit {0}
-HasWidths (Stat size stored shares truncs) = Is64 size × (stored < 2 ^ 128) × AllByRecursion IsShare shares × AllByRecursion IsTrunc truncs
-HasWidths (Truncated stamp) = Is64 stamp
-HasWidths Renamed = Unit {0}
-HasWidths (Flattened flat pieces cut) = Is64 flat × Is64 pieces × AllByRecursion IsCount cut
-HasWidths (Recovered buried alive hold) = AllByRecursion IsCount buried × AllByRecursion Is64 alive
-HasWidths (Listed names) = Unit {0}
-HasWidths Armed = Unit {0}
-HasWidths Stopped = Unit {0}
-HasWidths Gone = Unit {0}
-HasWidths (Refused why) = WhyHasWidths why
-HasWidths Fault = Unit {0}
-HasWidths (Damaged folder file place) = IsShortName folder × IsShortName file × Is64 place
+abbrev pub OutcomeFits : Outcome → Type 0
+OutcomeFits (Opened writer) = Is64 writer
+OutcomeFits (Wrote at len stamp) = Is64 at × Is64 len × IfSome stamp Is64
+OutcomeFits (Synced landed) = Is64 landed
+OutcomeFits (Closed landed) = Is64 landed
+OutcomeFits (Reader size cut truncs) = Is64 size × AllByRecursion IsCount cut × AllByRecursion IsTrunc truncs
+OutcomeFits (Read at content) = Is64 at × AreBytes content
+OutcomeFits Same = Unit {0}
+OutcomeFits (Differs place) = Is64 place
+OutcomeFits (Map pieces) = AllByRecursion EntryFits pieces
+OutcomeFits ReaderClosed = Unit {0}
+OutcomeFits (Stat size stored shares truncs) = Is64 size × (stored < 2 ^ 128) × AllByRecursion IsShare shares × AllByRecursion IsTrunc truncs
+OutcomeFits (Truncated stamp) = Is64 stamp
+OutcomeFits Renamed = Unit {0}
+OutcomeFits (Flattened flat pieces cut) = Is64 flat × Is64 pieces × AllByRecursion IsCount cut
+OutcomeFits (Recovered buried alive hold) = AllByRecursion IsCount buried × AllByRecursion Is64 alive
+OutcomeFits (Listed names) = Unit {0}
+OutcomeFits Armed = Unit {0}
+OutcomeFits Stopped = Unit {0}
+OutcomeFits Gone = Unit {0}
+OutcomeFits (Refused why) = WhyHasWidths why
+OutcomeFits Fault = Unit {0}
+OutcomeFits (Damaged folder file place) = IsShortName folder × IsShortName file × Is64 place
 
 -- a line as the program has it, whose listed names are logical names
 pub record IsLine (line : Line) : Type 0 where
   pub number_fits : Is64 line.number
-  pub widths : HasWidths line.outcome
+  pub widths : OutcomeFits line.outcome
   pub logical : ListsLogicalNames line.outcome

@@ -1,7 +1,7 @@
 //! Fields from the front of a text.
 ghost use Rattle.std.specs.Prelude.{◌≡◌, ℕ, ◌<◌, ◌^◌, ◌==◌, Some, IfSome, option_map, position, length};
 ghost use Rattle.std.specs.Fmt.{decimal};
-ghost use Rattle.report_text.specs.Reading.{Gives, cut, number_at, wide_at, number_before, number_field, behind_word, stamp_at, yes_at};
+ghost use Rattle.report_text.specs.Reading.{GivesAsText, cut, number_spelled, wide_at, number_before, number_field, behind_word, stamp_spelled, yes_at};
 
 use crate::trouble::Trouble;
 use itoa::Buffer;
@@ -27,7 +27,7 @@ pub fn parts(bytes: &[u8], separator: u8) -> Option<(&[u8], &[u8])>
 }
 
 pub fn cut(bytes: &[u8], separator: u8) -> Result<(&[u8], &[u8]), Trouble>
-    ensures { Gives (λ p. (p.0.now, p.1.now)) result (cut separator bytes.now) }
+    ensures { GivesAsText (λ p. (p.0.now, p.1.now)) result (cut separator bytes.now) }
 {
     let Some(found) = parts(bytes, separator) else {
         return Err(Trouble::Bad);
@@ -36,7 +36,7 @@ pub fn cut(bytes: &[u8], separator: u8) -> Result<(&[u8], &[u8]), Trouble>
 }
 
 pub fn number_of(word: &[u8]) -> Result<u64, Trouble>
-    ensures { Gives (λ n. n) result (number_at word.now) }
+    ensures { GivesAsText (λ n. n) result (number_spelled word.now) }
 {
     let Some(number) = read_decimal(word) else {
         return Err(Trouble::Bad);
@@ -63,7 +63,7 @@ fn wide_number(bytes: &[u8]) -> Option<u128>
 }
 
 pub fn wide_of(word: &[u8]) -> Result<u128, Trouble>
-    ensures { Gives (λ n. n) result (wide_at word.now) }
+    ensures { GivesAsText (λ n. n) result (wide_at word.now) }
 {
     let Some(number) = wide_number(word) else {
         return Err(Trouble::Bad);
@@ -74,7 +74,7 @@ pub fn wide_of(word: &[u8]) -> Result<u128, Trouble>
 // A number before such a byte, and what stands behind that.
 #[tactic(auto, unfolding(crate::specs::Reading::number_before))]
 pub fn number_before(bytes: &[u8], separator: u8) -> Result<(u64, &[u8]), Trouble>
-    ensures { Gives (λ p. (p.0, p.1.now)) result (number_before separator bytes.now) }
+    ensures { GivesAsText (λ p. (p.0, p.1.now)) result (number_before separator bytes.now) }
 {
     let (word, rest) = cut(bytes, separator)?;
     let number = number_of(word)?;
@@ -83,7 +83,7 @@ pub fn number_before(bytes: &[u8], separator: u8) -> Result<(u64, &[u8]), Troubl
 
 #[tactic(auto, unfolding(crate::specs::Reading::number_field))]
 pub fn number_field(bytes: &[u8]) -> Result<(u64, &[u8]), Trouble>
-    ensures { Gives (λ p. (p.0, p.1.now)) result (number_field bytes.now) }
+    ensures { GivesAsText (λ p. (p.0, p.1.now)) result (number_field bytes.now) }
 {
     let (word, rest) = cut(bytes, b' ')?;
     let number = number_of(word)?;
@@ -93,7 +93,7 @@ pub fn number_field(bytes: &[u8]) -> Result<(u64, &[u8]), Trouble>
 // What stands behind this word and a space.
 #[tactic(auto, unfolding(crate::specs::Reading::behind_word))]
 pub fn behind_word<'a>(bytes: &'a [u8], word: &[u8]) -> Result<&'a [u8], Trouble>
-    ensures { Gives (λ rest. rest.now) result (behind_word word.now bytes.now) }
+    ensures { GivesAsText (λ rest. rest.now) result (behind_word word.now bytes.now) }
 {
     let (first, rest) = cut(bytes, b' ')?;
     if first != word {
@@ -102,9 +102,9 @@ pub fn behind_word<'a>(bytes: &'a [u8], word: &[u8]) -> Result<&'a [u8], Trouble
     Ok(rest)
 }
 
-#[tactic(auto, unfolding(crate::specs::Reading::stamp_at))]
+#[tactic(auto, unfolding(crate::specs::Reading::stamp_spelled))]
 pub fn stamp_of(word: &[u8]) -> Result<Option<u64>, Trouble>
-    ensures { Gives (λ stamp. stamp) result (stamp_at word.now) }
+    ensures { GivesAsText (λ stamp. stamp) result (stamp_spelled word.now) }
 {
     if word == b"-".as_slice() {
         return Ok(None);
@@ -115,7 +115,7 @@ pub fn stamp_of(word: &[u8]) -> Result<Option<u64>, Trouble>
 
 #[tactic(auto, unfolding(crate::specs::Reading::yes_at))]
 pub fn yes_of(word: &[u8]) -> Result<bool, Trouble>
-    ensures { Gives (λ yes. yes) result (yes_at word.now) }
+    ensures { GivesAsText (λ yes. yes) result (yes_at word.now) }
 {
     if word == b"yes".as_slice() {
         return Ok(true);

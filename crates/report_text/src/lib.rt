@@ -19,6 +19,3 @@ pub use laws::{lines_break_nowhere, one_break};
 pub use printing::print;
 pub use reading::read;
 pub use trouble::ReportTrouble;
-
-#[cfg(test)]
-mod tests;

@@ -4,7 +4,7 @@ ghost use Rattle.std.specs.Fmt.{decimal};
 ghost use Rattle.std.specs.List.{flat_map};
 ghost use Rattle.hex.specs.Hex.{encode_lower, upper_digits};
 ghost use Rattle.report_text.specs.Items.{escaped, escaped_byte, piece_text};
-ghost use Rattle.report_text.specs.Words.{words_of};
+ghost use Rattle.report_text.specs.Words.{outcome_words};
 ghost use Rattle.script_lang.specs.declared.line.Outcome.TheVariants.{Wrote, Reader, Read, Map, Stat, Flattened, Recovered, Refused, Damaged};
 
 use crate::items::list;
@@ -14,7 +14,7 @@ use script_lang::{Outcome, Why};
 
 // Each word of the outcome behind a space.
 pub fn outcome(out: &mut Vec<u8>, outcome: &Outcome) -> Result<(), NoMemory>
-    ensures { OnOk result (out.new.items ≡ out.old.items ++ flat_map (λ w. 32 ∷ w) (words_of outcome.now)) }
+    ensures { OnOk result (out.new.items ≡ out.old.items ++ flat_map (λ w. 32 ∷ w) (outcome_words outcome.now)) }
 {
     match outcome {
         Outcome::Opened { writer } => one_number(out, b"open", *writer),
@@ -68,7 +68,7 @@ fn one_number(out: &mut Vec<u8>, text: &[u8], value: u64) -> Result<(), NoMemory
 }
 
 fn wrote(out: &mut Vec<u8>, at: u64, len: u64, stamp: Option<u64>) -> Result<(), NoMemory>
-    ensures { OnOk result (out.new.items ≡ out.old.items ++ flat_map (λ w. 32 ∷ w) (words_of (Wrote at len stamp))) }
+    ensures { OnOk result (out.new.items ≡ out.old.items ++ flat_map (λ w. 32 ∷ w) (outcome_words (Wrote at len stamp))) }
 {
     word(out, b"wrote")?;
     number(out, at)?;
@@ -85,7 +85,7 @@ fn reader(
     cut: &[WriterCount],
     truncs: &[Trunc],
 ) -> Result<(), NoMemory>
-    ensures { OnOk result (out.new.items ≡ out.old.items ++ flat_map (λ w. 32 ∷ w) (words_of (Reader size cut.now truncs.now))) }
+    ensures { OnOk result (out.new.items ≡ out.old.items ++ flat_map (λ w. 32 ∷ w) (outcome_words (Reader size cut.now truncs.now))) }
 {
     word(out, b"reader")?;
     number(out, size)?;
@@ -96,7 +96,7 @@ fn reader(
 }
 
 fn read(out: &mut Vec<u8>, at: u64, content: &[u8]) -> Result<(), NoMemory>
-    ensures { OnOk result (out.new.items ≡ out.old.items ++ flat_map (λ w. 32 ∷ w) (words_of (Read at content.now))) }
+    ensures { OnOk result (out.new.items ≡ out.old.items ++ flat_map (λ w. 32 ∷ w) (outcome_words (Read at content.now))) }
 {
     word(out, b"read")?;
     number(out, at)?;
@@ -120,7 +120,7 @@ fn hex_digits(out: &mut Vec<u8>, content: &[u8]) -> Result<(), NoMemory>
 
 #[tactic(auto, using(crate::proofs::Joined::pieces_behind))]
 fn map(out: &mut Vec<u8>, pieces: &[Entry]) -> Result<(), NoMemory>
-    ensures { OnOk result (out.new.items ≡ out.old.items ++ flat_map (λ w. 32 ∷ w) (words_of (Map pieces.now))) }
+    ensures { OnOk result (out.new.items ≡ out.old.items ++ flat_map (λ w. 32 ∷ w) (outcome_words (Map pieces.now))) }
 {
     word(out, b"map")?;
     if pieces.is_empty() {
@@ -160,7 +160,7 @@ fn stat(
     shares: &[ShareBytes],
     truncs: &[Trunc],
 ) -> Result<(), NoMemory>
-    ensures { OnOk result (out.new.items ≡ out.old.items ++ flat_map (λ w. 32 ∷ w) (words_of (Stat size stored shares.now truncs.now))) }
+    ensures { OnOk result (out.new.items ≡ out.old.items ++ flat_map (λ w. 32 ∷ w) (outcome_words (Stat size stored shares.now truncs.now))) }
 {
     word(out, b"stat")?;
     number(out, size)?;
@@ -172,7 +172,7 @@ fn stat(
 }
 
 fn flattened(out: &mut Vec<u8>, flat: u64, pieces: u64, cut: &[WriterCount]) -> Result<(), NoMemory>
-    ensures { OnOk result (out.new.items ≡ out.old.items ++ flat_map (λ w. 32 ∷ w) (words_of (Flattened flat pieces cut.now))) }
+    ensures { OnOk result (out.new.items ≡ out.old.items ++ flat_map (λ w. 32 ∷ w) (outcome_words (Flattened flat pieces cut.now))) }
 {
     word(out, b"flattened")?;
     number(out, flat)?;
@@ -187,7 +187,7 @@ fn recovered(
     alive: &[u64],
     hold: bool,
 ) -> Result<(), NoMemory>
-    ensures { OnOk result (out.new.items ≡ out.old.items ++ flat_map (λ w. 32 ∷ w) (words_of (Recovered buried.now alive.now hold))) }
+    ensures { OnOk result (out.new.items ≡ out.old.items ++ flat_map (λ w. 32 ∷ w) (outcome_words (Recovered buried.now alive.now hold))) }
 {
     word(out, b"recovered")?;
     list(out, buried)?;
@@ -202,7 +202,7 @@ fn recovered(
 }
 
 fn refused(out: &mut Vec<u8>, why: Why) -> Result<(), NoMemory>
-    ensures { OnOk result (out.new.items ≡ out.old.items ++ flat_map (λ w. 32 ∷ w) (words_of (Refused why))) }
+    ensures { OnOk result (out.new.items ≡ out.old.items ++ flat_map (λ w. 32 ∷ w) (outcome_words (Refused why))) }
 {
     word(out, b"refused")?;
     match why {
@@ -224,7 +224,7 @@ fn refused(out: &mut Vec<u8>, why: Why) -> Result<(), NoMemory>
 }
 
 fn damaged(out: &mut Vec<u8>, folder: &[u8], file: &[u8], place: u64) -> Result<(), NoMemory>
-    ensures { OnOk result (out.new.items ≡ out.old.items ++ flat_map (λ w. 32 ∷ w) (words_of (Damaged folder.now file.now place))) }
+    ensures { OnOk result (out.new.items ≡ out.old.items ++ flat_map (λ w. 32 ∷ w) (outcome_words (Damaged folder.now file.now place))) }
 {
     word(out, b"damaged")?;
     out.push(b' ')?;

@@ -2,8 +2,8 @@
 ghost use Rattle.std.specs.Prelude.{◌≡◌, ◌<◌, ◌++◌, ◌↔◌, length, List, ℕ, All, IsTrue, IfOk, IfErr};
 ghost use Rattle.plfs_types.specs.Names.{IsLogicalName};
 ghost use Rattle.script_lang.specs.declared.line.Line.{Line};
-ghost use Rattle.report_text.specs.Read.{AreRead, IsTroubleOf};
-ghost use Rattle.report_text.specs.Reading.{Gives, OnlyGives};
+ghost use Rattle.report_text.specs.Read.{AreRead, IsReportTrouble};
+ghost use Rattle.report_text.specs.Reading.{GivesAsText, OnlyGives};
 ghost use Rattle.report_text.specs.ReadingOutcomes.{line_at};
 ghost use Rattle.report_text.specs.Text.{text_of, text_of_line, body_of_line, ListsLogicalNames};
 ghost use Rattle.report_text.specs.Widths.{IsLine};
@@ -23,7 +23,7 @@ pub fn read(alloc: Global, bytes: &[u8]) -> Result<Lines, ReportTrouble>
     ensures found { IfOk result (λ lines. All IsLine lines × (bytes.now ≡ text_of lines)) }
     // What is printed so is read, unless memory is refused.
     ensures only { (lines : List Line) → All IsLine lines → bytes.now ≡ text_of lines → AreRead result lines }
-    ensures first { IfErr result (IsTroubleOf bytes.now) }
+    ensures first { IfErr result (IsReportTrouble bytes.now) }
 {
     let mut lines = Lines::new(alloc);
     let mut scratch = Vec::new(alloc);
@@ -79,7 +79,7 @@ fn line(alloc: Global, body: &[u8], scratch: &mut Vec<u8>) -> Result<Line, Troub
 
 #[tactic(auto, unfolding(crate::specs::ReadingOutcomes::line_at))]
 fn loose_line(alloc: Global, body: &[u8]) -> Result<Line, Trouble>
-    ensures { Gives (λ line. line) result (line_at body.now) }
+    ensures { GivesAsText (λ line. line) result (line_at body.now) }
 {
     let (number, rest) = number_field(body)?;
     let outcome = outcome(alloc, rest)?;

@@ -1,7 +1,7 @@
 //! Items and lists that stand within a word, from the front of a text.
 ghost use Rattle.std.specs.Prelude.{◌==◌, ℕ, List, Option};
 ghost use Rattle.std.specs.List.{slice_split};
-ghost use Rattle.report_text.specs.Reading.{Gives, pair_at, count_at, share_at, trunc_at, number_at, piece_at, short_at, all_at, list_at, list_field};
+ghost use Rattle.report_text.specs.Reading.{GivesAsText, pair_at, count_at, share_at, trunc_at, number_spelled, piece_at, short_at, all_at, list_at, list_field};
 
 use crate::fields::{cut, number_before, number_of, parts};
 use crate::trouble::Trouble;
@@ -13,12 +13,12 @@ pub trait Readable: Drop {
     ghost read_at: { List ℕ → Option Self };
 
     fn read(text: &[u8]) -> Result<Self, Trouble>
-        ensures { Gives (λ item. item) result (read_at text.now) };
+        ensures { GivesAsText (λ item. item) result (read_at text.now) };
 }
 
 #[tactic(auto, unfolding(crate::specs::Reading::pair_at))]
 fn pair_of(text: &[u8]) -> Result<(u64, u64), Trouble>
-    ensures { Gives (λ pair. (pair.0, pair.1)) result (pair_at text.now) }
+    ensures { GivesAsText (λ pair. (pair.0, pair.1)) result (pair_at text.now) }
 {
     let (first, second) = cut(text, b':')?;
     let first = number_of(first)?;
@@ -57,7 +57,7 @@ impl Readable for Trunc {
 }
 
 impl Readable for u64 {
-    ghost read_at = { number_at };
+    ghost read_at = { number_spelled };
 
     fn read(text: &[u8]) -> Result<Self, Trouble> {
         number_of(text)
@@ -98,7 +98,7 @@ impl Readable for Name {
 
 // The items between such bytes.
 fn all_of<T: Readable>(alloc: Global, text: &[u8], separator: u8) -> Result<Sequence<T>, Trouble>
-    ensures { Gives (λ items. items) result (all_at T.read_at (slice_split (λ b. b == separator) text.now)) }
+    ensures { GivesAsText (λ items. items) result (all_at T.read_at (slice_split (λ b. b == separator) text.now)) }
 {
     let mut items = Sequence::new(alloc);
     let mut rest = text;
@@ -117,7 +117,7 @@ pub fn list_of<T: Readable>(
     text: &[u8],
     separator: u8,
 ) -> Result<Sequence<T>, Trouble>
-    ensures { Gives (λ items. items) result (list_at separator T.read_at text.now) }
+    ensures { GivesAsText (λ items. items) result (list_at separator T.read_at text.now) }
 {
     if text == b"-".as_slice() {
         return Ok(Sequence::new(alloc));
@@ -128,7 +128,7 @@ pub fn list_of<T: Readable>(
 // A list between commas before a space, and what stands behind that.
 #[tactic(auto, unfolding(crate::specs::Reading::list_field))]
 pub fn list_field<T: Readable>(alloc: Global, bytes: &[u8]) -> Result<(Sequence<T>, &[u8]), Trouble>
-    ensures { Gives (λ p. (p.0, p.1.now)) result (list_field T.read_at bytes.now) }
+    ensures { GivesAsText (λ p. (p.0, p.1.now)) result (list_field T.read_at bytes.now) }
 {
     let (word, rest) = cut(bytes, b' ')?;
     let items = list_of(alloc, word, b',')?;

@@ -1,6 +1,6 @@
 //! Outcomes from their words.
-ghost use Rattle.report_text.specs.Reading.{Gives};
-ghost use Rattle.report_text.specs.ReadingOutcomes.{wrote_at, reader_at, read_at, map_at, stat_at, flattened_at, recovered_at, listed_at, damaged_at, busy_at, why_at, plain_at, counted_at, told_at, outcome_at};
+ghost use Rattle.report_text.specs.Reading.{GivesAsText};
+ghost use Rattle.report_text.specs.ReadingOutcomes.{wrote_at, reader_at, read_at, map_at, stat_at, flattened_at, recovered_at, names_spelled, damaged_at, busy_at, why_at, plain_at, counted_at, told_at, outcome_at};
 
 use crate::fields::{behind_word, cut, number_field, number_of, parts, stamp_of, wide_of, yes_of};
 use crate::reading_items::{list_field, list_of};
@@ -11,7 +11,7 @@ use std::alloc::Global;
 
 #[tactic(auto, unfolding(crate::specs::ReadingOutcomes::wrote_at))]
 fn wrote(bytes: &[u8]) -> Result<Outcome, Trouble>
-    ensures { Gives (λ o. o) result (wrote_at bytes.now) }
+    ensures { GivesAsText (λ o. o) result (wrote_at bytes.now) }
 {
     let (at, rest) = number_field(bytes)?;
     let (len, rest) = number_field(rest)?;
@@ -21,7 +21,7 @@ fn wrote(bytes: &[u8]) -> Result<Outcome, Trouble>
 
 #[tactic(auto, unfolding(crate::specs::ReadingOutcomes::reader_at))]
 fn reader(alloc: Global, bytes: &[u8]) -> Result<Outcome, Trouble>
-    ensures { Gives (λ o. o) result (reader_at bytes.now) }
+    ensures { GivesAsText (λ o. o) result (reader_at bytes.now) }
 {
     let (size, rest) = number_field(bytes)?;
     let rest = behind_word(rest, b"cut")?;
@@ -33,7 +33,7 @@ fn reader(alloc: Global, bytes: &[u8]) -> Result<Outcome, Trouble>
 
 #[tactic(auto, unfolding(crate::specs::ReadingOutcomes::read_at))]
 fn read(alloc: Global, bytes: &[u8]) -> Result<Outcome, Trouble>
-    ensures { Gives (λ o. o) result (read_at bytes.now) }
+    ensures { GivesAsText (λ o. o) result (read_at bytes.now) }
 {
     let (at, rest) = number_field(bytes)?;
     let content = content_of(alloc, rest)?;
@@ -42,7 +42,7 @@ fn read(alloc: Global, bytes: &[u8]) -> Result<Outcome, Trouble>
 
 #[tactic(auto, unfolding(crate::specs::ReadingOutcomes::map_at))]
 fn map(alloc: Global, bytes: &[u8]) -> Result<Outcome, Trouble>
-    ensures { Gives (λ o. o) result (map_at bytes.now) }
+    ensures { GivesAsText (λ o. o) result (map_at bytes.now) }
 {
     let pieces = list_of(alloc, bytes, b' ')?;
     Ok(Outcome::Map { pieces })
@@ -50,7 +50,7 @@ fn map(alloc: Global, bytes: &[u8]) -> Result<Outcome, Trouble>
 
 #[tactic(auto, unfolding(crate::specs::ReadingOutcomes::stat_at))]
 fn stat(alloc: Global, bytes: &[u8]) -> Result<Outcome, Trouble>
-    ensures { Gives (λ o. o) result (stat_at bytes.now) }
+    ensures { GivesAsText (λ o. o) result (stat_at bytes.now) }
 {
     let (size, rest) = number_field(bytes)?;
     let (stored, rest) = cut(rest, b' ')?;
@@ -69,7 +69,7 @@ fn stat(alloc: Global, bytes: &[u8]) -> Result<Outcome, Trouble>
 
 #[tactic(auto, unfolding(crate::specs::ReadingOutcomes::flattened_at))]
 fn flattened(alloc: Global, bytes: &[u8]) -> Result<Outcome, Trouble>
-    ensures { Gives (λ o. o) result (flattened_at bytes.now) }
+    ensures { GivesAsText (λ o. o) result (flattened_at bytes.now) }
 {
     let (flat, rest) = number_field(bytes)?;
     let (pieces, rest) = number_field(rest)?;
@@ -80,7 +80,7 @@ fn flattened(alloc: Global, bytes: &[u8]) -> Result<Outcome, Trouble>
 
 #[tactic(auto, unfolding(crate::specs::ReadingOutcomes::recovered_at))]
 fn recovered(alloc: Global, bytes: &[u8]) -> Result<Outcome, Trouble>
-    ensures { Gives (λ o. o) result (recovered_at bytes.now) }
+    ensures { GivesAsText (λ o. o) result (recovered_at bytes.now) }
 {
     let (buried, rest) = list_field(alloc, bytes)?;
     let rest = behind_word(rest, b"alive")?;
@@ -94,9 +94,9 @@ fn recovered(alloc: Global, bytes: &[u8]) -> Result<Outcome, Trouble>
     })
 }
 
-#[tactic(auto, unfolding(crate::specs::ReadingOutcomes::listed_at))]
+#[tactic(auto, unfolding(crate::specs::ReadingOutcomes::names_spelled))]
 fn listed(alloc: Global, bytes: &[u8]) -> Result<Outcome, Trouble>
-    ensures { Gives (λ o. o) result (listed_at bytes.now) }
+    ensures { GivesAsText (λ o. o) result (names_spelled bytes.now) }
 {
     let names = list_of(alloc, bytes, b',')?;
     Ok(Outcome::Listed { names })
@@ -104,7 +104,7 @@ fn listed(alloc: Global, bytes: &[u8]) -> Result<Outcome, Trouble>
 
 #[tactic(auto, unfolding(crate::specs::ReadingOutcomes::damaged_at))]
 fn damaged(alloc: Global, bytes: &[u8]) -> Result<Outcome, Trouble>
-    ensures { Gives (λ o. o) result (damaged_at bytes.now) }
+    ensures { GivesAsText (λ o. o) result (damaged_at bytes.now) }
 {
     let (word, rest) = cut(bytes, b' ')?;
     let (folder, file) = place_of(alloc, word)?;
@@ -118,7 +118,7 @@ fn damaged(alloc: Global, bytes: &[u8]) -> Result<Outcome, Trouble>
 
 #[tactic(auto, unfolding(crate::specs::ReadingOutcomes::busy_at))]
 fn busy(bytes: &[u8]) -> Result<Why, Trouble>
-    ensures { Gives (λ why. why) result (busy_at bytes.now) }
+    ensures { GivesAsText (λ why. why) result (busy_at bytes.now) }
 {
     let rest = behind_word(bytes, b"busy")?;
     let (host, rest) = number_field(rest)?;
@@ -134,7 +134,7 @@ fn busy(bytes: &[u8]) -> Result<Why, Trouble>
 
 #[tactic(auto, unfolding(crate::specs::ReadingOutcomes::why_at))]
 fn why(word: &[u8]) -> Result<Why, Trouble>
-    ensures { Gives (λ why. why) result (why_at word.now) }
+    ensures { GivesAsText (λ why. why) result (why_at word.now) }
 {
     if word == b"no-file".as_slice() {
         return Ok(Why::NoFile);
@@ -168,7 +168,7 @@ fn why(word: &[u8]) -> Result<Why, Trouble>
 
 #[tactic(auto, unfolding(crate::specs::ReadingOutcomes::plain_at))]
 fn plain(word: &[u8]) -> Result<Outcome, Trouble>
-    ensures { Gives (λ o. o) result (plain_at word.now) }
+    ensures { GivesAsText (λ o. o) result (plain_at word.now) }
 {
     if word == b"same".as_slice() {
         return Ok(Outcome::Same);
@@ -196,7 +196,7 @@ fn plain(word: &[u8]) -> Result<Outcome, Trouble>
 
 #[tactic(auto, unfolding(crate::specs::ReadingOutcomes::counted_at))]
 fn counted(word: &[u8], bytes: &[u8]) -> Result<Outcome, Trouble>
-    ensures { Gives (λ o. o) result (counted_at word.now bytes.now) }
+    ensures { GivesAsText (λ o. o) result (counted_at word.now bytes.now) }
 {
     let number = number_of(bytes)?;
     if word == b"open".as_slice() {
@@ -219,7 +219,7 @@ fn counted(word: &[u8], bytes: &[u8]) -> Result<Outcome, Trouble>
 
 #[tactic(auto, unfolding(crate::specs::ReadingOutcomes::told_at))]
 fn told(alloc: Global, word: &[u8], bytes: &[u8]) -> Result<Outcome, Trouble>
-    ensures { Gives (λ o. o) result (told_at word.now bytes.now) }
+    ensures { GivesAsText (λ o. o) result (told_at word.now bytes.now) }
 {
     if word == b"wrote".as_slice() {
         return wrote(bytes);
@@ -258,7 +258,7 @@ fn told(alloc: Global, word: &[u8], bytes: &[u8]) -> Result<Outcome, Trouble>
 // An outcome, by its first word.
 #[tactic(auto, unfolding(crate::specs::ReadingOutcomes::outcome_at, crate::specs::ReadingOutcomes::by_words))]
 pub fn outcome(alloc: Global, bytes: &[u8]) -> Result<Outcome, Trouble>
-    ensures { Gives (λ o. o) result (outcome_at bytes.now) }
+    ensures { GivesAsText (λ o. o) result (outcome_at bytes.now) }
 {
     let Some((word, rest)) = parts(bytes, b' ') else {
         return plain(bytes);

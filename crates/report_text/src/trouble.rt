@@ -1,5 +1,7 @@
 //! Why there are no lines.
 use std::alloc::{AllocError, AllocFailed};
+use std::error::Error;
+use std::fmt;
 
 /// Why bytes gave no lines.
 #[derive(Clone, Copy, Debug, PartialEq, Eq)]
@@ -9,6 +11,22 @@ pub enum ReportTrouble {
     /// Memory was refused.
     NoMemory,
 }
+
+impl fmt::Display for ReportTrouble {
+    ghost use Rattle.std.specs.Prelude.{Some};
+    ghost use Rattle.report_text.specs.Messages.{trouble_text};
+
+    ghost output = { λ trouble. Some (trouble_text trouble) };
+
+    fn fmt<W: fmt::Write>(&self, f: &mut fmt::Formatter<W>) -> fmt::Result {
+        match self {
+            ReportTrouble::Bad { line } => write!(f, "line {line} is none that is printed"),
+            ReportTrouble::NoMemory => f.write_str("memory was refused"),
+        }
+    }
+}
+
+impl Error for ReportTrouble {}
 
 // Why a part of a line was not read.
 #[derive(Clone, Copy, Debug, PartialEq, Eq)]

@@ -19,7 +19,7 @@ use Rattle.script_lang.specs.declared.script.Data.TheVariants as data_of
 use Rattle.script_lang.specs.declared.trouble.Kind.{Kind}
 use Rattle.script_lang.specs.declared.trouble.Kind.TheVariants as kinds
 use Rattle.script_lang.specs.Data.{is_lower_digit, decoded, hex_data, text_data, length_and_byte, pair_data, counted_data, data_in}
-use Rattle.script_lang.specs.Numbers.{number_in}
+use Rattle.script_lang.specs.Numbers.{number_within}
 use Rattle.script_lang.specs.Spelling.{is_seen, data_word, IsData}
 use Rattle.script_lang.proofs.Decimals.{own}
 use Rattle.script_lang.proofs.NumberLemmas.{number_again, number_found}
@@ -180,7 +180,7 @@ has_colon pair some = by (nat_le (length pair) (position_or_len (λ b. b == 58) 
 
 pair_found : (made : ℕ → ℕ → Data) (pair : List ℕ) (content : Data) → pair_data made pair ≡ Ok content → (len : ℕ) × (byte : ℕ) × (len ≤ 2 ^ 24) × (byte ≤ 255) × (pair ≡ decimal len ++ 58 ∷ decimal byte) × (made len byte ≡ content)
 pair_found made pair content is =
-    let parts = pair_ok made (number_in 0 (2 ^ 24) (before_first (λ b. b == 58) pair)) (number_in 0 255 (after_first (λ b. b == 58) pair)) content is in
+    let parts = pair_ok made (number_within 0 (2 ^ 24) (before_first (λ b. b == 58) pair)) (number_within 0 255 (after_first (λ b. b == 58) pair)) content is in
     let len = number_found 0 (2 ^ 24) parts.0 (before_first (λ b. b == 58) pair) parts.2 in
     let byte = number_found 0 255 parts.1 (after_first (λ b. b == 58) pair) parts.3 in
     let some : 0 < length (after_first (λ b. b == 58) pair) = rw byte.0 (decimal_nonempty parts.1 byte.3) in
@@ -247,7 +247,7 @@ data_refused word kind is =
     (either_kind (starts_with nat_eq word (codes "text:")) (text_data (drop 5 word)) (counted_data word) kind
     (either_kind (list_all is_seen (drop 5 word)) (Ok (data_of.Text (drop 5 word))) (Err kinds.Data) kind (λ e. cc) (λ e. cc))
     (either_kind (starts_with nat_eq word (codes "fill:")) (pair_data data_of.Fill (drop 5 word)) _ kind
-    (pair_kind data_of.Fill (number_in 0 (2 ^ 24) (before_first (λ b. b == 58) (drop 5 word))) (number_in 0 255 (after_first (λ b. b == 58) (drop 5 word))) kind)
+    (pair_kind data_of.Fill (number_within 0 (2 ^ 24) (before_first (λ b. b == 58) (drop 5 word))) (number_within 0 255 (after_first (λ b. b == 58) (drop 5 word))) kind)
     (either_kind (starts_with nat_eq word (codes "ramp:")) (pair_data data_of.Ramp (drop 5 word)) (Err kinds.Data) kind
-    (pair_kind data_of.Ramp (number_in 0 (2 ^ 24) (before_first (λ b. b == 58) (drop 5 word))) (number_in 0 255 (after_first (λ b. b == 58) (drop 5 word))) kind) (λ e. cc))))
+    (pair_kind data_of.Ramp (number_within 0 (2 ^ 24) (before_first (λ b. b == 58) (drop 5 word))) (number_within 0 255 (after_first (λ b. b == 58) (drop 5 word))) kind) (λ e. cc))))
     is

@@ -6,7 +6,7 @@ use Rattle.std.specs.Fmt.{decimal}
 use Rattle.std.proofs.lemmas.Bool.Decides.{nat_tests}
 use Rattle.std.proofs.lemmas.Fmt.{decimal-digits_value, digits_decimal, digits_value-decimal, decimal_nonempty, first_decimal, decimal_digit}
 use Rattle.std.proofs.lemmas.Str.Parse.{IsNumeralModel, numerals_by_fold, tells_all_ascii_digits}
-use Rattle.script_lang.specs.Numbers.{digits_behind, has_leading_zero, number_of}
+use Rattle.script_lang.specs.Numbers.{digits_behind, has_leading_zero, numeral_of}
 
 pub own : IsNumeralModel (λ ds. all_ascii_digits ds ≡ true) (digits_behind 0)
 own = numerals_by_fold (λ ds. all_ascii_digits ds ≡ true) tells_all_ascii_digits digits_behind (record {
@@ -22,7 +22,7 @@ found v n false false true false is = cc
 found v n false false false small is = cc
 
 -- what is read as a number is what is printed of it
-pub number_written : (word : List ℕ) (n : ℕ) → number_of word ≡ Some n → (word ≡ decimal n) × (n < 2 ^ 64)
+pub number_written : (word : List ℕ) (n : ℕ) → numeral_of word ≡ Some n → (word ≡ decimal n) × (n < 2 ^ 64)
 number_written word n is =
     let each = found (digits_behind 0 word) n (length word == 0) (has_leading_zero word) (all_ascii_digits word) (nat_lt (digits_behind 0 word) (2 ^ 64)) is in
     let some : 0 < length word = let h = each.0 in grind (arith, nat_tests) in
@@ -44,7 +44,7 @@ no_zero (suc n) small =
     not_both (nat_lt 1 (length (decimal (suc n)))) (get_or (decimal (suc n)) 0 0 == 48) (grind (arith, nat_tests))
 
 -- and what is printed of a number is read as it
-pub number_read : (n : ℕ) → n < 2 ^ 64 → number_of (decimal n) ≡ Some n
+pub number_read : (n : ℕ) → n < 2 ^ 64 → numeral_of (decimal n) ≡ Some n
 number_read n small =
     let some = decimal_nonempty n small in
     let value = digits_value-decimal own n small in
@@ -52,10 +52,10 @@ number_read n small =
     (grind (arith, nat_tests)) (no_zero n small) (digits_decimal own n small) (rw value (grind (arith, nat_tests))) value
 
 -- what a reader of numbers answers is so written
-pub is_written : (word : List ℕ) (answer : Option ℕ) → answer ≡ number_of word → IfSome answer (λ n. word ≡ decimal n)
+pub is_written : (word : List ℕ) (answer : Option ℕ) → answer ≡ numeral_of word → IfSome answer (λ n. word ≡ decimal n)
 is_written word None is = tt
 is_written word (Some n) is = (number_written word n (sym is)).0
 
 -- and what is so written is answered
-pub is_read : (word : List ℕ) (answer : Option ℕ) → answer ≡ number_of word → (n : ℕ) → n < 2 ^ 64 → word ≡ decimal n → answer ≡ Some n
-is_read word answer is n small written = is ∙ (ap number_of written ∙ number_read n small)
+pub is_read : (word : List ℕ) (answer : Option ℕ) → answer ≡ numeral_of word → (n : ℕ) → n < 2 ^ 64 → word ≡ decimal n → answer ≡ Some n
+is_read word answer is n small written = is ∙ (ap numeral_of written ∙ number_read n small)

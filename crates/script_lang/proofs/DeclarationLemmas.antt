@@ -11,14 +11,14 @@ use Rattle.script_lang.specs.declared.script.ActorDecl.{ActorDecl}
 use Rattle.script_lang.specs.declared.script.Script.{Script}
 use Rattle.script_lang.specs.declared.trouble.Kind.{Kind}
 use Rattle.script_lang.specs.declared.trouble.Kind.TheVariants as kinds
-use Rattle.script_lang.specs.ActorNames.{IsActorName, place_of}
+use Rattle.script_lang.specs.ActorNames.{IsActorName, actor_place}
 use Rattle.script_lang.specs.Forms.{Rule, number}
 use Rattle.script_lang.specs.Declarations.{IsDeclaredBy, Declares}
 use Rattle.script_lang.specs.Phases.{empty_phase}
 use Rattle.script_lang.specs.Conditions.{IsRefused, malformed, doubled, late, too_many}
 use Rattle.script_lang.specs.Lines.{is_refused, declared, declaration}
 use Rattle.script_lang.specs.Names.{is_actor_name}
-use Rattle.script_lang.specs.Numbers.{number_in, number_or}
+use Rattle.script_lang.specs.Numbers.{number_within, number_or}
 use Rattle.script_lang.specs.Reading.{◌>>=◌}
 use Rattle.script_lang.specs.Spoken.{Spoken, spoken}
 use Rattle.script_lang.proofs.NumberLemmas.{number_found, number_again}
@@ -73,31 +73,31 @@ no_name name wrong = by (is_actor_name name) refl
 
 pub refused_so : (before : Script) (begun : Bool) (name : List ℕ) → (begun ≡ true → before.phases ≢ empty_phase ∷ []) → is_refused before.actors begun name ≡ true → IsRefused before name
 refused_so before begun name when is =
-    elim (one_of begun (nat_le 256 (length before.actors)) (is_actor_name name) (is_some (place_of before.actors name)) is) [
+    elim (one_of begun (nat_le 256 (length before.actors)) (is_actor_name name) (is_some (actor_place before.actors name)) is) [
       | inl begins ↦ late (when begins)
       | inr (inl many) ↦ too_many (grind (arith, nat_tests))
       | inr (inr (inl wrong)) ↦ malformed (λ rule. let passes = name_passes name rule in cc)
-      | inr (inr (inr there)) ↦ doubled (taken (place_of before.actors name) there)
+      | inr (inr (inr there)) ↦ doubled (taken (actor_place before.actors name) there)
     ]
 
 pub refused_is : (before : Script) (begun : Bool) (name : List ℕ) → (before.phases ≢ empty_phase ∷ [] → begun ≡ true) → IsRefused before name → is_refused before.actors begun name ≡ true
-refused_is before begun name when (malformed wrong) = any_of begun (nat_le 256 (length before.actors)) (is_actor_name name) (is_some (place_of before.actors name)) (inr (inr (inl (no_name name wrong))))
-refused_is before begun name when (doubled some) = any_of begun (nat_le 256 (length before.actors)) (is_actor_name name) (is_some (place_of before.actors name)) (inr (inr (inr (is_taken (place_of before.actors name) some))))
-refused_is before begun name when (late more) = any_of begun (nat_le 256 (length before.actors)) (is_actor_name name) (is_some (place_of before.actors name)) (inl (when more))
-refused_is before begun name when (too_many many) = any_of begun (nat_le 256 (length before.actors)) (is_actor_name name) (is_some (place_of before.actors name)) (inr (inl (grind (arith, nat_tests))))
+refused_is before begun name when (malformed wrong) = any_of begun (nat_le 256 (length before.actors)) (is_actor_name name) (is_some (actor_place before.actors name)) (inr (inr (inl (no_name name wrong))))
+refused_is before begun name when (doubled some) = any_of begun (nat_le 256 (length before.actors)) (is_actor_name name) (is_some (actor_place before.actors name)) (inr (inr (inr (is_taken (actor_place before.actors name) some))))
+refused_is before begun name when (late more) = any_of begun (nat_le 256 (length before.actors)) (is_actor_name name) (is_some (actor_place before.actors name)) (inl (when more))
+refused_is before begun name when (too_many many) = any_of begun (nat_le 256 (length before.actors)) (is_actor_name name) (is_some (actor_place before.actors name)) (inr (inl (grind (arith, nat_tests))))
 
-pub accepted : (actors : List ActorDecl) (begun : Bool) (name : List ℕ) → is_refused actors begun name ≡ false → (begun ≡ false) × (length actors < 256) × IsActorName name × (place_of actors name ≡ None)
+pub accepted : (actors : List ActorDecl) (begun : Bool) (name : List ℕ) → is_refused actors begun name ≡ false → (begun ≡ false) × (length actors < 256) × IsActorName name × (actor_place actors name ≡ None)
 accepted actors begun name is =
-    let each = none_of begun (nat_le 256 (length actors)) (is_actor_name name) (is_some (place_of actors name)) is in
+    let each = none_of begun (nat_le 256 (length actors)) (is_actor_name name) (is_some (actor_place actors name)) is in
     let few : length actors < 256 = let h = each.1 in grind (arith, nat_tests) in
-    (each.0, few, is_name name each.2, free (place_of actors name) each.3)
+    (each.0, few, is_name name each.2, free (actor_place actors name) each.3)
 
 all_false : (a b c d : Bool) → a ≡ false → b ≡ false → c ≡ true → d ≡ false → (a || b || not c || d) ≡ false
 all_false a b c d ha hb hc hd = rw (ha, hb, hc, hd) refl
 
-pub accepts : (actors : List ActorDecl) (begun : Bool) (name : List ℕ) → begun ≡ false → length actors < 256 → IsActorName name → place_of actors name ≡ None → is_refused actors begun name ≡ false
+pub accepts : (actors : List ActorDecl) (begun : Bool) (name : List ℕ) → begun ≡ false → length actors < 256 → IsActorName name → actor_place actors name ≡ None → is_refused actors begun name ≡ false
 accepts actors begun name early few rule none =
-    all_false begun (nat_le 256 (length actors)) (is_actor_name name) (is_some (place_of actors name)) early (grind (arith, nat_tests)) (name_passes name rule) (rw none refl)
+    all_false begun (nat_le 256 (length actors)) (is_actor_name name) (is_some (actor_place actors name)) early (grind (arith, nat_tests)) (name_passes name rule) (rw none refl)
 
 -- ---- how a declaration is read
 
@@ -139,11 +139,11 @@ pub declared_fault : (name : List ℕ) (arguments : List (List ℕ)) → length 
 declared_fault name [] few full = refl
 declared_fault name (a ∷ []) few full =
     ap (λ (r : Result ℕ Kind). fault_of (r >>= (λ host. Ok (actor_of host 64 name)))) (number_there 0 0 (2 ^ 32 - 1) a full.0)
-    ∙ after_host (number_in 0 (2 ^ 32 - 1) a) (λ host. actor_of host 64 name)
+    ∙ after_host (number_within 0 (2 ^ 32 - 1) a) (λ host. actor_of host 64 name)
 declared_fault name (a ∷ b ∷ []) few full =
     ap (λ (r : Result ℕ Kind). fault_of (r >>= (λ host. number_or 64 1 4096 b >>= (λ cap. Ok (actor_of host cap name))))) (number_there 0 0 (2 ^ 32 - 1) a full.0)
-    ∙ ap (λ (s : Result ℕ Kind). fault_of (number_in 0 (2 ^ 32 - 1) a >>= (λ host. s >>= (λ cap. Ok (actor_of host cap name))))) (number_there 64 1 4096 b full.1.0)
-    ∙ after_both (number_in 0 (2 ^ 32 - 1) a) (number_in 1 4096 b) (λ host cap. actor_of host cap name)
+    ∙ ap (λ (s : Result ℕ Kind). fault_of (number_within 0 (2 ^ 32 - 1) a >>= (λ host. s >>= (λ cap. Ok (actor_of host cap name))))) (number_there 64 1 4096 b full.1.0)
+    ∙ after_both (number_within 0 (2 ^ 32 - 1) a) (number_within 1 4096 b) (λ host cap. actor_of host cap name)
 declared_fault name (a ∷ b ∷ c ∷ more) few full = absurd (omega arith)
 
 host_read : (r : Result ℕ Kind) (f : ℕ → Meaning) (said : Meaning) → r >>= (λ x. Ok (f x)) ≡ Ok said → (x : ℕ) × (r ≡ Ok x) × (f x ≡ said)
@@ -161,13 +161,13 @@ pub declared_so : (name : List ℕ) (arguments : List (List ℕ)) (said : Meanin
 declared_so name [] said few full is = let same : actor_of 0 64 name ≡ said = cc in (record { host = 0; cap = 64; name = name }, same, refl, omega arith, omega arith, omega arith, inl (refl, refl, refl))
 declared_so name (a ∷ []) said few full is =
     let as_read = sym (ap (λ (r : Result ℕ Kind). r >>= (λ host. Ok (actor_of host 64 name))) (number_there 0 0 (2 ^ 32 - 1) a full.0)) ∙ is in
-    let read = host_read (number_in 0 (2 ^ 32 - 1) a) (λ host. actor_of host 64 name) said as_read in
+    let read = host_read (number_within 0 (2 ^ 32 - 1) a) (λ host. actor_of host 64 name) said as_read in
     let host = number_found 0 (2 ^ 32 - 1) read.0 a read.1 in
     (record { host = read.0; cap = 64; name = name }, read.2, refl, omega (arith, host.2), omega arith, omega arith, inr (inl (ap (λ w. codes "actor" ∷ name ∷ w ∷ []) host.0, refl)))
 declared_so name (a ∷ b ∷ []) said few full is =
-    let as_read = sym (ap (λ (s : Result ℕ Kind). number_in 0 (2 ^ 32 - 1) a >>= (λ host. s >>= (λ cap. Ok (actor_of host cap name)))) (number_there 64 1 4096 b full.1.0))
+    let as_read = sym (ap (λ (s : Result ℕ Kind). number_within 0 (2 ^ 32 - 1) a >>= (λ host. s >>= (λ cap. Ok (actor_of host cap name)))) (number_there 64 1 4096 b full.1.0))
     ∙ (sym (ap (λ (r : Result ℕ Kind). r >>= (λ host. number_or 64 1 4096 b >>= (λ cap. Ok (actor_of host cap name)))) (number_there 0 0 (2 ^ 32 - 1) a full.0)) ∙ is) in
-    let read = both_read (number_in 0 (2 ^ 32 - 1) a) (number_in 1 4096 b) (λ host cap. actor_of host cap name) said as_read in
+    let read = both_read (number_within 0 (2 ^ 32 - 1) a) (number_within 1 4096 b) (λ host cap. actor_of host cap name) said as_read in
     let host = number_found 0 (2 ^ 32 - 1) read.0 a read.2 in
     let cap = number_found 1 4096 read.1 b read.3 in
     (record { host = read.0; cap = read.1; name = name }, read.4, refl, omega (arith, host.2), cap.1, cap.2, inr (inr (both (codes "actor") name host.0 cap.0)))
@@ -182,7 +182,7 @@ number_or_again other least most n small low high =
     number_there other least most (decimal n) some ∙ number_again least most n small low high
 
 -- and what is so written is read
-pub declared_again : (actors : List ActorDecl) (begun : Bool) (words : List (List ℕ)) (actor : ActorDecl) → Declares words actor → begun ≡ false → length actors < 256 → place_of actors actor.name ≡ None → declaration actors begun (spoken words) ≡ Ok (meaning.Declares actor)
+pub declared_again : (actors : List ActorDecl) (begun : Bool) (words : List (List ℕ)) (actor : ActorDecl) → Declares words actor → begun ≡ false → length actors < 256 → actor_place actors actor.name ≡ None → declaration actors begun (spoken words) ≡ Ok (meaning.Declares actor)
 declared_again actors begun words actor declares early few none =
     let may = accepts actors begun actor.name early few declares.rightly none in
     let host = number_or_again 0 0 (2 ^ 32 - 1) actor.host (let h = declares.on_host in omega arith) (omega arith) (let h = declares.on_host in omega arith) in

@@ -12,7 +12,7 @@ use Rattle.script_lang.specs.declared.script.ActorDecl.{ActorDecl}
 use Rattle.script_lang.specs.declared.script.Numbered.{Numbered}
 use Rattle.script_lang.specs.declared.script.Phase.{Phase}
 use Rattle.script_lang.specs.declared.script.Turned.{Turned}
-use Rattle.script_lang.specs.ActorNames.{is_word, place_of}
+use Rattle.script_lang.specs.ActorNames.{is_word, actor_place}
 use Rattle.script_lang.specs.Drafts.{empty_draft, draft_with, script_in}
 use Rattle.script_lang.specs.Grammar.{read_length, asked}
 use Rattle.script_lang.specs.Phases.{empty_phase, with_turn, with_statement}
@@ -43,7 +43,7 @@ asked_first phase numbered = sum_by-cons (λ (n : Numbered). read_length n.state
 
 -- ---- names that differ
 
-other_names : (actors : List ActorDecl) (name : List ℕ) → place_of actors name ≡ None → (k : ℕ) (d : ActorDecl) → k < length actors → (get_or actors k d).name ≢ name
+other_names : (actors : List ActorDecl) (name : List ℕ) → actor_place actors name ≡ None → (k : ℕ) (d : ActorDecl) → k < length actors → (get_or actors k d).name ≢ name
 other_names actors name none k d within same =
     let past = unguarded (position_or_len (λ (a : ActorDecl). is_word name a.name) actors) (length actors) (nat_lt (position_or_len (λ (a : ActorDecl). is_word name a.name) actors) (length actors)) refl none in
     let fails = fails_before_first (λ (a : ActorDecl). is_word name a.name) actors k d (omega arith) in

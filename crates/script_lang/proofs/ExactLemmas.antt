@@ -17,7 +17,7 @@ use Rattle.script_lang.proofs.DraftLemmas.{holds_first, place_in}
 use Rattle.script_lang.proofs.LayoutLemmas.{are_lines, lines_are, are_words}
 use Rattle.script_lang.proofs.LineLemmas.{line_fault, line_first}
 use Rattle.script_lang.proofs.ScriptLemmas.{holds_all, is_script}
-use Rattle.script_lang.proofs.ScriptsAgain.{script_read, Fails, fault_found, fault_again, empty_behind}
+use Rattle.script_lang.proofs.ScriptsAgain.{script_read, FailsAsRead, fault_found, fault_again, empty_behind}
 
 -- ---- what is read
 
@@ -42,7 +42,7 @@ script_so bytes script is = by (nat_lt (2 ^ 20) (length bytes)) refl is
         let end = finished_so (lines_draft 1 (lines_of bytes) empty_draft) script read in
         record { lines = lines_of bytes; short = short_enough bytes much; cut = are_lines bytes; are = subst (λ s. AreScript (lines_of bytes) s) end.2 (is_script (lines_of bytes) end.0 end.1) }
 
-faulty_line : (bytes : List ℕ) (fault : Fault) → Fails empty_draft 1 (lines_of bytes) fault → HasFaultyLine bytes fault.line fault.kind
+faulty_line : (bytes : List ℕ) (fault : Fault) → FailsAsRead empty_draft 1 (lines_of bytes) fault → HasFaultyLine bytes fault.line fault.kind
 faulty_line bytes fault fails =
     let holds = holds_all fails.before 1 empty_draft fails.so_far holds_first fails.reads_so in
     let first = line_fault (script_in fails.so_far) fails.so_far.begun fails.so_far.reads (place_in fails.so_far holds) fails.line fault.kind fails.failed in

@@ -10,15 +10,15 @@ use Rattle.script_lang.specs.declared.script.Statement.TheVariants as statement
 use Rattle.script_lang.specs.declared.trouble.Kind.{Kind}
 use Rattle.script_lang.specs.declared.trouble.Kind.TheVariants as kinds
 use Rattle.script_lang.specs.declared.verb.Verb.{Verb}
-use Rattle.script_lang.specs.ActorNames.{IsKeyword, place_of}
+use Rattle.script_lang.specs.ActorNames.{IsKeyword, actor_place}
 use Rattle.script_lang.specs.Forms.{Rule, Form}
 use Rattle.script_lang.specs.Grammar.{read_length, asked}
-use Rattle.script_lang.specs.Conditions.{HasNoActor, unknown, refused, undeclared, IsNoStatement, IsMiscounted, actor_words, phase_words, turn_words, lone_name, statement_words, HasArguments, of_actor, of_turn, of_statement, Breaks}
+use Rattle.script_lang.specs.Conditions.{HasNoActor, unknown, refused, undeclared, IsNoStatement, IsMiscounted, actor_words, phase_words, turn_words, lone_name, statement_words, HasArguments, of_actor, of_turn, of_statement, BreaksRule}
 use Rattle.script_lang.specs.Kinds.{HasKind, order, IsFirst}
 use Rattle.script_lang.specs.Lines.{is_refused, declared, declaration, within_reads, says_by, meaning_of}
-use Rattle.script_lang.specs.Numbers.{number_in}
+use Rattle.script_lang.specs.Numbers.{number_within}
 use Rattle.script_lang.specs.Reading.{◌>>=◌}
-use Rattle.script_lang.specs.Spelling.{Spells}
+use Rattle.script_lang.specs.Spelling.{SpellsStatement}
 use Rattle.script_lang.specs.Spoken.{spoken}
 use Rattle.script_lang.specs.Verbs.{verb_of, has_words}
 use Rattle.script_lang.proofs.DeclarationLemmas.{refused_is, line_of, short_line, long_line, host_and_cap, declared_fault}
@@ -58,50 +58,50 @@ module _ (before : Script) (begun : Bool) (reads : ℕ) (stands : IsPlace before
 
   -- ---- lines of actors
 
-  not_there : (whose : List ℕ) (behind : List (List ℕ)) → (IsKeyword whose → ⊥) → place_of before.actors whose ≡ None → read_of_words (whose ∷ behind) ≡ Err kinds.Actor
+  not_there : (whose : List ℕ) (behind : List (List ℕ)) → (IsKeyword whose → ⊥) → actor_place before.actors whose ≡ None → read_of_words (whose ∷ behind) ≡ Err kinds.Actor
   not_there whose behind free none = of_other before.actors begun reads whose behind free ∙ rw none refl
 
-  name_alone : (whose : List ℕ) (place : ℕ) → (IsKeyword whose → ⊥) → place_of before.actors whose ≡ Some place → read_of_words (whose ∷ []) ≡ Err kinds.Count
+  name_alone : (whose : List ℕ) (place : ℕ) → (IsKeyword whose → ⊥) → actor_place before.actors whose ≡ Some place → read_of_words (whose ∷ []) ≡ Err kinds.Count
   name_alone whose place free there = of_other before.actors begun reads whose [] free ∙ rw there refl
 
-  with_word : (whose word : List ℕ) (arguments : List (List ℕ)) (place : ℕ) (found : Option Verb) → (IsKeyword whose → ⊥) → place_of before.actors whose ≡ Some place → verb_of word ≡ found → read_of_words (whose ∷ word ∷ arguments) ≡ says_by place found reads (spoken (whose ∷ word ∷ arguments))
+  with_word : (whose word : List ℕ) (arguments : List (List ℕ)) (place : ℕ) (found : Option Verb) → (IsKeyword whose → ⊥) → actor_place before.actors whose ≡ Some place → verb_of word ≡ found → read_of_words (whose ∷ word ∷ arguments) ≡ says_by place found reads (spoken (whose ∷ word ∷ arguments))
   with_word whose word arguments place found free there known = of_other before.actors begun reads whose (word ∷ arguments) free ∙ rw (there, two_up (length arguments), known) refl
 
   falls_word : (whose word : List ℕ) (arguments : List (List ℕ)) → (IsKeyword whose → ⊥) → IsNoStatement word → Falls (read_of_words (whose ∷ word ∷ arguments)) kinds.Word
-  falls_word whose word arguments free none = by (place_of before.actors whose) (verb_of word) refl refl
+  falls_word whose word arguments free none = by (actor_place before.actors whose) (verb_of word) refl refl
     where
-      by : (found : Option ℕ) (known : Option Verb) → place_of before.actors whose ≡ found → verb_of word ≡ known → Falls (read_of_words (whose ∷ word ∷ arguments)) kinds.Word
+      by : (found : Option ℕ) (known : Option Verb) → actor_place before.actors whose ≡ found → verb_of word ≡ known → Falls (read_of_words (whose ∷ word ∷ arguments)) kinds.Word
       by None known there word_is = early (read_of_words (whose ∷ word ∷ arguments)) kinds.Actor kinds.Word (not_there whose (word ∷ arguments) free there) (omega arith)
       by (Some place) None there word_is = hits (read_of_words (whose ∷ word ∷ arguments)) kinds.Word (with_word whose word arguments place None free there word_is)
       by (Some place) (Some v) there word_is = absurd (none (rules_of v) (least_of v) (rw (verb_word word v word_is) (form_of v)))
 
   falls_alone : (whose : List ℕ) → (IsKeyword whose → ⊥) → Falls (read_of_words (whose ∷ [])) kinds.Count
-  falls_alone whose free = by (place_of before.actors whose) refl
+  falls_alone whose free = by (actor_place before.actors whose) refl
     where
-      by : (found : Option ℕ) → place_of before.actors whose ≡ found → Falls (read_of_words (whose ∷ [])) kinds.Count
+      by : (found : Option ℕ) → actor_place before.actors whose ≡ found → Falls (read_of_words (whose ∷ [])) kinds.Count
       by None there = early (read_of_words (whose ∷ [])) kinds.Actor kinds.Count (not_there whose [] free there) (omega arith)
       by (Some place) there = hits (read_of_words (whose ∷ [])) kinds.Count (name_alone whose place free there)
 
-  known_verb : (whose word : List ℕ) (arguments : List (List ℕ)) (place : ℕ) (v : Verb) (b : Bool) → (IsKeyword whose → ⊥) → place_of before.actors whose ≡ Some place → word ≡ word_of v → has_words v (suc (suc (length arguments))) ≡ b
+  known_verb : (whose word : List ℕ) (arguments : List (List ℕ)) (place : ℕ) (v : Verb) (b : Bool) → (IsKeyword whose → ⊥) → actor_place before.actors whose ≡ Some place → word ≡ word_of v → has_words v (suc (suc (length arguments))) ≡ b
       → read_of_words (whose ∷ word ∷ arguments) ≡ cond b (reading v arguments >>= (λ made. within_reads place made (reads + read_length made))) (Err kinds.Count)
   known_verb whose word arguments place v b free there word_is counts = with_word whose word arguments place (Some v) free there (ap verb_of word_is ∙ verb_known v) ∙ rw counts refl
 
   falls_statement_count : (whose word : List ℕ) (arguments : List (List ℕ)) (rules : List Rule) (least : ℕ) → (IsKeyword whose → ⊥) → Form word rules least → (length arguments < least) ⊎ (length rules < length arguments) → Falls (read_of_words (whose ∷ word ∷ arguments)) kinds.Count
-  falls_statement_count whose word arguments rules least free form wrong = by (place_of before.actors whose) refl (form_verb word rules least form)
+  falls_statement_count whose word arguments rules least free form wrong = by (actor_place before.actors whose) refl (form_verb word rules least form)
     where
-      by : (found : Option ℕ) → place_of before.actors whose ≡ found → (v : Verb) × (word ≡ word_of v) × (rules ≡ rules_of v) × (least ≡ least_of v) → Falls (read_of_words (whose ∷ word ∷ arguments)) kinds.Count
+      by : (found : Option ℕ) → actor_place before.actors whose ≡ found → (v : Verb) × (word ≡ word_of v) × (rules ≡ rules_of v) × (least ≡ least_of v) → Falls (read_of_words (whose ∷ word ∷ arguments)) kinds.Count
       by None there v = early (read_of_words (whose ∷ word ∷ arguments)) kinds.Actor kinds.Count (not_there whose (word ∷ arguments) free there) (omega arith)
       by (Some place) there (v, word_is, rules_are, least_is) =
           let too_many : (length arguments < least_of v) ⊎ (length (rules_of v) < length arguments) = rw (rules_are, least_is) at wrong in
           hits (read_of_words (whose ∷ word ∷ arguments)) kinds.Count (known_verb whose word arguments place v false free there word_is (wrong_count v (length arguments) too_many))
 
-  falls_statement_breach : (whose word : List ℕ) (arguments : List (List ℕ)) (rules : List Rule) (least : ℕ) (kind : Kind) → (IsKeyword whose → ⊥) → Full arguments → Form word rules least → Breaks rules arguments kind → Falls (read_of_words (whose ∷ word ∷ arguments)) kind
-  falls_statement_breach whose word arguments rules least kind free full form has = by (place_of before.actors whose) refl (form_verb word rules least form)
+  falls_statement_breach : (whose word : List ℕ) (arguments : List (List ℕ)) (rules : List Rule) (least : ℕ) (kind : Kind) → (IsKeyword whose → ⊥) → Full arguments → Form word rules least → BreaksRule rules arguments kind → Falls (read_of_words (whose ∷ word ∷ arguments)) kind
+  falls_statement_breach whose word arguments rules least kind free full form has = by (actor_place before.actors whose) refl (form_verb word rules least form)
     where
       fifth : order kind ≡ 5
       fifth = of_arguments rules arguments kind has
 
-      taken : (place : ℕ) (v : Verb) → place_of before.actors whose ≡ Some place → word ≡ word_of v → Breaks (rules_of v) arguments kind → (b : Bool) → has_words v (suc (suc (length arguments))) ≡ b → Falls (read_of_words (whose ∷ word ∷ arguments)) kind
+      taken : (place : ℕ) (v : Verb) → actor_place before.actors whose ≡ Some place → word ≡ word_of v → BreaksRule (rules_of v) arguments kind → (b : Bool) → has_words v (suc (suc (length arguments))) ≡ b → Falls (read_of_words (whose ∷ word ∷ arguments)) kind
       taken place v there word_is breaks_it false counts = early (read_of_words (whose ∷ word ∷ arguments)) kinds.Count kind (known_verb whose word arguments place v false free there word_is counts) (omega (arith, fifth))
       taken place v there word_is breaks_it true counts =
           let limits = counted v (length arguments) counts in
@@ -109,17 +109,17 @@ module _ (before : Script) (begun : Bool) (reads : ℕ) (stands : IsPlace before
           let failed = faulty (reading v arguments) kind (first_fault v arguments limits.0 limits.1 full ∙ first) in
           hits (read_of_words (whose ∷ word ∷ arguments)) kind (known_verb whose word arguments place v true free there word_is counts ∙ ap (λ (r : Result Statement Kind). r >>= (λ made. within_reads place made (reads + read_length made))) failed)
 
-      by : (found : Option ℕ) → place_of before.actors whose ≡ found → (v : Verb) × (word ≡ word_of v) × (rules ≡ rules_of v) × (least ≡ least_of v) → Falls (read_of_words (whose ∷ word ∷ arguments)) kind
+      by : (found : Option ℕ) → actor_place before.actors whose ≡ found → (v : Verb) × (word ≡ word_of v) × (rules ≡ rules_of v) × (least ≡ least_of v) → Falls (read_of_words (whose ∷ word ∷ arguments)) kind
       by None there v = early (read_of_words (whose ∷ word ∷ arguments)) kinds.Actor kind (not_there whose (word ∷ arguments) free there) (omega (arith, fifth))
       by (Some place) there (v, word_is, rules_are, least_is) = taken place v there word_is (rw rules_are at has) (has_words v (suc (suc (length arguments)))) refl
 
   too_much : (place : ℕ) (made : Statement) (sum : ℕ) → 2 ^ 28 < sum → within_reads place made sum ≡ Err kinds.Reads
   too_much place made sum much = let past : nat_le sum (2 ^ 28) ≡ false = grind (arith, nat_tests) in rw past refl
 
-  falls_reads : (whose : List ℕ) (behind : List (List ℕ)) (at len : ℕ) → (IsKeyword whose → ⊥) → Spells (statement.Read at len) behind → 2 ^ 28 < asked before.phases + len → Falls (read_of_words (whose ∷ behind)) kinds.Reads
-  falls_reads whose behind at len free spelled much = by (place_of before.actors whose) refl
+  falls_reads : (whose : List ℕ) (behind : List (List ℕ)) (at len : ℕ) → (IsKeyword whose → ⊥) → SpellsStatement (statement.Read at len) behind → 2 ^ 28 < asked before.phases + len → Falls (read_of_words (whose ∷ behind)) kinds.Reads
+  falls_reads whose behind at len free spelled much = by (actor_place before.actors whose) refl
     where
-      by : (found : Option ℕ) → place_of before.actors whose ≡ found → Falls (read_of_words (whose ∷ behind)) kinds.Reads
+      by : (found : Option ℕ) → actor_place before.actors whose ≡ found → Falls (read_of_words (whose ∷ behind)) kinds.Reads
       by None there = early (read_of_words (whose ∷ behind)) kinds.Actor kinds.Reads (not_there whose behind free there) (omega arith)
       by (Some place) there =
           let read = read_of (statement.Read at len) behind spelled in
@@ -155,7 +155,7 @@ module _ (before : Script) (begun : Bool) (reads : ℕ) (stands : IsPlace before
   falls_actor_count (name ∷ arguments) (inl few) = absurd (omega arith)
   falls_actor_count (name ∷ arguments) (inr many) = falls_long name arguments kinds.Count (omega arith) (omega arith) (λ is. refl)
 
-  falls_actor_breach : (name : List ℕ) (arguments : List (List ℕ)) (kind : Kind) → Full arguments → Breaks host_and_cap arguments kind → Falls (read_of_words (codes "actor" ∷ name ∷ arguments)) kind
+  falls_actor_breach : (name : List ℕ) (arguments : List (List ℕ)) (kind : Kind) → Full arguments → BreaksRule host_and_cap arguments kind → Falls (read_of_words (codes "actor" ∷ name ∷ arguments)) kind
   falls_actor_breach name arguments kind full has =
       elim (short_or_long (length arguments)) [
         | inl few ↦ by few (is_refused before.actors begun name) refl
@@ -176,10 +176,10 @@ module _ (before : Script) (begun : Bool) (reads : ℕ) (stands : IsPlace before
   falls_phase_count [] some = absurd (some refl)
   falls_phase_count (word ∷ behind) some = hits (read_of_words (codes "phase" ∷ word ∷ behind)) kinds.Count (rw (two_up (length behind)) refl)
 
-  not_declared : (whose : List ℕ) (arguments : List (List ℕ)) → place_of before.actors whose ≡ None → read_of_words (codes "turn" ∷ whose ∷ arguments) ≡ Err kinds.Actor
+  not_declared : (whose : List ℕ) (arguments : List (List ℕ)) → actor_place before.actors whose ≡ None → read_of_words (codes "turn" ∷ whose ∷ arguments) ≡ Err kinds.Actor
   not_declared whose arguments none = rw (two_up (length arguments), none) refl
 
-  many_turns : (whose word more : List ℕ) (others : List (List ℕ)) (place : ℕ) → place_of before.actors whose ≡ Some place → read_of_words (codes "turn" ∷ whose ∷ word ∷ more ∷ others) ≡ Err kinds.Count
+  many_turns : (whose word more : List ℕ) (others : List (List ℕ)) (place : ℕ) → actor_place before.actors whose ≡ Some place → read_of_words (codes "turn" ∷ whose ∷ word ∷ more ∷ others) ≡ Err kinds.Count
   many_turns whose word more others place there =
       let four : ℕ = suc (suc (suc (suc (length others)))) in
       let past : 3 < four = omega arith in
@@ -188,26 +188,26 @@ module _ (before : Script) (begun : Bool) (reads : ℕ) (stands : IsPlace before
 
   falls_turn_count : (behind : List (List ℕ)) → length behind ≢ 2 → Falls (read_of_words (codes "turn" ∷ behind)) kinds.Count
   falls_turn_count [] wrong = hits (read_of_words (codes "turn" ∷ [])) kinds.Count refl
-  falls_turn_count (whose ∷ arguments) wrong = by (place_of before.actors whose) arguments refl wrong
+  falls_turn_count (whose ∷ arguments) wrong = by (actor_place before.actors whose) arguments refl wrong
     where
-      by : (found : Option ℕ) (args : List (List ℕ)) → place_of before.actors whose ≡ found → suc (length args) ≢ 2 → Falls (read_of_words (codes "turn" ∷ whose ∷ args)) kinds.Count
+      by : (found : Option ℕ) (args : List (List ℕ)) → actor_place before.actors whose ≡ found → suc (length args) ≢ 2 → Falls (read_of_words (codes "turn" ∷ whose ∷ args)) kinds.Count
       by None args there bad = early (read_of_words (codes "turn" ∷ whose ∷ args)) kinds.Actor kinds.Count (not_declared whose args there) (omega arith)
       by (Some place) [] there bad = hits (read_of_words (codes "turn" ∷ whose ∷ [])) kinds.Count (rw there refl)
       by (Some place) (word ∷ []) there bad = absurd (bad refl)
       by (Some place) (word ∷ more ∷ others) there bad = hits (read_of_words (codes "turn" ∷ whose ∷ word ∷ more ∷ others)) kinds.Count (many_turns whose word more others place there)
 
-  falls_turn_breach : (whose : List ℕ) (arguments : List (List ℕ)) (kind : Kind) → Breaks turn_rules arguments kind → Falls (read_of_words (codes "turn" ∷ whose ∷ arguments)) kind
-  falls_turn_breach whose arguments kind has = by (place_of before.actors whose) arguments refl has
+  falls_turn_breach : (whose : List ℕ) (arguments : List (List ℕ)) (kind : Kind) → BreaksRule turn_rules arguments kind → Falls (read_of_words (codes "turn" ∷ whose ∷ arguments)) kind
+  falls_turn_breach whose arguments kind has = by (actor_place before.actors whose) arguments refl has
     where
       fifth : order kind ≡ 5
       fifth = of_arguments turn_rules arguments kind has
 
-      by : (found : Option ℕ) (args : List (List ℕ)) → place_of before.actors whose ≡ found → Breaks turn_rules args kind → Falls (read_of_words (codes "turn" ∷ whose ∷ args)) kind
+      by : (found : Option ℕ) (args : List (List ℕ)) → actor_place before.actors whose ≡ found → BreaksRule turn_rules args kind → Falls (read_of_words (codes "turn" ∷ whose ∷ args)) kind
       by None args there bad = early (read_of_words (codes "turn" ∷ whose ∷ args)) kinds.Actor kind (not_declared whose args there) (omega (arith, fifth))
       by (Some place) [] there bad = absurd bad
       by (Some place) (word ∷ []) there bad =
           let first = breach_is_first turn_rules (word ∷ []) kind small_turns bad in
-          let failed = faulty (number_in 1 (2 ^ 32 - 1) word) kind (alone_first (fault_of (number_in 1 (2 ^ 32 - 1) word)) first) in
+          let failed = faulty (number_within 1 (2 ^ 32 - 1) word) kind (alone_first (fault_of (number_within 1 (2 ^ 32 - 1) word)) first) in
           hits (read_of_words (codes "turn" ∷ whose ∷ word ∷ [])) kind (rw (there, failed) refl)
       by (Some place) (word ∷ more ∷ others) there bad = early (read_of_words (codes "turn" ∷ whose ∷ word ∷ more ∷ others)) kinds.Count kind (many_turns whose word more others place there) (omega (arith, fifth))
 
@@ -231,7 +231,7 @@ module _ (before : Script) (begun : Bool) (reads : ℕ) (stands : IsPlace before
   full_behind : (words : List (List ℕ)) (a b : List ℕ) (arguments : List (List ℕ)) → Full words → words ≡ a ∷ b ∷ arguments → Full arguments
   full_behind words a b arguments full is = let all = subst (λ (ws : List (List ℕ)). Full ws) is full in all.1.1
 
-  of_breach : (words arguments : List (List ℕ)) (rules : List Rule) (kind : Kind) → Full words → HasArguments words arguments rules → Breaks rules arguments kind → Falls (read_of_words words) kind
+  of_breach : (words arguments : List (List ℕ)) (rules : List Rule) (kind : Kind) → Full words → HasArguments words arguments rules → BreaksRule rules arguments kind → Falls (read_of_words words) kind
   of_breach words arguments rules kind full (of_actor name is rules_are) has = moved words (codes "actor" ∷ name ∷ arguments) kind is (falls_actor_breach name arguments kind (full_behind words (codes "actor") name arguments full is) (rw rules_are at has))
   of_breach words arguments rules kind full (of_turn whose is rules_are) has = moved words (codes "turn" ∷ whose ∷ arguments) kind is (falls_turn_breach whose arguments kind (rw rules_are at has))
   of_breach words arguments rules kind full (of_statement word least line form) has =

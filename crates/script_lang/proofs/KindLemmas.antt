@@ -11,16 +11,16 @@ use Rattle.script_lang.specs.declared.script.Statement.TheVariants as statement
 use Rattle.script_lang.specs.declared.trouble.Kind.{Kind}
 use Rattle.script_lang.specs.declared.trouble.Kind.TheVariants as kinds
 use Rattle.script_lang.specs.declared.verb.Verb.{Verb}
-use Rattle.script_lang.specs.ActorNames.{IsKeyword, place_of}
+use Rattle.script_lang.specs.ActorNames.{IsKeyword, actor_place}
 use Rattle.script_lang.specs.Forms.{Rule, number, file, content, Form}
 use Rattle.script_lang.specs.Grammar.{read_length, asked}
 use Rattle.script_lang.specs.Phases.{empty_phase}
-use Rattle.script_lang.specs.Conditions.{unknown, refused, undeclared, actor_words, phase_words, turn_words, lone_name, statement_words, of_actor, of_turn, of_statement, Breaks, HasBreach, AsksTooMuch}
+use Rattle.script_lang.specs.Conditions.{unknown, refused, undeclared, actor_words, phase_words, turn_words, lone_name, statement_words, of_actor, of_turn, of_statement, BreaksRule, HasBreach, AsksTooMuch}
 use Rattle.script_lang.specs.Kinds.{HasKind, order}
 use Rattle.script_lang.specs.Lines.{is_refused, declared, declaration, beginning, turns_at, turning, within_reads, says_by, says_at, meaning_of}
-use Rattle.script_lang.specs.Numbers.{number_in}
+use Rattle.script_lang.specs.Numbers.{number_within}
 use Rattle.script_lang.specs.Reading.{◌>>=◌}
-use Rattle.script_lang.specs.Spelling.{Spells}
+use Rattle.script_lang.specs.Spelling.{SpellsStatement}
 use Rattle.script_lang.specs.Spoken.{spoken}
 use Rattle.script_lang.specs.Verbs.{verb_of, has_words}
 use Rattle.script_lang.proofs.DeclarationLemmas.{refused_so, line_of, short_line, long_line, host_and_cap, declared_fault}
@@ -31,7 +31,7 @@ use Rattle.script_lang.proofs.VerbLemmas.{rules_of, least_of, small_rules, form_
 
 -- ---- the kinds of arguments
 
-pub three_kinds : (rules : List Rule) (words : List (List ℕ)) (kind : Kind) → Breaks rules words kind → (kind ≡ kinds.Number) ⊎ (kind ≡ kinds.Name) ⊎ (kind ≡ kinds.Data)
+pub three_kinds : (rules : List Rule) (words : List (List ℕ)) (kind : Kind) → BreaksRule rules words kind → (kind ≡ kinds.Number) ⊎ (kind ≡ kinds.Name) ⊎ (kind ≡ kinds.Data)
 three_kinds [] words kind is = absurd is
 three_kinds (rule ∷ rules) [] kind is = absurd is
 three_kinds (number least most ∷ rules) (word ∷ words) kind (inl (lost, is)) = inl is
@@ -47,7 +47,7 @@ breach before words kind has =
       | inr (inr is) ↦ rw is (rw is at has)
     ]
 
-pub of_arguments : (rules : List Rule) (words : List (List ℕ)) (kind : Kind) → Breaks rules words kind → order kind ≡ 5
+pub of_arguments : (rules : List Rule) (words : List (List ℕ)) (kind : Kind) → BreaksRule rules words kind → order kind ≡ 5
 of_arguments rules words kind has =
     elim (three_kinds rules words kind has) [
       | inl is ↦ ap order is
@@ -127,11 +127,11 @@ module _ (before : Script) (begun : Bool) (reads : ℕ) (stands : IsPlace before
       by true other failed = cc
       by false other failed = same_kind kinds.Count kind failed
 
-  turn_at : (whose : List ℕ) (found : Option ℕ) (arguments : List (List ℕ)) (kind : Kind) → place_of before.actors whose ≡ found → turns_at found (spoken (codes "turn" ∷ whose ∷ arguments)) ≡ Err kind → HasKind before (codes "turn" ∷ whose ∷ arguments) kind
+  turn_at : (whose : List ℕ) (found : Option ℕ) (arguments : List (List ℕ)) (kind : Kind) → actor_place before.actors whose ≡ found → turns_at found (spoken (codes "turn" ∷ whose ∷ arguments)) ≡ Err kind → HasKind before (codes "turn" ∷ whose ∷ arguments) kind
   turn_at whose None arguments kind there is = let same = same_kind kinds.Actor kind is in rw (← same) (undeclared whose arguments refl there)
   turn_at whose (Some place) [] kind there is = let same = same_kind kinds.Count kind is in rw (← same) (turn_words (whose ∷ []) refl (λ e. let n : ℕ = 1 in let h : n ≡ 2 = e in omega arith))
   turn_at whose (Some place) (word ∷ []) kind there is =
-      let failed = number_failed (number_in 1 (2 ^ 32 - 1) word) (λ count. meaning.Turns (record { actor = place; count = count })) kind is in
+      let failed = number_failed (number_within 1 (2 ^ 32 - 1) word) (λ count. meaning.Turns (record { actor = place; count = count })) kind is in
       let first : first_broken turn_rules (word ∷ []) ≡ Some kind = rw failed refl in
       breach before (codes "turn" ∷ whose ∷ word ∷ []) kind (word ∷ [], turn_rules, of_turn whose refl refl, breaks turn_rules (word ∷ []) kind small_turns first)
   turn_at whose (Some place) (word ∷ more ∷ others) kind there is =
@@ -146,9 +146,9 @@ module _ (before : Script) (begun : Bool) (reads : ℕ) (stands : IsPlace before
 
   turn_fault : (behind : List (List ℕ)) (kind : Kind) → turning before.actors (spoken (codes "turn" ∷ behind)) ≡ Err kind → HasKind before (codes "turn" ∷ behind) kind
   turn_fault [] kind is = let same = same_kind kinds.Count kind is in rw (← same) (turn_words [] refl (λ e. let n : ℕ = 0 in let h : n ≡ 2 = e in omega arith))
-  turn_fault (whose ∷ arguments) kind is = turn_at whose (place_of before.actors whose) arguments kind refl (by (suc (suc (length arguments)) == 1) (two_up (length arguments)) is)
+  turn_fault (whose ∷ arguments) kind is = turn_at whose (actor_place before.actors whose) arguments kind refl (by (suc (suc (length arguments)) == 1) (two_up (length arguments)) is)
     where
-      by : (b : Bool) → b ≡ false → cond b (Err kinds.Count) (turns_at (place_of before.actors whose) (spoken (codes "turn" ∷ whose ∷ arguments))) ≡ Err kind → turns_at (place_of before.actors whose) (spoken (codes "turn" ∷ whose ∷ arguments)) ≡ Err kind
+      by : (b : Bool) → b ≡ false → cond b (Err kinds.Count) (turns_at (actor_place before.actors whose) (spoken (codes "turn" ∷ whose ∷ arguments))) ≡ Err kind → turns_at (actor_place before.actors whose) (spoken (codes "turn" ∷ whose ∷ arguments)) ≡ Err kind
       by true other read = cc
       by false other read = read
 
@@ -161,7 +161,7 @@ module _ (before : Script) (begun : Bool) (reads : ℕ) (stands : IsPlace before
       form : Form word (rules_of v) (least_of v)
       form = rw (verb_word word v known) (form_of v)
 
-      asks_more : (made : Statement) → reading v arguments ≡ Ok made → Spells made (word ∷ arguments) → 2 ^ 28 < reads + read_length made → AsksTooMuch before (whose ∷ word ∷ arguments)
+      asks_more : (made : Statement) → reading v arguments ≡ Ok made → SpellsStatement made (word ∷ arguments) → 2 ^ 28 < reads + read_length made → AsksTooMuch before (whose ∷ word ∷ arguments)
       asks_more made read spelled much =
           let some : 0 < read_length made = let h = stands.few in omega arith in
           let is = is_read made some in
@@ -182,7 +182,7 @@ module _ (before : Script) (begun : Bool) (reads : ℕ) (stands : IsPlace before
                 rw (← same) (asks_more made made_is (rw (verb_word word v known) spelled) much)
           ]
 
-  other_at : (whose : List ℕ) (found : Option ℕ) (behind : List (List ℕ)) (kind : Kind) → (IsKeyword whose → ⊥) → Full behind → place_of before.actors whose ≡ found → says_at found reads (spoken (whose ∷ behind)) ≡ Err kind → HasKind before (whose ∷ behind) kind
+  other_at : (whose : List ℕ) (found : Option ℕ) (behind : List (List ℕ)) (kind : Kind) → (IsKeyword whose → ⊥) → Full behind → actor_place before.actors whose ≡ found → says_at found reads (spoken (whose ∷ behind)) ≡ Err kind → HasKind before (whose ∷ behind) kind
   other_at whose None behind kind free full there is = let same = same_kind kinds.Actor kind is in rw (← same) (unknown whose behind refl free there)
   other_at whose (Some place) [] kind free full there is = let same = same_kind kinds.Count kind is in rw (← same) (lone_name whose refl free)
   other_at whose (Some place) (word ∷ arguments) kind free full there is = verb_fault whose word arguments place (verb_of word) kind free full.1 refl (by (suc (suc (length arguments)) == 1) (two_up (length arguments)) is)
@@ -198,5 +198,5 @@ module _ (before : Script) (begun : Bool) (reads : ℕ) (stands : IsPlace before
         | is_actor same ↦ rw same (actor_fault behind kind full (rw same at is))
         | is_phase same ↦ rw same (phase_fault behind kind (rw same at is))
         | is_turn same ↦ rw same (turn_fault behind kind (rw same at is))
-        | is_other free ↦ other_at whose (place_of before.actors whose) behind kind free full refl (sym (of_other before.actors begun reads whose behind free) ∙ is)
+        | is_other free ↦ other_at whose (actor_place before.actors whose) behind kind free full refl (sym (of_other before.actors begun reads whose behind free) ∙ is)
       ]

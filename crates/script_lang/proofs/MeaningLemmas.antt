@@ -11,12 +11,12 @@ use Rattle.script_lang.specs.declared.script.Statement.{Statement}
 use Rattle.script_lang.specs.declared.trouble.Kind.{Kind}
 use Rattle.script_lang.specs.declared.trouble.Kind.TheVariants as kinds
 use Rattle.script_lang.specs.declared.verb.Verb.{Verb}
-use Rattle.script_lang.specs.ActorNames.{IsKeyword, is_word, place_of}
+use Rattle.script_lang.specs.ActorNames.{IsKeyword, is_word, actor_place}
 use Rattle.script_lang.specs.Declarations.{Declares}
 use Rattle.script_lang.specs.Grammar.{read_length}
 use Rattle.script_lang.specs.Phases.{Turns, States}
 use Rattle.script_lang.specs.Lines.{is_refused, declared, declaration, beginning, turns_at, turning, within_reads, says_by, says_at, saying, meaning_of}
-use Rattle.script_lang.specs.Numbers.{number_in}
+use Rattle.script_lang.specs.Numbers.{number_within}
 use Rattle.script_lang.specs.Reading.{◌>>=◌}
 use Rattle.script_lang.specs.Spoken.{spoken}
 use Rattle.script_lang.specs.Verbs.{verb_of, has_words}
@@ -60,7 +60,7 @@ two_up n = let two : ℕ = suc (suc n) in let past : 1 < two = omega arith in gr
 -- the words say this, where these actors are declared, other lines have begun or not, and so many bytes are asked for
 abbrev pub Says : List ActorDecl → Bool → ℕ → List (List ℕ) → Meaning → Type 0
 Says actors begun reads words meaning.Passed = ⊥
-Says actors begun reads words (meaning.Declares actor) = Declares words actor × (begun ≡ false) × (length actors < 256) × (place_of actors actor.name ≡ None)
+Says actors begun reads words (meaning.Declares actor) = Declares words actor × (begun ≡ false) × (length actors < 256) × (actor_place actors actor.name ≡ None)
 Says actors begun reads words meaning.Begins = words ≡ codes "phase" ∷ []
 Says actors begun reads words (meaning.Turns turned) = Turns actors words turned
 Says actors begun reads words (meaning.Says place made sum) = States actors words place made × (sum ≡ reads + read_length made) × (sum ≤ 2 ^ 28)
@@ -107,11 +107,11 @@ module _ (actors : List ActorDecl) (begun : Bool) (reads : ℕ) where
   turn_read whose word place (Ok count) said is = let same : meaning.Turns (record { actor = place; count = count }) ≡ said = cc in (count, refl, same)
   turn_read whose word place (Err kind) said is = cc
 
-  turn_at : (whose : List ℕ) (found : Option ℕ) (arguments : List (List ℕ)) (said : Meaning) → place_of actors whose ≡ found → turns_at found (spoken (codes "turn" ∷ whose ∷ arguments)) ≡ Ok said → Says actors begun reads (codes "turn" ∷ whose ∷ arguments) said
+  turn_at : (whose : List ℕ) (found : Option ℕ) (arguments : List (List ℕ)) (said : Meaning) → actor_place actors whose ≡ found → turns_at found (spoken (codes "turn" ∷ whose ∷ arguments)) ≡ Ok said → Says actors begun reads (codes "turn" ∷ whose ∷ arguments) said
   turn_at whose None arguments said there is = cc
   turn_at whose (Some place) [] said there is = cc
   turn_at whose (Some place) (word ∷ []) said there is =
-      let read = turn_read whose word place (number_in 1 (2 ^ 32 - 1) word) said is in
+      let read = turn_read whose word place (number_within 1 (2 ^ 32 - 1) word) said is in
       let count = number_found 1 (2 ^ 32 - 1) read.0 word read.1 in
       rw (← read.2) (record { whose = whose; declared = there; least = count.1; most = omega (arith, count.2); spelled = ap (λ w. codes "turn" ∷ whose ∷ w ∷ []) count.0 })
   turn_at whose (Some place) (word ∷ more ∷ others) said there is = absurd (failed (suc (suc (suc (suc (length others)))) == 3) _ (let four : ℕ = suc (suc (suc (suc (length others)))) in let past : 3 < four = omega arith in grind (arith, nat_tests)) is)
@@ -122,9 +122,9 @@ module _ (actors : List ActorDecl) (begun : Bool) (reads : ℕ) where
 
   turn_said : (behind : List (List ℕ)) (said : Meaning) → turning actors (spoken (codes "turn" ∷ behind)) ≡ Ok said → Says actors begun reads (codes "turn" ∷ behind) said
   turn_said [] said is = cc
-  turn_said (whose ∷ arguments) said is = turn_at whose (place_of actors whose) arguments said refl (by (suc (suc (length arguments)) == 1) (two_up (length arguments)) is)
+  turn_said (whose ∷ arguments) said is = turn_at whose (actor_place actors whose) arguments said refl (by (suc (suc (length arguments)) == 1) (two_up (length arguments)) is)
     where
-      by : (b : Bool) → b ≡ false → cond b (Err kinds.Count) (turns_at (place_of actors whose) (spoken (codes "turn" ∷ whose ∷ arguments))) ≡ Ok said → turns_at (place_of actors whose) (spoken (codes "turn" ∷ whose ∷ arguments)) ≡ Ok said
+      by : (b : Bool) → b ≡ false → cond b (Err kinds.Count) (turns_at (actor_place actors whose) (spoken (codes "turn" ∷ whose ∷ arguments))) ≡ Ok said → turns_at (actor_place actors whose) (spoken (codes "turn" ∷ whose ∷ arguments)) ≡ Ok said
       by true other read = cc
       by false other read = read
 
@@ -136,7 +136,7 @@ module _ (actors : List ActorDecl) (begun : Bool) (reads : ℕ) where
   statement_read place (Ok made) said is = let kept = kept_within place made (reads + read_length made) said (nat_le (reads + read_length made) (2 ^ 28)) refl is in (made, refl, kept.0, kept.1)
   statement_read place (Err kind) said is = cc
 
-  verb_said : (whose word : List ℕ) (arguments : List (List ℕ)) (place : ℕ) (found : Option Verb) (said : Meaning) → (IsKeyword whose → ⊥) → Full arguments → place_of actors whose ≡ Some place → verb_of word ≡ found → says_by place found reads (spoken (whose ∷ word ∷ arguments)) ≡ Ok said → Says actors begun reads (whose ∷ word ∷ arguments) said
+  verb_said : (whose word : List ℕ) (arguments : List (List ℕ)) (place : ℕ) (found : Option Verb) (said : Meaning) → (IsKeyword whose → ⊥) → Full arguments → actor_place actors whose ≡ Some place → verb_of word ≡ found → says_by place found reads (spoken (whose ∷ word ∷ arguments)) ≡ Ok said → Says actors begun reads (whose ∷ word ∷ arguments) said
   verb_said whose word arguments place None said free full there known is = cc
   verb_said whose word arguments place (Some v) said free full there known is = by (has_words v (suc (suc (length arguments)))) refl is
     where
@@ -148,7 +148,7 @@ module _ (actors : List ActorDecl) (begun : Bool) (reads : ℕ) where
           let spelled = spells v arguments found.0 limits.0 limits.1 full found.1 in
           rw (← found.2) (record { whose = whose; behind = word ∷ arguments; free = free; declared = there; split = refl; spelled = rw (verb_word word v known) spelled }, refl, found.3)
 
-  other_at : (whose : List ℕ) (found : Option ℕ) (behind : List (List ℕ)) (said : Meaning) → (IsKeyword whose → ⊥) → Full behind → place_of actors whose ≡ found → says_at found reads (spoken (whose ∷ behind)) ≡ Ok said → Says actors begun reads (whose ∷ behind) said
+  other_at : (whose : List ℕ) (found : Option ℕ) (behind : List (List ℕ)) (said : Meaning) → (IsKeyword whose → ⊥) → Full behind → actor_place actors whose ≡ found → says_at found reads (spoken (whose ∷ behind)) ≡ Ok said → Says actors begun reads (whose ∷ behind) said
   other_at whose None behind said free full there is = cc
   other_at whose (Some place) [] said free full there is = cc
   other_at whose (Some place) (word ∷ arguments) said free full there is = verb_said whose word arguments place (verb_of word) said free full.1 there refl (by (suc (suc (length arguments)) == 1) (two_up (length arguments)) is)
@@ -164,7 +164,7 @@ module _ (actors : List ActorDecl) (begun : Bool) (reads : ℕ) where
         | is_actor same ↦ back same (actor_said behind said full (onto same is))
         | is_phase same ↦ back same (phase_said behind said (onto same is))
         | is_turn same ↦ back same (turn_said behind said (onto same is))
-        | is_other free ↦ other_at whose (place_of actors whose) behind said free full refl (sym (of_other actors begun reads whose behind free) ∙ is)
+        | is_other free ↦ other_at whose (actor_place actors whose) behind said free full refl (sym (of_other actors begun reads whose behind free) ∙ is)
       ]
     where
       onto : {w : List ℕ} → whose ≡ w → meaning_of actors begun reads (spoken (whose ∷ behind)) ≡ Ok said → meaning_of actors begun reads (spoken (w ∷ behind)) ≡ Ok said
@@ -184,7 +184,7 @@ module _ (actors : List ActorDecl) (begun : Bool) (reads : ℕ) where
   within_again : (place : ℕ) (made : Statement) (sum : ℕ) → sum ≤ 2 ^ 28 → within_reads place made sum ≡ Ok (meaning.Says place made sum)
   within_again place made sum few = let fits : nat_le sum (2 ^ 28) ≡ true = grind (arith, nat_tests) in rw fits refl
 
-  verb_again : (whose : List ℕ) (arguments : List (List ℕ)) (place : ℕ) (v : Verb) → (IsKeyword whose → ⊥) → place_of actors whose ≡ Some place → meaning_of actors begun reads (spoken (whose ∷ word_of v ∷ arguments)) ≡ cond (has_words v (suc (suc (length arguments)))) (reading v arguments >>= (λ made. within_reads place made (reads + read_length made))) (Err kinds.Count)
+  verb_again : (whose : List ℕ) (arguments : List (List ℕ)) (place : ℕ) (v : Verb) → (IsKeyword whose → ⊥) → actor_place actors whose ≡ Some place → meaning_of actors begun reads (spoken (whose ∷ word_of v ∷ arguments)) ≡ cond (has_words v (suc (suc (length arguments)))) (reading v arguments >>= (λ made. within_reads place made (reads + read_length made))) (Err kinds.Count)
   verb_again whose arguments place v free there = of_other actors begun reads whose (word_of v ∷ arguments) free ∙ rw (there, verb_known v, two_up (length arguments)) refl
 
   statement_again : (words : List (List ℕ)) (place : ℕ) (made : Statement) → States actors words place made → reads + read_length made ≤ 2 ^ 28 → meaning_of actors begun reads (spoken words) ≡ Ok (meaning.Says place made (reads + read_length made))

@@ -4,7 +4,7 @@ use Rattle.std.specs.Fmt.{decimal}
 use Rattle.std.proofs.lemmas.Bool.Decides.{nat_tests}
 use Rattle.script_lang.specs.declared.trouble.Kind.{Kind}
 use Rattle.script_lang.specs.declared.trouble.Kind.TheVariants.{Number}
-use Rattle.script_lang.specs.Numbers.{number_of, within, number_in}
+use Rattle.script_lang.specs.Numbers.{numeral_of, within, number_within}
 use Rattle.script_lang.proofs.Decimals.{number_written, number_read}
 
 tested : (least most m n : ℕ) (low high : Bool) → nat_le least m ≡ low → nat_le m most ≡ high → cond (low && high) (Ok m) (Err Number) ≡ Ok n → (least ≤ n) × (n ≤ most) × (m ≡ n)
@@ -23,9 +23,9 @@ found_within least most n (Some m) is =
     (ap (λ k. Some k) each.2, each.0, each.1)
 
 -- a number that is read is written so
-pub number_found : (least most n : ℕ) (word : List ℕ) → number_in least most word ≡ Ok n → (word ≡ decimal n) × (least ≤ n) × (n ≤ most) × (n < 2 ^ 64)
+pub number_found : (least most n : ℕ) (word : List ℕ) → number_within least most word ≡ Ok n → (word ≡ decimal n) × (least ≤ n) × (n ≤ most) × (n < 2 ^ 64)
 number_found least most n word is =
-    let each = found_within least most n (number_of word) is in
+    let each = found_within least most n (numeral_of word) is in
     let written = number_written word n each.0 in
     (written.0, each.1, each.2, written.1)
 
@@ -36,7 +36,7 @@ in_limits least most n low high =
     rw (from, to) refl
 
 -- and what is written so is read
-pub number_again : (least most n : ℕ) → n < 2 ^ 64 → least ≤ n → n ≤ most → number_in least most (decimal n) ≡ Ok n
+pub number_again : (least most n : ℕ) → n < 2 ^ 64 → least ≤ n → n ≤ most → number_within least most (decimal n) ≡ Ok n
 number_again least most n small low high = ap (within least most) (number_read n small) ∙ in_limits least most n low high
 
 chosen : (b : Bool) (n : ℕ) (kind : Kind) → cond b (Ok n) (Err Number) ≡ Err kind → kind ≡ Number
@@ -48,5 +48,5 @@ number_kind least most None kind is = cc
 number_kind least most (Some n) kind is = chosen (nat_le least n && nat_le n most) n kind is
 
 -- the only fault of a number is one
-pub number_refused : (least most : ℕ) (word : List ℕ) (kind : Kind) → number_in least most word ≡ Err kind → kind ≡ Number
-number_refused least most word kind is = number_kind least most (number_of word) kind is
+pub number_refused : (least most : ℕ) (word : List ℕ) (kind : Kind) → number_within least most word ≡ Err kind → kind ≡ Number
+number_refused least most word kind is = number_kind least most (numeral_of word) kind is

@@ -4,9 +4,9 @@ use Rattle.std.specs.List.{AllByRecursion}
 use Rattle.script_lang.specs.declared.trouble.Kind.{Kind}
 use Rattle.script_lang.specs.Data.{data_in}
 use Rattle.script_lang.specs.Forms.{Rule, number, file, content, Keeps, kind_of}
-use Rattle.script_lang.specs.Conditions.{Breaks}
+use Rattle.script_lang.specs.Conditions.{BreaksRule}
 use Rattle.script_lang.specs.Names.{file_name}
-use Rattle.script_lang.specs.Numbers.{number_in}
+use Rattle.script_lang.specs.Numbers.{number_within}
 use Rattle.script_lang.proofs.DataLemmas.{data_again, data_found, data_refused}
 use Rattle.script_lang.proofs.FileNames.{name_found, name_again, name_refused}
 use Rattle.script_lang.proofs.NumberLemmas.{number_found, number_again, number_refused}
@@ -18,7 +18,7 @@ fault_of (Err kind) = Some kind
 
 -- the fault of a word under a rule
 abbrev pub broken : Rule → List ℕ → Option Kind
-broken (number least most) word = fault_of (number_in least most word)
+broken (number least most) word = fault_of (number_within least most word)
 broken file word = fault_of (file_name word)
 broken content word = fault_of (data_in word)
 
@@ -49,7 +49,7 @@ faulty (Err other) kind some = let same : other ≡ kind = cc in ap (λ k. Err k
 
 kept : (rule : Rule) (word : List ℕ) → broken rule word ≡ None → Keeps rule word
 kept (number least most) word none =
-    let read = faultless (number_in least most word) none in
+    let read = faultless (number_within least most word) none in
     let found = number_found least most read.0 word read.1 in
     (read.0, found.1, found.2, found.0)
 kept file word none =
@@ -63,8 +63,8 @@ kept content word none =
 
 not_kept : (rule : Rule) (word : List ℕ) (kind : Kind) → IsSmall rule → broken rule word ≡ Some kind → (Keeps rule word → ⊥) × (kind ≡ kind_of rule)
 not_kept (number least most) word kind small some =
-    let failed = faulty (number_in least most word) kind some in
-    (λ keeps. let again = number_again least most keeps.0 (omega (arith, keeps.2)) keeps.1 keeps.2 in let same = ap (number_in least most) keeps.3 in cc, number_refused least most word kind failed)
+    let failed = faulty (number_within least most word) kind some in
+    (λ keeps. let again = number_again least most keeps.0 (omega (arith, keeps.2)) keeps.1 keeps.2 in let same = ap (number_within least most) keeps.3 in cc, number_refused least most word kind failed)
 not_kept file word kind small some =
     let failed = faulty (file_name word) kind some in
     (λ keeps. let again = name_again word keeps in cc, name_refused word kind failed)
@@ -73,16 +73,16 @@ not_kept content word kind small some =
     (λ keeps. let again = data_again keeps.0 keeps.1 in let same = ap data_in keeps.2 in cc, data_refused word kind failed)
 
 -- the first fault is the first breach
-pub breaks : (rules : List Rule) (words : List (List ℕ)) (kind : Kind) → AllByRecursion IsSmall rules → first_broken rules words ≡ Some kind → Breaks rules words kind
+pub breaks : (rules : List Rule) (words : List (List ℕ)) (kind : Kind) → AllByRecursion IsSmall rules → first_broken rules words ≡ Some kind → BreaksRule rules words kind
 breaks [] words kind small is = cc
 breaks (rule ∷ rules) [] kind small is = cc
 breaks (rule ∷ rules) (word ∷ words) kind small is = by (breaks rules words kind small.1) (broken rule word) refl is
   where
-    by : (first_broken rules words ≡ Some kind → Breaks rules words kind) → (first : Option Kind) → broken rule word ≡ first → or_then first (first_broken rules words) ≡ Some kind → Breaks (rule ∷ rules) (word ∷ words) kind
+    by : (first_broken rules words ≡ Some kind → BreaksRule rules words kind) → (first : Option Kind) → broken rule word ≡ first → or_then first (first_broken rules words) ≡ Some kind → BreaksRule (rule ∷ rules) (word ∷ words) kind
     by rest None none later = inr (kept rule word none, rest later)
     by rest (Some other) some later = let same : other ≡ kind = cc in inl (not_kept rule word kind small.0 (some ∙ ap (λ k. Some k) same))
 
-pub breach_is_first : (rules : List Rule) (words : List (List ℕ)) (kind : Kind) → AllByRecursion IsSmall rules → Breaks rules words kind → first_broken rules words ≡ Some kind
+pub breach_is_first : (rules : List Rule) (words : List (List ℕ)) (kind : Kind) → AllByRecursion IsSmall rules → BreaksRule rules words kind → first_broken rules words ≡ Some kind
 breach_is_first [] words kind small is = absurd is
 breach_is_first (rule ∷ rules) [] kind small is = absurd is
 breach_is_first (rule ∷ rules) (word ∷ words) kind small (inl (lost, is)) = by (broken rule word) refl

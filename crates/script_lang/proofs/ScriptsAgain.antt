@@ -14,12 +14,12 @@ use Rattle.script_lang.specs.declared.script.ActorDecl.{ActorDecl}
 use Rattle.script_lang.specs.declared.script.Phase.{Phase}
 use Rattle.script_lang.specs.declared.script.Script.{Script}
 use Rattle.script_lang.specs.declared.trouble.Kind.{Kind}
-use Rattle.script_lang.specs.ActorNames.{is_word, place_of}
+use Rattle.script_lang.specs.ActorNames.{is_word, actor_place}
 use Rattle.script_lang.specs.Drafts.{empty_draft, draft_with, script_in, after_meaning}
 use Rattle.script_lang.specs.Faults.{Fault}
 use Rattle.script_lang.specs.Declarations.{DeclareAll}
 use Rattle.script_lang.specs.Grammar.{read_length, asked, AreScript}
-use Rattle.script_lang.specs.Phases.{empty_phase, with_turn, with_statement, Makes, passes, begins, turns, states, MakeAll}
+use Rattle.script_lang.specs.Phases.{empty_phase, with_turn, with_statement, MakesPhases, passes, begins, turns, states, MakeAll}
 use Rattle.script_lang.specs.Lines.{line_meaning}
 use Rattle.script_lang.specs.Scripts.{go_on, lines_draft}
 use Rattle.script_lang.proofs.DraftLemmas.{Differ, asked_cons, asked_first, onto, onto_nothing, onto_begins, onto_turn, onto_statement}
@@ -40,7 +40,7 @@ some_phases : (actors : List ActorDecl) (number : ℕ) (lines : List (List ℕ))
 some_phases actors number [] phases is = (empty_phase, [], is)
 some_phases actors number (line ∷ lines) phases (later, makes, rest) = by makes (some_phases actors (number + 1) lines later rest)
   where
-    by : Makes actors number line later phases → (first : Phase) × (others : List Phase) × (later ≡ first ∷ others) → (first : Phase) × (others : List Phase) × (phases ≡ first ∷ others)
+    by : MakesPhases actors number line later phases → (first : Phase) × (others : List Phase) × (later ≡ first ∷ others) → (first : Phase) × (others : List Phase) × (phases ≡ first ∷ others)
     by (passes over is) some = (some.0, some.1, is ∙ some.2)
     by (begins has is) some = (empty_phase, later, is)
     by (turns words turned first others has says later_is is) some = (with_turn turned first, others, is)
@@ -57,7 +57,7 @@ reached_on number line lines d said later phases read same_cast same_phases reac
 }
 
 work_on : (number : ℕ) (line : List ℕ) (lines : List (List ℕ)) (d : Draft) (later phases : List Phase) → ((e : Draft) → e.cast ≡ d.cast → e.reads + asked later ≤ 2 ^ 28 → Reached e (number + 1) lines later) → (first : Phase) × (others : List Phase) × (later ≡ first ∷ others) → d.reads + asked phases ≤ 2 ^ 28
-    → Makes d.cast number line later phases → Reached d number (line ∷ lines) phases
+    → MakesPhases d.cast number line later phases → Reached d number (line ∷ lines) phases
 work_on number line lines d later phases rest some few (passes over is) =
     reached_on number line lines d meaning.Passed later phases (line_passed d.cast d.begun d.reads line over) refl (ap (λ (ps : List Phase). d.phases ++ onto d.phase ps) (sym is)) (rest d refl (let same : asked phases ≡ asked later = ap asked is in omega arith))
 work_on number line lines d later phases rest some few (begins has is) =
@@ -107,7 +107,7 @@ not_taken cast actor later differ within =
     let apart = differ at (length cast) actor within (omega arith) in
     apart (ap (λ (a : ActorDecl). a.name) (get_left cast (actor ∷ later) actor at within) ∙ sym same ∙ ap (λ (a : ActorDecl). a.name) (sym (get_or-append_seam cast actor later actor)))
 
-pub new_name : (cast : List ActorDecl) (actor : ActorDecl) (later : List ActorDecl) → AllPairs Differ (cast ++ actor ∷ later) → place_of cast actor.name ≡ None
+pub new_name : (cast : List ActorDecl) (actor : ActorDecl) (later : List ActorDecl) → AllPairs Differ (cast ++ actor ∷ later) → actor_place cast actor.name ≡ None
 new_name cast actor later differ = by (nat_lt (position_or_len (λ (a : ActorDecl). is_word actor.name a.name) cast) (length cast)) refl
   where
     by : (b : Bool) → nat_lt (position_or_len (λ (a : ActorDecl). is_word actor.name a.name) cast) (length cast) ≡ b → cond (nat_lt (position_or_len (λ (a : ActorDecl). is_word actor.name a.name) cast) (length cast)) (Some (position_or_len (λ (a : ActorDecl). is_word actor.name a.name) cast)) None ≡ None
@@ -154,7 +154,7 @@ script_read lines script are =
 -- ---- the first faulty line
 
 -- the lines before this one are read, and it has this fault
-pub record Fails (d : Draft) (number : ℕ) (lines : List (List ℕ)) (fault : Fault) : Type 0 where
+pub record FailsAsRead (d : Draft) (number : ℕ) (lines : List (List ℕ)) (fault : Fault) : Type 0 where
   pub before : List (List ℕ)
   pub line : List ℕ
   pub behind : List (List ℕ)
@@ -164,8 +164,8 @@ pub record Fails (d : Draft) (number : ℕ) (lines : List (List ℕ)) (fault : F
   pub counted : fault.line ≡ number + length before
   pub failed : line_meaning so_far.cast so_far.begun so_far.reads line ≡ Err fault.kind
 
-fails_on : (number : ℕ) (line : List ℕ) (lines : List (List ℕ)) (d : Draft) (fault : Fault) (read : Result Meaning Kind) → line_meaning d.cast d.begun d.reads line ≡ read → ((said : Meaning) → lines_draft (number + 1) lines (draft_with number said d) ≡ Err fault → Fails (draft_with number said d) (number + 1) lines fault)
-    → go_on number (lines_draft (number + 1) lines) (after_meaning number read d) ≡ Err fault → Fails d number (line ∷ lines) fault
+fails_on : (number : ℕ) (line : List ℕ) (lines : List (List ℕ)) (d : Draft) (fault : Fault) (read : Result Meaning Kind) → line_meaning d.cast d.begun d.reads line ≡ read → ((said : Meaning) → lines_draft (number + 1) lines (draft_with number said d) ≡ Err fault → FailsAsRead (draft_with number said d) (number + 1) lines fault)
+    → go_on number (lines_draft (number + 1) lines) (after_meaning number read d) ≡ Err fault → FailsAsRead d number (line ∷ lines) fault
 fails_on number line lines d fault (Ok said) is rest failed =
     let later = rest said failed in
     record {
@@ -192,7 +192,7 @@ fails_on number line lines d fault (Err kind) is rest failed =
       failed = is ∙ ap (λ (f : Fault). Err f.kind) this;
     }
 
-pub fault_found : (lines : List (List ℕ)) (number : ℕ) (d : Draft) (fault : Fault) → lines_draft number lines d ≡ Err fault → Fails d number lines fault
+pub fault_found : (lines : List (List ℕ)) (number : ℕ) (d : Draft) (fault : Fault) → lines_draft number lines d ≡ Err fault → FailsAsRead d number lines fault
 fault_found [] number d fault is = cc
 fault_found (line ∷ lines) number d fault is = fails_on number line lines d fault (line_meaning d.cast d.begun d.reads line) refl (λ said. fault_found lines (number + 1) (draft_with number said d) fault) is
 

@@ -12,9 +12,9 @@ use Rattle.script_lang.specs.declared.verb.Verb.{Verb}
 use Rattle.script_lang.specs.declared.verb.Verb.TheVariants as verb
 use Rattle.script_lang.specs.Data.{data_in}
 use Rattle.script_lang.specs.Names.{file_name}
-use Rattle.script_lang.specs.Numbers.{number_in, number_or}
+use Rattle.script_lang.specs.Numbers.{number_within, number_or}
 use Rattle.script_lang.specs.Reading.{◌>>=◌}
-use Rattle.script_lang.specs.Spelling.{data_word, Spells}
+use Rattle.script_lang.specs.Spelling.{data_word, SpellsStatement}
 use Rattle.script_lang.specs.Statements.{statement_of}
 use Rattle.script_lang.specs.Verbs.{verb_of, has_words}
 use Rattle.script_lang.specs.Words.{first_word, later_words}
@@ -50,7 +50,7 @@ after_two (Ok x) (Ok y) f = refl
 after_two (Ok x) (Err kind) f = refl
 after_two (Err kind) s f = refl
 
-pub number_there : (other least most : ℕ) (word : List ℕ) → word ≢ [] → number_or other least most word ≡ number_in least most word
+pub number_there : (other least most : ℕ) (word : List ℕ) → word ≢ [] → number_or other least most word ≡ number_within least most word
 number_there other least most [] some = absurd (some refl)
 number_there other least most (b ∷ bytes) some = refl
 
@@ -63,26 +63,26 @@ ropen_fault [] some few full = absurd (omega arith)
 ropen_fault (a ∷ []) some few full = after_one (file_name a) (λ name. statement.Ropen name 1)
 ropen_fault (a ∷ b ∷ []) some few full =
     ap (λ (r : Result ℕ Kind). fault_of (file_name a >>= (λ name. r >>= (λ workers. Ok (statement.Ropen name workers))))) (number_there 1 1 16 b full.1.0)
-    ∙ after_two (file_name a) (number_in 1 16 b) (λ name workers. statement.Ropen name workers)
+    ∙ after_two (file_name a) (number_within 1 16 b) (λ name workers. statement.Ropen name workers)
 ropen_fault (a ∷ b ∷ c ∷ more) some few full = absurd (omega arith)
 
 pub first_fault : (v : Verb) (arguments : List (List ℕ)) → least_of v ≤ length arguments → length arguments ≤ length (rules_of v) → AllByRecursion (λ word. word ≢ []) arguments → fault_of (reading v arguments) ≡ first_broken (rules_of v) arguments
 first_fault verb.Open arguments low high full = let one = one_left arguments low high in rw one.1 (after_one (file_name one.0) (λ name. statement.Open name))
-first_fault verb.Write arguments low high full = let two = two_left arguments low high in rw two.2 (after_two (number_in 0 (2 ^ 64 - 1) two.0) (data_in two.1) (λ at written. statement.Write at written))
+first_fault verb.Write arguments low high full = let two = two_left arguments low high in rw two.2 (after_two (number_within 0 (2 ^ 64 - 1) two.0) (data_in two.1) (λ at written. statement.Write at written))
 first_fault verb.Sync arguments low high full = refl
 first_fault verb.Close arguments low high full = refl
 first_fault verb.Ropen arguments low high full = ropen_fault arguments low high full
-first_fault verb.Read arguments low high full = let two = two_left arguments low high in rw two.2 (after_two (number_in 0 (2 ^ 64 - 1) two.0) (number_in 0 (2 ^ 24) two.1) (λ at len. statement.Read at len))
-first_fault verb.Verify arguments low high full = let two = two_left arguments low high in rw two.2 (after_two (number_in 0 (2 ^ 64 - 1) two.0) (data_in two.1) (λ at written. statement.Verify at written))
+first_fault verb.Read arguments low high full = let two = two_left arguments low high in rw two.2 (after_two (number_within 0 (2 ^ 64 - 1) two.0) (number_within 0 (2 ^ 24) two.1) (λ at len. statement.Read at len))
+first_fault verb.Verify arguments low high full = let two = two_left arguments low high in rw two.2 (after_two (number_within 0 (2 ^ 64 - 1) two.0) (data_in two.1) (λ at written. statement.Verify at written))
 first_fault verb.Map arguments low high full = refl
 first_fault verb.Rclose arguments low high full = refl
 first_fault verb.Stat arguments low high full = let one = one_left arguments low high in rw one.1 (after_one (file_name one.0) (λ name. statement.Stat name))
 first_fault verb.Flatten arguments low high full = let one = one_left arguments low high in rw one.1 (after_one (file_name one.0) (λ name. statement.Flatten name))
 first_fault verb.Recover arguments low high full = let one = one_left arguments low high in rw one.1 (after_one (file_name one.0) (λ name. statement.Recover name))
-first_fault verb.Trunc arguments low high full = let two = two_left arguments low high in rw two.2 (after_two (file_name two.0) (number_in 0 (2 ^ 64 - 1) two.1) (λ name size. statement.Trunc name size))
+first_fault verb.Trunc arguments low high full = let two = two_left arguments low high in rw two.2 (after_two (file_name two.0) (number_within 0 (2 ^ 64 - 1) two.1) (λ name size. statement.Trunc name size))
 first_fault verb.Rename arguments low high full = let two = two_left arguments low high in rw two.2 (after_two (file_name two.0) (file_name two.1) (λ name to. statement.Rename name to))
 first_fault verb.Ls arguments low high full = refl
-first_fault verb.Stop arguments low high full = let two = two_left arguments low high in rw two.2 (after_two (number_in 1 (2 ^ 64 - 1) two.0) (number_in 0 (2 ^ 64 - 1) two.1) (λ call bytes. statement.Stop call bytes))
+first_fault verb.Stop arguments low high full = let two = two_left arguments low high in rw two.2 (after_two (number_within 1 (2 ^ 64 - 1) two.0) (number_within 0 (2 ^ 64 - 1) two.1) (λ call bytes. statement.Stop call bytes))
 
 -- ---- what is read is so written
 
@@ -98,7 +98,7 @@ two_read (Err kind) s f made is = cc
 both_words : (w : List ℕ) {a b c d : List ℕ} → a ≡ c → b ≡ d → w ∷ a ∷ b ∷ [] ≡ w ∷ c ∷ d ∷ []
 both_words w ha hb = rw (ha, hb) refl
 
-ropen_read : (arguments : List (List ℕ)) (made : Statement) → 1 ≤ length arguments → length arguments ≤ 2 → AllByRecursion (λ word. word ≢ []) arguments → reading verb.Ropen arguments ≡ Ok made → Spells made (codes "ropen" ∷ arguments)
+ropen_read : (arguments : List (List ℕ)) (made : Statement) → 1 ≤ length arguments → length arguments ≤ 2 → AllByRecursion (λ word. word ≢ []) arguments → reading verb.Ropen arguments ≡ Ok made → SpellsStatement made (codes "ropen" ∷ arguments)
 ropen_read [] made some few full is = absurd (omega arith)
 ropen_read (a ∷ []) made some few full is =
     let read = one_read (file_name a) (λ name. statement.Ropen name 1) made is in
@@ -106,7 +106,7 @@ ropen_read (a ∷ []) made some few full is =
     rw (← read.2) (name.0, omega arith, omega arith, inr (ap (λ w. codes "ropen" ∷ w ∷ []) name.1, refl))
 ropen_read (a ∷ b ∷ []) made some few full is =
     let as_read = sym (ap (λ (r : Result ℕ Kind). file_name a >>= (λ name. r >>= (λ workers. Ok (statement.Ropen name workers)))) (number_there 1 1 16 b full.1.0)) ∙ is in
-    let read = two_read (file_name a) (number_in 1 16 b) (λ name workers. statement.Ropen name workers) made as_read in
+    let read = two_read (file_name a) (number_within 1 16 b) (λ name workers. statement.Ropen name workers) made as_read in
     let name = name_found a read.0 read.2 in
     let workers = number_found 1 16 read.1 b read.3 in
     rw (← read.4) (name.0, workers.1, workers.2, inl (both_words (codes "ropen") name.1 workers.0))
@@ -134,10 +134,10 @@ args_read w r s f arguments made low high is =
 bare : (w : List ℕ) (s made : Statement) (arguments : List (List ℕ)) → length arguments ≤ 0 → ◌≡◌ {A = Result Statement Kind} (Ok s) (Ok made) → (s ≡ made) × (w ∷ arguments ≡ w ∷ [])
 bare w s made arguments few is = let same : s ≡ made = cc in (same, ap (λ words. w ∷ words) (none_left arguments few))
 
-pub spells : (v : Verb) (arguments : List (List ℕ)) (made : Statement) → least_of v ≤ length arguments → length arguments ≤ length (rules_of v) → AllByRecursion (λ word. word ≢ []) arguments → reading v arguments ≡ Ok made → Spells made (word_of v ∷ arguments)
+pub spells : (v : Verb) (arguments : List (List ℕ)) (made : Statement) → least_of v ≤ length arguments → length arguments ≤ length (rules_of v) → AllByRecursion (λ word. word ≢ []) arguments → reading v arguments ≡ Ok made → SpellsStatement made (word_of v ∷ arguments)
 spells verb.Open arguments made low high full is = let read = name_read (codes "open") (λ name. statement.Open name) arguments made low high is in rw (← read.1) (read.2, read.3)
 spells verb.Write arguments made low high full is =
-    let read = args_read (codes "write") (number_in 0 (2 ^ 64 - 1)) data_in (λ at written. statement.Write at written) arguments made low high is in
+    let read = args_read (codes "write") (number_within 0 (2 ^ 64 - 1)) data_in (λ at written. statement.Write at written) arguments made low high is in
     let at = number_found 0 (2 ^ 64 - 1) read.2 read.0 read.5 in
     let written = data_found read.1 read.3 read.6 in
     rw (← read.7) (at.3, written.0, read.4 ∙ both_words (codes "write") at.0 written.1)
@@ -145,12 +145,12 @@ spells verb.Sync arguments made low high full is = let read = bare (codes "sync"
 spells verb.Close arguments made low high full is = let read = bare (codes "close") statement.Close made arguments high is in rw (← read.0) read.1
 spells verb.Ropen arguments made low high full is = ropen_read arguments made low high full is
 spells verb.Read arguments made low high full is =
-    let read = args_read (codes "read") (number_in 0 (2 ^ 64 - 1)) (number_in 0 (2 ^ 24)) (λ at len. statement.Read at len) arguments made low high is in
+    let read = args_read (codes "read") (number_within 0 (2 ^ 64 - 1)) (number_within 0 (2 ^ 24)) (λ at len. statement.Read at len) arguments made low high is in
     let at = number_found 0 (2 ^ 64 - 1) read.2 read.0 read.5 in
     let len = number_found 0 (2 ^ 24) read.3 read.1 read.6 in
     rw (← read.7) (at.3, len.2, read.4 ∙ both_words (codes "read") at.0 len.0)
 spells verb.Verify arguments made low high full is =
-    let read = args_read (codes "verify") (number_in 0 (2 ^ 64 - 1)) data_in (λ at written. statement.Verify at written) arguments made low high is in
+    let read = args_read (codes "verify") (number_within 0 (2 ^ 64 - 1)) data_in (λ at written. statement.Verify at written) arguments made low high is in
     let at = number_found 0 (2 ^ 64 - 1) read.2 read.0 read.5 in
     let written = data_found read.1 read.3 read.6 in
     rw (← read.7) (at.3, written.0, read.4 ∙ both_words (codes "verify") at.0 written.1)
@@ -160,7 +160,7 @@ spells verb.Stat arguments made low high full is = let read = name_read (codes "
 spells verb.Flatten arguments made low high full is = let read = name_read (codes "flatten") (λ name. statement.Flatten name) arguments made low high is in rw (← read.1) (read.2, read.3)
 spells verb.Recover arguments made low high full is = let read = name_read (codes "recover") (λ name. statement.Recover name) arguments made low high is in rw (← read.1) (read.2, read.3)
 spells verb.Trunc arguments made low high full is =
-    let read = args_read (codes "trunc") file_name (number_in 0 (2 ^ 64 - 1)) (λ name size. statement.Trunc name size) arguments made low high is in
+    let read = args_read (codes "trunc") file_name (number_within 0 (2 ^ 64 - 1)) (λ name size. statement.Trunc name size) arguments made low high is in
     let name = name_found read.0 read.2 read.5 in
     let size = number_found 0 (2 ^ 64 - 1) read.3 read.1 read.6 in
     rw (← read.7) (name.0, size.3, read.4 ∙ both_words (codes "trunc") name.1 size.0)
@@ -171,7 +171,7 @@ spells verb.Rename arguments made low high full is =
     rw (← read.7) (name.0, to.0, read.4 ∙ both_words (codes "rename") name.1 to.1)
 spells verb.Ls arguments made low high full is = let read = bare (codes "ls") statement.Ls made arguments high is in rw (← read.0) read.1
 spells verb.Stop arguments made low high full is =
-    let read = args_read (codes "stop") (number_in 1 (2 ^ 64 - 1)) (number_in 0 (2 ^ 64 - 1)) (λ call bytes. statement.Stop call bytes) arguments made low high is in
+    let read = args_read (codes "stop") (number_within 1 (2 ^ 64 - 1)) (number_within 0 (2 ^ 64 - 1)) (λ call bytes. statement.Stop call bytes) arguments made low high is in
     let call = number_found 1 (2 ^ 64 - 1) read.2 read.0 read.5 in
     let bytes = number_found 0 (2 ^ 64 - 1) read.3 read.1 read.6 in
     rw (← read.7) (call.1, call.3, bytes.3, read.4 ∙ both_words (codes "stop") call.0 bytes.0)
@@ -186,10 +186,10 @@ pub record IsReadOf (made : Statement) (words : List (List ℕ)) : Type 0 where
   pub counts : has_words does (suc (suc (length arguments))) ≡ true
   pub reads_so : reading does arguments ≡ Ok made
 
-small_again : (n : ℕ) → n < 2 ^ 64 → number_in 0 (2 ^ 64 - 1) (decimal n) ≡ Ok n
+small_again : (n : ℕ) → n < 2 ^ 64 → number_within 0 (2 ^ 64 - 1) (decimal n) ≡ Ok n
 small_again n small = number_again 0 (2 ^ 64 - 1) n small (omega arith) (omega arith)
 
-limited_again : (least most n : ℕ) → most < 2 ^ 64 → least ≤ n → n ≤ most → number_in least most (decimal n) ≡ Ok n
+limited_again : (least most n : ℕ) → most < 2 ^ 64 → least ≤ n → n ≤ most → number_within least most (decimal n) ≡ Ok n
 limited_again least most n small low high = number_again least most n (omega arith) low high
 
 workers_again : (n : ℕ) → 1 ≤ n → n ≤ 16 → number_or 1 1 16 (decimal n) ≡ Ok n
@@ -197,7 +197,7 @@ workers_again n low high =
     let some : decimal n ≢ [] = λ none. let long = decimal_nonempty n (omega arith) in let short : length (decimal n) ≡ 0 = ap length none in omega arith in
     number_there 1 1 16 (decimal n) some ∙ limited_again 1 16 n (omega arith) low high
 
-pub read_of : (made : Statement) (words : List (List ℕ)) → Spells made words → IsReadOf made words
+pub read_of : (made : Statement) (words : List (List ℕ)) → SpellsStatement made words → IsReadOf made words
 read_of (statement.Open name) words (rule, is) = record { does = verb.Open; arguments = name ∷ []; split = is; counts = refl; reads_so = rw (name_again name rule) refl }
 read_of (statement.Write at written) words (small, fits, is) = record { does = verb.Write; arguments = decimal at ∷ data_word written ∷ []; split = is; counts = refl; reads_so = rw (small_again at small, data_again written fits) refl }
 read_of statement.Sync words is = record { does = verb.Sync; arguments = []; split = is; counts = refl; reads_so = refl }
@@ -217,7 +217,7 @@ read_of statement.Ls words is = record { does = verb.Ls; arguments = []; split =
 read_of (statement.Stop call bytes) words (low, small, few, is) = record { does = verb.Stop; arguments = decimal call ∷ decimal bytes ∷ []; split = is; counts = refl; reads_so = rw (limited_again 1 (2 ^ 64 - 1) call (omega arith) low (omega arith), small_again bytes few) refl }
 
 -- no words are two statements
-pub one_statement : (words : List (List ℕ)) (a b : Statement) → Spells a words → Spells b words → a ≡ b
+pub one_statement : (words : List (List ℕ)) (a b : Statement) → SpellsStatement a words → SpellsStatement b words → a ≡ b
 one_statement words a b is also =
     let one = read_of a words is in
     let other = read_of b words also in

@@ -28,5 +28,5 @@ abbrev pub is_word : List ℕ → List ℕ → Bool
 is_word a b = pointwise nat_eq a b
 
 -- the place of the first actor of this name
-abbrev pub place_of : List ActorDecl → List ℕ → Option ℕ
-place_of actors name = position (λ actor. is_word name actor.name) actors
+abbrev pub actor_place : List ActorDecl → List ℕ → Option ℕ
+actor_place actors name = position (λ actor. is_word name actor.name) actors

@@ -7,7 +7,7 @@ use Rattle.script_lang.specs.declared.script.Data.{Data}
 use Rattle.script_lang.specs.declared.script.Data.TheVariants as data_of
 use Rattle.script_lang.specs.declared.trouble.Kind.{Kind}
 use Rattle.script_lang.specs.declared.trouble.Kind.TheVariants as kinds
-use Rattle.script_lang.specs.Numbers.{number_in}
+use Rattle.script_lang.specs.Numbers.{number_within}
 use Rattle.script_lang.specs.Spelling.{is_seen}
 
 -- one of 0-9 and a-f
@@ -33,7 +33,7 @@ length_and_byte made (Ok len) (Err _) = Err kinds.Data
 length_and_byte made (Err _) byte = Err kinds.Data
 
 abbrev pub pair_data : (ℕ → ℕ → Data) → List ℕ → Result Data Kind
-pair_data made pair = length_and_byte made (number_in 0 (2 ^ 24) (before_first (λ b. b == 58) pair)) (number_in 0 255 (after_first (λ b. b == 58) pair))
+pair_data made pair = length_and_byte made (number_within 0 (2 ^ 24) (before_first (λ b. b == 58) pair)) (number_within 0 255 (after_first (λ b. b == 58) pair))
 
 -- data by its length
 abbrev pub counted_data : List ℕ → Result Data Kind

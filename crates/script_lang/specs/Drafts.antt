@@ -9,7 +9,7 @@ use Rattle.script_lang.specs.declared.trouble.Kind.{Kind}
 use Rattle.script_lang.specs.Phases.{empty_phase}
 use Rattle.script_lang.specs.Lines.{line_meaning}
 use Rattle.script_lang.specs.Ranges.{FitsActor, FitsPhase}
-use Rattle.script_lang.specs.Reading.{Fails}
+use Rattle.script_lang.specs.Reading.{FailsAsRead}
 
 -- before the first line
 abbrev pub empty_draft : Draft
@@ -48,9 +48,9 @@ abbrev pub line_draft : ℕ → List ℕ → Draft → Result Draft Kind
 line_draft number line d = after_meaning number (line_meaning d.cast d.begun d.reads line) d
 
 -- the draft that was left is the one that reading gives, but for want of memory
-abbrev pub Follows : {A : Type 0} → Result A Flaw → Draft → Result Draft Kind → Type 0
-Follows (Ok _) left read = read ≡ Ok left
-Follows (Err flaw) left read = Fails flaw read
+abbrev pub FollowsAsRead : {A : Type 0} → Result A Flaw → Draft → Result Draft Kind → Type 0
+FollowsAsRead (Ok _) left read = read ≡ Ok left
+FollowsAsRead (Err flaw) left read = FailsAsRead flaw read
 
 -- what a draft keeps: all is in its ranges, and nothing is said before the last declaration
 pub record FitsDraft (d : Draft) : Type 0 where

@@ -3,13 +3,13 @@ use Rattle.std.specs.Prelude.{ℕ, ◌<◌, Contains, List, []}
 use Rattle.script_lang.specs.declared.script.Script.{Script}
 use Rattle.script_lang.specs.declared.trouble.Kind.{Kind}
 use Rattle.script_lang.specs.declared.trouble.Kind.TheVariants as kinds
-use Rattle.script_lang.specs.Conditions.{HasNoActor, IsLineOf, IsNoStatement, IsMiscounted, HasBreach, AsksTooMuch}
+use Rattle.script_lang.specs.Conditions.{HasNoActor, IsActorLine, IsNoStatement, IsMiscounted, HasBreach, AsksTooMuch}
 
 -- the words have a fault of this kind, behind the lines of this script
 abbrev pub HasKind : Script → List (List ℕ) → Kind → Type 0
 HasKind before words kinds.Spaces = Contains words []
 HasKind before words kinds.Actor = HasNoActor before words
-HasKind before words kinds.Word = (word : List ℕ) × (arguments : List (List ℕ)) × IsLineOf words word arguments × IsNoStatement word
+HasKind before words kinds.Word = (word : List ℕ) × (arguments : List (List ℕ)) × IsActorLine words word arguments × IsNoStatement word
 HasKind before words kinds.Count = IsMiscounted words
 HasKind before words kinds.Number = HasBreach words kinds.Number
 HasKind before words kinds.Name = HasBreach words kinds.Name

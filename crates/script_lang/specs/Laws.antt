@@ -4,13 +4,13 @@ use Rattle.script_lang.specs.declared.script.Script.{Script}
 use Rattle.script_lang.specs.declared.script.Statement.{Statement}
 use Rattle.script_lang.specs.Faults.{Fault, HasFault}
 use Rattle.script_lang.specs.Grammar.{IsScript}
-use Rattle.script_lang.specs.Spelling.{Spells}
+use Rattle.script_lang.specs.Spelling.{SpellsStatement}
 
 -- ---- statements
 
 -- no words are two statements
 abbrev pub OneStatement : Type 0
-OneStatement = (words : List (List ℕ)) (a b : Statement) → Spells a words → Spells b words → a ≡ b
+OneStatement = (words : List (List ℕ)) (a b : Statement) → SpellsStatement a words → SpellsStatement b words → a ≡ b
 
 -- ---- scripts
 

@@ -27,3 +27,4 @@ pub mod Spoken
 pub mod Statements
 pub mod Verbs
 pub mod Words
+pub mod Messages

@@ -9,8 +9,8 @@ use Rattle.script_lang.specs.declared.trouble.Kind.{Kind}
 use Rattle.script_lang.specs.declared.trouble.Kind.TheVariants as kinds
 use Rattle.script_lang.specs.declared.verb.Verb.{Verb}
 use Rattle.script_lang.specs.Grammar.{read_length}
-use Rattle.script_lang.specs.Names.{is_word, is_actor_name, place_of}
-use Rattle.script_lang.specs.Numbers.{number_in, number_or}
+use Rattle.script_lang.specs.Names.{is_word, is_actor_name, actor_place}
+use Rattle.script_lang.specs.Numbers.{number_within, number_or}
 use Rattle.script_lang.specs.Ranges.{FitsActor, FitsTurned, FitsStatement}
 use Rattle.script_lang.specs.Reading.{◌>>=◌}
 use Rattle.script_lang.specs.Spoken.{Spoken, spoken}
@@ -20,7 +20,7 @@ use Rattle.script_lang.specs.Words.{words_of, is_empty, is_passed}
 
 -- an actor may not be declared here by this name: the declaration comes late, is the 257th, or is malformed or doubled
 abbrev pub is_refused : List ActorDecl → Bool → List ℕ → Bool
-is_refused actors begun name = begun || nat_le 256 (length actors) || not (is_actor_name name) || is_some (place_of actors name)
+is_refused actors begun name = begun || nat_le 256 (length actors) || not (is_actor_name name) || is_some (actor_place actors name)
 
 -- the actor of a declaration: host 0 and capacity 64 where they are left out
 abbrev pub declared : Spoken → Result Meaning Kind
@@ -44,12 +44,12 @@ beginning line = if line.count == 1 then Ok meaning.Begins else Err kinds.Count
 abbrev pub turns_at : Option ℕ → Spoken → Result Meaning Kind
 turns_at None line = Err kinds.Actor
 turns_at (Some place) line = if line.count == 3 then (do
-  count ← number_in 1 (2 ^ 32 - 1) line.third
+  count ← number_within 1 (2 ^ 32 - 1) line.third
   Ok (meaning.Turns (record { actor = place; count = count }))) else Err kinds.Count
 
 -- `turn A N`
 abbrev pub turning : List ActorDecl → Spoken → Result Meaning Kind
-turning actors line = if line.count == 1 then Err kinds.Count else turns_at (place_of actors line.second) line
+turning actors line = if line.count == 1 then Err kinds.Count else turns_at (actor_place actors line.second) line
 
 -- a statement, where the `read` lines so far ask for so many bytes
 abbrev pub within_reads : ℕ → Statement → ℕ → Result Meaning Kind
@@ -67,7 +67,7 @@ says_at (Some place) reads line = if line.count == 1 then Err kinds.Count else s
 
 -- `A STATEMENT`
 abbrev pub saying : List ActorDecl → ℕ → Spoken → Result Meaning Kind
-saying actors reads line = says_at (place_of actors line.first) reads line
+saying actors reads line = says_at (actor_place actors line.first) reads line
 
 -- what the words of a line say, where these actors are declared, other lines have begun or not, and the `read`
 -- lines so far ask for so many bytes
@@ -88,7 +88,7 @@ line_meaning actors begun reads line =
 -- what is said may be taken: actors are declared once, in time and at most 256 times, all is in its ranges, and the
 -- `read` lines stay within their limit
 abbrev pub IsFit : List ActorDecl → Bool → Meaning → Type 0
-IsFit actors begun (meaning.Declares actor) = (place_of actors actor.name ≡ None) × (begun ≡ false) × (length actors < 256) × FitsActor actor
+IsFit actors begun (meaning.Declares actor) = (actor_place actors actor.name ≡ None) × (begun ≡ false) × (length actors < 256) × FitsActor actor
 IsFit actors begun (meaning.Turns turned) = FitsTurned (length actors) turned
 IsFit actors begun (meaning.Says place made reads) = (place < length actors) × FitsStatement made × (reads ≤ 2 ^ 28)
 IsFit actors begun other = Unit {0}

@@ -4,7 +4,7 @@ use Rattle.std.specs.List.{list_all}
 use Rattle.plfs_types.specs.Names.{is_name_byte}
 use Rattle.script_lang.specs.declared.trouble.Kind.{Kind}
 use Rattle.script_lang.specs.declared.trouble.Kind.TheVariants.{Name}
-pub use Rattle.script_lang.specs.ActorNames.{is_word, is_lower_letter, is_actor_byte, place_of}
+pub use Rattle.script_lang.specs.ActorNames.{is_word, is_lower_letter, is_actor_byte, actor_place}
 
 -- the name of a logical file: 1 to 64 bytes of A-Za-z0-9_-. and the first neither '.' nor '-'
 abbrev pub is_file_name : List ℕ → Bool

@@ -23,8 +23,8 @@ abbrev pub has_leading_zero : List ℕ → Bool
 has_leading_zero word = nat_lt 1 (length word) && slice_index word 0 == 48
 
 -- the number that a word writes, of those below 2^64
-abbrev pub number_of : List ℕ → Option ℕ
-number_of word = if length word == 0 || has_leading_zero word then None else value_of word
+abbrev pub numeral_of : List ℕ → Option ℕ
+numeral_of word = if length word == 0 || has_leading_zero word then None else value_of word
 
 -- a number within these limits
 abbrev pub within : ℕ → ℕ → Option ℕ → Result ℕ Kind
@@ -32,10 +32,10 @@ within least most None = Err Number
 within least most (Some n) = if nat_le least n && nat_le n most then Ok n else Err Number
 
 -- the number that a word writes, within these limits
-abbrev pub number_in : ℕ → ℕ → List ℕ → Result ℕ Kind
-number_in least most word = within least most (number_of word)
+abbrev pub number_within : ℕ → ℕ → List ℕ → Result ℕ Kind
+number_within least most word = within least most (numeral_of word)
 
 -- the same, or this number where the word is left out
 abbrev pub number_or : ℕ → ℕ → ℕ → List ℕ → Result ℕ Kind
 number_or other least most [] = Ok other
-number_or other least most (b ∷ bs) = number_in least most (b ∷ bs)
+number_or other least most (b ∷ bs) = number_within least most (b ∷ bs)

@@ -11,11 +11,11 @@ abbrev pub ◌>>=◌ : {A B : Type 0} → Result A Kind → (A → Result B Kind
 (Err kind) >>= f = Err kind
 
 -- a failure is the fault that reading meets, or want of memory
-abbrev pub Fails : {A : Type 0} → Flaw → Result A Kind → Type 0
-Fails (flaws.Kind kind) read = read ≡ Err kind
-Fails flaws.NoMemory read = Unit {0}
+abbrev pub FailsAsRead : {A : Type 0} → Flaw → Result A Kind → Type 0
+FailsAsRead (flaws.Kind kind) read = read ≡ Err kind
+FailsAsRead flaws.NoMemory read = Unit {0}
 
 -- an answer is what reading gives, but for want of memory
-abbrev pub Gives : {A : Type 0} → Result A Flaw → Result A Kind → Type 0
-Gives (Ok x) read = read ≡ Ok x
-Gives (Err flaw) read = Fails flaw read
+abbrev pub GivesAsRead : {A : Type 0} → Result A Flaw → Result A Kind → Type 0
+GivesAsRead (Ok x) read = read ≡ Ok x
+GivesAsRead (Err flaw) read = FailsAsRead flaw read

@@ -36,9 +36,9 @@ abbrev pub FailsWith : {A : Type 0} → ScriptTrouble → Result A Fault → Typ
 FailsWith (trouble.Fault line kind) read = read ≡ Err (record { line = line; kind = kind })
 FailsWith trouble.NoMemory read = Unit {0}
 
-abbrev pub Answers : {A : Type 0} → Result A ScriptTrouble → Result A Fault → Type 0
-Answers (Ok x) read = read ≡ Ok x
-Answers (Err failed) read = FailsWith failed read
+abbrev pub AnswersAsRead : {A : Type 0} → Result A ScriptTrouble → Result A Fault → Type 0
+AnswersAsRead (Ok x) read = read ≡ Ok x
+AnswersAsRead (Err failed) read = FailsWith failed read
 
 -- what is told of the flaw of a line
 abbrev pub trouble_at : ℕ → Flaw → ScriptTrouble

@@ -28,20 +28,20 @@ IsData (data_of.Fill len byte) = (len ≤ 2 ^ 24) × (byte ≤ 255)
 IsData (data_of.Ramp len first) = (len ≤ 2 ^ 24) × (first ≤ 255)
 
 -- the words of a statement, behind the name of its actor; only the workers of a reader may be left out, where there is one
-abbrev pub Spells : Statement → List (List ℕ) → Type 0
-Spells (statement.Open name) words = IsLogicalName name × (words ≡ codes "open" ∷ name ∷ [])
-Spells (statement.Write at content) words = (at < 2 ^ 64) × IsData content × (words ≡ codes "write" ∷ decimal at ∷ data_word content ∷ [])
-Spells statement.Sync words = words ≡ codes "sync" ∷ []
-Spells statement.Close words = words ≡ codes "close" ∷ []
-Spells (statement.Ropen name workers) words = IsLogicalName name × (1 ≤ workers) × (workers ≤ 16) × ((words ≡ codes "ropen" ∷ name ∷ decimal workers ∷ []) ⊎ ((words ≡ codes "ropen" ∷ name ∷ []) × (workers ≡ 1)))
-Spells (statement.Read at len) words = (at < 2 ^ 64) × (len ≤ 2 ^ 24) × (words ≡ codes "read" ∷ decimal at ∷ decimal len ∷ [])
-Spells (statement.Verify at content) words = (at < 2 ^ 64) × IsData content × (words ≡ codes "verify" ∷ decimal at ∷ data_word content ∷ [])
-Spells statement.Map words = words ≡ codes "map" ∷ []
-Spells statement.Rclose words = words ≡ codes "rclose" ∷ []
-Spells (statement.Stat name) words = IsLogicalName name × (words ≡ codes "stat" ∷ name ∷ [])
-Spells (statement.Flatten name) words = IsLogicalName name × (words ≡ codes "flatten" ∷ name ∷ [])
-Spells (statement.Recover name) words = IsLogicalName name × (words ≡ codes "recover" ∷ name ∷ [])
-Spells (statement.Trunc name size) words = IsLogicalName name × (size < 2 ^ 64) × (words ≡ codes "trunc" ∷ name ∷ decimal size ∷ [])
-Spells (statement.Rename name to) words = IsLogicalName name × IsLogicalName to × (words ≡ codes "rename" ∷ name ∷ to ∷ [])
-Spells statement.Ls words = words ≡ codes "ls" ∷ []
-Spells (statement.Stop call bytes) words = (1 ≤ call) × (call < 2 ^ 64) × (bytes < 2 ^ 64) × (words ≡ codes "stop" ∷ decimal call ∷ decimal bytes ∷ [])
+abbrev pub SpellsStatement : Statement → List (List ℕ) → Type 0
+SpellsStatement (statement.Open name) words = IsLogicalName name × (words ≡ codes "open" ∷ name ∷ [])
+SpellsStatement (statement.Write at content) words = (at < 2 ^ 64) × IsData content × (words ≡ codes "write" ∷ decimal at ∷ data_word content ∷ [])
+SpellsStatement statement.Sync words = words ≡ codes "sync" ∷ []
+SpellsStatement statement.Close words = words ≡ codes "close" ∷ []
+SpellsStatement (statement.Ropen name workers) words = IsLogicalName name × (1 ≤ workers) × (workers ≤ 16) × ((words ≡ codes "ropen" ∷ name ∷ decimal workers ∷ []) ⊎ ((words ≡ codes "ropen" ∷ name ∷ []) × (workers ≡ 1)))
+SpellsStatement (statement.Read at len) words = (at < 2 ^ 64) × (len ≤ 2 ^ 24) × (words ≡ codes "read" ∷ decimal at ∷ decimal len ∷ [])
+SpellsStatement (statement.Verify at content) words = (at < 2 ^ 64) × IsData content × (words ≡ codes "verify" ∷ decimal at ∷ data_word content ∷ [])
+SpellsStatement statement.Map words = words ≡ codes "map" ∷ []
+SpellsStatement statement.Rclose words = words ≡ codes "rclose" ∷ []
+SpellsStatement (statement.Stat name) words = IsLogicalName name × (words ≡ codes "stat" ∷ name ∷ [])
+SpellsStatement (statement.Flatten name) words = IsLogicalName name × (words ≡ codes "flatten" ∷ name ∷ [])
+SpellsStatement (statement.Recover name) words = IsLogicalName name × (words ≡ codes "recover" ∷ name ∷ [])
+SpellsStatement (statement.Trunc name size) words = IsLogicalName name × (size < 2 ^ 64) × (words ≡ codes "trunc" ∷ name ∷ decimal size ∷ [])
+SpellsStatement (statement.Rename name to) words = IsLogicalName name × IsLogicalName to × (words ≡ codes "rename" ∷ name ∷ to ∷ [])
+SpellsStatement statement.Ls words = words ≡ codes "ls" ∷ []
+SpellsStatement (statement.Stop call bytes) words = (1 ≤ call) × (call < 2 ^ 64) × (bytes < 2 ^ 64) × (words ≡ codes "stop" ∷ decimal call ∷ decimal bytes ∷ [])

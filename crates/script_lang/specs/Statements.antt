@@ -8,12 +8,12 @@ use Rattle.script_lang.specs.declared.verb.Verb.{Verb}
 use Rattle.script_lang.specs.declared.verb.Verb.TheVariants as verb
 use Rattle.script_lang.specs.Data.{data_in}
 use Rattle.script_lang.specs.Names.{file_name}
-use Rattle.script_lang.specs.Numbers.{number_in, number_or}
+use Rattle.script_lang.specs.Numbers.{number_within, number_or}
 use Rattle.script_lang.specs.Reading.{◌>>=◌}
 
 -- a number below 2^64
 abbrev pub number : List ℕ → Result ℕ Kind
-number word = number_in 0 (2 ^ 64 - 1) word
+number word = number_within 0 (2 ^ 64 - 1) word
 
 -- what a statement with a file's name alone is
 abbrev pub of_file : (List ℕ → Statement) → List ℕ → Result Statement Kind
@@ -40,7 +40,7 @@ statement_of verb.Ropen a b = do
   Ok (statement.Ropen name workers)
 statement_of verb.Read a b = do
   at ← number a
-  len ← number_in 0 (2 ^ 24) b
+  len ← number_within 0 (2 ^ 24) b
   Ok (statement.Read at len)
 statement_of verb.Verify a b = of_place statement.Verify a b
 statement_of verb.Map a b = Ok statement.Map
@@ -58,6 +58,6 @@ statement_of verb.Rename a b = do
   Ok (statement.Rename name to)
 statement_of verb.Ls a b = Ok statement.Ls
 statement_of verb.Stop a b = do
-  call ← number_in 1 (2 ^ 64 - 1) a
+  call ← number_within 1 (2 ^ 64 - 1) a
   bytes ← number b
   Ok (statement.Stop call bytes)

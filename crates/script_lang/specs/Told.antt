@@ -5,10 +5,10 @@ use Rattle.script_lang.specs.declared.trouble.ScriptTrouble.TheVariants as troub
 use Rattle.script_lang.specs.Faults.{HasFault}
 
 -- the trouble is the first fault of the bytes, or want of memory
-abbrev pub IsTroubleOf : List ℕ → ScriptTrouble → Type 0
-IsTroubleOf bytes (trouble.Fault line kind) = HasFault bytes (record { line = line; kind = kind })
-IsTroubleOf bytes trouble.NoMemory = Unit {0}
+abbrev pub IsScriptTrouble : List ℕ → ScriptTrouble → Type 0
+IsScriptTrouble bytes (trouble.Fault line kind) = HasFault bytes (record { line = line; kind = kind })
+IsScriptTrouble bytes trouble.NoMemory = Unit {0}
 
 -- this is answered, unless memory is refused
-abbrev pub IsAnswer : {A : Type 0} → Result A ScriptTrouble → Result A ScriptTrouble → Type 0
-IsAnswer answered answer = (answered ≡ answer) ⊎ (answered ≡ Err trouble.NoMemory)
+abbrev pub IsAnswered : {A : Type 0} → Result A ScriptTrouble → Result A ScriptTrouble → Type 0
+IsAnswered answered answer = (answered ≡ answer) ⊎ (answered ≡ Err trouble.NoMemory)

@@ -1,6 +1,6 @@
 //! The declared actors, and the place of each by its name.
 ghost use Rattle.std.specs.Prelude.{◌≡◌, ◌++◌, ◌∷◌, [], None, length, ◌<◌, OnOk, IfOk, IfSome};
-ghost use Rattle.script_lang.specs.Names.{place_of};
+ghost use Rattle.script_lang.specs.Names.{actor_place};
 
 use crate::script::{ActorDecl, ActorList};
 use indexmap::IndexMap;
@@ -45,7 +45,7 @@ impl Cast {
 
     // The place of the actor of this name.
     pub fn place(&self, name: &[u8]) -> Option<u64>
-        ensures place { result ≡ place_of self.now name.now }
+        ensures place { result ≡ actor_place self.now name.now }
         ensures within { IfSome result (λ place. place < length self.now) }
     {
         match self.table.get_index_of(name) {
@@ -56,7 +56,7 @@ impl Cast {
 
     // Adds an actor, whose name no other has.
     pub fn push(&mut self, alloc: Global, actor: ActorDecl) -> Result<(), NoMemory>
-        requires { place_of self.old actor.name ≡ None }
+        requires { actor_place self.old actor.name ≡ None }
         ensures { OnOk result (self.new ≡ self.old ++ actor ∷ []) }
     {
         let name = Vec::from_slice(alloc, actor.name.bytes())?;

@@ -5,7 +5,7 @@ ghost use Rattle.script_lang.specs.Spelling.{is_seen};
 ghost use Rattle.script_lang.specs.Data.{is_lower_digit, hex_data, text_data, pair_data, counted_data, data_in};
 ghost use Rattle.script_lang.specs.declared.script.Data.TheVariants as data_of;
 ghost use Rattle.script_lang.specs.Ranges.{FitsData};
-ghost use Rattle.script_lang.specs.Reading.{Gives};
+ghost use Rattle.script_lang.specs.Reading.{GivesAsRead};
 
 use crate::flaw::Flaw;
 use crate::numbers::number_in;
@@ -31,7 +31,7 @@ fn are_seen(word: &[u8]) -> bool
 // The bytes of an even number of lower-case digits.
 fn hex_data(alloc: Global, digits: &[u8]) -> Result<Data, Flaw>
     requires { length digits.now ≤ 2 ^ 20 }
-    ensures given { Gives result (hex_data digits.now) }
+    ensures given { GivesAsRead result (hex_data digits.now) }
     ensures fits { IfOk result FitsData }
 {
     if !are_lower_digits(digits) {
@@ -47,7 +47,7 @@ fn hex_data(alloc: Global, digits: &[u8]) -> Result<Data, Flaw>
 // The bytes themselves, where they are seen.
 fn text_data(alloc: Global, bytes: &[u8]) -> Result<Data, Flaw>
     requires { length bytes.now ≤ 2 ^ 20 }
-    ensures given { Gives result (text_data bytes.now) }
+    ensures given { GivesAsRead result (text_data bytes.now) }
     ensures fits { IfOk result FitsData }
 {
     if !are_seen(bytes) {
@@ -112,7 +112,7 @@ fn counted_data(word: &[u8]) -> Result<Data, Kind>
 // The data that a word writes.
 pub(crate) fn data_in(alloc: Global, word: &[u8]) -> Result<Data, Flaw>
     requires { length word.now ≤ 2 ^ 20 }
-    ensures given { Gives result (data_in word.now) }
+    ensures given { GivesAsRead result (data_in word.now) }
     ensures fits { IfOk result FitsData }
 {
     if word.starts_with(b"hex:") {

@@ -2,10 +2,10 @@
 ghost use Rattle.std.specs.Prelude.{◌≡◌, ◌≤◌, ◌^◌, [], false, length, IfOk, OnOk};
 ghost use Rattle.script_lang.specs.Lines.{IsFit, line_meaning};
 ghost use Rattle.script_lang.specs.Ranges.{FitsScript};
-ghost use Rattle.script_lang.specs.Reading.{Gives};
+ghost use Rattle.script_lang.specs.Reading.{GivesAsRead};
 ghost use Rattle.script_lang.specs.Words.{is_passed};
 ghost use Rattle.script_lang.specs.Phases.{empty_phase};
-ghost use Rattle.script_lang.specs.Drafts.{empty_draft, draft_with, line_draft, Follows, script_in, FitsDraft};
+ghost use Rattle.script_lang.specs.Drafts.{empty_draft, draft_with, line_draft, FollowsAsRead, script_in, FitsDraft};
 
 use crate::cast::Cast;
 use crate::flaw::Flaw;
@@ -93,7 +93,7 @@ impl Draft {
     pub fn line(&mut self, alloc: Global, number: u64, line: &[u8]) -> Result<(), Flaw>
         requires short { length line.now ≤ 2 ^ 20 }
         requires fits { FitsDraft self.old }
-        ensures follows { Follows result self.new (line_draft number line.now self.old) }
+        ensures follows { FollowsAsRead result self.new (line_draft number line.now self.old) }
         ensures fits { OnOk result (FitsDraft self.new) }
     {
         let said = said(alloc, self, line)?;
@@ -130,7 +130,7 @@ fn is_passed(line: &[u8]) -> bool
 fn said(alloc: Global, draft: &Draft, line: &[u8]) -> Result<Meaning, Flaw>
     requires short { length line.now ≤ 2 ^ 20 }
     requires fits { FitsDraft draft.now }
-    ensures said { Gives result (line_meaning draft.now.cast draft.now.begun draft.now.reads line.now) }
+    ensures said { GivesAsRead result (line_meaning draft.now.cast draft.now.begun draft.now.reads line.now) }
     ensures fit { IfOk result (IsFit draft.now.cast draft.now.begun) }
 {
     if is_passed(line) {

@@ -3,7 +3,7 @@ use crate::trouble::Kind;
 use std::alloc::{AllocError, AllocFailed};
 
 // Why a line or a word could not be read.
-#[derive(Clone, Copy, Debug, PartialEq, Eq)]
+#[derive(Clone, Copy, PartialEq, Eq)]
 pub(crate) enum Flaw {
     Kind(Kind),
     NoMemory,

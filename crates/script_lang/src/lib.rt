@@ -25,6 +25,3 @@ pub use script::{
 };
 pub use spelling::{scripts_are_told_apart, statements_are_told_apart};
 pub use trouble::{Kind, ScriptTrouble};
-
-#[cfg(test)]
-mod tests;

@@ -3,7 +3,7 @@ ghost use Rattle.std.specs.Prelude.{◌≡◌, ◌≤◌, ◌^◌, ◌+◌, ◌<
 ghost use Rattle.script_lang.specs.Grammar.{read_length};
 ghost use Rattle.script_lang.specs.Lines.{is_refused, declared, declaration, beginning, turning, turns_at, within_reads, says_by, saying, meaning_of, Names, IsFit};
 ghost use Rattle.script_lang.specs.Ranges.{FitsStatement};
-ghost use Rattle.script_lang.specs.Reading.{Gives};
+ghost use Rattle.script_lang.specs.Reading.{GivesAsRead};
 ghost use Rattle.script_lang.specs.declared.script.ActorDecl.{ActorDecl};
 ghost use Rattle.script_lang.specs.Shown.{shown};
 
@@ -134,7 +134,7 @@ fn says(
 ) -> Result<Meaning, Flaw>
     requires few { reads ≤ 2 ^ 28 }
     requires short { length words.now.fourth.now ≤ 2 ^ 20 }
-    ensures said { Gives result (says_by actor (Some verb) reads (shown words.now)) }
+    ensures said { GivesAsRead result (says_by actor (Some verb) reads (shown words.now)) }
     ensures fit { (actors : List ActorDecl) (begun : Bool) → actor < length actors → IfOk result (IsFit actors begun) }
 {
     if !has_words(verb, words.count) {
@@ -147,7 +147,7 @@ fn says(
 fn saying(alloc: Global, cast: &Cast, reads: u64, words: &Words<'_>) -> Result<Meaning, Flaw>
     requires few { reads ≤ 2 ^ 28 }
     requires short { length words.now.fourth.now ≤ 2 ^ 20 }
-    ensures said { Gives result (saying cast.now reads (shown words.now)) }
+    ensures said { GivesAsRead result (saying cast.now reads (shown words.now)) }
     ensures fit { (begun : Bool) → IfOk result (IsFit cast.now begun) }
 {
     let Some(actor) = cast.place(words.first) else {
@@ -183,7 +183,7 @@ pub(crate) fn meaning_of(
 ) -> Result<Meaning, Flaw>
     requires few { reads ≤ 2 ^ 28 }
     requires short { length words.now.fourth.now ≤ 2 ^ 20 }
-    ensures said { Gives result (meaning_of cast.now begun reads (shown words.now)) }
+    ensures said { GivesAsRead result (meaning_of cast.now begun reads (shown words.now)) }
     ensures fit { IfOk result (IsFit cast.now begun) }
 {
     if words.first == b"actor".as_slice() {

@@ -1,7 +1,7 @@
 //! Numbers in words: decimal, without sign and without leading zeros.
 ghost use Rattle.std.specs.Prelude.{◌≡◌, ◌<◌, ◌^◌, ℕ, Some, IfSome, IfOk, ◌≤◌};
 ghost use Rattle.std.specs.Fmt.{decimal};
-ghost use Rattle.script_lang.specs.Numbers.{digit_behind, value_of, number_of, number_in, number_or};
+ghost use Rattle.script_lang.specs.Numbers.{digit_behind, value_of, numeral_of, number_within, number_or};
 
 use crate::trouble::Kind;
 
@@ -30,7 +30,7 @@ fn value(digits: &[u8]) -> Option<u64>
 }
 
 fn numeral(word: &[u8]) -> Option<u64>
-    ensures { result ≡ number_of word.now }
+    ensures { result ≡ numeral_of word.now }
 {
     if word.is_empty() || (word.len() > 1 && word[0] == b'0') {
         return None;
@@ -40,7 +40,7 @@ fn numeral(word: &[u8]) -> Option<u64>
 
 // The number that a word writes, of those below 2^64.
 fn number(word: &[u8]) -> Option<u64>
-    ensures number { result ≡ number_of word.now }
+    ensures number { result ≡ numeral_of word.now }
     // These are the words that are printed of numbers, and no others.
     ensures written { IfSome result (λ n. word.now ≡ decimal n) }
     ensures read { (n : ℕ) → n < 2 ^ 64 → word.now ≡ decimal n → result ≡ Some n }
@@ -50,7 +50,7 @@ fn number(word: &[u8]) -> Option<u64>
 
 // The number that a word writes, from `least` to `most`.
 pub(crate) fn number_in(word: &[u8], least: u64, most: u64) -> Result<u64, Kind>
-    ensures number { result ≡ number_in least most word.now }
+    ensures number { result ≡ number_within least most word.now }
     ensures limits { IfOk result (λ n. (least ≤ n) × (n ≤ most)) }
 {
     match number(word) {

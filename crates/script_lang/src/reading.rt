@@ -4,8 +4,8 @@ ghost use Rattle.script_lang.specs.Drafts.{FitsDraft, empty_draft};
 ghost use Rattle.script_lang.specs.Faults.{Fault, HasFault};
 ghost use Rattle.script_lang.specs.Grammar.{IsScript};
 ghost use Rattle.script_lang.specs.Ranges.{FitsScript};
-ghost use Rattle.script_lang.specs.Scripts.{Answers, lines_draft, script_of, trouble_at};
-ghost use Rattle.script_lang.specs.Told.{IsTroubleOf, IsAnswer};
+ghost use Rattle.script_lang.specs.Scripts.{AnswersAsRead, lines_draft, script_of, trouble_at};
+ghost use Rattle.script_lang.specs.Told.{IsScriptTrouble, IsAnswered};
 ghost use Rattle.script_lang.specs.Words.{lines_of};
 ghost use Rattle.script_lang.specs.declared.script.Script.{Script};
 
@@ -32,7 +32,7 @@ fn trouble(line: u64, flaw: Flaw) -> ScriptTrouble
 // What all lines make of a script.
 fn read_lines(alloc: Global, bytes: &[u8]) -> Result<Draft, ScriptTrouble>
     requires { length bytes.now ≤ 2 ^ 20 }
-    ensures draft { Answers result (lines_draft 1 (lines_of bytes.now) empty_draft) }
+    ensures draft { AnswersAsRead result (lines_draft 1 (lines_of bytes.now) empty_draft) }
     ensures fits { IfOk result FitsDraft }
 {
     let mut draft = Draft::new(alloc);
@@ -52,7 +52,7 @@ fn read_lines(alloc: Global, bytes: &[u8]) -> Result<Draft, ScriptTrouble>
 
 // The script of these bytes, read step by step.
 fn read_script(alloc: Global, bytes: &[u8]) -> Result<Script, ScriptTrouble>
-    ensures script { Answers result (script_of bytes.now) }
+    ensures script { AnswersAsRead result (script_of bytes.now) }
     ensures fits { IfOk result FitsScript }
 {
     if bytes.len() > MAX_SCRIPT {
@@ -71,10 +71,10 @@ impl Script {
     /// Takes time linear in the bytes.
     pub fn read(alloc: Global, bytes: &[u8]) -> Result<Script, ScriptTrouble>
         ensures script { IfOk result (IsScript bytes.now) }
-        ensures fault { IfErr result (IsTroubleOf bytes.now) }
+        ensures fault { IfErr result (IsScriptTrouble bytes.now) }
         // Each script is read, and each first fault is found, unless memory is refused.
-        ensures every_script { (script : Script) → IsScript bytes.now script → IsAnswer result (Ok script) }
-        ensures every_fault { (fault : Fault) → HasFault bytes.now fault → IsAnswer result (Err (ScriptTrouble.Fault fault.line fault.kind)) }
+        ensures every_script { (script : Script) → IsScript bytes.now script → IsAnswered result (Ok script) }
+        ensures every_fault { (fault : Fault) → HasFault bytes.now fault → IsAnswered result (Err (ScriptTrouble.Fault fault.line fault.kind)) }
         ensures fits { IfOk result FitsScript }
     {
         read_script(alloc, bytes)

@@ -66,7 +66,7 @@ pub enum Statement {
     Recover { name: LogicalName },
     /// Truncates a file.
     Trunc { name: LogicalName, size: u64 },
-    /// Gives a file a new name.
+    /// GivesAsRead a file a new name.
     Rename { name: LogicalName, to: LogicalName },
     /// Names all files.
     Ls,
@@ -130,7 +130,7 @@ pub struct Numbered {
 pub type StatementList = Sequence<Numbered>;
 
 /// So many written turns, 1 to 2^32 - 1, for the actor that is declared at this place, from 0.
-#[derive(Clone, Copy, Debug, PartialEq, Eq)]
+#[derive(Clone, Copy, PartialEq, Eq)]
 pub struct Turned {
     pub actor: u64,
     pub count: u64,

@@ -1,7 +1,7 @@
 //! Statements in words.
 ghost use Rattle.std.specs.Prelude.{◌≡◌, ◌≤◌, ◌^◌, length, IfOk};
 ghost use Rattle.script_lang.specs.Ranges.{FitsStatement};
-ghost use Rattle.script_lang.specs.Reading.{Gives};
+ghost use Rattle.script_lang.specs.Reading.{GivesAsRead};
 ghost use Rattle.script_lang.specs.Statements.{number, statement_of};
 
 use crate::data::data_in;
@@ -70,7 +70,7 @@ fn stop(call: &[u8], bytes: &[u8]) -> Result<Statement, Kind>
 
 fn write(alloc: Global, at: &[u8], content: &[u8]) -> Result<Statement, Flaw>
     requires { length content.now ≤ 2 ^ 20 }
-    ensures made { Gives result (statement_of Verb.Write at.now content.now) }
+    ensures made { GivesAsRead result (statement_of Verb.Write at.now content.now) }
     ensures fits { IfOk result FitsStatement }
 {
     let at = number(at)?;
@@ -80,7 +80,7 @@ fn write(alloc: Global, at: &[u8], content: &[u8]) -> Result<Statement, Flaw>
 
 fn verify(alloc: Global, at: &[u8], content: &[u8]) -> Result<Statement, Flaw>
     requires { length content.now ≤ 2 ^ 20 }
-    ensures made { Gives result (statement_of Verb.Verify at.now content.now) }
+    ensures made { GivesAsRead result (statement_of Verb.Verify at.now content.now) }
     ensures fits { IfOk result FitsStatement }
 {
     let at = number(at)?;
@@ -96,7 +96,7 @@ pub(crate) fn statement(
     second: &[u8],
 ) -> Result<Statement, Flaw>
     requires { length second.now ≤ 2 ^ 20 }
-    ensures made { Gives result (statement_of verb first.now second.now) }
+    ensures made { GivesAsRead result (statement_of verb first.now second.now) }
     ensures fits { IfOk result FitsStatement }
 {
     Ok(match verb {

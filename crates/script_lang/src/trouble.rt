@@ -1,5 +1,7 @@
 //! Why bytes are no script.
 use std::alloc::{AllocError, AllocFailed};
+use std::error::Error;
+use std::fmt;
 
 /// A kind of fault, in the order in which a line is looked at: `Number`, `Name` and `Data` have one place in it,
 /// where the leftmost argument decides, and `Long` comes before all others.
@@ -25,6 +27,28 @@ pub enum Kind {
     Long,
 }
 
+impl fmt::Display for Kind {
+    ghost use Rattle.std.specs.Prelude.{Some};
+    ghost use Rattle.script_lang.specs.Messages.{kind_text};
+
+    ghost output = { λ kind. Some (kind_text kind) };
+
+    fn fmt<W: fmt::Write>(&self, f: &mut fmt::Formatter<W>) -> fmt::Result {
+        f.write_str(match self {
+            Kind::Spaces => "a word is empty",
+            Kind::Actor =>
+                "the actor isn't declared, or its declaration is malformed, doubled, late or one too many",
+            Kind::Word => "there is no such statement",
+            Kind::Count => "the number of words is wrong",
+            Kind::Number => "a number is malformed or out of range",
+            Kind::Name => "a file's name is malformed",
+            Kind::Data => "data is malformed",
+            Kind::Reads => "the reads so far ask for more than 2^28 bytes",
+            Kind::Long => "the script has more than 2^20 bytes",
+        })
+    }
+}
+
 /// Why there is no script.
 #[derive(Clone, Copy, Debug, PartialEq, Eq)]
 pub enum ScriptTrouble {
@@ -33,6 +57,22 @@ pub enum ScriptTrouble {
     /// Memory was refused.
     NoMemory,
 }
+
+impl fmt::Display for ScriptTrouble {
+    ghost use Rattle.std.specs.Prelude.{Some};
+    ghost use Rattle.script_lang.specs.Messages.{trouble_text};
+
+    ghost output = { λ trouble. Some (trouble_text trouble) };
+
+    fn fmt<W: fmt::Write>(&self, f: &mut fmt::Formatter<W>) -> fmt::Result {
+        match self {
+            ScriptTrouble::Fault { line, kind } => write!(f, "line {line}: {kind}"),
+            ScriptTrouble::NoMemory => f.write_str("memory was refused"),
+        }
+    }
+}
+
+impl Error for ScriptTrouble {}
 
 impl From<AllocError> for ScriptTrouble {
     ghost use Rattle.std.specs.Prelude.{◌≡◌};

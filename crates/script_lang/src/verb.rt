@@ -4,7 +4,7 @@ ghost use Rattle.script_lang.specs.Names.{is_word};
 ghost use Rattle.script_lang.specs.Verbs.{writer_verb, reader_verb, asking_verb, changing_verb, verb_of, most_words, least_words, has_words};
 
 // What a statement does.
-#[derive(Clone, Copy, Debug, PartialEq, Eq)]
+#[derive(Clone, Copy, PartialEq, Eq)]
 pub(crate) enum Verb {
     Open,
     Write,

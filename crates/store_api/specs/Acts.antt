@@ -25,7 +25,7 @@ Goes moves (Some old) new = (after : Tree) × (new ≡ Some after) × moves old 
 pub record IsMade (step : Step) (answer : Answer) (old new : Stored) : Type 0 where
   pub tree : Goes (λ before after. effect before step ≡ record { tree = after; answer = answer }) old.tree new.tree
   pub acts : new.acts ≡ next_count old.acts
-  pub faults : old.faults ≤ new.faults
+  pub faults : new.faults ≡ old.faults
 
 -- the store has failed, and the step was made, or not, or a write in part
 pub record HasFaulted (step : Step) (old new : Stored) : Type 0 where

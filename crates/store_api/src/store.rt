@@ -3,6 +3,8 @@ ghost use Rattle.store_api.specs.Step.{step_of};
 ghost use Rattle.store_api.specs.Acts.{Stored, Acts};
 
 use crate::step::{Answer, Step};
+use std::error::Error;
+use std::fmt;
 
 /// Why an act gave no answer.
 #[derive(Clone, Copy, Debug, PartialEq, Eq)]
@@ -12,6 +14,22 @@ pub enum Trouble {
     /// Memory was refused. Nothing was done.
     NoMemory,
 }
+
+impl fmt::Display for Trouble {
+    ghost use Rattle.std.specs.Prelude.{Some};
+    ghost use Rattle.store_api.specs.Messages.{trouble_text};
+
+    ghost output = { λ trouble. Some (trouble_text trouble) };
+
+    fn fmt<W: fmt::Write>(&self, f: &mut fmt::Formatter<W>) -> fmt::Result {
+        f.write_str(match self {
+            Trouble::Fault => "the store failed",
+            Trouble::NoMemory => "memory was refused",
+        })
+    }
+}
+
+impl Error for Trouble {}
 
 /// A backing store: rooms with folders and files, changed one step at a time.
 pub trait Store {

@@ -1,28 +1,60 @@
--- The calls of the system on open files, and the log of them.
-use Rattle.std.specs.Prelude.{◌≡◌, ℕ, List, ◌++◌, Option, Some, None, Result, Ok, Err}
+-- The calls of the system, and the log of them.
+use Rattle.std.specs.Prelude.{◌≡◌, ℕ, List, [], ◌∷◌, ◌++◌, Bool, Option, Some, None, Result, Ok, Err, is_err, count_by, fold}
 use Rattle.store_folder.specs.declared.failure.Failure.{Failure}
+use Rattle.store_folder.specs.declared.reason.Kind.{Kind}
+use Rattle.store_folder.specs.declared.calls.Removal.{Removal}
 
 -- a call: its arguments and how it ended, at a read with the bytes that it gave
 pub data Call (F : Type 0) : Type 0 where
+  looked : List ℕ → Result Kind Failure → Call F
+  listed : List ℕ → Result (List (List ℕ)) Failure → Call F
   opened : List ℕ → Result (Option F) Failure → Call F
+  created : List ℕ → Result (Option F) Failure → Call F
   measured : F → Result ℕ Failure → Call F
   read : F → ℕ → ℕ → Result (List ℕ) Failure → Call F
   wrote : F → ℕ → List ℕ → Result (Unit {0}) Failure → Call F
   resized : F → ℕ → Result (Unit {0}) Failure → Call F
   synced : F → Result (Unit {0}) Failure → Call F
+  folder_made : List ℕ → Result Bool Failure → Call F
+  folder_synced : List ℕ → Result (Unit {0}) Failure → Call F
+  file_removed : List ℕ → Result Bool Failure → Call F
+  folder_removed : List ℕ → Result Removal Failure → Call F
+  renamed : List ℕ → List ℕ → Result (Unit {0}) Failure → Call F
 
 -- the calls made so far, where they are told
 abbrev pub Log : Type 0 → Type 0
 Log F = Option (List (Call F))
 
--- a told log with these calls at its end, and one that isn't told as it is
-unfoldable pub with_calls : {F : Type 0} → Log F → List (Call F) → Log F
-with_calls None calls = None
-with_calls (Some log) calls = Some (log ++ calls)
+-- whether a call failed
+abbrev pub has_failed : {F : Type 0} → Call F → Bool
+has_failed (looked path end) = is_err end
+has_failed (listed path end) = is_err end
+has_failed (opened path end) = is_err end
+has_failed (created path end) = is_err end
+has_failed (measured file end) = is_err end
+has_failed (read file at len end) = is_err end
+has_failed (wrote file at bytes end) = is_err end
+has_failed (resized file len end) = is_err end
+has_failed (synced file end) = is_err end
+has_failed (folder_made path end) = is_err end
+has_failed (folder_synced path end) = is_err end
+has_failed (file_removed path end) = is_err end
+has_failed (folder_removed path end) = is_err end
+has_failed (renamed from to end) = is_err end
+
+-- how many calls of a told log failed
+unfoldable pub failed_calls : {F : Type 0} → Log F → ℕ
+failed_calls None = 0
+failed_calls (Some log) = count_by has_failed log
+
+-- a told log with this call at its end, and one that isn't told as it is
+unfoldable pub with_call : {F : Type 0} → Log F → Call F → Log F
+with_call None call = None
+with_call (Some log) call = Some (log ++ call ∷ [])
 
 -- a told log grows by these calls, and one that isn't told stays untold
 abbrev pub Makes : {F : Type 0} → List (Call F) → Log F → Log F → Type 0
-Makes calls log later = later ≡ with_calls log calls
+Makes calls log later = later ≡ fold with_call log calls
 
 -- how a read ended that left these bytes in its buffer
 abbrev pub giving : List ℕ → Result (Unit {0}) Failure → Result (List ℕ) Failure

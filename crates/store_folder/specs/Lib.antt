@@ -1,5 +1,8 @@
 pub mod Calls
+pub mod Changes
 pub mod Keys
+pub mod Kinds
+pub mod Listings
 pub mod OpenFiles
 pub mod Parts
 pub mod Places

@@ -26,6 +26,6 @@ file_of (sync room folder file) = Some (record { room = room; folder = folder; f
 file_of other = None
 
 -- a step on a file of a room that is there, where the file is open, makes just its own calls on that file
-abbrev pub ActsWhereOpen : {R C F : Type 0} → Disk R C F → FileKey → Log F → Log F → Step → Result Answer Failure → Type 0
+abbrev pub ActsWhereOpen : {C F : Type 0} → Disk C F → FileKey → Log F → Log F → Step → Result Answer Failure → Type 0
 ActsWhereOpen disk key log later step result =
     key.room < length disk.rooms.items → IfSome (held_at disk.open key) (λ held. ActsOpen held log later step result)

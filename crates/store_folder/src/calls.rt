@@ -1,92 +1,109 @@
-//! The calls of the system on open files.
-ghost use Rattle.std.specs.Prelude.{◌≡◌, ◌∷◌, [], length, None, IfErr};
-ghost use Rattle.store_folder.specs.Calls.{Log, Makes, opened, measured, read, wrote, resized, synced, giving};
+//! The calls of the system, as far as a store makes them.
+ghost use Rattle.std.specs.Prelude.{◌≡◌, ◌∷◌, [], length, IfOk, IfErr};
+ghost use Rattle.store_folder.specs.Calls.{Log, Makes, looked, listed, opened, created, measured, read, wrote, resized, synced, folder_made, folder_synced, file_removed, folder_removed, renamed, giving, failed_calls};
 
-use crate::disk::System;
 use crate::failure::Failure;
-use std::fs::{File, OpenOptions};
-use std::io::ErrorKind;
-use std::os::unix::fs::FileExt;
+use crate::reason::Kind;
+use plfs_types::NameList;
+use std::alloc::Global;
 
-/// The system, as far as it is called for open files.
-pub trait FileCalls {
+/// What became of a folder that was to be removed.
+#[derive(Clone, Copy)]
+pub enum Removal {
+    Removed,
+    Absent,
+    NotEmpty,
+}
+
+/// The system, as far as a store calls it. A call that fails is `Failed`, but for want of memory in a listing,
+/// which changes nothing. Each call tells itself, and that where it succeeded no failed one came to the log.
+pub trait Calls {
     /// An open file.
     type File: Drop;
 
     /// The calls made so far, where it tells them.
     ghost log: { Self → Log Self.File };
 
-    /// Opens a file for reading and writing. None where there is none at the path.
-    fn open<R: System>(&mut self, rt: &R, path: &str) -> Result<Option<Self::File>, Failure>
-        ensures call { Makes (opened path.now result ∷ []) (log self.old) (log self.new) }
-        ensures failed { IfErr result (λ failure. failure ≡ Failure.Failed) };
+    /// What stands at a path. It follows no link.
+    fn look(&mut self, path: &str) -> Result<Kind, Failure>
+        ensures call { Makes (looked path.now result ∷ []) (log self.old) (log self.new) }
+        ensures failed { IfErr result (λ failure. failure ≡ Failure.Failed) }
+        ensures well { IfOk result (λ _. failed_calls (log self.new) ≡ failed_calls (log self.old)) };
 
-    /// The length of a file, in bytes. It fails where this is no plain file.
+    /// The names in a folder, in no order. It fails where one is no text in UTF-8 or longer than 96 bytes.
+    fn list(&mut self, alloc: Global, path: &str) -> Result<NameList, Failure>
+        ensures call { Makes (listed path.now result ∷ []) (log self.old) (log self.new) }
+        ensures well { IfOk result (λ _. failed_calls (log self.new) ≡ failed_calls (log self.old)) };
+
+    /// Opens a plain file for reading and writing, and follows no link. None where nothing is at the path.
+    fn open(&mut self, path: &str) -> Result<Option<Self::File>, Failure>
+        ensures call { Makes (opened path.now result ∷ []) (log self.old) (log self.new) }
+        ensures failed { IfErr result (λ failure. failure ≡ Failure.Failed) }
+        ensures well { IfOk result (λ _. failed_calls (log self.new) ≡ failed_calls (log self.old)) };
+
+    /// Makes an empty file, and opens it for reading and writing. None where something is at the path.
+    fn create(&mut self, path: &str) -> Result<Option<Self::File>, Failure>
+        ensures call { Makes (created path.now result ∷ []) (log self.old) (log self.new) }
+        ensures failed { IfErr result (λ failure. failure ≡ Failure.Failed) }
+        ensures well { IfOk result (λ _. failed_calls (log self.new) ≡ failed_calls (log self.old)) };
+
+    /// The length of a file, in bytes.
     fn length(&mut self, file: &Self::File) -> Result<u64, Failure>
         ensures call { Makes (measured file.now result ∷ []) (log self.old) (log self.new) }
-        ensures failed { IfErr result (λ failure. failure ≡ Failure.Failed) };
+        ensures failed { IfErr result (λ failure. failure ≡ Failure.Failed) }
+        ensures well { IfOk result (λ _. failed_calls (log self.new) ≡ failed_calls (log self.old)) };
 
     /// Fills `into` with the bytes from `at` on.
     fn read_exact_at(&mut self, file: &Self::File, into: &mut [u8], at: u64) -> Result<(), Failure>
         ensures call { Makes (read file.now at (length into.old) (giving into.new result) ∷ []) (log self.old) (log self.new) }
-        ensures failed { IfErr result (λ failure. failure ≡ Failure.Failed) };
+        ensures failed { IfErr result (λ failure. failure ≡ Failure.Failed) }
+        ensures well { IfOk result (λ _. failed_calls (log self.new) ≡ failed_calls (log self.old)) };
 
     /// Writes the bytes from `at` on, in one call of the system where that takes them all.
     fn write_all_at(&mut self, file: &Self::File, bytes: &[u8], at: u64) -> Result<(), Failure>
         ensures call { Makes (wrote file.now at bytes.now result ∷ []) (log self.old) (log self.new) }
-        ensures failed { IfErr result (λ failure. failure ≡ Failure.Failed) };
+        ensures failed { IfErr result (λ failure. failure ≡ Failure.Failed) }
+        ensures well { IfOk result (λ _. failed_calls (log self.new) ≡ failed_calls (log self.old)) };
 
     /// Gives a file this length.
     fn set_length(&mut self, file: &Self::File, len: u64) -> Result<(), Failure>
         ensures call { Makes (resized file.now len result ∷ []) (log self.old) (log self.new) }
-        ensures failed { IfErr result (λ failure. failure ≡ Failure.Failed) };
+        ensures failed { IfErr result (λ failure. failure ≡ Failure.Failed) }
+        ensures well { IfOk result (λ _. failed_calls (log self.new) ≡ failed_calls (log self.old)) };
 
     /// Syncs a file's bytes and its length.
     fn sync(&mut self, file: &Self::File) -> Result<(), Failure>
         ensures call { Makes (synced file.now result ∷ []) (log self.old) (log self.new) }
-        ensures failed { IfErr result (λ failure. failure ≡ Failure.Failed) };
-}
+        ensures failed { IfErr result (λ failure. failure ≡ Failure.Failed) }
+        ensures well { IfOk result (λ _. failed_calls (log self.new) ≡ failed_calls (log self.old)) };
 
-/// The system itself, which tells no calls.
-#[derive(Clone, Copy)]
-pub struct SystemCalls;
+    /// Makes a folder. False where something is at the path.
+    fn make_folder(&mut self, path: &str) -> Result<bool, Failure>
+        ensures call { Makes (folder_made path.now result ∷ []) (log self.old) (log self.new) }
+        ensures failed { IfErr result (λ failure. failure ≡ Failure.Failed) }
+        ensures well { IfOk result (λ _. failed_calls (log self.new) ≡ failed_calls (log self.old)) };
 
-#[tactic(auto, unfolding(crate::specs::Calls::with_calls))]
-impl FileCalls for SystemCalls {
-    type File = File;
+    /// Syncs the names in a folder.
+    fn sync_folder(&mut self, path: &str) -> Result<(), Failure>
+        ensures call { Makes (folder_synced path.now result ∷ []) (log self.old) (log self.new) }
+        ensures failed { IfErr result (λ failure. failure ≡ Failure.Failed) }
+        ensures well { IfOk result (λ _. failed_calls (log self.new) ≡ failed_calls (log self.old)) };
 
-    ghost log = { λ _. None };
+    /// Removes a file. False where nothing is at the path.
+    fn remove_file(&mut self, path: &str) -> Result<bool, Failure>
+        ensures call { Makes (file_removed path.now result ∷ []) (log self.old) (log self.new) }
+        ensures failed { IfErr result (λ failure. failure ≡ Failure.Failed) }
+        ensures well { IfOk result (λ _. failed_calls (log self.new) ≡ failed_calls (log self.old)) };
 
-    fn open<R: System>(&mut self, rt: &R, path: &str) -> Result<Option<File>, Failure> {
-        let opened = OpenOptions::new().read(true).write(true).open(rt, path);
-        match opened {
-            Ok(file) => Ok(Some(file)),
-            Err(error) if error.kind() == ErrorKind::NotFound => Ok(None),
-            Err(_) => Err(Failure::Failed),
-        }
-    }
+    /// Removes an empty folder.
+    fn remove_folder(&mut self, path: &str) -> Result<Removal, Failure>
+        ensures call { Makes (folder_removed path.now result ∷ []) (log self.old) (log self.new) }
+        ensures failed { IfErr result (λ failure. failure ≡ Failure.Failed) }
+        ensures well { IfOk result (λ _. failed_calls (log self.new) ≡ failed_calls (log self.old)) };
 
-    fn length(&mut self, file: &File) -> Result<u64, Failure> {
-        let found = file.metadata()?;
-        if !found.is_file() {
-            return Err(Failure::Failed);
-        }
-        Ok(found.len())
-    }
-
-    fn read_exact_at(&mut self, file: &File, into: &mut [u8], at: u64) -> Result<(), Failure> {
-        Ok(file.read_exact_at(into, at)?)
-    }
-
-    fn write_all_at(&mut self, file: &File, bytes: &[u8], at: u64) -> Result<(), Failure> {
-        Ok(file.write_all_at(bytes, at)?)
-    }
-
-    fn set_length(&mut self, file: &File, len: u64) -> Result<(), Failure> {
-        Ok(file.set_len(len)?)
-    }
-
-    fn sync(&mut self, file: &File) -> Result<(), Failure> {
-        Ok(file.sync_all()?)
-    }
+    /// Gives what is at `from` the path `to`, and replaces a file that is there.
+    fn rename(&mut self, from: &str, to: &str) -> Result<(), Failure>
+        ensures call { Makes (renamed from.now to.now result ∷ []) (log self.old) (log self.new) }
+        ensures failed { IfErr result (λ failure. failure ≡ Failure.Failed) }
+        ensures well { IfOk result (λ _. failed_calls (log self.new) ≡ failed_calls (log self.old)) };
 }

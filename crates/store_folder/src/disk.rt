@@ -1,26 +1,20 @@
 //! What a store keeps of its folder, and each step's way to the system.
-ghost use Rattle.std.specs.Prelude.{◌≡◌, true, IfSome};
+ghost use Rattle.std.specs.Prelude.{◌≡◌, true, IfOk, IfSome};
 ghost use Rattle.store_api.specs.Step.{step_of};
+ghost use Rattle.store_folder.specs.Calls.{failed_calls};
 ghost use Rattle.store_folder.specs.Places.{file_of, ActsWhereOpen};
 
 use crate::cache::{FileKey, OpenFiles};
-use crate::calls::FileCalls;
+use crate::calls::Calls;
 use crate::failure::Failure;
+use crate::reason::Place;
 use plfs_types::{Name, Word};
 use std::alloc::Global;
-use std::fs::File;
-use std::rt::Files;
 use store_api::{Answer, Step};
-
-/// What the store needs of the runtime that it keeps: the system's files, and memory for the names in a folder.
-pub trait System: Files<File = File> + AllocGlobal + Clone + Drop {}
-
-impl<R: Files<File = File> + AllocGlobal + Clone + Drop> System for R {}
 
 /// A real folder with its rooms and the files that are open.
 #[derive(Drop)]
-pub struct Disk<R, C, F> {
-    pub(crate) rt: R,
+pub struct Disk<C, F> {
     pub(crate) calls: C,
     pub(crate) alloc: Global,
     pub(crate) root: String,
@@ -30,11 +24,10 @@ pub struct Disk<R, C, F> {
     pub(crate) open: OpenFiles<F>,
 }
 
-impl<R: System, C: FileCalls<File = F> + Drop, F: Drop> Disk<R, C, F> {
+impl<C: Calls<File = F> + Drop, F: Drop> Disk<C, F> {
     /// The folder of this path. It touches nothing.
-    pub fn new(rt: R, calls: C, alloc: Global, root: &Word) -> Result<Self, Failure> {
+    pub fn new(calls: C, alloc: Global, root: &Word) -> Result<Self, Failure> {
         Ok(Disk {
-            rt,
             calls,
             alloc,
             root: String::from_str(alloc, root.as_str())?,
@@ -47,6 +40,7 @@ impl<R: System, C: FileCalls<File = F> + Drop, F: Drop> Disk<R, C, F> {
     /// Makes one step, and numbers the rooms before the first.
     pub fn make(&mut self, step: &Step<'_>) -> Result<Answer, Failure>
         ensures open_file { self.old.is_numbered ≡ true → IfSome (file_of (step_of step.now)) (λ key. ActsWhereOpen self.old key (C.log self.old.calls) (C.log self.new.calls) (step_of step.now) result) }
+        ensures well { IfOk result (λ _. failed_calls (C.log self.new.calls) ≡ failed_calls (C.log self.old.calls)) }
     {
         self.number_rooms()?;
         match *step {
@@ -68,16 +62,24 @@ impl<R: System, C: FileCalls<File = F> + Drop, F: Drop> Disk<R, C, F> {
     // Makes a step that names a file.
     fn make_at_file(&mut self, step: &Step<'_>) -> Result<Answer, Failure>
         ensures open_file { IfSome (file_of (step_of step.now)) (λ key. ActsWhereOpen self.old key (C.log self.old.calls) (C.log self.new.calls) (step_of step.now) result) }
+        ensures well { IfOk result (λ _. failed_calls (C.log self.new.calls) ≡ failed_calls (C.log self.old.calls)) }
     {
         match *step {
-            Step::Create { room, folder, file } => self.create(room, &folder, &file),
-            Step::Remove { room, folder, file } => self.remove(room, &folder, &file),
+            Step::Create { room, folder, file } => self.create(&FileKey { room, folder, file }),
+            Step::Remove { room, folder, file } => self.remove(&FileKey { room, folder, file }),
             Step::Replace {
                 room,
                 folder,
                 from,
                 to,
-            } => self.replace(room, &folder, &from, &to),
+            } => self.replace(
+                &FileKey {
+                    room,
+                    folder,
+                    file: from,
+                },
+                &to,
+            ),
             Step::Length { room, folder, file }
             | Step::ReadAt {
                 room,
@@ -102,6 +104,67 @@ impl<R: System, C: FileCalls<File = F> + Drop, F: Drop> Disk<R, C, F> {
                 step,
             ),
             _ => Err(Failure::Failed),
+        }
+    }
+}
+
+impl<C, F> Disk<C, F> {
+    // The name of a room, where it has one.
+    fn room_name(&self, room: u64) -> Name {
+        self.rooms
+            .get(room as usize)
+            .copied()
+            .unwrap_or(Name::empty())
+    }
+
+    /// Where a step is made, below ROOT. Before the rooms were numbered that is ROOT itself.
+    pub fn place_of(&self, step: &Step<'_>) -> Place {
+        if !self.is_numbered {
+            return Place::root();
+        }
+        match *step {
+            Step::Rooms => Place::root(),
+            Step::FindRoom { name } | Step::MakeRoom { name, .. } => Place::of_room(name),
+            Step::RenameRoom { room, .. } => Place::of_room(self.room_name(room)),
+            Step::MakeFolder { room, folder }
+            | Step::RemoveFolder { room, folder }
+            | Step::List { room, folder } => Place {
+                room: self.room_name(room),
+                folder,
+                file: Name::empty(),
+            },
+            Step::Create { room, folder, file }
+            | Step::Remove { room, folder, file }
+            | Step::Replace {
+                room,
+                folder,
+                from: file,
+                ..
+            }
+            | Step::Length { room, folder, file }
+            | Step::ReadAt {
+                room,
+                folder,
+                file,
+                ..
+            }
+            | Step::WriteAt {
+                room,
+                folder,
+                file,
+                ..
+            }
+            | Step::Cut {
+                room,
+                folder,
+                file,
+                ..
+            }
+            | Step::Sync { room, folder, file } => Place {
+                room: self.room_name(room),
+                folder,
+                file,
+            },
         }
     }
 }

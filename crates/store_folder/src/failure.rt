@@ -1,10 +1,9 @@
 //! Why a step came to no answer.
 use plfs_types::NoMemory;
 use std::alloc::{AllocError, AllocFailed};
-use std::io;
 
 /// Why a step came to no answer.
-#[derive(Clone, Copy, Debug, PartialEq, Eq)]
+#[derive(Clone, Copy, PartialEq, Eq)]
 pub enum Failure {
     /// The system failed, or a name of the step or of a listing can't be taken.
     Failed,
@@ -42,17 +41,5 @@ impl From<NoMemory> for Failure {
 
     fn from(_: NoMemory) -> Self {
         Failure::NoMemory
-    }
-}
-
-/// An error of the system is a failure of it, also where the system had no memory: what it did is not known then.
-impl From<io::Error> for Failure {
-    ghost use Rattle.std.specs.Prelude.{◌≡◌};
-    ghost use Rattle.store_folder.specs.declared.failure.Failure.TheVariants as variant;
-
-    ghost from_gives = { λ _ failure. failure ≡ variant.Failed };
-
-    fn from(_: io::Error) -> Self {
-        Failure::Failed
     }
 }

@@ -1,18 +1,20 @@
 //! The steps of files.
-ghost use Rattle.std.specs.Prelude.{◌≡◌, ◌⊎◌, ◌≤◌, ◌<◌, length, Ok, IfOk, IfErr, IfSome};
+ghost use Rattle.std.specs.Prelude.{◌≡◌, ◌≤◌, ◌<◌, length, Ok, IfOk, IfSome, OnErr};
 ghost use Rattle.store_api.specs.Step.{step_of};
+ghost use Rattle.std.specs.Map.{remove_entry};
+ghost use Rattle.store_folder.specs.Changes.{room_path, folder_path, Enters, MakesFile, RemovesFile, ReplacesFile, OpensFile};
+ghost use Rattle.store_folder.specs.Calls.{failed_calls};
+ghost use Rattle.store_folder.specs.Keys.{same_file, beside};
 ghost use Rattle.store_folder.specs.Places.{held_at, ActsWhereOpen};
 
 use crate::cache::FileKey;
-use crate::calls::FileCalls;
-use crate::disk::{Disk, System};
+use crate::calls::Calls;
+use crate::disk::Disk;
 use crate::failure::Failure;
-use crate::folders::{Spot, is_without_folder, sync_folder};
 use crate::held::Held;
 use crate::paths::{join, part};
+use crate::reason::Kind;
 use plfs_types::Name;
-use std::fs::{self, File};
-use std::io::{self, ErrorKind};
 use store_api::{Answer, Step};
 
 /// A file that a step asks for: open, or what is answered where it isn't there.
@@ -22,113 +24,100 @@ pub enum Found<F> {
     Not(Answer),
 }
 
-// What is answered where the system gave this error for a file: it is absent, or its folder is.
-fn not_found<R: System>(rt: &R, spot: &Spot, error: &io::Error) -> Result<Answer, Failure>
-    ensures answer { IfOk result (λ answer. (answer ≡ Answer.NoFolder) ⊎ (answer ≡ Answer.Absent)) }
-    ensures failed { IfErr result (λ failure. failure ≡ Failure.Failed) }
-{
-    if error.kind() != ErrorKind::NotFound {
-        return Err(Failure::Failed);
-    }
-    absent(rt, spot)
-}
-
-// What is answered where there is no such file: it is absent, or its folder is.
-fn absent<R: System>(rt: &R, spot: &Spot) -> Result<Answer, Failure>
-    ensures answer { IfOk result (λ answer. (answer ≡ Answer.NoFolder) ⊎ (answer ≡ Answer.Absent)) }
-    ensures failed { IfErr result (λ failure. failure ≡ Failure.Failed) }
-{
-    if is_without_folder(rt, spot)? {
-        Ok(Answer::NoFolder)
-    } else {
-        Ok(Answer::Absent)
-    }
-}
-
-// Whether a plain file is there. It fails where something else is.
-fn is_file<R: System>(rt: &R, path: &str) -> io::Result<bool> {
-    Ok(fs::metadata(rt, path)?.is_file())
-}
-
-impl<R: System, C: FileCalls<File = F>, F: Drop> Disk<R, C, F> {
-    /// Adds an empty file, and syncs its name.
-    pub fn create(&self, room: u64, folder: &Name, file: &Name) -> Result<Answer, Failure>
-        ensures no_room { length self.now.rooms.items ≤ room → result ≡ Ok Answer.NoRoom }
+impl<C: Calls<File = F>, F: Drop> Disk<C, F> {
+    /// Adds an empty file, and syncs its name. The file stays open.
+    pub fn create(&mut self, key: &FileKey) -> Result<Answer, Failure>
+        ensures no_room { length self.old.rooms.items ≤ key.now.room → result ≡ Ok Answer.NoRoom }
+        ensures made { let room = room_path self.old key.now.room in result ≡ Ok Answer.Made → MakesFile (C.log self.old.calls) (C.log self.new.calls) room (folder_path room key.now.folder) key.now.file }
+        ensures closed { OnErr result (self.new.open.files.entries ≡ remove_entry (same_file key.now) self.old.open.files.entries) }
+        ensures well { IfOk result (λ _. failed_calls (C.log self.new.calls) ≡ failed_calls (C.log self.old.calls)) }
     {
-        let Some(spot) = self.spot(room, folder)? else {
+        self.open.take(key);
+        let Some(spot) = self.spot(key.room, &key.folder)? else {
             return Ok(Answer::NoRoom);
         };
-        let path = join(self.alloc, spot.folder.as_str(), part(file)?)?;
-        match File::create_new(&self.rt, path.as_str()) {
-            Ok(_) => {
-                sync_folder(&self.rt, spot.folder.as_str())?;
+        let path = join(self.alloc, spot.folder.as_str(), part(&key.file)?)?;
+        if !self.enter(&spot)? {
+            return Ok(Answer::NoFolder);
+        }
+        match self.calls.create(path.as_str())? {
+            Some(file) => {
+                self.calls.sync_folder(spot.folder.as_str())?;
+                self.open.keep(*key, Held::empty(file));
                 Ok(Answer::Made)
             }
-            Err(error) => self.not_created(&spot, path.as_str(), &error),
+            None => self.old_file(path.as_str()),
         }
     }
 
-    // What is answered where the system gave this error for a new file: one is there, or its folder is absent.
-    fn not_created(&self, spot: &Spot, path: &str, error: &io::Error) -> Result<Answer, Failure> {
-        match error.kind() {
-            ErrorKind::AlreadyExists if is_file(&self.rt, path)? => Ok(Answer::Old { room: 0 }),
-            ErrorKind::NotFound if is_without_folder(&self.rt, spot)? => Ok(Answer::NoFolder),
-            _ => Err(Failure::Failed),
+    // What is answered where something has the path of a new file.
+    pub(crate) fn old_file(&mut self, path: &str) -> Result<Answer, Failure>
+        ensures answer { IfOk result (λ answer. answer ≡ Answer.Old 0) }
+        ensures open { self.new.open ≡ self.old.open }
+        ensures well { IfOk result (λ _. failed_calls (C.log self.new.calls) ≡ failed_calls (C.log self.old.calls)) }
+    {
+        match self.calls.look(path)? {
+            Kind::File { .. } => Ok(Answer::Old { room: 0 }),
+            Kind::Absent | Kind::Folder | Kind::Other => Err(Failure::Failed),
         }
     }
 
     /// Removes a file, and syncs that its name is gone.
-    pub fn remove(&mut self, room: u64, folder: &Name, file: &Name) -> Result<Answer, Failure>
-        ensures no_room { length self.old.rooms.items ≤ room → result ≡ Ok Answer.NoRoom }
+    pub fn remove(&mut self, key: &FileKey) -> Result<Answer, Failure>
+        ensures no_room { length self.old.rooms.items ≤ key.now.room → result ≡ Ok Answer.NoRoom }
+        ensures made { let room = room_path self.old key.now.room in result ≡ Ok Answer.Made → RemovesFile (C.log self.old.calls) (C.log self.new.calls) room (folder_path room key.now.folder) key.now.file }
+        ensures closed { self.new.open.files.entries ≡ remove_entry (same_file key.now) self.old.open.files.entries }
+        ensures well { IfOk result (λ _. failed_calls (C.log self.new.calls) ≡ failed_calls (C.log self.old.calls)) }
     {
-        let Some(spot) = self.spot(room, folder)? else {
+        self.open.take(key);
+        let Some(spot) = self.spot(key.room, &key.folder)? else {
             return Ok(Answer::NoRoom);
         };
-        let path = join(self.alloc, spot.folder.as_str(), part(file)?)?;
-        self.let_go(room, folder, file);
-        match fs::remove_file(&self.rt, path.as_str()) {
-            Ok(()) => {
-                sync_folder(&self.rt, spot.folder.as_str())?;
-                Ok(Answer::Made)
-            }
-            Err(error) => not_found(&self.rt, &spot, &error),
+        let path = join(self.alloc, spot.folder.as_str(), part(&key.file)?)?;
+        if !self.enter(&spot)? {
+            return Ok(Answer::NoFolder);
+        }
+        if self.calls.remove_file(path.as_str())? {
+            self.calls.sync_folder(spot.folder.as_str())?;
+            Ok(Answer::Made)
+        } else {
+            Ok(Answer::Absent)
         }
     }
 
-    /// Gives the file `from` the name `to`, whose old file is gone, and syncs the names.
-    pub fn replace(
-        &mut self,
-        room: u64,
-        folder: &Name,
-        from: &Name,
-        to: &Name,
-    ) -> Result<Answer, Failure>
-        ensures no_room { length self.old.rooms.items ≤ room → result ≡ Ok Answer.NoRoom }
+    /// Gives the file `from` the name `to`, whose old file is gone, and syncs the names. A file that has the name
+    /// already is left as it is.
+    pub fn replace(&mut self, from: &FileKey, to: &Name) -> Result<Answer, Failure>
+        ensures no_room { length self.old.rooms.items ≤ from.now.room → result ≡ Ok Answer.NoRoom }
+        ensures made { let room = room_path self.old from.now.room in result ≡ Ok Answer.Made → ReplacesFile (C.log self.old.calls) (C.log self.new.calls) room (folder_path room from.now.folder) from.now.file to.now }
+        ensures closed { self.new.open.files.entries ≡ remove_entry (same_file (beside from.now to.now)) (remove_entry (same_file from.now) self.old.open.files.entries) }
+        ensures well { IfOk result (λ _. failed_calls (C.log self.new.calls) ≡ failed_calls (C.log self.old.calls)) }
     {
-        let Some(spot) = self.spot(room, folder)? else {
+        self.open.take(from);
+        self.open.take(&FileKey {
+            room: from.room,
+            folder: from.folder,
+            file: *to,
+        });
+        let Some(spot) = self.spot(from.room, &from.folder)? else {
             return Ok(Answer::NoRoom);
         };
-        let old = join(self.alloc, spot.folder.as_str(), part(from)?)?;
+        let old = join(self.alloc, spot.folder.as_str(), part(&from.file)?)?;
         let new = join(self.alloc, spot.folder.as_str(), part(to)?)?;
-        self.let_go(room, folder, from);
-        self.let_go(room, folder, to);
-        match is_file(&self.rt, old.as_str()) {
-            Ok(true) => {}
-            Ok(false) => return Err(Failure::Failed),
-            Err(error) => return not_found(&self.rt, &spot, &error),
+        if !self.enter(&spot)? {
+            return Ok(Answer::NoFolder);
         }
-        if *from == *to {
+        match self.calls.look(old.as_str())? {
+            Kind::File { .. } => {}
+            Kind::Absent => return Ok(Answer::Absent),
+            Kind::Folder | Kind::Other => return Err(Failure::Failed),
+        }
+        if from.file == *to {
             return Ok(Answer::Made);
         }
-        fs::rename(&self.rt, old.as_str(), new.as_str())?;
-        sync_folder(&self.rt, spot.folder.as_str())?;
+        self.calls.rename(old.as_str(), new.as_str())?;
+        self.calls.sync_folder(spot.folder.as_str())?;
         Ok(Answer::Made)
-    }
-
-    // Closes the file, if it is open.
-    fn let_go(&mut self, room: u64, folder: &Name, file: &Name) {
-        let (folder, file) = (*folder, *file);
-        self.open.take(&FileKey { room, folder, file });
     }
 
     // The file, from among the open ones where it is.
@@ -136,24 +125,35 @@ impl<R: System, C: FileCalls<File = F>, F: Drop> Disk<R, C, F> {
         ensures no_room { length self.old.rooms.items ≤ key.now.room → result ≡ Ok (Found.Not Answer.NoRoom) }
         ensures open_file { key.now.room < length self.old.rooms.items → IfSome (held_at self.old.open key.now) (λ held. result ≡ Ok (Found.There held)) }
         ensures no_call { key.now.room < length self.old.rooms.items → IfSome (held_at self.old.open key.now) (λ _. C.log self.new.calls ≡ C.log self.old.calls) }
+        ensures closed { self.new.open.files.entries ≡ remove_entry (same_file key.now) self.old.open.files.entries }
+        ensures well { IfOk result (λ _. failed_calls (C.log self.new.calls) ≡ failed_calls (C.log self.old.calls)) }
     {
+        let open = self.open.take(key);
         if key.room as usize >= self.rooms.len() {
             return Ok(Found::Not(Answer::NoRoom));
         }
-        match self.open.take(key) {
+        match open {
             Some(held) => Ok(Found::There(held)),
             None => self.open_file(key),
         }
     }
 
-    fn open_file(&mut self, key: &FileKey) -> Result<Found<F>, Failure> {
+    // Opens the file by its path.
+    fn open_file(&mut self, key: &FileKey) -> Result<Found<F>, Failure>
+        ensures opens { let room = room_path self.old key.now.room in IfOk result (OpensFile (C.log self.old.calls) (C.log self.new.calls) room (folder_path room key.now.folder) key.now.file) }
+        ensures open { self.new.open ≡ self.old.open }
+        ensures well { IfOk result (λ _. failed_calls (C.log self.new.calls) ≡ failed_calls (C.log self.old.calls)) }
+    {
         let Some(spot) = self.spot(key.room, &key.folder)? else {
             return Ok(Found::Not(Answer::NoRoom));
         };
         let path = join(self.alloc, spot.folder.as_str(), part(&key.file)?)?;
-        match self.calls.open(&self.rt, path.as_str())? {
+        if !self.enter(&spot)? {
+            return Ok(Found::Not(Answer::NoFolder));
+        }
+        match self.calls.open(path.as_str())? {
             Some(file) => Ok(Found::There(Held::new(&mut self.calls, file)?)),
-            None => Ok(Found::Not(absent(&self.rt, &spot)?)),
+            None => Ok(Found::Not(Answer::Absent)),
         }
     }
 
@@ -161,6 +161,8 @@ impl<R: System, C: FileCalls<File = F>, F: Drop> Disk<R, C, F> {
     pub fn act_at(&mut self, key: &FileKey, step: &Step<'_>) -> Result<Answer, Failure>
         ensures no_room { length self.old.rooms.items ≤ key.now.room → result ≡ Ok Answer.NoRoom }
         ensures open_file { ActsWhereOpen self.old key.now (C.log self.old.calls) (C.log self.new.calls) (step_of step.now) result }
+        ensures closed { OnErr result (self.new.open.files.entries ≡ remove_entry (same_file key.now) self.old.open.files.entries) }
+        ensures well { IfOk result (λ _. failed_calls (C.log self.new.calls) ≡ failed_calls (C.log self.old.calls)) }
     {
         match self.find(key)? {
             Found::Not(answer) => Ok(answer),

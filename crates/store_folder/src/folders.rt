@@ -1,13 +1,17 @@
 //! The steps of folders.
-ghost use Rattle.std.specs.Prelude.{◌≡◌, ◌≤◌, ◌<◌, length, true, None, Ok, Err, IsSome, IfOk, IfErr};
+ghost use Rattle.std.specs.Prelude.{◌≡◌, ◌==◌, ◌≤◌, ◌<◌, ◌∷◌, [], List, ℕ, length, true, None, Ok, IsSome, IfSome, IfOk, IsPermutation, IsSorted, string_bytes};
+ghost use Rattle.std.specs.Cmp.Lexicographic.{slice_cmp};
+ghost use Rattle.std.specs.Ordering.{nat_cmp};
+ghost use Rattle.store_folder.specs.Calls.{Makes, looked, listed, failed_calls};
+ghost use Rattle.store_folder.specs.Changes.{room_path, folder_path, Enters, MakesFolder, RemovesFolder};
+ghost use Rattle.store_folder.specs.Listings.{IsListing};
 
-use crate::disk::{Disk, System};
+use crate::calls::{Calls, Removal};
+use crate::disk::Disk;
 use crate::failure::Failure;
-use crate::listing::{names_of, open_listing};
 use crate::paths::{join, part};
+use crate::reason::Kind;
 use plfs_types::{Name, NameList};
-use std::fs::{self, File};
-use std::io::ErrorKind;
 use store_api::Answer;
 
 /// A folder of a room by its paths. At the top both are one.
@@ -18,65 +22,20 @@ pub struct Spot {
     pub is_top: bool,
 }
 
-/// Syncs the names of a folder.
-pub fn sync_folder<R: System>(rt: &R, path: &str) -> Result<(), Failure>
-    ensures { IfErr result (λ failure. failure ≡ Failure.Failed) }
-{
-    let folder = File::open(rt, path)?;
-    folder.sync_all()?;
-    Ok(())
-}
-
-/// Whether a folder is there. It fails where something else is.
-pub fn is_folder<R: System>(rt: &R, path: &str) -> Result<bool, Failure>
-    ensures { IfErr result (λ failure. failure ≡ Failure.Failed) }
-{
-    match fs::metadata(rt, path) {
-        Ok(found) if found.is_dir() => Ok(true),
-        Err(error) if error.kind() == ErrorKind::NotFound => Ok(false),
-        _ => Err(Failure::Failed),
-    }
-}
-
-/// Whether a folder lacks where the system found nothing. It fails where the room itself does.
-pub fn is_without_folder<R: System>(rt: &R, spot: &Spot) -> Result<bool, Failure>
-    ensures { IfErr result (λ failure. failure ≡ Failure.Failed) }
-{
-    if is_folder(rt, spot.folder.as_str())? {
-        return Ok(false);
-    }
-    no_folder(rt, spot)?;
-    Ok(true)
-}
-
-// That there is no such folder, in a room that is there.
-fn no_folder<R: System>(rt: &R, spot: &Spot) -> Result<Answer, Failure>
-    ensures answer { IfOk result (λ answer. answer ≡ Answer.NoFolder) }
-    ensures top { spot.now.is_top ≡ true → result ≡ Err Failure.Failed }
-    ensures failed { IfErr result (λ failure. failure ≡ Failure.Failed) }
-{
-    if !spot.is_top && is_folder(rt, spot.room.as_str())? {
-        Ok(Answer::NoFolder)
-    } else {
-        Err(Failure::Failed)
-    }
-}
-
-impl<R: System, C, F> Disk<R, C, F> {
+impl<C: Calls<File = F>, F: Drop> Disk<C, F> {
     /// The folder's paths, or None where there is no room of this number.
     pub fn spot(&self, room: u64, folder: &Name) -> Result<Option<Spot>, Failure>
         ensures absent { length self.now.rooms.items ≤ room → result ≡ Ok None }
         ensures there { IfOk result (λ spot. room < length self.now.rooms.items → IsSome spot) }
+        ensures room { IfOk result (λ spot. IfSome spot (λ spot. string_bytes spot.room ≡ room_path self.now room)) }
+        ensures folder { IfOk result (λ spot. IfSome spot (λ spot. string_bytes spot.folder ≡ folder_path (room_path self.now room) folder.now)) }
+        ensures top { IfOk result (λ spot. IfSome spot (λ spot. spot.is_top ≡ (length folder.now == 0))) }
     {
         let Some(room) = self.room_path(room)? else {
             return Ok(None);
         };
         let is_top = folder.bytes().is_empty();
-        let folder = if is_top {
-            String::from_str(self.alloc, room.as_str())?
-        } else {
-            join(self.alloc, room.as_str(), part(folder)?)?
-        };
+        let folder = self.folder_path(room.as_str(), folder)?;
         Ok(Some(Spot {
             room,
             folder,
@@ -84,27 +43,75 @@ impl<R: System, C, F> Disk<R, C, F> {
         }))
     }
 
+    // The path of a folder in the room of this path.
+    fn folder_path(&self, room: &str, folder: &Name) -> Result<String, Failure>
+        ensures { IfOk result (λ path. string_bytes path ≡ folder_path room.now folder.now) }
+    {
+        match folder.bytes() {
+            [] => Ok(String::from_str(self.alloc, room)?),
+            [_, ..] => join(self.alloc, room, part(folder)?),
+        }
+    }
+
+    // Whether a folder is there. It fails where a link or the like is.
+    fn is_folder(&mut self, path: &str) -> Result<bool, Failure>
+        ensures there { result ≡ Ok true → Makes (looked path.now (Ok Kind.Folder) ∷ []) (C.log self.old.calls) (C.log self.new.calls) }
+        ensures open { self.new.open ≡ self.old.open }
+        ensures well { IfOk result (λ _. failed_calls (C.log self.new.calls) ≡ failed_calls (C.log self.old.calls)) }
+    {
+        match self.calls.look(path)? {
+            Kind::Folder => Ok(true),
+            Kind::Absent | Kind::File { .. } => Ok(false),
+            Kind::Other => Err(Failure::Failed),
+        }
+    }
+
+    // Fails where the room isn't there.
+    fn enter_room(&mut self, spot: &Spot) -> Result<(), Failure>
+        ensures there { result ≡ Ok tt → Makes (looked (string_bytes spot.now.room) (Ok Kind.Folder) ∷ []) (C.log self.old.calls) (C.log self.new.calls) }
+        ensures open { self.new.open ≡ self.old.open }
+        ensures well { IfOk result (λ _. failed_calls (C.log self.new.calls) ≡ failed_calls (C.log self.old.calls)) }
+    {
+        if self.is_folder(spot.room.as_str())? {
+            Ok(())
+        } else {
+            Err(Failure::Failed)
+        }
+    }
+
+    /// Whether the folder is there, in a room that is: what comes after goes through no link.
+    pub fn enter(&mut self, spot: &Spot) -> Result<bool, Failure>
+        ensures there { result ≡ Ok true → Enters (C.log self.old.calls) (C.log self.new.calls) (string_bytes spot.now.room) (string_bytes spot.now.folder) }
+        ensures open { self.new.open ≡ self.old.open }
+        ensures well { IfOk result (λ _. failed_calls (C.log self.new.calls) ≡ failed_calls (C.log self.old.calls)) }
+    {
+        self.enter_room(spot)?;
+        self.is_folder(spot.folder.as_str())
+    }
+
     /// Adds a folder, and syncs its name. The top is always there.
-    pub fn make_folder(&self, room: u64, folder: &Name) -> Result<Answer, Failure>
-        ensures no_room { length self.now.rooms.items ≤ room → result ≡ Ok Answer.NoRoom }
+    pub fn make_folder(&mut self, room: u64, folder: &Name) -> Result<Answer, Failure>
+        ensures no_room { length self.old.rooms.items ≤ room → result ≡ Ok Answer.NoRoom }
+        ensures made { let path = room_path self.old room in result ≡ Ok Answer.Made → MakesFolder (C.log self.old.calls) (C.log self.new.calls) path (folder_path path folder.now) }
+        ensures well { IfOk result (λ _. failed_calls (C.log self.new.calls) ≡ failed_calls (C.log self.old.calls)) }
     {
         let Some(spot) = self.spot(room, folder)? else {
             return Ok(Answer::NoRoom);
         };
-        match fs::create_dir(&self.rt, spot.folder.as_str()) {
-            Ok(()) => {
-                sync_folder(&self.rt, spot.room.as_str())?;
-                Ok(Answer::Made)
-            }
-            Err(error) if error.kind() == ErrorKind::AlreadyExists => {
-                self.old_folder(spot.folder.as_str())
-            }
-            Err(_) => Err(Failure::Failed),
+        self.enter_room(&spot)?;
+        if self.calls.make_folder(spot.folder.as_str())? {
+            self.calls.sync_folder(spot.room.as_str())?;
+            Ok(Answer::Made)
+        } else {
+            self.old_folder(spot.folder.as_str())
         }
     }
 
-    fn old_folder(&self, path: &str) -> Result<Answer, Failure> {
-        if is_folder(&self.rt, path)? {
+    fn old_folder(&mut self, path: &str) -> Result<Answer, Failure>
+        ensures answer { IfOk result (λ answer. answer ≡ Answer.Old 0) }
+        ensures well { IfOk result (λ _. failed_calls (C.log self.new.calls) ≡ failed_calls (C.log self.old.calls)) }
+    {
+        if self.is_folder(path)? {
             Ok(Answer::Old { room: 0 })
         } else {
             Err(Failure::Failed)
@@ -112,55 +119,65 @@ impl<R: System, C, F> Disk<R, C, F> {
     }
 
     /// Removes an empty folder, and syncs that its name is gone. The top stays where it is.
-    pub fn remove_folder(&self, room: u64, folder: &Name) -> Result<Answer, Failure>
-        ensures no_room { length self.now.rooms.items ≤ room → result ≡ Ok Answer.NoRoom }
+    pub fn remove_folder(&mut self, room: u64, folder: &Name) -> Result<Answer, Failure>
+        ensures no_room { length self.old.rooms.items ≤ room → result ≡ Ok Answer.NoRoom }
+        ensures made { let path = room_path self.old room in result ≡ Ok Answer.Made → RemovesFolder (C.log self.old.calls) (C.log self.new.calls) path folder.now }
+        ensures well { IfOk result (λ _. failed_calls (C.log self.new.calls) ≡ failed_calls (C.log self.old.calls)) }
     {
         let Some(spot) = self.spot(room, folder)? else {
             return Ok(Answer::NoRoom);
         };
+        self.enter_room(&spot)?;
         if spot.is_top {
             return self.least_name(&spot, Ok(Answer::Made));
         }
-        match fs::remove_dir(&self.rt, spot.folder.as_str()) {
-            Ok(()) => {
-                sync_folder(&self.rt, spot.room.as_str())?;
+        match self.calls.remove_folder(spot.folder.as_str())? {
+            Removal::Removed => {
+                self.calls.sync_folder(spot.room.as_str())?;
                 Ok(Answer::Made)
             }
-            Err(error) => match error.kind() {
-                ErrorKind::NotFound => no_folder(&self.rt, &spot),
-                ErrorKind::DirectoryNotEmpty | ErrorKind::AlreadyExists => {
-                    self.least_name(&spot, Err(Failure::Failed))
-                }
-                _ => Err(Failure::Failed),
-            },
+            Removal::Absent => Ok(Answer::NoFolder),
+            Removal::NotEmpty => self.least_name(&spot, Err(Failure::Failed)),
         }
     }
 
     // The least name of a folder, or what is said of an empty one.
-    fn least_name(&self, spot: &Spot, empty: Result<Answer, Failure>) -> Result<Answer, Failure> {
-        let Some(listing) = open_listing(&self.rt, spot.folder.as_str())? else {
-            return Err(Failure::Failed);
-        };
-        let names = names_of(self.alloc, listing)?;
+    fn least_name(&mut self, spot: &Spot, empty: Result<Answer, Failure>) -> Result<Answer, Failure>
+        ensures empty { result ≡ Ok Answer.Made → empty ≡ Ok Answer.Made }
+        ensures listed { result ≡ Ok Answer.Made → Makes (listed (string_bytes spot.now.folder) (Ok []) ∷ []) (C.log self.old.calls) (C.log self.new.calls) }
+        ensures well { IfOk result (λ _. failed_calls (C.log self.new.calls) ≡ failed_calls (C.log self.old.calls)) }
+    {
+        let names = self.names_in(spot.folder.as_str())?;
         match names.first() {
             Some(least) => Ok(Answer::NotEmpty { least: *least }),
             None => empty,
         }
     }
 
+    /// The names in a folder, in byte order.
+    pub fn names_in(&mut self, path: &str) -> Result<Vec<Name>, Failure>
+        ensures sorted { IfOk result (λ names. IsSorted (slice_cmp nat_cmp) names.items) }
+        ensures told { IfOk result (λ names. (listing : List (List ℕ)) × Makes (listed path.now (Ok listing) ∷ []) (C.log self.old.calls) (C.log self.new.calls) × IsPermutation listing names.items) }
+        ensures well { IfOk result (λ _. failed_calls (C.log self.new.calls) ≡ failed_calls (C.log self.old.calls)) }
+    {
+        let mut names = self.calls.list(self.alloc, path)?.into_vec();
+        names.sort_unstable();
+        Ok(names)
+    }
+
     /// Names what is in a folder, in byte order.
-    pub fn list(&self, room: u64, folder: &Name) -> Result<Answer, Failure>
-        ensures no_room { length self.now.rooms.items ≤ room → result ≡ Ok Answer.NoRoom }
+    pub fn list(&mut self, room: u64, folder: &Name) -> Result<Answer, Failure>
+        ensures no_room { length self.old.rooms.items ≤ room → result ≡ Ok Answer.NoRoom }
+        ensures sorted { IfOk result IsListing }
+        ensures well { IfOk result (λ _. failed_calls (C.log self.new.calls) ≡ failed_calls (C.log self.old.calls)) }
     {
         let Some(spot) = self.spot(room, folder)? else {
             return Ok(Answer::NoRoom);
         };
-        match open_listing(&self.rt, spot.folder.as_str())? {
-            Some(listing) => {
-                let names = names_of(self.alloc, listing)?;
-                Ok(Answer::Names(NameList::from_vec(names)))
-            }
-            None => no_folder(&self.rt, &spot),
+        if !self.enter(&spot)? {
+            return Ok(Answer::NoFolder);
         }
+        let names = self.names_in(spot.folder.as_str())?;
+        Ok(Answer::Names(NameList::from_vec(names)))
     }
 }

@@ -1,9 +1,10 @@
 //! An open file with its length.
 ghost use Rattle.std.specs.Prelude.{◌≡◌, IfOk};
 ghost use Rattle.store_api.specs.Step.{step_of};
+ghost use Rattle.store_folder.specs.Calls.{failed_calls};
 ghost use Rattle.store_folder.specs.OpenFiles.{Holds, ReadsOpen, WritesOpen, CutsOpen, SyncsOpen, ActsOpen, written, cut_to, held_after};
 
-use crate::calls::FileCalls;
+use crate::calls::Calls;
 use crate::failure::Failure;
 use plfs_types::Bytes;
 use std::alloc::Global;
@@ -17,16 +18,25 @@ pub struct Held<F> {
 }
 
 impl<F: Drop> Held<F> {
-    /// An open file, whose length is asked of the system. It fails where this is no plain file.
-    pub fn new<C: FileCalls<File = F>>(calls: &mut C, file: F) -> Result<Held<F>, Failure>
-        ensures { Holds file (C.log calls.old) (C.log calls.new) result }
+    /// An open file, whose length is asked of the system.
+    pub fn new<C: Calls<File = F>>(calls: &mut C, file: F) -> Result<Held<F>, Failure>
+        ensures holds { Holds file (C.log calls.old) (C.log calls.new) result }
+        ensures well { IfOk result (λ _. failed_calls (C.log calls.new) ≡ failed_calls (C.log calls.old)) }
     {
         let len = calls.length(&file)?;
         Ok(Held { file, len })
     }
 
+    /// A file that was just made.
+    pub fn empty(file: F) -> Held<F>
+        ensures file { result.file ≡ file }
+        ensures length { result.len ≡ 0 }
+    {
+        Held { file, len: 0 }
+    }
+
     /// Makes a step on this file.
-    pub fn act<C: FileCalls<File = F>>(
+    pub fn act<C: Calls<File = F>>(
         &mut self,
         calls: &mut C,
         alloc: Global,
@@ -34,6 +44,7 @@ impl<F: Drop> Held<F> {
     ) -> Result<Answer, Failure>
         ensures acts { ActsOpen self.old (C.log calls.old) (C.log calls.new) (step_of step.now) result }
         ensures after { IfOk result (λ answer. self.new ≡ held_after self.old (step_of step.now) answer) }
+        ensures well { IfOk result (λ _. failed_calls (C.log calls.new) ≡ failed_calls (C.log calls.old)) }
     {
         match *step {
             Step::Length { .. } => Ok(Answer::Number { value: self.len }),
@@ -46,14 +57,15 @@ impl<F: Drop> Held<F> {
     }
 
     // At most `len` bytes from `at` on, none past the end.
-    fn read_at<C: FileCalls<File = F>>(
+    fn read_at<C: Calls<File = F>>(
         &self,
         calls: &mut C,
         alloc: Global,
         at: u64,
         len: u64,
     ) -> Result<Answer, Failure>
-        ensures { ReadsOpen self.now (C.log calls.old) (C.log calls.new) at len result }
+        ensures reads { ReadsOpen self.now (C.log calls.old) (C.log calls.new) at len result }
+        ensures well { IfOk result (λ _. failed_calls (C.log calls.new) ≡ failed_calls (C.log calls.old)) }
     {
         let left = self.len.saturating_sub(at).min(len);
         if left == 0 {
@@ -65,7 +77,7 @@ impl<F: Drop> Held<F> {
     }
 
     // Writes the bytes from `at` on.
-    fn write_at<C: FileCalls<File = F>>(
+    fn write_at<C: Calls<File = F>>(
         &mut self,
         calls: &mut C,
         at: u64,
@@ -73,6 +85,7 @@ impl<F: Drop> Held<F> {
     ) -> Result<Answer, Failure>
         ensures acts { WritesOpen self.old (C.log calls.old) (C.log calls.new) at bytes.now result }
         ensures after { IfOk result (λ answer. self.new ≡ written self.old at bytes.now answer) }
+        ensures well { IfOk result (λ _. failed_calls (C.log calls.new) ≡ failed_calls (C.log calls.old)) }
     {
         if at > self.len {
             return Ok(Answer::Beyond);
@@ -83,9 +96,10 @@ impl<F: Drop> Held<F> {
     }
 
     // Keeps the first `len` bytes.
-    fn cut<C: FileCalls<File = F>>(&mut self, calls: &mut C, len: u64) -> Result<Answer, Failure>
+    fn cut<C: Calls<File = F>>(&mut self, calls: &mut C, len: u64) -> Result<Answer, Failure>
         ensures acts { CutsOpen self.old (C.log calls.old) (C.log calls.new) len result }
         ensures after { IfOk result (λ answer. self.new ≡ cut_to self.old len answer) }
+        ensures well { IfOk result (λ _. failed_calls (C.log calls.new) ≡ failed_calls (C.log calls.old)) }
     {
         if len > self.len {
             return Ok(Answer::Beyond);
@@ -96,8 +110,9 @@ impl<F: Drop> Held<F> {
     }
 
     // Syncs the file's bytes and its length.
-    fn sync<C: FileCalls<File = F>>(&self, calls: &mut C) -> Result<Answer, Failure>
-        ensures { SyncsOpen self.now (C.log calls.old) (C.log calls.new) result }
+    fn sync<C: Calls<File = F>>(&self, calls: &mut C) -> Result<Answer, Failure>
+        ensures syncs { SyncsOpen self.now (C.log calls.old) (C.log calls.new) result }
+        ensures well { IfOk result (λ _. failed_calls (C.log calls.new) ≡ failed_calls (C.log calls.old)) }
     {
         calls.sync(&self.file)?;
         Ok(Answer::Made)

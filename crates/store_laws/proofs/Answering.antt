@@ -7,7 +7,7 @@ use Rattle.store_api.specs.declared.tree.File.{File}
 use Rattle.store_api.specs.declared.tree.Room.{Room}
 use Rattle.store_api.specs.declared.tree.Tree.{Tree}
 use Rattle.store_api.specs.declared.step.Answer.{Answer}
-use Rattle.store_api.specs.declared.step.Answer.TheVariants.{Made, Absent, NoRoom, NoFolder, Names, Number, Bytes}
+use Rattle.store_api.specs.declared.step.Answer.TheVariants.{Absent, NoRoom, NoFolder, Names, Number, Bytes}
 use Rattle.store_api.specs.declared.store.Trouble.{Trouble}
 use Rattle.store_api.specs.declared.store.Trouble.TheVariants.{Fault, NoMemory}
 use Rattle.store_api.specs.Step.{Step, Name, rooms, find_room, make_room, rename_room, make_folder, remove_folder, list_folder, create, remove, replace, length_of, read_at, write_at, cut, sync as sync_file}
@@ -18,7 +18,7 @@ use Rattle.store_api.specs.Leaves.{MayLeave, not_made, whole, in_part, with_firs
 use Rattle.store_laws.specs.Files.{file_at}
 use Rattle.store_laws.specs.Differ.{is_listed}
 use Rattle.store_laws.specs.Tells.{Tells}
-use Rattle.store_laws.specs.Says.{RoomsTell, FindTells, ListTells, LengthTells, ReadTells, SyncTells}
+use Rattle.store_laws.specs.Says.{RoomsTell, FindTells, ListTells, LengthTells, ReadTells}
 use Rattle.store_laws.specs.Outcomes.{IsLook, Looks}
 use Rattle.store_laws.proofs.Rooms.{file_at_found, file_at_none}
 use Rattle.store_laws.proofs.Entering.{room_cases, folder_cases, file_cases, same_room}
@@ -92,14 +92,6 @@ read_tells tree n path at len =
     (λ room e there none. record { room = room; has_room = e; folder = there; none = none })
     (λ room file e there is. (record { room = room; bytes = file.bytes; has_room = e; folder = there; there = is }, refl))
 
-pub sync_tells : (tree : Tree) (n : ℕ) (path : Path) → Looks tree (SyncTells tree n path) (effect tree (sync_file n path.folder path.file))
-sync_tells tree n path =
-    file_tells tree n path (λ file. Made) (SyncTells tree n path)
-    (λ none. none)
-    (λ room e none. record { room = room; has_room = e; none = none })
-    (λ room e there none. record { room = room; has_room = e; folder = there; none = none })
-    (λ room file e there is. record { room = room; bytes = file.bytes; has_room = e; folder = there; there = is })
-
 -- ---- the tree stays, whatever is told
 
 pub look_same : (step : Step) (tree : Tree) → IsLook step → tree_after tree step ≡ tree
@@ -117,7 +109,7 @@ look_same (length_of n folder file) tree look = (length_tells tree n (record { f
 look_same (read_at n folder file at len) tree look = (read_tells tree n (record { folder = folder; file = file }) at len).same
 look_same (write_at n folder file at bytes) tree look = absurd look
 look_same (cut n folder file len) tree look = absurd look
-look_same (sync_file n folder file) tree look = (sync_tells tree n (record { folder = folder; file = file })).same
+look_same (sync_file n folder file) tree look = absurd look
 
 look_whole : (step : Step) (k : ℕ) → IsLook step → with_first k step ≡ step
 look_whole (write_at n folder file at bytes) k look = absurd look

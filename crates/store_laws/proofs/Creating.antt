@@ -6,12 +6,13 @@ use Rattle.store_api.specs.declared.tree.Room.{Room}
 use Rattle.store_api.specs.declared.tree.Tree.{Tree}
 use Rattle.store_api.specs.declared.step.Answer.TheVariants.{Made, Old, NoFolder}
 use Rattle.store_api.specs.Step.{create}
-use Rattle.store_api.specs.Room.{has_folder, place_of, file_in, empty_file, with_new_file, made_if_absent, file_created}
+use Rattle.store_api.specs.Kept.{empty_file}
+use Rattle.store_api.specs.Room.{has_folder, place_of, file_in, with_new_file, made_if_absent, file_created}
 use Rattle.store_api.specs.Effect.{Effect, effect, room_after}
 use Rattle.store_laws.specs.Changes.{Created}
 use Rattle.store_laws.specs.Says.{WhyNotCreated}
 use Rattle.store_laws.specs.Outcomes.{ChangesOrStays}
-use Rattle.store_laws.proofs.Rooms.{file_at_found, file_at_none, with_new_file_now, with_new_file_others, with_new_file_differs}
+use Rattle.store_laws.proofs.Rooms.{file_at_found, file_at_none, with_new_file_now, with_new_file_kept, with_new_file_others, with_new_file_differs}
 use Rattle.store_laws.proofs.Searches.{find_unplaced}
 use Rattle.store_laws.proofs.Entering.{placed_file, room_cases, folder_cases, stays_in}
 
@@ -33,6 +34,7 @@ by_place tree n path room e there None at =
         folder = there;
         none = file_at_none room path none;
         now = with_new_file_now room path file none refl;
+        kept = with_new_file_kept room path file none refl;
         others = with_new_file_others room path file refl;
         differ = with_new_file_differs room path file none refl;
         gives = refl;

@@ -9,7 +9,7 @@ use Rattle.store_api.specs.declared.step.Answer.TheVariants.{Absent, NoRoom, NoF
 use Rattle.store_api.specs.Step.{Name}
 use Rattle.store_api.specs.Room.{Outcome, stays, has_folder, place_of, file_in, in_folder, or_absent, at_place, in_file, is_at}
 use Rattle.store_api.specs.Effect.{Effect, stays as tree_stays, room_after, or_no_room, in_room}
-use Rattle.store_api.proofs.Files.{position_is, found_at_place}
+use Rattle.store_api.proofs.Facts.{position_is, found_at_place}
 use Rattle.store_laws.specs.Changes.{with_room}
 use Rattle.store_laws.specs.Outcomes.{Stays}
 use Rattle.store_laws.proofs.Places.{slice_set_same, item}

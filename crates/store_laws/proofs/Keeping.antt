@@ -10,7 +10,7 @@ use Rattle.store_api.specs.Room.{is_top, has_folder}
 use Rattle.store_laws.specs.Files.{file_at, AreTwo, SameButFile, SameButFolder}
 use Rattle.store_laws.specs.Differ.{is_listed, NamesDiffer, FoldersDiffer, FilesDiffer, PathsDiffer, RoomsDiffer}
 use Rattle.store_laws.specs.There.{IsFree}
-use Rattle.store_laws.specs.Changes.{with_room, FileChanged, Created, Wrote, WasCut, Removed, RoomMade}
+use Rattle.store_laws.specs.Changes.{with_room, FileChanged, Created, Wrote, WasCut, WasSynced, Removed, RoomMade}
 use Rattle.store_laws.proofs.Places.{slice_get-slice_set, slice_get_other-slice_set, slice_get_before, slice_get_last, slice_get_more}
 use Rattle.store_laws.proofs.Naming.{name_cases, path_cases}
 use Rattle.store_laws.proofs.Rooms.{file_at_same, has_folder_same}
@@ -122,6 +122,9 @@ cut_one tree n path len after c = record { room = c.room; new = c.new; has_room 
 
 pub removed_one : (tree : Tree) (n : ℕ) (path : Path) (after : Tree) → Removed tree n path after → FileChanged tree n path after
 removed_one tree n path after c = record { room = c.room; new = c.new; has_room = c.has_room; folder = c.folder; others = c.others; differ = c.differ; gives = c.gives }
+
+pub synced_one : (tree : Tree) (n : ℕ) (path : Path) (after : Tree) → WasSynced tree n path after → FileChanged tree n path after
+synced_one tree n path after c = record { room = c.room; new = c.new; has_room = c.has_room; folder = c.folder; others = c.others; differ = c.differ; gives = c.gives }
 
 -- ---- a room in which one folder has come or gone
 

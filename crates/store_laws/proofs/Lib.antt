@@ -1,24 +1,29 @@
-pub mod Places
-pub mod Naming
-pub mod Searches
-pub mod Differing
-pub mod Rooms
-pub mod Entering
-pub mod Creating
-pub mod Writing
-pub mod Removing
-pub mod Folders
-pub mod ByteOrder
-pub mod Listings
-pub mod Emptied
-pub mod NewRooms
-pub mod Moving
-pub mod Telling
-pub mod Answering
-pub mod Overwriting
-pub mod Keeping
-pub mod Touching
-pub mod Lengthening
-pub mod OrderKept
-pub mod Listed
-pub mod Exactly
+mod Answering
+mod ByteOrder
+mod Common
+mod Creating
+mod Differing
+mod Emptied
+mod Entering
+mod Exactly
+pub mod Facts
+mod Folders
+mod Keeping
+mod Lengthening
+mod Listed
+mod Listings
+mod Losing
+mod Moving
+mod Naming
+mod NewRooms
+mod OrderKept
+mod Overwriting
+mod Places
+mod Removing
+mod Rooms
+mod Searches
+mod Sparing
+mod Syncing
+mod Telling
+mod Touching
+mod Writing

@@ -10,7 +10,7 @@ use Rattle.store_api.specs.Step.{Name, replace}
 use Rattle.store_api.specs.Names.{same_name}
 use Rattle.store_api.specs.Room.{stays, becomes, is_at, has_folder, place_of, file_in, with_file, without_file, file_named, file_renamed}
 use Rattle.store_api.specs.Effect.{Effect, effect, room_after}
-use Rattle.store_api.proofs.Files.{find-set_other}
+use Rattle.store_api.proofs.Facts.{find-set_other}
 use Rattle.store_laws.specs.Files.{file_at, AreTwo, SameButFile}
 use Rattle.store_laws.specs.Differ.{PathsDiffer}
 use Rattle.store_laws.specs.Changes.{Replaced, beside}
@@ -19,7 +19,7 @@ use Rattle.store_laws.specs.Outcomes.{Stays, ChangesOrStays}
 use Rattle.store_laws.proofs.Naming.{name_eq, name_apart, path_at, not_at, two_apart}
 use Rattle.store_laws.proofs.Searches.{find_none, none_found, find_unplaced}
 use Rattle.store_laws.proofs.Differing.{files_removed, files_renamed, gone_set}
-use Rattle.store_laws.proofs.Rooms.{file_at_found, file_at_none, file_at_alike, has_folder_same, without_others, without_gone}
+use Rattle.store_laws.proofs.Rooms.{file_at_found, file_at_none, file_at_alike, kept_at_found, kept_at_alike, has_folder_same, without_others, without_gone}
 use Rattle.store_laws.proofs.Entering.{FoundAt, placed_file, room_cases, file_cases, same_room, stays_in}
 
 -- a room in which no file has the new name
@@ -30,7 +30,7 @@ record Cleared (room : Room) (target : Path) (clear : Room) : Type 0 where
 
 cleared : (room : Room) (target : Path) (place : Option ℕ) → place_of room target.folder target.file ≡ place → Cleared room target (without_file room place)
 cleared room target None e = record {
-  others = record { name = refl; folders = refl; files = λ other two. refl };
+  others = record { name = refl; folders = refl; files = λ other two. refl; kepts = λ other two. refl };
   gone = λ d. find_unplaced (is_at target.folder target.file) room.files e;
   differ = λ d. d;
 }
@@ -84,12 +84,16 @@ module _ (tree : Tree) (n : ℕ) (path : Path) (to : Name) (room : Room) (has_ro
           another = another;
           now = λ d. file_at_found (with_file clear place target) (beside path to) target
               (find_set_new (is_at path.folder to) clear.files place file target f.stands (c.gone d) (path_at (beside path to) target refl)) ∙ ap (λ b. Some b) whole;
+          kept = λ d. kept_at_found (with_file clear place target) (beside path to) target
+              (find_set_new (is_at path.folder to) clear.files place file target f.stands (c.gone d) (path_at (beside path to) target refl)) ∙ sym (kept_at_found clear path file f.found) ∙ c.others.kepts path two;
           gone = λ d. file_at_none (with_file clear place target) path
               (find_none (is_at path.folder path.file) (slice_set clear.files place target) (gone_set clear.files place file target path f.stands f.has_path (not_at path target (λ e. two_apart path (beside path to) two (sym e))) (c.differ d)));
           same_name = c.others.name;
           same_folders = c.others.folders;
           others = λ other a b. file_at_alike clear (with_file clear place target) other
               (find-set_other (is_at other.folder other.file) clear.files place file target f.stands (not_at other file (λ e. two_apart other path a (sym e ∙ f.has_path))) (not_at other target (λ e. two_apart other (beside path to) b (sym e)))) ∙ c.others.files other b;
+          kepts = λ other a b. kept_at_alike clear (with_file clear place target) other
+              (find-set_other (is_at other.folder other.file) clear.files place file target f.stands (not_at other file (λ e. two_apart other path a (sym e ∙ f.has_path))) (not_at other target (λ e. two_apart other (beside path to) b (sym e)))) ∙ c.others.kepts other b;
           differ = λ d. files_renamed clear.files place target (none_found (is_at path.folder to) clear.files (c.gone d)) (c.differ d);
           gives = refl;
         },

@@ -12,9 +12,10 @@ use Rattle.store_api.specs.declared.tree.Tree.{Tree}
 use Rattle.store_api.specs.declared.step.Answer.TheVariants.{Made, TargetThere, Number}
 use Rattle.store_api.specs.Step.{Name, make_room, rename_room}
 use Rattle.store_api.specs.Names.{same_name}
-use Rattle.store_api.specs.Room.{is_top, is_at, empty_file}
+use Rattle.store_api.specs.Kept.{empty_file}
+use Rattle.store_api.specs.Room.{is_top, is_at}
 use Rattle.store_api.specs.Effect.{Effect, effect, new_room, number_of, room_made, renamed, room_after}
-use Rattle.store_laws.specs.Files.{file_at}
+use Rattle.store_laws.specs.Files.{file_at, kept_of, kept_at}
 use Rattle.store_laws.specs.Differ.{is_listed, NamesDiffer, is_there, FilesDiffer}
 use Rattle.store_laws.specs.There.{IsRoomOf, IsFree}
 use Rattle.store_laws.specs.Changes.{RoomMade, RoomRenamed}
@@ -76,6 +77,17 @@ has_files : (name : Name) (folders files : List Name) (path : Path) → file_at 
 unfolding file_at
 has_files name folders files path = rw (top_named path.folder) (new_files path files)
 
+none_kept : (path : Path) (files : List Name) → kept_of (find (is_at path.folder path.file) (map (empty_file []) files)) ≡ 0
+none_kept path [] = refl
+none_kept path (name ∷ names) = elim (is_at path.folder path.file (empty_file [] name)) as (λ b. kept_of (cond b (Some (empty_file [] name)) (find (is_at path.folder path.file) (map (empty_file []) names))) ≡ 0) [
+  | true ↦ refl
+  | false ↦ none_kept path names
+]
+
+new_kept : (name : Name) (folders files : List Name) (path : Path) → kept_at (new_room name folders files) path ≡ 0
+unfolding kept_at
+new_kept name folders files path = none_kept path files
+
 none_there : (file : Name) (files : List Name) → is_there [] file (map (empty_file []) files) ≡ is_listed file files
 none_there file [] = refl
 none_there file (name ∷ names) = ap (λ r. same_name name file || r) (none_there file names)
@@ -96,6 +108,7 @@ by_number tree name folders files None e = inl (
     named = refl;
     has_folders = refl;
     has_files = has_files name folders files;
+    kept = new_kept name folders files;
     differ = λ d. new_differ files d;
     gives = refl;
   },

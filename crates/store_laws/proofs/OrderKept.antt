@@ -15,9 +15,9 @@ use Rattle.store_laws.specs.Changes.{with_room, FileChanged, Moved, beside, Fold
 use Rattle.store_laws.specs.Orderly.{IsOrderlyRoom, IsOrderly, MakesOrderly}
 use Rattle.store_laws.proofs.Naming.{name_cases, path_cases}
 use Rattle.store_laws.proofs.Rooms.{file_at_same, has_folder_same}
-use Rattle.store_laws.proofs.Telling.{create_told, remove_told, replace_told, write_told, cut_told, make_folder_told, remove_folder_told, make_room_told, rename_room_told}
+use Rattle.store_laws.proofs.Telling.{create_told, remove_told, replace_told, write_told, cut_told, sync_told, make_folder_told, remove_folder_told, make_room_told, rename_room_told}
 use Rattle.store_laws.proofs.Answering.{look_told}
-use Rattle.store_laws.proofs.Keeping.{each_room, each_with_added, rooms_differ_kept, rooms_differ_renamed, rooms_differ_added, folder_kept, folders_differ_kept, each_file, created_one, wrote_one, cut_one, removed_one, file_kept, paths_differ_kept, each_new_file, has_new_folder, new_folders_differ}
+use Rattle.store_laws.proofs.Keeping.{each_room, each_with_added, rooms_differ_kept, rooms_differ_renamed, rooms_differ_added, folder_kept, folders_differ_kept, each_file, created_one, wrote_one, cut_one, synced_one, removed_one, file_kept, paths_differ_kept, each_new_file, has_new_folder, new_folders_differ}
 
 pub orderly_same : (tree after : Tree) → after ≡ tree → IsOrderly tree → IsOrderly after
 orderly_same tree after same o = subst IsOrderly (sym same) o
@@ -177,4 +177,9 @@ orderly_told (cut n folder file len) tree told after makes t o =
       | inl c ↦ file_changed tree n path after (cut_one tree n path len after c) o
       | inr same ↦ orderly_same tree after same o
     ]
-orderly_told (sync n folder file) tree told after makes t o = orderly_same tree after (look_told (sync n folder file) tree told after tt t) o
+orderly_told (sync n folder file) tree told after makes t o =
+    let path : Path = record { folder = folder; file = file } in
+    elim (sync_told n path tree told after t).either as (λ _. IsOrderly after) [
+      | inl c ↦ file_changed tree n path after (synced_one tree n path after c) o
+      | inr same ↦ orderly_same tree after same o
+    ]

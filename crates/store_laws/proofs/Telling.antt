@@ -8,16 +8,17 @@ use Rattle.store_api.specs.declared.step.Answer.{Answer}
 use Rattle.store_api.specs.declared.step.Answer.TheVariants.{Made, Number}
 use Rattle.store_api.specs.declared.store.Trouble.{Trouble}
 use Rattle.store_api.specs.declared.store.Trouble.TheVariants.{Fault, NoMemory}
-use Rattle.store_api.specs.Step.{Step, Name, make_room, rename_room, make_folder, remove_folder, create, remove, replace, write_at, cut}
+use Rattle.store_api.specs.Step.{Step, Name, make_room, rename_room, make_folder, remove_folder, create, remove, replace, write_at, cut, sync as sync_file}
 use Rattle.store_api.specs.Effect.{Effect, effect, tree_after}
 use Rattle.store_api.specs.Leaves.{MayLeave, not_made, whole, in_part, with_first}
 use Rattle.store_api.specs.Acts.{Stored, Acts, Goes}
 use Rattle.store_laws.specs.Tells.{Tells}
-use Rattle.store_laws.specs.Changes.{Created, Wrote, WasCut, Removed, Replaced, FolderMade, FolderRemoved, RoomMade, RoomRenamed}
+use Rattle.store_laws.specs.Changes.{Created, Wrote, WasCut, WasSynced, Removed, Replaced, FolderMade, FolderRemoved, RoomMade, RoomRenamed}
 use Rattle.store_laws.specs.Says.{WhyNoRoomMade, WhyNotRenamed, WhyNoFolderMade, WhyNoFolderRemoved, WhyNotCreated, WhyNoFile, WhyNotWritten}
 use Rattle.store_laws.specs.Outcomes.{ChangesOrStays, MadeOrNot, WroteInPart, WriteTold}
 use Rattle.store_laws.proofs.Creating.{create_cases}
 use Rattle.store_laws.proofs.Writing.{write_cases, cut_cases}
+use Rattle.store_laws.proofs.Syncing.{sync_cases}
 use Rattle.store_laws.proofs.Removing.{remove_cases}
 use Rattle.store_laws.proofs.Moving.{replace_cases}
 use Rattle.store_laws.proofs.Folders.{make_folder_cases}
@@ -98,6 +99,9 @@ make_room_told name folders files tree told after t = step_told (make_room name 
 
 pub rename_room_told : (n : ℕ) (to : Name) (tree : Tree) (told : Result Answer Trouble) (after : Tree) → Tells (rename_room n to) tree told after → MadeOrNot tree Made (RoomRenamed tree n to) (WhyNotRenamed tree n to) told after
 rename_room_told n to tree told after t = step_told (rename_room n to) tree Made (RoomRenamed tree n to) (WhyNotRenamed tree n to) (rename_room_cases tree n to) (λ k. refl) told after t
+
+pub sync_told : (n : ℕ) (path : Path) (tree : Tree) (told : Result Answer Trouble) (after : Tree) → Tells (sync_file n path.folder path.file) tree told after → MadeOrNot tree Made (WasSynced tree n path) (WhyNoFile tree n path) told after
+sync_told n path tree told after t = step_told (sync_file n path.folder path.file) tree Made (WasSynced tree n path) (WhyNoFile tree n path) (sync_cases tree n path) (λ k. refl) told after t
 
 -- ---- a write
 

@@ -1,12 +1,13 @@
 -- What each step that changes a tree has changed in it.
-use Rattle.std.specs.Prelude.{◌≡◌, ◌⊎◌, ◌≤◌, ℕ, List, [], ◌∷◌, ◌++◌, length, take, true, false, Some, None, slice_get, slice_set, if◌then◌else◌, ◌&&◌}
+use Rattle.std.specs.Prelude.{◌≡◌, ◌⊎◌, ◌≤◌, ℕ, List, [], ◌∷◌, ◌++◌, length, take, min, true, false, Some, None, slice_get, slice_set, if◌then◌else◌, ◌&&◌}
 use Rattle.plfs_types.specs.Bytes.{overwritten}
 use Rattle.plfs_types.specs.declared.names.Path.{Path}
 use Rattle.store_api.specs.declared.tree.Room.{Room}
 use Rattle.store_api.specs.declared.tree.Tree.{Tree}
+use Rattle.store_api.specs.Kept.{kept_after}
 use Rattle.store_api.specs.Step.{Name}
 use Rattle.store_api.specs.Room.{is_top, has_folder}
-use Rattle.store_laws.specs.Files.{file_at, AreTwo, SameButFile, SameButFolder}
+use Rattle.store_laws.specs.Files.{file_at, kept_at, AreTwo, SameButFile, SameButFolder}
 use Rattle.store_laws.specs.Differ.{is_listed, NamesDiffer, FoldersDiffer, PathsDiffer}
 use Rattle.store_laws.specs.There.{IsFree, HoldsFile, has_entry}
 
@@ -32,6 +33,7 @@ pub record Created (tree : Tree) (n : ℕ) (path : Path) (after : Tree) : Type 0
   pub folder : has_folder room path.folder ≡ true
   pub none : file_at room path ≡ None
   pub now : file_at new path ≡ Some []
+  pub kept : kept_at new path ≡ 0
   pub others : SameButFile path room new
   pub differ : PathsDiffer room → PathsDiffer new
   pub gives : after ≡ with_room tree n new
@@ -46,6 +48,7 @@ pub record Wrote (tree : Tree) (n : ℕ) (path : Path) (at : ℕ) (bytes : List 
   pub there : file_at room path ≡ Some old
   pub within : at ≤ length old
   pub now : file_at new path ≡ Some (overwritten old at bytes)
+  pub kept : kept_at new path ≡ kept_after (kept_at room path) old (overwritten old at bytes)
   pub others : SameButFile path room new
   pub differ : PathsDiffer room → PathsDiffer new
   pub gives : after ≡ with_room tree n new
@@ -60,6 +63,21 @@ pub record WasCut (tree : Tree) (n : ℕ) (path : Path) (len : ℕ) (after : Tre
   pub there : file_at room path ≡ Some old
   pub within : len ≤ length old
   pub now : file_at new path ≡ Some (take len old)
+  pub kept : kept_at new path ≡ min (kept_at room path) len
+  pub others : SameButFile path room new
+  pub differ : PathsDiffer room → PathsDiffer new
+  pub gives : after ≡ with_room tree n new
+
+-- all bytes of a file are kept from now on
+pub record WasSynced (tree : Tree) (n : ℕ) (path : Path) (after : Tree) : Type 0 where
+  pub room : Room
+  pub old : List ℕ
+  pub new : Room
+  pub has_room : slice_get tree.rooms n ≡ Some room
+  pub folder : has_folder room path.folder ≡ true
+  pub there : file_at room path ≡ Some old
+  pub now : file_at new path ≡ Some old
+  pub kept : kept_at new path ≡ length old
   pub others : SameButFile path room new
   pub differ : PathsDiffer room → PathsDiffer new
   pub gives : after ≡ with_room tree n new
@@ -91,10 +109,12 @@ pub record Moved (tree : Tree) (n : ℕ) (path : Path) (to : Name) (after : Tree
   pub there : file_at room path ≡ Some bytes
   pub another : path.file ≡ to → ⊥
   pub now : PathsDiffer room → file_at new (beside path to) ≡ Some bytes
+  pub kept : PathsDiffer room → kept_at new (beside path to) ≡ kept_at room path
   pub gone : PathsDiffer room → file_at new path ≡ None
   pub same_name : new.name ≡ room.name
   pub same_folders : new.folders ≡ room.folders
   pub others : (other : Path) → AreTwo other path → AreTwo other (beside path to) → file_at new other ≡ file_at room other
+  pub kepts : (other : Path) → AreTwo other path → AreTwo other (beside path to) → kept_at new other ≡ kept_at room other
   pub differ : PathsDiffer room → PathsDiffer new
   pub gives : after ≡ with_room tree n new
 
@@ -133,6 +153,7 @@ pub record RoomMade (tree : Tree) (name : Name) (folders files : List Name) (aft
   pub named : new.name ≡ name
   pub has_folders : new.folders ≡ folders
   pub has_files : (path : Path) → file_at new path ≡ (if is_top path.folder && is_listed path.file files then Some [] else None)
+  pub kept : (path : Path) → kept_at new path ≡ 0
   pub differ : NamesDiffer files → PathsDiffer new
   pub gives : after ≡ record { rooms = tree.rooms ++ new ∷ [] }
 

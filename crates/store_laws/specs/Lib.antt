@@ -7,4 +7,5 @@ pub mod Tells
 pub mod Changes
 pub mod Outcomes
 pub mod Naming
+pub mod Losing
 pub mod Orderly

@@ -3,9 +3,9 @@ use Rattle.std.specs.Prelude.{◌≡◌, ◌⊎◌, ◌≤◌, ℕ, List, length
 use Rattle.plfs_types.specs.declared.names.Path.{Path}
 use Rattle.store_api.specs.declared.tree.Room.{Room}
 use Rattle.store_api.specs.declared.tree.Tree.{Tree}
-use Rattle.store_api.specs.Step.{Step, Name, rename_room, make_folder, remove_folder, create, remove, replace, write_at, cut}
+use Rattle.store_api.specs.Step.{Step, Name, rename_room, make_folder, remove_folder, create, remove, replace, write_at, cut, sync}
 use Rattle.store_api.specs.Room.{has_folder}
-use Rattle.store_laws.specs.Files.{file_at}
+use Rattle.store_laws.specs.Files.{file_at, kept_at}
 
 -- the path is of this folder and file
 abbrev pub IsPathOf : Name → Name → Path → Type 0
@@ -19,6 +19,11 @@ NamesFile (replace n folder from to) number path = (number ≡ n) × (IsPathOf f
 NamesFile (write_at n folder file at bytes) number path = (number ≡ n) × IsPathOf folder file path
 NamesFile (cut n folder file len) number path = (number ≡ n) × IsPathOf folder file path
 NamesFile step number path = ⊥
+
+-- the step may change how many bytes of this file of this room are kept
+abbrev pub NamesKept : Step → ℕ → Path → Type 0
+NamesKept (sync n folder file) number path = (number ≡ n) × IsPathOf folder file path
+NamesKept step number path = NamesFile step number path
 
 -- the step may make or remove this folder of this room
 abbrev pub NamesFolder : Step → ℕ → Name → Type 0
@@ -36,6 +41,7 @@ pub record KeepsRoom (step : Step) (n : ℕ) (room new : Room) : Type 0 where
   pub name : (NamesRoom step n → ⊥) → new.name ≡ room.name
   pub folders : (folder : Name) → (NamesFolder step n folder → ⊥) → has_folder new folder ≡ has_folder room folder
   pub files : (path : Path) → (NamesFile step n path → ⊥) → file_at new path ≡ file_at room path
+  pub kepts : (path : Path) → (NamesKept step n path → ⊥) → kept_at new path ≡ kept_at room path
 
 -- of each room all stays that the step doesn't name
 abbrev pub KeepsRooms : Step → Tree → Tree → Type 0

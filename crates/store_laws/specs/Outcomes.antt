@@ -4,7 +4,7 @@ use Rattle.plfs_types.specs.declared.names.Path.{Path}
 use Rattle.store_api.specs.declared.tree.Tree.{Tree}
 use Rattle.store_api.specs.declared.step.Answer.{Answer}
 use Rattle.store_api.specs.declared.store.Trouble.{Trouble}
-use Rattle.store_api.specs.Step.{Step, rooms, find_room, list_folder, length_of, read_at, sync}
+use Rattle.store_api.specs.Step.{Step, rooms, find_room, list_folder, length_of, read_at}
 use Rattle.store_api.specs.Effect.{Effect}
 use Rattle.store_laws.specs.Tells.{made}
 use Rattle.store_laws.specs.Changes.{Wrote}
@@ -46,5 +46,4 @@ IsLook (find_room name) = Unit {0}
 IsLook (list_folder n folder) = Unit {0}
 IsLook (length_of n folder file) = Unit {0}
 IsLook (read_at n folder file at len) = Unit {0}
-IsLook (sync n folder file) = Unit {0}
 IsLook step = ⊥

@@ -4,7 +4,7 @@ use Rattle.std.specs.List.{list_any}
 use Rattle.plfs_types.specs.declared.names.Path.{Path}
 use Rattle.store_api.specs.declared.tree.Tree.{Tree}
 use Rattle.store_api.specs.declared.step.Answer.{Answer}
-use Rattle.store_api.specs.declared.step.Answer.TheVariants.{Made, Old, Absent, NoRoom, NoFolder, NotEmpty, TargetThere, Names, Number, Bytes, Beyond}
+use Rattle.store_api.specs.declared.step.Answer.TheVariants.{Old, Absent, NoRoom, NoFolder, NotEmpty, TargetThere, Names, Number, Bytes, Beyond}
 use Rattle.store_api.specs.Step.{Name}
 use Rattle.store_api.specs.Names.{same_name}
 use Rattle.store_laws.specs.Differ.{is_listed}
@@ -88,8 +88,3 @@ LengthTells tree n path answer = WhyNoFile tree n path answer
 abbrev pub ReadTells : Tree → ℕ → Path → ℕ → ℕ → Answer → Type 0
 ReadTells tree n path at len (Bytes bytes) = (held : HoldsFile tree n path) × (bytes ≡ take len (drop at held.bytes))
 ReadTells tree n path at len answer = WhyNoFile tree n path answer
-
--- that the file is there, or why not
-abbrev pub SyncTells : Tree → ℕ → Path → Answer → Type 0
-SyncTells tree n path Made = HoldsFile tree n path
-SyncTells tree n path answer = WhyNoFile tree n path answer

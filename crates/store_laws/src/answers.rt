@@ -5,12 +5,12 @@ ghost use Rattle.store_api.specs.declared.tree.Room.{Room};
 ghost use Rattle.store_api.specs.declared.tree.Tree.{Tree};
 ghost use Rattle.store_api.specs.declared.step.Answer.{Answer};
 ghost use Rattle.store_api.specs.declared.store.Trouble.{Trouble};
-ghost use Rattle.store_api.specs.Step.{Step, Name, rooms, find_room, list_folder, length_of, read_at, sync};
+ghost use Rattle.store_api.specs.Step.{Step, Name, rooms, find_room, list_folder, length_of, read_at};
 ghost use Rattle.store_api.specs.Effect.{effect};
 ghost use Rattle.store_laws.specs.There.{AreNamesOf};
 ghost use Rattle.store_laws.specs.Tells.{Tells};
 ghost use Rattle.store_laws.specs.Outcomes.{IsLook, Looks};
-ghost use Rattle.store_laws.specs.Says.{RoomsTell, FindTells, ListTells, LengthTells, ReadTells, SyncTells};
+ghost use Rattle.store_laws.specs.Says.{RoomsTell, FindTells, ListTells, LengthTells, ReadTells};
 
 /// A law: whatever is told of a step that only looks, also at a fault, the tree is as before.
 pub fn looks_change_nothing()
@@ -42,11 +42,6 @@ pub fn length_tells()
 /// folder or file.
 pub fn reading_tells()
     ensures { (tree : Tree) (n : ℕ) (path : Path) (at len : ℕ) → Looks tree (ReadTells tree n path at len) (effect tree (read_at n path.folder path.file at len)) }
-{}
-
-/// A law: a sync tells whether the file is there.
-pub fn syncing_tells()
-    ensures { (tree : Tree) (n : ℕ) (path : Path) → Looks tree (SyncTells tree n path) (effect tree (sync n path.folder path.file)) }
 {}
 
 /// A law: the entries of a folder determine the names that are told of it.

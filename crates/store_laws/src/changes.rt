@@ -3,10 +3,10 @@ ghost use Rattle.std.specs.Prelude.{ℕ, List, length};
 ghost use Rattle.plfs_types.specs.declared.names.Path.{Path};
 ghost use Rattle.store_api.specs.declared.tree.Tree.{Tree};
 ghost use Rattle.store_api.specs.declared.step.Answer.TheVariants.{Made, Number};
-ghost use Rattle.store_api.specs.Step.{Name, make_room, rename_room, make_folder, remove_folder, create, remove, replace, write_at, cut};
+ghost use Rattle.store_api.specs.Step.{Name, make_room, rename_room, make_folder, remove_folder, create, remove, replace, write_at, cut, sync};
 ghost use Rattle.store_api.specs.Effect.{effect};
 ghost use Rattle.store_laws.specs.Outcomes.{ChangesOrStays};
-ghost use Rattle.store_laws.specs.Changes.{Created, Wrote, WasCut, Removed, Replaced, FolderMade, FolderRemoved, RoomMade, RoomRenamed};
+ghost use Rattle.store_laws.specs.Changes.{Created, Wrote, WasCut, WasSynced, Removed, Replaced, FolderMade, FolderRemoved, RoomMade, RoomRenamed};
 ghost use Rattle.store_laws.specs.Says.{WhyNoRoomMade, WhyNotRenamed, WhyNoFolderMade, WhyNoFolderRemoved, WhyNotCreated, WhyNoFile, WhyNotWritten};
 
 /// A law: a room is added behind the others, with its folders and empty top files, or one has the name.
@@ -56,4 +56,9 @@ pub fn writes_one_file()
 /// A law: a file is cut and nothing else changes, or it isn't there, or is shorter.
 pub fn cuts_one_file()
     ensures { (tree : Tree) (n : ℕ) (path : Path) (len : ℕ) → ChangesOrStays tree Made (WasCut tree n path len) (WhyNotWritten tree n path len) (effect tree (cut n path.folder path.file len)) }
+{}
+
+/// A law: all bytes of a file are kept from then on and nothing else changes, or the file isn't there.
+pub fn syncs_one_file()
+    ensures { (tree : Tree) (n : ℕ) (path : Path) → ChangesOrStays tree Made (WasSynced tree n path) (WhyNoFile tree n path) (effect tree (sync n path.folder path.file)) }
 {}

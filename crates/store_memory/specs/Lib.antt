@@ -1,3 +1,5 @@
+pub mod AllKept
 pub mod Broken
 pub mod InRoom
+pub mod Lost
 pub mod MemoryStore

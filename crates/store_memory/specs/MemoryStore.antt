@@ -1,5 +1,5 @@
 -- The parts of a store in memory.
-use Rattle.std.specs.Prelude.{ℕ, ◌==◌, Option, Some, List, find}
+use Rattle.std.specs.Prelude.{ℕ, nat_lt, ◌==◌, Bool, false, Option, Some, None, List, find}
 use Rattle.store_api.specs.declared.tree.Tree.{Tree}
 use Rattle.store_api.specs.Acts.{Stored}
 use Rattle.store_memory.specs.declared.store.Fail.{Fail}
@@ -23,7 +23,20 @@ fails_of store = store.fails
 
 -- the first planned fault of the act that comes next
 abbrev pub next_fail : MemoryStore → Option Fail
-next_fail store = find (λ fail. fail.act == store.acts) store.fails
+next_fail store = find (λ fail. fail.act == acts_of store) (fails_of store)
+
+-- the act in which its power goes off, where that is planned
+abbrev pub last_of : MemoryStore → Option ℕ
+last_of store = store.last
+
+-- whether so many acts are more than those up to that one
+abbrev pub is_past : ℕ → Option ℕ → Bool
+is_past acts None = false
+is_past acts (Some last) = nat_lt last acts
+
+-- whether its power is off: that act was made
+abbrev pub is_off : MemoryStore → Bool
+is_off store = is_past (acts_of store) (last_of store)
 
 -- what contracts of a store see of it
 abbrev pub stored_in : MemoryStore → Stored

@@ -2,7 +2,7 @@
 ghost use Rattle.std.specs.Prelude.{◌≡◌, [], map, IfOk, OnOk, OnErr};
 ghost use Rattle.store_api.specs.Step.{step_of, rename_room};
 ghost use Rattle.store_api.specs.Effect.{effect, in_room, number_of, new_room, room_made, renamed};
-ghost use Rattle.store_api.specs.Room.{empty_file};
+ghost use Rattle.store_api.specs.Kept.{empty_file};
 ghost use Rattle.store_memory.specs.InRoom.{room_outcome};
 
 use crate::listing::in_byte_order;

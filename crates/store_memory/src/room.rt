@@ -1,10 +1,12 @@
 //! What each step does in its room. After `NoMemory` the room is as it was.
-ghost use Rattle.std.specs.Prelude.{◌≡◌, take, drop, filter, not, IfOk, OnErr};
+ghost use Rattle.std.specs.Prelude.{◌≡◌, ◌≤◌, length, take, drop, filter, not, IfOk, OnErr};
 ghost use Rattle.std.specs.List.{list_any};
 ghost use Rattle.store_api.specs.Names.{same_name};
 ghost use Rattle.store_api.specs.Step.{step_of};
+ghost use Rattle.plfs_types.specs.Bytes.{overwritten};
 ghost use Rattle.store_memory.specs.InRoom.{room_outcome};
-ghost use Rattle.store_api.specs.Room.{empty_file, is_top, has_folder, place_of, folder_made, folder_removed, folder_listed, file_created, file_removed, file_named, file_renamed, without_file, length_told, bytes_read, bytes_written, file_cut, file_synced};
+ghost use Rattle.store_api.specs.Kept.{common, kept_after, empty_file};
+ghost use Rattle.store_api.specs.Room.{is_top, has_folder, place_of, folder_made, folder_removed, folder_listed, file_created, file_removed, file_named, file_renamed, without_file, length_told, bytes_read, bytes_written, file_cut, file_synced};
 
 use crate::listing::listing;
 use plfs_types::{Bytes, Name, NameList, NoMemory, Path};
@@ -50,6 +52,7 @@ pub(crate) fn empty_file(alloc: Global, folder: &Name, file: &Name) -> File
             file: *file,
         },
         bytes: Bytes::new(alloc),
+        kept: 0,
     }
 }
 
@@ -185,15 +188,48 @@ fn length(room: &Room, folder: &Name, file: &Name) -> Answer
     }
 }
 
-fn sync(room: &Room, folder: &Name, file: &Name) -> Answer
-    ensures { file_synced room.now folder.now file.now ≡ record { room = room.now; answer = result } }
+#[tactic(auto, using(crate::proofs::Places::set_found))]
+fn sync(room: &mut Room, folder: &Name, file: &Name) -> Answer
+    ensures { file_synced room.old folder.now file.now ≡ record { room = room.new; answer = result } }
 {
     if !has_folder(room, folder) {
         return Answer::NoFolder;
     }
-    match place_of(room, folder, file) {
-        None => Answer::Absent,
-        Some(_) => Answer::Made,
+    let Some(place) = place_of(room, folder, file) else {
+        return Answer::Absent;
+    };
+    let Some(found) = room.files.get_mut(place) else {
+        return Answer::Absent;
+    };
+    found.kept = found.bytes.as_slice().len() as u64;
+    Answer::Made
+}
+
+// How many first bytes these have in common.
+fn common(a: &[u8], b: &[u8]) -> usize
+    ensures { result ≡ common a.now b.now }
+{
+    let most = a.len().min(b.len());
+    for i in 0..most {
+        if a[i] != b[i] {
+            return i;
+        }
+    }
+    most
+}
+
+// How many bytes stay kept where the piece is laid over the old ones from byte `at` on: of those that were, the
+// ones before the first that changes.
+fn kept_over(kept: u64, old: &[u8], at: usize, piece: &[u8]) -> u64
+    requires { at ≤ length old.now }
+    ensures { result ≡ kept_after kept old.now (overwritten old.now at piece.now) }
+{
+    let rest = &old[at..];
+    let same = common(rest, piece);
+    if same == rest.len().min(piece.len()) {
+        kept.min(old.len() as u64)
+    } else {
+        kept.min((at + same) as u64)
     }
 }
 
@@ -220,7 +256,9 @@ fn write_at(
     if at > found.bytes.as_slice().len() as u64 {
         return Ok(Answer::Beyond);
     }
+    let kept = kept_over(found.kept, found.bytes.as_slice(), at as usize, bytes);
     found.bytes.overwrite(at as usize, bytes)?;
+    found.kept = kept;
     Ok(Answer::Made)
 }
 
@@ -241,6 +279,7 @@ fn cut(room: &mut Room, folder: &Name, file: &Name, len: u64) -> Answer
         return Answer::Beyond;
     }
     found.bytes.truncate(len as usize);
+    found.kept = found.kept.min(len);
     Answer::Made
 }
 

@@ -1,11 +1,13 @@
 //! The store: a tree, planned faults, and counts of acts and faults.
-ghost use Rattle.std.specs.Prelude.{◌≡◌, ◌==◌, ℕ, [], List, Option, Some, None, find, OnOk, OnErr, IfOk, IsErrOf, IsSomeAnd};
+ghost use Rattle.std.specs.Prelude.{◌≡◌, ◌==◌, ℕ, [], ◌∷◌, true, false, List, Option, Some, None, find, OnOk, OnErr, IfOk, IsErrOf, IsSomeAnd};
 ghost use Rattle.store_api.specs.Step.{step_of};
 ghost use Rattle.store_api.specs.Effect.{effect};
 ghost use Rattle.plfs_types.specs.Counts.{next_count};
 ghost use Rattle.store_api.specs.Acts.{Acts};
 ghost use Rattle.store_memory.specs.Broken.{broken_off};
 
+use crate::keeping::keep_all;
+use crate::losing::{KeepList, lose};
 use crate::perform::perform;
 use plfs_types::{NoMemory, Sequence};
 use std::alloc::Global;
@@ -28,30 +30,23 @@ pub struct MemoryStore {
     alloc: Global,
     tree: Tree,
     fails: FailList,
+    // the act in which its power goes off, where that is planned
+    last: Option<u64>,
     acts: u64,
     faults: u64,
 }
 
 impl MemoryStore {
-    ghost use Rattle.store_memory.specs.MemoryStore.{tree_in, acts_of, faults_of, fails_of, next_fail};
+    ghost use Rattle.store_memory.specs.MemoryStore.{tree_in, acts_of, faults_of, fails_of, last_of};
+    ghost use Rattle.store_memory.specs.AllKept.{all_kept};
+    ghost use Rattle.store_memory.specs.Lost.{lost};
+    ghost use Rattle.store_api.specs.Loss.{Loses};
 
-    /// A store without rooms, with these planned faults.
-    pub fn new(alloc: Global, fails: FailList) -> Result<MemoryStore, NoMemory>
-        ensures empty { IfOk result (λ store. (tree_in store).rooms ≡ []) }
-        ensures planned { IfOk result (λ store. fails_of store ≡ fails) }
-        ensures acts { IfOk result (λ store. acts_of store ≡ 0) }
-        ensures faults { IfOk result (λ store. faults_of store ≡ 0) }
-    {
-        let tree = Tree {
-            rooms: RoomList::new(alloc),
-        };
-        Ok(MemoryStore::with_tree(alloc, tree, fails))
-    }
-
-    /// A store that holds this tree, with these planned faults.
-    pub fn with_tree(alloc: Global, tree: Tree, fails: FailList) -> MemoryStore
+    // A store that holds this tree and has made no act.
+    fn started(alloc: Global, tree: Tree, fails: FailList, last: Option<u64>) -> MemoryStore
         ensures tree { tree_in result ≡ tree }
         ensures planned { fails_of result ≡ fails }
+        ensures last { last_of result ≡ last }
         ensures acts { acts_of result ≡ 0 }
         ensures faults { faults_of result ≡ 0 }
     {
@@ -59,9 +54,65 @@ impl MemoryStore {
             alloc,
             tree,
             fails,
+            last,
             acts: 0,
             faults: 0,
         }
+    }
+
+    /// A store without rooms, with these planned faults.
+    pub fn new(alloc: Global, fails: FailList) -> Result<MemoryStore, NoMemory>
+        ensures empty { IfOk result (λ store. (tree_in store).rooms ≡ []) }
+        ensures planned { IfOk result (λ store. fails_of store ≡ fails) }
+        ensures power { IfOk result (λ store. last_of store ≡ None) }
+        ensures acts { IfOk result (λ store. acts_of store ≡ 0) }
+        ensures faults { IfOk result (λ store. faults_of store ≡ 0) }
+    {
+        Ok(MemoryStore::started(alloc, no_rooms(alloc), fails, None))
+    }
+
+    /// A store that holds this tree, with these planned faults. All bytes of its files are kept, whatever the tree
+    /// says of that.
+    pub fn with_tree(alloc: Global, tree: Tree, fails: FailList) -> MemoryStore
+        ensures tree { tree_in result ≡ all_kept tree }
+        ensures planned { fails_of result ≡ fails }
+        ensures power { last_of result ≡ None }
+        ensures acts { acts_of result ≡ 0 }
+        ensures faults { faults_of result ≡ 0 }
+    {
+        let mut tree = tree;
+        keep_all(&mut tree);
+        MemoryStore::started(alloc, tree, fails, None)
+    }
+
+    /// A store without rooms whose power goes off in the act of this number, counted from 0. That act leaves `part`
+    /// bytes of a write, and of another step nothing at part 0 and else all. Each later act fails and changes nothing.
+    pub fn off(alloc: Global, act: u64, part: u64) -> Result<MemoryStore, NoMemory>
+        ensures empty { IfOk result (λ store. (tree_in store).rooms ≡ []) }
+        ensures planned { IfOk result (λ store. fails_of store ≡ record { act = act; part = part } ∷ []) }
+        ensures power { IfOk result (λ store. last_of store ≡ Some act) }
+        ensures acts { IfOk result (λ store. acts_of store ≡ 0) }
+        ensures faults { IfOk result (λ store. faults_of store ≡ 0) }
+    {
+        let mut fails = FailList::new(alloc);
+        fails.push(Fail { act, part })?;
+        Ok(MemoryStore::started(alloc, no_rooms(alloc), fails, Some(act)))
+    }
+
+    /// The store after a loss of power: each file has its kept bytes, and of those in `keeps` up to `extra` bytes
+    /// more, as far as they go. All that is left is kept, no fault is planned, and the counts are 0. It takes no memory.
+    pub fn lose(self, keeps: KeepList) -> MemoryStore
+        ensures loses { Loses (tree_in self) (tree_in result) }
+        ensures exactly { tree_in result ≡ lost keeps (tree_in self) }
+        ensures unplanned { fails_of result ≡ [] }
+        ensures power { last_of result ≡ None }
+        ensures acts { acts_of result ≡ 0 }
+        ensures faults { faults_of result ≡ 0 }
+    {
+        let alloc = self.alloc;
+        let mut tree = self.tree;
+        lose(keeps.as_slice(), &mut tree);
+        MemoryStore::started(alloc, tree, FailList::new(alloc), None)
     }
 
     /// What the store holds.
@@ -83,6 +134,29 @@ impl MemoryStore {
         ensures { result ≡ faults_of self.now }
     {
         self.faults
+    }
+}
+
+// A tree without rooms.
+fn no_rooms(alloc: Global) -> Tree
+    ensures { result.rooms ≡ [] }
+{
+    Tree {
+        rooms: RoomList::new(alloc),
+    }
+}
+
+impl MemoryStore {
+    ghost use Rattle.store_memory.specs.MemoryStore.{is_off};
+
+    // Whether its power is off.
+    fn is_off(&self) -> bool
+        ensures { result ≡ is_off self.now }
+    {
+        match self.last {
+            None => false,
+            Some(last) => last < self.acts,
+        }
     }
 }
 
@@ -130,12 +204,13 @@ fn break_off(alloc: Global, tree: &mut Tree, step: &Step<'_>, part: u64) -> Resu
 }
 
 impl Store for MemoryStore {
-    ghost use Rattle.store_memory.specs.MemoryStore.{tree_in, acts_of, faults_of, fails_of, next_fail, stored_in};
+    ghost use Rattle.store_memory.specs.MemoryStore.{tree_in, acts_of, faults_of, fails_of, last_of, next_fail, is_off, stored_in};
 
     ghost stored = { λ store. stored_in store };
 
-    /// Makes one step, and answers it. `Fault` comes exactly where a fault is planned for this act, and leaves what was planned.
-    /// After `NoMemory` nothing has changed, and the next act has this one's number.
+    /// Makes one step, and answers it. `Fault` comes exactly where a fault is planned for this act, and leaves what was
+    /// planned, or where the power is off, and leaves the tree. After `NoMemory` nothing has changed, and the next act
+    /// has this one's number.
     fn act(&mut self, step: &Step<'_>) -> Result<Answer, Trouble>
         ensures acts { Acts (step_of step.now) (stored_in self.old) (stored_in self.new) result }
 
@@ -144,14 +219,21 @@ impl Store for MemoryStore {
         ensures no_fault_planned { OnOk result (next_fail self.old ≡ None) }
         ensures no_fault_counted { OnOk result (faults_of self.new ≡ faults_of self.old) }
 
-        ensures fault_planned { IsErrOf result Trouble.Fault → IsSomeAnd (next_fail self.old) (λ fail.
+        ensures off_fails { is_off self.old ≡ true → IsErrOf result Trouble.Fault }
+        ensures off_changes_nothing { is_off self.old ≡ true → tree_in self.new ≡ tree_in self.old }
+        ensures fault_planned { IsErrOf result Trouble.Fault → is_off self.old ≡ false → IsSomeAnd (next_fail self.old) (λ fail.
             tree_in self.new ≡ broken_off (tree_in self.old) (step_of step.now) fail.part) }
         ensures act_counted { IsErrOf result Trouble.Fault → acts_of self.new ≡ next_count (acts_of self.old) }
         ensures fault_counted { IsErrOf result Trouble.Fault → faults_of self.new ≡ next_count (faults_of self.old) }
 
         ensures no_memory { IsErrOf result Trouble.NoMemory → self.new ≡ self.old }
         ensures plan_kept { fails_of self.new ≡ fails_of self.old }
+        ensures power_kept { last_of self.new ≡ last_of self.old }
     {
+        if self.is_off() {
+            (self.acts, self.faults) = (self.acts.saturating_add(1), self.faults.saturating_add(1));
+            return Err(Trouble::Fault);
+        }
         let Some(fail) = fail_at(self.fails.as_slice(), self.acts) else {
             let Ok(answer) = perform(self.alloc, &mut self.tree, step) else {
                 return Err(Trouble::NoMemory);

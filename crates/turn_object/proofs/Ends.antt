@@ -1,5 +1,5 @@
 -- How a turn begins and ends, and how passes are split and joined.
-use Rattle.std.proofs.Common.{◌≡◌, ℕ, ◌+◌, ◌^◌, ◌≤◌, ◌≢◌, ◌⊎◌, inl, zero, suc, List, [], ◌∷◌, length, get_or, sym, refl, ap, ◌∙◌, subst, ⊎_elim, arith, Option, Some}
+use Rattle.std.proofs.Common.{◌≡◌, ℕ, ◌+◌, ◌^◌, ◌≤◌, ◌≢◌, ◌⊎◌, inl, zero, suc, List, [], ◌∷◌, ◌++◌, length, get_or, sym, refl, ap, ◌∙◌, subst, ⊎_elim, arith, Option, Some}
 use Rattle.std.specs.List.{All, Any}
 use mathlib.Core.Option as at
 use Rattle.std.proofs.lemmas.List.Elements.{All-nil}
@@ -12,11 +12,15 @@ use Rattle.turn_object.specs.declared.front.Front.{Front}
 use Rattle.turn_object.specs.declared.slot.Resting.{Resting}
 use Rattle.turn_object.specs.declared.front.Stage.TheVariants.{Idle}
 use Rattle.atomic_table.specs.Table.{State, opening, Final, Seen}
-use Rattle.turn_object.specs.History.{state_after, IsLegal}
-use Rattle.turn_object.specs.Rule.{tickets, HasTicket, total, parts_in, IsLive, IsHome, IsOut, FitsStage, KeepsEnded, Knows, IsKnown, IsTurning}
-use Rattle.turn_object.specs.Front.{IsOwn}
-use Rattle.turn_object.specs.Steps.{first_front}
-use Rattle.turn_object.specs.Front.{IsLegalFront, IsWhole}
+use Rattle.turn_object.specs.History.{state_after}
+use Rattle.turn_object.specs.Callers.{IsOwn}
+use Rattle.turn_object.specs.Ended.{AreApart, as_ended}
+use Rattle.turn_object.specs.Front.{IsHistory, IsLegalFront, IsWhole}
+use Rattle.turn_object.specs.Tickets.{tickets, HasTicket, total, parts_in, FitsStage}
+use Rattle.turn_object.specs.Homes.{IsHome, IsOut}
+use Rattle.turn_object.specs.Seats.{IsLive, KeepsEnded, KnowsRight, IsKnown}
+use Rattle.turn_object.specs.Rule.{IsTurning}
+use Rattle.turn_object.specs.Stages.{first_front}
 use Rattle.turn_object.proofs.Keeps.{idle_not_serving, keeps_in_seen}
 
 module _ {A R S : Type 0} where
@@ -36,6 +40,11 @@ module _ {A R S : Type 0} where
   sole x y zero e = (refl, at.some-injective x y e)
   sole x y (suc i) e = absurd (at.some-ne-none y (sym e))
 
+  -- a pass's own number differs from those of the passes that were joined into it
+  apart_own : (mine : List (Entry A R S)) (ended : List (Ended A R S)) → All (λ (g : Ended A R S). ¬ (IsOwn mine g.number)) ended → AreApart ended → AreApart (as_ended mine ++ ended)
+  apart_own [] ended never apart = apart
+  apart_own (e ∷ es) ended never apart = (λ k d lt is. never k d lt (sym is), apart)
+
   module _ (step : S → ℕ → A → R → S → Type 0) (may : S → ℕ → A → Type 0) (start : S) where
     abbrev Rule : State (Option (Resting A R S)) (Front A R S) → Type 0
     Rule = IsTurning step may start
@@ -46,12 +55,12 @@ module _ {A R S : Type 0} where
       owner = λ _. 0;
       words = refl;
       room = omega arith;
-      legal = tt;
+      legal = record { happens = tt; numbered = tt };
       slot = inl (resting, refl, is);
       parts = omega arith;
       stages = λ i v e. subst (λ (z : Front A R S). (tickets z.stage ≤ z.parts) × FitsStage [] (0 + (0 + 0)) z.seen z.stage) (sole first v i e).1 (omega arith, tt);
       apart = λ i j v w t a b has _. absurd (subst (λ (z : Front A R S). HasTicket z.stage t) (sym (sole first v i a).1) has);
-      known = λ i v e live. subst (λ (z : Front A R S). Knows [] start (λ _. 0) i z) (sole first v i e).1 record { begins = refl; seen = ([], refl); shorter = ([], refl); own = tt; ended = All-nil (KeepsEnded [] [] (λ _. 0) i []) };
+      known = λ i v e live. subst (λ (z : Front A R S). KnowsRight [] start (λ _. 0) i z) (sole first v i e).1 record { begins = refl; seen = ([], refl); shorter = ([], refl); own = tt; ended = All-nil (KeepsEnded [] [] (λ _. 0) i []); differ = tt };
       longest = (0, first, refl, omega arith, refl);
       covered = All-nil (IsKnown (λ _. 0) (first ∷ []));
     }
@@ -61,7 +70,7 @@ module _ {A R S : Type 0} where
     alone s r id v here all j d there live = dite (ℕ_discrete j id) (λ e. e)
         (λ ne. let t = total_two parts_in s.views j id d v ne there here in let p = r.parts in absurd (omega arith))
 
-    pub legal_of : (history : List (Entry A R S)) (owner : ℕ → ℕ) (seat : ℕ) (v : Front A R S) → IsLegal step may 0 start v.seen → Knows history start owner seat v → IsLegalFront step may start v
+    pub legal_of : (history : List (Entry A R S)) (owner : ℕ → ℕ) (seat : ℕ) (v : Front A R S) → IsHistory step may start v.seen → KnowsRight history start owner seat v → IsLegalFront step may start v
     legal_of history owner seat v legal k = record {
       legal = legal;
       own = keeps_in_seen step may start history v.seen owner seat v.mine k.own;
@@ -74,6 +83,7 @@ module _ {A R S : Type 0} where
       pub object : resting.object ≡ state_after start v.seen
       pub legal : IsLegalFront step may start v
       pub whole : IsWhole v
+      pub differ : AreApart (as_ended v.mine ++ v.ended)
 
     pub closes : (id : ℕ) (v : Front A R S) (words : List ℕ) (slots : List (Option (Resting A R S))) → v.parts ≡ 2 ^ 40 → v.stage ≡ Idle → Final (Seen Rule id v) words slots → IsClosed v slots
     closes id v words slots all idle f =
@@ -84,7 +94,7 @@ module _ {A R S : Type 0} where
         let l = r.longest in
         let longest_here : v ≡ l.1 = at.some-injective v l.1 (sym here ∙ (sym (ap (λ (z : ℕ). get_elem? s.views z) (alone s r id v here all l.0 l.1 l.2 l.3)) ∙ l.2)) in
         let whole : v.seen ≡ r.history = ap (λ (z : Front A R S). z.seen) longest_here ∙ l.4 in
-        let K : Knows r.history start r.owner id v = r.known id v here live in
+        let K : KnowsRight r.history start r.owner id v = r.known id v here live in
         let home : IsHome s.homes (state_after start r.history) = ⊎_elim (λ h. h) (λ (o : IsOut s.homes s.views (length r.history)).
         let x = o.1.1 in
         let one : tickets x.stage ≡ 1 = ap tickets o.1.3 in
@@ -95,10 +105,11 @@ module _ {A R S : Type 0} where
           resting = home.0;
           there = f.4 0 (Some home.0) (ap (λ (hs : List (at.Option (Option (Resting A R S)))). get_elem? hs 0) home.1);
           object = home.2 ∙ ap (state_after start) (sym whole);
-          legal = legal_of r.history r.owner id v (subst (IsLegal step may 0 start) (sym whole) r.legal) K;
+          legal = legal_of r.history r.owner id v (subst (IsHistory step may start) (sym whole) r.legal) K;
           whole = subst (λ (z : List (Entry A R S)). All (λ (e : Entry A R S). IsOwn v.mine e.caller ⊎ Any (λ (g : (Ended A R S)). g.number ≡ e.caller) v.ended) z) (sym whole)
               (λ k d lt. let c = r.covered k d lt in
               let me : r.owner (get_or r.history k d).caller ≡ id = alone s r id v here all _ c.0 c.1 c.2 in
               let same : c.0 ≡ v = at.some-injective c.0 v (sym c.1 ∙ (ap (λ (z : ℕ). get_elem? s.views z) me ∙ here)) in
               subst (λ (z : Front A R S). IsOwn z.mine (get_or r.history k d).caller ⊎ Any (λ (g : (Ended A R S)). g.number ≡ (get_or r.history k d).caller) z.ended) same c.3);
+          differ = apart_own v.mine v.ended (λ k d lt. (K.ended k d lt).4) K.differ;
         }

@@ -1,26 +1,24 @@
--- Laws of histories: entries of one caller, the state after them, beginnings, and what is legal.
-use Rattle.std.proofs.Common.{◌≡◌, ℕ, ◌+◌, ◌<◌, ◌≤◌, ◌≢◌, Bool, true, false, cond, List, [], ◌∷◌, ◌++◌, length, sym, refl, ap, ◌∙◌, subst, arith, eq-eqb, ne_eqb, length-append, append_assoc, ltb}
+-- Laws of histories: entries of one caller, the state after them, and beginnings.
+use Rattle.std.proofs.Common.{◌≡◌, ℕ, ◌≤◌, ◌≢◌, Bool, true, false, cond, List, [], ◌∷◌, ◌++◌, length, sym, refl, ap, ◌∙◌, arith, eq-eqb, ne_eqb, length-append, append_assoc, ltb}
 use Rattle.std.proofs.lemmas.List.{append-nil}
-use Rattle.std.specs.List.{All}
-use Rattle.std.proofs.lemmas.List.Elements.{filter-append, All-cons}
-use mathlib.Core.Logic.{dite}
-use native.Mathlib.Decide.{ℕ_discrete}
+use Rattle.std.proofs.lemmas.List.Elements.{filter-append}
 use Rattle.turn_object.specs.declared.history.Entry.{Entry}
+use Rattle.turn_object.specs.History.{state_after, StartsWith}
+use Rattle.turn_object.specs.Callers.{is_by, made_by}
 use Rattle.turn_object.specs.Shares.{longer, shorter_of}
 use Rattle.std.proofs.lemmas.Bool.{ltb-false, ltb-true}
-use Rattle.turn_object.specs.History.{state_after, is_by, entries_of, StartsWith, IsLegal}
 
 module _ {A R S : Type 0} where
-  entries_of_one : (n : ℕ) (e : Entry A R S) (b : Bool) → is_by n e ≡ b → entries_of n (e ∷ []) ≡ cond b (e ∷ []) []
+  entries_of_one : (n : ℕ) (e : Entry A R S) (b : Bool) → is_by n e ≡ b → made_by n (e ∷ []) ≡ cond b (e ∷ []) []
   entries_of_one n e b is = ap (λ (z : Bool). cond z (e ∷ []) []) is
 
   -- one more entry of another caller
-  pub entries_other : (n : ℕ) (xs : List (Entry A R S)) (e : Entry A R S) → e.caller ≢ n → entries_of n (xs ++ e ∷ []) ≡ entries_of n xs
-  entries_other n xs e ne = filter-append (is_by n) xs (e ∷ []) ∙ (ap (λ (z : List (Entry A R S)). entries_of n xs ++ z) (entries_of_one n e false (ne_eqb e.caller n ne)) ∙ append-nil (entries_of n xs))
+  pub entries_other : (n : ℕ) (xs : List (Entry A R S)) (e : Entry A R S) → e.caller ≢ n → made_by n (xs ++ e ∷ []) ≡ made_by n xs
+  entries_other n xs e ne = filter-append (is_by n) xs (e ∷ []) ∙ (ap (λ (z : List (Entry A R S)). made_by n xs ++ z) (entries_of_one n e false (ne_eqb e.caller n ne)) ∙ append-nil (made_by n xs))
 
   -- one more entry of this caller
-  pub entries_same : (n : ℕ) (xs : List (Entry A R S)) (e : Entry A R S) → e.caller ≡ n → entries_of n (xs ++ e ∷ []) ≡ entries_of n xs ++ e ∷ []
-  entries_same n xs e is = filter-append (is_by n) xs (e ∷ []) ∙ ap (λ (z : List (Entry A R S)). entries_of n xs ++ z) (entries_of_one n e true (eq-eqb e.caller n is))
+  pub entries_same : (n : ℕ) (xs : List (Entry A R S)) (e : Entry A R S) → e.caller ≡ n → made_by n (xs ++ e ∷ []) ≡ made_by n xs ++ e ∷ []
+  entries_same n xs e is = filter-append (is_by n) xs (e ∷ []) ∙ ap (λ (z : List (Entry A R S)). made_by n xs ++ z) (entries_of_one n e true (eq-eqb e.caller n is))
 
   -- what begins a beginning begins the whole
   pub starts_after : (xs ys zs : List (Entry A R S)) → StartsWith xs ys → StartsWith ys zs → StartsWith xs zs
@@ -45,8 +43,8 @@ module _ {A R S : Type 0} where
   append_left xs (y ∷ ys) e = let l = length-append xs (y ∷ ys) in let k : length (xs ++ y ∷ ys) ≡ length xs = ap length e in absurd (omega (arith, l, k))
 
   -- whoever had all its entries before has none since
-  pub none_since : (n : ℕ) (seen rest mine : List (Entry A R S)) → entries_of n (seen ++ rest) ≡ mine → entries_of n seen ≡ mine → entries_of n rest ≡ []
-  none_since n seen rest mine all before = append_left mine (entries_of n rest) (ap (λ (z : List (Entry A R S)). z ++ entries_of n rest) (sym before) ∙ (sym (filter-append (is_by n) seen rest) ∙ all))
+  pub none_since : (n : ℕ) (seen rest mine : List (Entry A R S)) → made_by n (seen ++ rest) ≡ mine → made_by n seen ≡ mine → made_by n rest ≡ []
+  none_since n seen rest mine all before = append_left mine (made_by n rest) (ap (λ (z : List (Entry A R S)). z ++ made_by n rest) (sym before) ∙ (sym (filter-append (is_by n) seen rest) ∙ all))
 
   grow_none : (m xs ys : List (Entry A R S)) → (m ++ xs) ++ ys ≡ m → xs ≡ []
   grow_none m [] ys e = refl
@@ -90,48 +88,9 @@ module _ {A R S : Type 0} where
   longer_is P xs ys x y = longer_either P (ltb (length xs) (length ys)) xs ys x y
 
   -- between a beginning that has all of a caller's entries and the whole there are no more of them
-  pub still_all : (h seen seen' : List (Entry A R S)) → StartsWith h seen' → StartsWith seen' seen → (n : ℕ) (mine : List (Entry A R S)) → entries_of n h ≡ mine → entries_of n seen ≡ mine → entries_of n seen' ≡ mine
+  pub still_all : (h seen seen' : List (Entry A R S)) → StartsWith h seen' → StartsWith seen' seen → (n : ℕ) (mine : List (Entry A R S)) → made_by n h ≡ mine → made_by n seen ≡ mine → made_by n seen' ≡ mine
   still_all h seen seen' a b n mine all before =
-      let more : entries_of n seen' ≡ mine ++ entries_of n b.0 = ap (entries_of n) b.1 ∙ (filter-append (is_by n) seen b.0 ∙ ap (λ (z : List (Entry A R S)). z ++ entries_of n b.0) before) in
-      let whole : entries_of n seen' ++ entries_of n a.0 ≡ mine = sym (filter-append (is_by n) seen' a.0) ∙ (ap (entries_of n) (sym a.1) ∙ all) in
-      let none : entries_of n b.0 ≡ [] = grow_none mine (entries_of n b.0) (entries_of n a.0) (ap (λ (z : List (Entry A R S)). z ++ entries_of n a.0) (sym more) ∙ whole) in
+      let more : made_by n seen' ≡ mine ++ made_by n b.0 = ap (made_by n) b.1 ∙ (filter-append (is_by n) seen b.0 ∙ ap (λ (z : List (Entry A R S)). z ++ made_by n b.0) before) in
+      let whole : made_by n seen' ++ made_by n a.0 ≡ mine = sym (filter-append (is_by n) seen' a.0) ∙ (ap (made_by n) (sym a.1) ∙ all) in
+      let none : made_by n b.0 ≡ [] = grow_none mine (made_by n b.0) (made_by n a.0) (ap (λ (z : List (Entry A R S)). z ++ made_by n a.0) (sym more) ∙ whole) in
       more ∙ (ap (λ (z : List (Entry A R S)). mine ++ z) none ∙ append-nil mine)
-
-  module _ (step : S → ℕ → A → R → S → Type 0) (may : S → ℕ → A → Type 0) where
-    -- a legal history stays so after one more allowed entry
-    pub legal_snoc : (place : ℕ) (start : S) (xs : List (Entry A R S)) (e : Entry A R S) → IsLegal step may place start xs → e.caller ≤ place + length xs → may (state_after start xs) e.caller e.ask → step (state_after start xs) e.caller e.ask e.reply e.after
-        → IsLegal step may place start (xs ++ e ∷ [])
-    legal_snoc place start [] e legal low m st = (omega arith, m, st, tt)
-    legal_snoc place start (x ∷ xs) e legal low m st = (legal.0, legal.1, legal.2, legal_snoc (place + 1) x.after xs e legal.3 (omega arith) m st)
-
-    -- the rest of a legal history is legal from the state before it
-    pub legal_rest : (place : ℕ) (start : S) (xs ys : List (Entry A R S)) → IsLegal step may place start (xs ++ ys) → IsLegal step may (place + length xs) (state_after start xs) ys
-    legal_rest place start [] ys legal = let e : place + 0 ≡ place = omega arith in subst (λ (z : ℕ). IsLegal step may z start ys) (sym e) legal
-    legal_rest place start (x ∷ xs) ys legal = let e : (place + 1) + length xs ≡ place + length (x ∷ xs) = omega arith in subst (λ (z : ℕ). IsLegal step may z (state_after x.after xs) ys) e (legal_rest (place + 1) x.after xs ys legal.3)
-
-    -- a beginning of a legal history is legal
-    pub legal_first : (place : ℕ) (start : S) (xs ys : List (Entry A R S)) → IsLegal step may place start (xs ++ ys) → IsLegal step may place start xs
-    legal_first place start [] ys legal = tt
-    legal_first place start (x ∷ xs) ys legal = (legal.0, legal.1, legal.2, legal_first (place + 1) x.after xs ys legal.3)
-
-    -- a number at or above the end of a legal history has no entry in it
-    pub none_above : (place n : ℕ) (start : S) (xs : List (Entry A R S)) → IsLegal step may place start xs → place + length xs ≤ n → entries_of n xs ≡ []
-    none_above place n start [] legal le = refl
-    none_above place n start (x ∷ xs) legal le = let low = legal.0 in let ne : x.caller ≢ n = λ e. omega arith in
-        ap (λ (b : Bool). cond b (x ∷ entries_of n xs) (entries_of n xs)) (ne_eqb x.caller n ne) ∙ none_above (place + 1) n x.after xs legal.3 (omega arith)
-
-    -- each caller of a legal history is below its end
-    pub callers_below : (place : ℕ) (start : S) (xs : List (Entry A R S)) → IsLegal step may place start xs → All (λ (e : Entry A R S). e.caller < place + length xs) xs
-    callers_below place start [] legal = λ k d lt. absurd (omega arith)
-    callers_below place start (x ∷ xs) legal = let low = legal.0 in let rest = callers_below (place + 1) x.after xs legal.3 in
-        All-cons (λ (e : Entry A R S). e.caller < place + length (x ∷ xs)) x xs (omega arith) (λ k d lt. let m = rest k d lt in omega arith)
-
-    -- what a caller may ask it still may after entries of others
-    pub may_along : ((old new : S) (caller other : ℕ) (ask : A) (asked : A) (reply : R) → other ≢ caller → may old caller ask → may old other asked → step old other asked reply new → may new caller ask)
-        → (place n : ℕ) (state : S) (ask : A) (rest : List (Entry A R S)) → IsLegal step may place state rest → entries_of n rest ≡ [] → may state n ask → may (state_after state rest) n ask
-    may_along lasts place n state ask [] legal none m = m
-    may_along lasts place n state ask (x ∷ xs) legal none m = dite (ℕ_discrete x.caller n)
-        (λ is. let some_there : entries_of n (x ∷ xs) ≡ x ∷ entries_of n xs = ap (λ (b : Bool). cond b (x ∷ entries_of n xs) (entries_of n xs)) (eq-eqb x.caller n is) in
-        let l : length (entries_of n (x ∷ xs)) ≡ 0 = ap length none in let k : length (entries_of n (x ∷ xs)) ≡ length (x ∷ entries_of n xs) = ap length some_there in absurd (omega arith))
-        (λ ne. let same : entries_of n (x ∷ xs) ≡ entries_of n xs = ap (λ (b : Bool). cond b (x ∷ entries_of n xs) (entries_of n xs)) (ne_eqb x.caller n ne) in
-        may_along lasts (place + 1) n x.after ask xs legal.3 (sym same ∙ none) (lasts state x.after n x.caller ask x.ask x.reply ne m legal.1 legal.2))

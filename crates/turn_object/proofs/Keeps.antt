@@ -18,11 +18,17 @@ use Rattle.turn_object.specs.declared.slot.Resting.{Resting}
 use Rattle.turn_object.specs.declared.front.Stage.{Stage}
 use Rattle.turn_object.specs.declared.front.Stage.TheVariants.{Idle, Waiting, Serving}
 use Rattle.atomic_table.specs.Table.{State, Step, step as table_step, keeps, takes, gives, Allows}
-use Rattle.turn_object.specs.History.{entry, state_after, entries_of, number_at, IsLegal}
-use Rattle.turn_object.specs.Rule.{tickets, HasTicket, total, tickets_in, parts_in, IsLive, IsHome, IsOut, FitsStage, KeepsOwn, Knows, IsKnown, IsTurning}
-use Rattle.turn_object.specs.Front.{IsOwn, KeepsIn}
-use Rattle.turn_object.specs.Steps.{at_stage, served_front, called_front, Took, Looked, Passed}
-use Rattle.turn_object.proofs.Histories.{entries_other, entries_same, starts_after, starts_snoc, state_snoc, legal_snoc, none_above, callers_below}
+use Rattle.turn_object.specs.History.{entry, state_after}
+use Rattle.turn_object.specs.Callers.{made_by, number_or, IsOwn}
+use Rattle.turn_object.specs.Front.{IsHistory, KeepsIn}
+use Rattle.turn_object.specs.Tickets.{tickets, HasTicket, total, tickets_in, parts_in, FitsStage}
+use Rattle.turn_object.specs.Homes.{IsHome, IsOut}
+use Rattle.turn_object.specs.Seats.{IsLive, KeepsOwn, KnowsRight, IsKnown}
+use Rattle.turn_object.specs.Rule.{IsTurning}
+use Rattle.turn_object.specs.Stages.{front_at, served_front, called_front}
+use Rattle.turn_object.specs.Steps.{Took, Looked, Passed}
+use Rattle.turn_object.proofs.Histories.{entries_other, entries_same, starts_after, starts_snoc, state_snoc}
+use Rattle.turn_object.proofs.Happening.{none_above, callers_below, history_snoc}
 use Rattle.turn_object.proofs.Views.{total_set, total_le, each_set, inside, below_next, more_tickets}
 
 abbrev is_idle : Stage → ℕ
@@ -97,15 +103,15 @@ module _ {A R S : Type 0} where
     few_tickets : (s : St) (r : Rule s) → total tickets_in s.views ≤ 2 ^ 40
     few_tickets s r = let a = total_le tickets_in parts_in s.views (λ i v e. (r.stages i v e).0) in let b = r.parts in omega arith
 
-    pub knows_set : (history : List (Entry A R S)) (owner : ℕ → ℕ) (vs : List (Front A R S)) (me : ℕ) (w : Front A R S) → Knows history start owner me w
-        → ((seat : ℕ) (v : Front A R S) → get_elem? vs seat ≡ at.some v → IsLive v → Knows history start owner seat v) → (seat : ℕ) (v : Front A R S) → get_elem? (set vs me w) seat ≡ at.some v → IsLive v → Knows history start owner seat v
-    knows_set history owner vs me w mine all = each_set (λ j d. IsLive d → Knows history start owner j d) vs me w (λ _. mine) (λ j d _ e. all j d e)
+    pub knows_set : (history : List (Entry A R S)) (owner : ℕ → ℕ) (vs : List (Front A R S)) (me : ℕ) (w : Front A R S) → KnowsRight history start owner me w
+        → ((seat : ℕ) (v : Front A R S) → get_elem? vs seat ≡ at.some v → IsLive v → KnowsRight history start owner seat v) → (seat : ℕ) (v : Front A R S) → get_elem? (set vs me w) seat ≡ at.some v → IsLive v → KnowsRight history start owner seat v
+    knows_set history owner vs me w mine all = each_set (λ j d. IsLive d → KnowsRight history start owner j d) vs me w (λ _. mine) (λ j d _ e. all j d e)
 
     pub takes_ticket : (slots id : ℕ) (v : Front A R S) (k : ℕ) → k ≡ 1 → v.stage ≡ Idle → IsLive v → Allows Rule slots id (v, []) 0 (λ n. (n + k) % 2 ^ 64) (Took (table_step slots 0 k 0 at.none) (v, []))
     takes_ticket slots id v k one idle live s r _ here _ =
         let n : ℕ = length r.history + total tickets_in s.views in
         let found : get_or s.words 0 0 ≡ n = ap (λ (ws : List ℕ). get_or ws 0 0) r.words in
-        let w : (Front A R S) = at_stage (Waiting (get_or s.words 0 0)) v in
+        let w : (Front A R S) = front_at (Waiting (get_or s.words 0 0)) v in
         let more = total_set tickets_in s.views id v w here in
         let same = total_set parts_in s.views id v w here in
         let few = few_tickets s r in
@@ -114,7 +120,7 @@ module _ {A R S : Type 0} where
         let next : ℕ = length r.history + total tickets_in (set s.views id w) in
         let up : next ≡ n + 1 = omega arith in
         let fits : (n + k) % 2 ^ 64 ≡ next = let small : n + k < 2 ^ 64 = omega arith in omega (arith, mod-eq_of_lt small) in
-        let K : Knows r.history start r.owner id v = r.known id v here live in (
+        let K : KnowsRight r.history start r.owner id v = r.known id v here live in (
           w,
           keeps,
           tt,
@@ -130,7 +136,7 @@ module _ {A R S : Type 0} where
                 (omega arith, (omega arith, omega arith))
                 (λ j d _ e. let old = r.stages j d e in (old.0, more_tickets r.history n next d.seen d.stage (omega arith) old.1));
             apart = apart_set s.views id w r.apart (λ ticket j d ne e mine its. let b = below_next r.history n d.seen d.stage ticket (r.stages j d e).1 its in let m : get_or s.words 0 0 ≡ ticket = mine in omega arith);
-            known = knows_set r.history r.owner s.views id w record { begins = K.begins; seen = K.seen; shorter = K.shorter; own = K.own; ended = K.ended } r.known;
+            known = knows_set r.history r.owner s.views id w record { begins = K.begins; seen = K.seen; shorter = K.shorter; own = K.own; ended = K.ended; differ = K.differ } r.known;
             longest = longest_set s.views id v w r.history here live (λ e. e) r.longest;
             covered = covered_set r.owner s.views id v w r.history here live refl refl r.covered;
           },
@@ -159,14 +165,14 @@ module _ {A R S : Type 0} where
     sees_all history seen owner seat [] k = tt
     sees_all history seen owner seat (e ∷ es) k = (k.0, k.0, k.2, k.3)
 
-    number_low : (history seen : List (Entry A R S)) (owner : ℕ → ℕ) (seat : ℕ) (mine : List (Entry A R S)) → KeepsOwn history seen owner seat mine → number_at mine (length history) ≤ length history
+    number_low : (history seen : List (Entry A R S)) (owner : ℕ → ℕ) (seat : ℕ) (mine : List (Entry A R S)) → KeepsOwn history seen owner seat mine → number_or mine (length history) ≤ length history
     number_low history seen owner seat [] k = omega arith
     number_low history seen owner seat (x ∷ xs) k = let lt = k.3 in omega arith
 
     pub looks : (slots id : ℕ) (v : Front A R S) (t : ℕ) (st : Step (Option (Resting A R S))) → v.stage ≡ Waiting t → IsLive v → Allows Rule slots id (v, []) 1 (λ n. n) (Looked step may st (v, []))
     looks slots id v t st waits live s r _ here _ =
         let found : get_or s.words 1 0 ≡ length r.history = ap (λ (ws : List ℕ). get_or ws 1 0) r.words in
-        let K : Knows r.history start r.owner id v = r.known id v here live in
+        let K : KnowsRight r.history start r.owner id v = r.known id v here live in
         let ticket_is : (u : ℕ) → v.stage ≡ Waiting u → t ≡ u = λ u e. ap waiting_for (sym waits ∙ e) in
         let still : set s.words 1 (get_or s.words 1 0) ≡ s.words = ap (λ (ws : List ℕ). set ws 1 (get_or ws 1 0)) r.words ∙ sym r.words in
         dite (ℕ_discrete (get_or s.words 1 0) t)
@@ -199,6 +205,7 @@ module _ {A R S : Type 0} where
             apart = apart_set s.views id w r.apart (λ ticket j d ne e mine its. ne (sym (r.apart id j v d t here e mine_has (subst (λ (z : ℕ). HasTicket d.stage z) (sym mine) its))));
             known = knows_set r.history r.owner s.views id w record {
               begins = K.begins;
+              differ = K.differ;
               seen = ([], sym (append-nil r.history));
               shorter = starts_after r.history v.seen v.shorter K.seen K.shorter;
               own = sees_all r.history v.seen r.owner id v.mine K.own;
@@ -245,7 +252,7 @@ module _ {A R S : Type 0} where
     owner_old owner place seat m lt = ap (λ (b : Bool). cond b seat (owner m)) (ne_eqb m place (λ e. omega arith))
 
     -- a caller's number is never number that another seat stands for, and none that ended
-    number_apart : (history seen : List (Entry A R S)) (owner : ℕ → ℕ) (seat : ℕ) (mine : List (Entry A R S)) (m : ℕ) → KeepsOwn history seen owner seat mine → m < length history → ((owner m ≡ seat) → IsOwn mine m → ⊥) → number_at mine (length history) ≢ m
+    number_apart : (history seen : List (Entry A R S)) (owner : ℕ → ℕ) (seat : ℕ) (mine : List (Entry A R S)) (m : ℕ) → KeepsOwn history seen owner seat mine → m < length history → ((owner m ≡ seat) → IsOwn mine m → ⊥) → number_or mine (length history) ≢ m
     number_apart history seen owner seat [] m k lt never is = omega arith
     number_apart history seen owner seat (x ∷ xs) m k lt never is = never (ap owner (sym is) ∙ k.2) is
 
@@ -255,20 +262,20 @@ module _ {A R S : Type 0} where
     own_later history seen owner place seat seat' e (x ∷ xs) here other k = let lt = k.3 in let l = length-append history (e ∷ []) in
         (entries_other x.caller history e (other x.caller k.2 k.3) ∙ k.0, k.1, owner_old owner place seat x.caller (omega arith) ∙ k.2, omega (arith, l))
 
-    own_extended : (history : List (Entry A R S)) (owner : ℕ → ℕ) (seat : ℕ) (e : Entry A R S) (mine : List (Entry A R S)) → IsLegal step may 0 start history → e.caller ≡ number_at mine (length history)
+    own_extended : (history : List (Entry A R S)) (owner : ℕ → ℕ) (seat : ℕ) (e : Entry A R S) (mine : List (Entry A R S)) → IsHistory step may start history → e.caller ≡ number_or mine (length history)
         → KeepsOwn history history owner seat mine → KeepsOwn (history ++ e ∷ []) (history ++ e ∷ []) (owner_after owner (length history) seat) seat (mine ++ e ∷ [])
     own_extended history owner seat e [] legal number k = let l = length-append history (e ∷ []) in
-        let all : entries_of e.caller (history ++ e ∷ []) ≡ e ∷ [] = entries_same e.caller history e refl ∙ ap (λ (z : List (Entry A R S)). z ++ e ∷ []) (none_above step may 0 e.caller start history legal (omega arith)) in
+        let all : made_by e.caller (history ++ e ∷ []) ≡ e ∷ [] = entries_same e.caller history e refl ∙ ap (λ (z : List (Entry A R S)). z ++ e ∷ []) (none_above 0 e.caller history legal.numbered (omega arith)) in
         (all, all, owner_new owner (length history) seat e.caller number, omega (arith, l))
     own_extended history owner seat e (x ∷ xs) legal number k = let l = length-append history (e ∷ []) in let lt = k.3 in
-        let all : entries_of x.caller (history ++ e ∷ []) ≡ (x ∷ xs) ++ e ∷ [] = entries_same x.caller history e number ∙ ap (λ (z : List (Entry A R S)). z ++ e ∷ []) k.0 in
+        let all : made_by x.caller (history ++ e ∷ []) ≡ (x ∷ xs) ++ e ∷ [] = entries_same x.caller history e number ∙ ap (λ (z : List (Entry A R S)). z ++ e ∷ []) k.0 in
         (all, all, owner_old owner (length history) seat x.caller lt ∙ k.2, omega (arith, l))
 
     not_own_after : (mine : List (Entry A R S)) (e : Entry A R S) (m : ℕ) → ¬ (IsOwn mine m) → e.caller ≢ m → ¬ (IsOwn (mine ++ e ∷ []) m)
     not_own_after [] e m never ne is = ne is
     not_own_after (x ∷ xs) e m never ne is = never is
 
-    owns_number : (history seen : List (Entry A R S)) (owner : ℕ → ℕ) (seat : ℕ) (mine : List (Entry A R S)) → KeepsOwn history seen owner seat mine → owner_after owner (length history) seat (number_at mine (length history)) ≡ seat
+    owns_number : (history seen : List (Entry A R S)) (owner : ℕ → ℕ) (seat : ℕ) (mine : List (Entry A R S)) → KeepsOwn history seen owner seat mine → owner_after owner (length history) seat (number_or mine (length history)) ≡ seat
     owns_number history seen owner seat [] k = owner_new owner (length history) seat (length history) refl
     owns_number history seen owner seat (x ∷ xs) k = owner_old owner (length history) seat x.caller k.3 ∙ k.2
 
@@ -276,7 +283,7 @@ module _ {A R S : Type 0} where
     is_own_after [] e m is = absurd is
     is_own_after (x ∷ xs) e m is = is
 
-    is_own_new : (mine : List (Entry A R S)) (e : Entry A R S) (place : ℕ) → e.caller ≡ number_at mine place → IsOwn (mine ++ e ∷ []) e.caller
+    is_own_new : (mine : List (Entry A R S)) (e : Entry A R S) (place : ℕ) → e.caller ≡ number_or mine place → IsOwn (mine ++ e ∷ []) e.caller
     is_own_new [] e place is = refl
     is_own_new (x ∷ xs) e place is = sym is
 
@@ -308,24 +315,24 @@ module _ {A R S : Type 0} where
     first_lying resting (x ∷ xs) = unwrap_or x.1 resting
 
     pub passes_turn : (slots id : ℕ) (v : Front A R S) (t k : ℕ) (object : S) (ask : Snapshot A) (reply : Snapshot R) → k ≡ 1 → v.stage ≡ Serving t → t < 2 ^ 63 → IsLive v
-        → ((state : S) → v.start ≡ Some state → may (state_after state v.seen) (number_at v.mine (length v.seen)) ask.value)
-        → ((state : S) → v.start ≡ Some state → step (state_after state v.seen) (number_at v.mine (length v.seen)) ask.value reply.value object)
+        → ((state : S) → v.start ≡ Some state → may (state_after state v.seen) (number_or v.mine (length v.seen)) ask.value)
+        → ((state : S) → v.start ≡ Some state → step (state_after state v.seen) (number_or v.mine (length v.seen)) ask.value reply.value object)
         → Allows Rule slots id (v, (0, Some (record { object = object; last = Some (ask, reply) })) ∷ []) 1 (λ n. (n + k) % 2 ^ 64)
         (Passed (table_step slots 1 k 0 at.none) (v, (0, Some (record { object = object; last = Some (ask, reply) })) ∷ []))
     passes_turn slots id v t k object ask reply one serves early live may_ask may_step s r _ here _ =
         let resting : Resting A R S = record { object = object; last = Some (ask, reply) } in
-        let e : (Entry A R S) = entry (number_at v.mine (length v.seen)) ask.value reply.value object in
+        let e : (Entry A R S) = entry (number_or v.mine (length v.seen)) ask.value reply.value object in
         let w : (Front A R S) = called_front e v in
         let history : List (Entry A R S) = r.history in
         let history' : List (Entry A R S) = history ++ e ∷ [] in
         let owner' : ℕ → ℕ = owner_after r.owner (length history) id in
-        let K : Knows history start r.owner id v = r.known id v here live in
+        let K : KnowsRight history start r.owner id v = r.known id v here live in
         let n : ℕ = length history + total tickets_in s.views in
         let next : ℕ = length history' + total tickets_in (set s.views id w) in
         let fit : FitsStage history n v.seen (Serving t) = subst (λ (z : Stage). FitsStage history n v.seen z) serves (r.stages id v here).1 in
         let whole : v.seen ≡ history = fit.2 in
         let served : t ≡ length history = fit.0 in
-        let number : e.caller ≡ number_at v.mine (length history) = ap (λ (z : List (Entry A R S)). number_at v.mine (length z)) whole in
+        let number : e.caller ≡ number_or v.mine (length history) = ap (λ (z : List (Entry A R S)). number_or v.mine (length z)) whole in
         let longer : length history' ≡ length history + 1 = length-append history (e ∷ []) in
         let tickets_less = total_set tickets_in s.views id v w here in
         let one_ticket : tickets v.stage ≡ 1 = ap tickets serves in
@@ -345,7 +352,7 @@ module _ {A R S : Type 0} where
             owner = owner';
             words = ap (λ (ws : List ℕ). set ws 1 ((get_or ws 1 0 + k) % 2 ^ 64)) r.words ∙ (λ i. level i ∷ up i ∷ []);
             room = omega arith;
-            legal = legal_snoc step may 0 start history e r.legal (let low = number_low history v.seen r.owner id v.mine K.own in omega arith)
+            legal = history_snoc step may start history e r.legal (let low = number_low history v.seen r.owner id v.mine K.own in omega arith)
                 (subst (λ (z : List (Entry A R S)). may (state_after start z) e.caller ask.value) whole (may_ask start K.begins))
                 (subst (λ (z : List (Entry A R S)). step (state_after start z) e.caller ask.value reply.value object) whole (may_step start K.begins));
             slot = inl (resting, given_back s.homes (state_after start history) s.views (length history) (Some resting) r.slot, sym (state_snoc start history e));
@@ -354,19 +361,21 @@ module _ {A R S : Type 0} where
                 (omega arith, tt)
                 (λ j d ne at_j. let old = r.stages j d at_j in (old.0, stage_later history e n next d.seen d.stage level (λ has. ne (sym (r.apart id j v d (length history) here at_j mine_has has))) old.1));
             apart = apart_set s.views id w r.apart (λ ticket j d ne at_j mine its. absurd mine);
-            known = each_set (λ j d. IsLive d → Knows history' start owner' j d) s.views id w
+            known = each_set (λ j d. IsLive d → KnowsRight history' start owner' j d) s.views id w
                 (λ _. record {
                   begins = K.begins;
+                  differ = K.differ;
                   seen = ([], sym (append-nil history' ∙ refl) ∙ ap (λ (z : List (Entry A R S)). z ++ []) (sym sees));
                   shorter = starts_snoc v.seen v.shorter e K.shorter;
                   own = subst (λ (z : List (Entry A R S)). KeepsOwn history' z owner' id (v.mine ++ e ∷ [])) (sym sees) (own_extended history r.owner id e v.mine r.legal number own_here);
                   ended = λ m d lt. let g = K.ended m d lt in let gone : (Ended A R S) = get_or v.ended m d in let low = g.3 in
                       let ne : e.caller ≢ gone.number = λ is. number_apart history v.seen r.owner id v.mine gone.number K.own g.3 (λ _ own. g.4 own) (sym number ∙ is) in
-                      let all : entries_of gone.number history' ≡ gone.entries = entries_other gone.number history e ne ∙ g.0 in
-                      (all, ap (λ (z : List (Entry A R S)). entries_of gone.number z) sees ∙ all, owner_old r.owner (length history) id gone.number g.3 ∙ g.2, omega arith, not_own_after v.mine e gone.number g.4 ne);
+                      let all : made_by gone.number history' ≡ gone.entries = entries_other gone.number history e ne ∙ g.0 in
+                      (all, ap (λ (z : List (Entry A R S)). made_by gone.number z) sees ∙ all, owner_old r.owner (length history) id gone.number g.3 ∙ g.2, omega arith, not_own_after v.mine e gone.number g.4 ne);
                 })
-                (λ j d ne at_j alive. let D : Knows history start r.owner j d = r.known j d at_j alive in record {
+                (λ j d ne at_j alive. let D : KnowsRight history start r.owner j d = r.known j d at_j alive in record {
                   begins = D.begins;
+                  differ = D.differ;
                   seen = (D.seen.0 ++ e ∷ [], ap (λ (z : List (Entry A R S)). z ++ e ∷ []) D.seen.1 ∙ append_assoc d.seen D.seen.0 (e ∷ []));
                   shorter = D.shorter;
                   own = own_later history d.seen r.owner (length history) id j e d.mine refl (λ m stands lt. alone m j ne stands lt) D.own;
@@ -375,10 +384,10 @@ module _ {A R S : Type 0} where
                 });
             longest = (id, w, set_here s.views id w (inside s.views id v here), live, sees);
             covered = All-append (IsKnown owner' (set s.views id w)) history (e ∷ [])
-                (λ m d lt. let low = callers_below step may 0 start history r.legal m d lt in known_later r.owner (length history) s.views id v e (get_or history m d) here live (omega arith) (r.covered m d lt))
+                (λ m d lt. let low = callers_below 0 history r.legal.numbered m d lt in known_later r.owner (length history) s.views id v e (get_or history m d) here live (omega arith) (r.covered m d lt))
                 (All-cons (IsKnown owner' (set s.views id w)) e []
                 (w, ap (λ (z : ℕ). get_elem? (set s.views id w) z) (ap owner' number ∙ owns_number history v.seen r.owner id v.mine K.own) ∙ set_here s.views id w (inside s.views id v here), live, inl (is_own_new v.mine e (length history) number))
                 (λ m d lt. absurd (omega arith)));
           },
-          λ o a b is. let lies = ap (first_lying resting) is in let told = ap (λ (z : Resting A R S). unwrap_or z.last (ask, reply)) lies in λ i. (called_front (entry (number_at v.mine (length v.seen)) (told i).0.value (told i).1.value (lies i).object) v, []),
+          λ o a b is. let lies = ap (first_lying resting) is in let told = ap (λ (z : Resting A R S). unwrap_or z.last (ask, reply)) lies in λ i. (called_front (entry (number_or v.mine (length v.seen)) (told i).0.value (told i).1.value (lies i).object) v, []),
         )

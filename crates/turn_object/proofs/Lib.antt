@@ -1,7 +1,9 @@
-pub mod Histories
-pub mod Fronts
-mod Views
-mod Keeps
 mod Calls
 mod Ends
+pub mod Facts
+mod Fronts
+mod Happening
+mod Histories
+mod Keeps
 mod Shares
+mod Views

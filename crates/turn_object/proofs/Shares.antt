@@ -3,7 +3,7 @@ use Rattle.std.proofs.Common.{◌≡◌, ℕ, ◌+◌, ◌<◌, ◌≤◌, ◌�
 use Rattle.std.specs.List.{All, Any}
 use mathlib.Core.Option as at
 use Rattle.std.proofs.lemmas.List.{append-nil, get_or_append_left, get_or-append-add}
-use Rattle.std.proofs.lemmas.List.Elements.{All-cons, All-append, All-nil}
+use Rattle.std.proofs.lemmas.List.Elements.{All-cons, All-append, All-nil, All-head, All-tail}
 use mathlib.Core.Logic.{dite}
 use native.Mathlib.Decide.{ℕ_discrete}
 use lib.ListN.{get_elem?}
@@ -15,14 +15,19 @@ use Rattle.turn_object.specs.declared.slot.Resting.{Resting}
 use Rattle.turn_object.specs.declared.front.Stage.{Stage}
 use Rattle.turn_object.specs.declared.front.Stage.TheVariants.{Idle}
 use Rattle.atomic_table.specs.Table.{Me, State, Step, keeps, Allows, Splits, Joins}
-use Rattle.turn_object.specs.History.{StartsWith, IsLegal}
-use Rattle.turn_object.specs.Rule.{tickets, HasTicket, total, tickets_in, parts_in, IsLive, IsOut, FitsStage, KeepsOwn, KeepsEnded, Knows, IsTurning}
-use Rattle.turn_object.specs.Front.{IsOwn}
-use Rattle.turn_object.specs.Steps.{spent_front}
-use Rattle.turn_object.specs.Front.{IsLegalFront}
-use Rattle.turn_object.specs.Shares.{longer, as_ended, kept_front, given_front, joined_front}
+use Rattle.turn_object.specs.History.{StartsWith}
+use Rattle.turn_object.specs.Callers.{IsOwn}
+use Rattle.turn_object.specs.Ended.{AreApart, as_ended}
+use Rattle.turn_object.specs.Front.{IsHistory, IsLegalFront}
+use Rattle.turn_object.specs.Shares.{longer, kept_front, given_front, joined_front}
+use Rattle.turn_object.specs.Tickets.{tickets, HasTicket, total, tickets_in, parts_in, FitsStage}
+use Rattle.turn_object.specs.Homes.{IsOut}
+use Rattle.turn_object.specs.Seats.{IsLive, KeepsOwn, KeepsEnded, KnowsRight}
+use Rattle.turn_object.specs.Rule.{IsTurning}
+use Rattle.turn_object.specs.Stages.{spent_front}
 use Rattle.turn_object.specs.Steps.{Learned}
-use Rattle.turn_object.proofs.Histories.{legal_first, longer_begins, longer_is, still_all, squeeze}
+use Rattle.turn_object.proofs.Happening.{history_first}
+use Rattle.turn_object.proofs.Histories.{longer_begins, longer_is, still_all, squeeze}
 use Rattle.turn_object.proofs.Views.{total_set, each_set, inside, more_tickets}
 use Rattle.turn_object.proofs.Keeps.{idle_not_serving, apart_set, known_set, longest_set, out_set, knows_set}
 use Rattle.turn_object.proofs.Ends.{legal_of}
@@ -57,10 +62,10 @@ module _ {A R S : Type 0} where
 
     pub learns : (slots id : ℕ) (v : Front A R S) (st : Step (Option (Resting A R S))) → IsLive v → Allows Rule slots id (v, []) 0 (λ n. n) (Learned step may st (v, []))
     learns slots id v st live s r _ here _ =
-        let K : Knows r.history start r.owner id v = r.known id v here live in
+        let K : KnowsRight r.history start r.owner id v = r.known id v here live in
         let still : set s.words 0 (get_or s.words 0 0) ≡ s.words = ap (λ (ws : List ℕ). set ws 0 (get_or ws 0 0)) r.words ∙ sym r.words in
         let vs_same : set s.views id v ≡ s.views = set_again s.views id v here in
-        let legal : IsLegal step may 0 start v.seen = legal_first step may 0 start v.seen K.seen.0 (subst (IsLegal step may 0 start) K.seen.1 r.legal) in (
+        let legal : IsHistory step may start v.seen = history_first step may start v.seen K.seen.0 (subst (IsHistory step may start) K.seen.1 r.legal) in (
           v,
           keeps,
           tt,
@@ -73,7 +78,7 @@ module _ {A R S : Type 0} where
         let left : (Front A R S) = kept_front n v in
         let right : (Front A R S) = given_front n v in
         let vs : List (Front A R S) = set s.views id left in
-        let K : Knows r.history start r.owner id v = r.known id v here (omega arith) in
+        let K : KnowsRight r.history start r.owner id v = r.known id v here (omega arith) in
         let next : ℕ = length r.history + total tickets_in s.views in
         let next' : ℕ = length r.history + total tickets_in (vs ++ right ∷ []) in
         let t = total_set tickets_in s.views id v left here in
@@ -101,9 +106,9 @@ module _ {A R S : Type 0} where
               (λ (in_b : get_elem? vs b ≡ at.some y). apart_set s.views id left r.apart (λ ticket j d ne e mine its. absurd (subst (λ (z : Stage). HasTicket z ticket) idle mine)) a b x y ticket in_a in_b has_a has_b)
               (λ (new : right ≡ y). absurd (subst (λ (z : Front A R S). HasTicket z.stage ticket) (sym new) has_b)) (at_snoc vs right y b at_b))
               (λ (new : right ≡ x). absurd (subst (λ (z : Front A R S). HasTicket z.stage ticket) (sym new) has_a)) (at_snoc vs right x a at_a);
-          known = each_snoc (λ j d. IsLive d → Knows r.history start r.owner j d) vs right
-              (λ j _. record { begins = K.begins; seen = K.seen; shorter = K.shorter; own = tt; ended = All-nil (KeepsEnded r.history v.seen r.owner j []) })
-              (λ j d e. knows_set step may start r.history r.owner s.views id left record { begins = K.begins; seen = K.seen; shorter = K.shorter; own = K.own; ended = K.ended } r.known j d e);
+          known = each_snoc (λ j d. IsLive d → KnowsRight r.history start r.owner j d) vs right
+              (λ j _. record { begins = K.begins; seen = K.seen; shorter = K.shorter; own = tt; ended = All-nil (KeepsEnded r.history v.seen r.owner j []); differ = tt })
+              (λ j d e. knows_set step may start r.history r.owner s.views id left record { begins = K.begins; seen = K.seen; shorter = K.shorter; own = K.own; ended = K.ended; differ = K.differ } r.known j d e);
           longest = let l = longest_set s.views id v left r.history here (omega arith) (λ e. e) r.longest in (l.0, l.1, at_longer vs (right ∷ []) l.0 l.1 l.2, l.3, l.4);
           covered = λ k d lt. let c = known_set r.owner s.views id v left (get_or r.history k d) here (omega arith) refl refl (r.covered k d lt) in
               (c.0, at_longer vs (right ∷ []) (r.owner (get_or r.history k d).caller) c.0 c.1, c.2, c.3);
@@ -128,6 +133,28 @@ module _ {A R S : Type 0} where
       (k.0, still_all history seen seen' a b e.caller (e ∷ es) k.0 k.1, moves e.caller k.2, k.3, apart e.caller k.2)
       (All-nil (KeepsEnded history seen' owner' id own))
 
+  ended_owner : (history seen : List (Entry A R S)) (owner : ℕ → ℕ) (seat : ℕ) (mine : List (Entry A R S)) → KeepsOwn history seen owner seat mine → All (λ (g : Ended A R S). owner g.number ≡ seat) (as_ended mine)
+  ended_owner history seen owner seat [] k = All-nil (λ (g : Ended A R S). owner g.number ≡ seat)
+  ended_owner history seen owner seat (e ∷ es) k = All-cons (λ (g : Ended A R S). owner g.number ≡ seat) (record { number = e.caller; entries = e ∷ es }) [] k.2 (All-nil (λ (g : Ended A R S). owner g.number ≡ seat))
+
+  -- the numbers of two seats differ
+  apart_append : (owner : ℕ → ℕ) (id other : ℕ) → other ≢ id → (xs ys : List (Ended A R S)) → All (λ (g : Ended A R S). owner g.number ≡ id) xs → All (λ (g : Ended A R S). owner g.number ≡ other) ys → AreApart xs → AreApart ys → AreApart (xs ++ ys)
+  apart_append owner id other ne [] ys here there a b = b
+  apart_append owner id other ne (x ∷ xs) ys here there a b = (
+    All-append (λ (g : Ended A R S). g.number ≢ x.number) xs ys a.0 (λ k d lt is. ne (sym (there k d lt) ∙ (ap owner is ∙ All-head (λ (g : Ended A R S). owner g.number ≡ id) x xs here))),
+    apart_append owner id other ne xs ys (All-tail (λ (g : Ended A R S). owner g.number ≡ id) x xs here) there a.1 b,
+  )
+
+  -- a pass's own number stands last
+  apart_snoc : (mine : List (Entry A R S)) (ended : List (Ended A R S)) → All (λ (g : Ended A R S). ¬ (IsOwn mine g.number)) ended → AreApart ended → AreApart (ended ++ as_ended mine)
+  apart_snoc [] ended never apart = subst AreApart (sym (append-nil ended)) apart
+  apart_snoc (e ∷ es) [] never apart = (All-nil (λ (g : Ended A R S). g.number ≢ e.caller), tt)
+  apart_snoc (e ∷ es) (x ∷ xs) never apart = (
+    All-append (λ (g : Ended A R S). g.number ≢ x.number) xs (as_ended (e ∷ es)) apart.0
+        (All-cons (λ (g : Ended A R S). g.number ≢ x.number) (record { number = e.caller; entries = e ∷ es }) [] (All-head (λ (g : Ended A R S). ¬ (IsOwn (e ∷ es) g.number)) x xs never) (All-nil (λ (g : Ended A R S). g.number ≢ x.number))),
+    apart_snoc (e ∷ es) xs (All-tail (λ (g : Ended A R S). ¬ (IsOwn (e ∷ es) g.number)) x xs never) apart.1,
+  )
+
   module _ (step : S → ℕ → A → R → S → Type 0) (may : S → ℕ → A → Type 0) (start : S) where
     pub joins : (id : ℕ) (v : Front A R S) (other : ℕ) (w : Front A R S) → IsLive v → IsLive w → v.stage ≡ Idle → w.stage ≡ Idle → Joins (IsTurning step may start) id v other w (joined_front v w) spent_front
     joins id v other w live_v live_w idle_v idle_w s r here ne there =
@@ -138,8 +165,8 @@ module _ {A R S : Type 0} where
         let there0 : get_elem? s.views other ≡ at.some w = sym (set_else s.views id other both ne) ∙ there in
         let ne' : id ≢ other = λ e. ne (sym e) in
         let both_there : get_elem? vs2 id ≡ at.some both = set_else vs1 other id spent ne' ∙ set_here s.views id both (inside s.views id v here) in
-        let K : Knows r.history start r.owner id v = r.known id v here live_v in
-        let W : Knows r.history start r.owner other w = r.known other w there0 live_w in
+        let K : KnowsRight r.history start r.owner id v = r.known id v here live_v in
+        let W : KnowsRight r.history start r.owner other w = r.known other w there0 live_w in
         let owner' : ℕ → ℕ = owner_joined r.owner other id in
         let seen : List (Entry A R S) = longer v.seen w.seen in
         let order = longer_begins r.history v.seen w.seen K.seen W.seen in
@@ -173,10 +200,13 @@ module _ {A R S : Type 0} where
           apart = apart_set vs1 other spent
               (apart_set s.views id both r.apart (λ ticket j d _ e mine its. subst (λ (z : Stage). HasTicket z ticket) idle_v mine))
               (λ ticket j d _ e mine its. mine);
-          known = each_set (λ j d. IsLive d → Knows r.history start owner' j d) vs1 other spent (λ live. absurd (omega arith))
-              (λ j d off e. each_set (λ j d. j ≢ other → IsLive d → Knows r.history start owner' j d) s.views id both
+          known = each_set (λ j d. IsLive d → KnowsRight r.history start owner' j d) vs1 other spent (λ live. absurd (omega arith))
+              (λ j d off e. each_set (λ j d. j ≢ other → IsLive d → KnowsRight r.history start owner' j d) s.views id both
               (λ _ _. record {
                 begins = K.begins;
+                differ = apart_append r.owner id other ne v.ended (w.ended ++ as_ended w.mine) (λ k x lt. (K.ended k x lt).2)
+                    (All-append (λ (g : Ended A R S). r.owner g.number ≡ other) w.ended (as_ended w.mine) (λ k x lt. (W.ended k x lt).2) (ended_owner r.history w.seen r.owner other w.mine W.own))
+                    K.differ (apart_snoc w.mine w.ended (λ k x lt. (W.ended k x lt).4) W.differ);
                 seen = whole;
                 shorter = order.2;
                 own = own_moved r.history v.seen seen r.owner owner' id id v.mine whole order.0 stays_own K.own;
@@ -186,9 +216,10 @@ module _ {A R S : Type 0} where
                     (λ k x lt. let g = W.ended k x lt in (g.0, still_all r.history w.seen seen whole order.1 (get_or w.ended k x).number (get_or w.ended k x).entries g.0 g.1, comes_over (get_or w.ended k x).number g.2, g.3, apart_own (get_or w.ended k x).number g.2))
                     (all_ended r.history w.seen seen r.owner owner' other id w.mine v.mine whole order.1 comes_over apart_own W.own));
               })
-              (λ j d not_me at_j not_other live. let D : Knows r.history start r.owner j d = r.known j d at_j live in
+              (λ j d not_me at_j not_other live. let D : KnowsRight r.history start r.owner j d = r.known j d at_j live in
               let same : (m : ℕ) → r.owner m ≡ j → owner' m ≡ j = λ m is. unmoved r.owner other id m (λ e. not_other (sym is ∙ e)) ∙ is in record {
                 begins = D.begins;
+                differ = D.differ;
                 seen = D.seen;
                 shorter = D.shorter;
                 own = own_moved r.history d.seen d.seen r.owner owner' j j d.mine D.seen ([], sym (append-nil d.seen)) same D.own;

@@ -7,7 +7,7 @@ use Rattle.turn_object.specs.declared.history.Entry.{Entry}
 use Rattle.turn_object.specs.declared.front.Front.{Front}
 use Rattle.turn_object.specs.declared.front.Stage.{Stage}
 use Rattle.turn_object.specs.declared.front.Stage.TheVariants.{Idle, Waiting, Serving}
-use Rattle.turn_object.specs.Rule.{HasTicket, total, FitsStage}
+use Rattle.turn_object.specs.Tickets.{HasTicket, total, FitsStage}
 
 module _ {A R S : Type 0} where
   pub total_set : (f : (Front A R S) → ℕ) (vs : List (Front A R S)) (i : ℕ) (v w : Front A R S) → get_elem? vs i ≡ at.some v → total f (set vs i w) + f v ≡ total f vs + f w

@@ -4,26 +4,24 @@ use Rattle.std.specs.List.{All, Any}
 use Rattle.turn_object.specs.declared.history.Entry.{Entry}
 use Rattle.turn_object.specs.declared.history.Ended.{Ended}
 use Rattle.turn_object.specs.declared.front.Front.{Front}
-use Rattle.turn_object.specs.History.{entries_of, IsLegal}
+use Rattle.turn_object.specs.History.{Happens}
+use Rattle.turn_object.specs.Callers.{made_by, IsOwn, AreNumbered}
+use Rattle.turn_object.specs.Ended.{EndedIn}
 
 module _ {A R S : Type 0} where
-  -- this is the number of the caller whose entries these are
-  abbrev pub IsOwn : List (Entry A R S) → ℕ → Type 0
-  IsOwn [] caller = ⊥
-  IsOwn (e ∷ es) caller = e.caller ≡ caller
-
   -- these are all entries that their caller has here
   abbrev pub KeepsIn : List (Entry A R S) → List (Entry A R S) → Type 0
   KeepsIn seen [] = Unit {0}
-  KeepsIn seen (e ∷ es) = entries_of e.caller seen ≡ e ∷ es
+  KeepsIn seen (e ∷ es) = made_by e.caller seen ≡ e ∷ es
 
-  -- what was kept of a caller that ended is all that it has here
-  abbrev pub EndedIn : List (Entry A R S) → Ended A R S → Type 0
-  EndedIn seen gone = entries_of gone.number seen ≡ gone.entries
+  -- What was seen happened from this state on, and who calls for the first time does so under the place of its call or one before it.
+  pub record IsHistory (step : S → ℕ → A → R → S → Type 0) (may : S → ℕ → A → Type 0) (start : S) (seen : List (Entry A R S)) : Type 0 where
+    pub happens : Happens step may start seen
+    pub numbered : AreNumbered 0 seen
 
-  -- what was seen is a legal history from this state. The pass's own entries and those of the passes joined into it stand in it, each once, and no others of theirs
+  -- What was seen is a history from this state. The pass's own entries and those of the passes joined into it stand in it, each once, and no others of theirs.
   pub record IsLegalFront (step : S → ℕ → A → R → S → Type 0) (may : S → ℕ → A → Type 0) (start : S) (v : Front A R S) : Type 0 where
-    pub legal : IsLegal step may 0 start v.seen
+    pub legal : IsHistory step may start v.seen
     pub own : KeepsIn v.seen v.mine
     pub ended : All (EndedIn v.seen) v.ended
 

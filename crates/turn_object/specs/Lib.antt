@@ -1,7 +1,13 @@
 pub mod History
+pub mod Callers
+pub mod Ended
 pub mod Front
 pub mod Calls
 pub mod Shares
 pub mod Pass
+pub mod Tickets
+pub mod Homes
+pub mod Seats
 pub mod Rule
+pub mod Stages
 pub mod Steps

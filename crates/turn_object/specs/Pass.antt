@@ -8,7 +8,7 @@ use Rattle.turn_object.specs.declared.front.Stage.TheVariants.{Idle}
 use Rattle.turn_object.specs.declared.slot.Resting.{Resting}
 use Rattle.turn_object.specs.declared.turn.Lock.{Lock}
 use Rattle.turn_object.specs.declared.turn.Numbered.{Numbered}
-use Rattle.turn_object.specs.History.{own_number}
+use Rattle.turn_object.specs.Callers.{own_number}
 
 module _ {A R O : Type 0} where
   -- the object as the turn was made
@@ -28,8 +28,8 @@ module _ {A R O : Type 0} where
   mine_of pass = (front pass).mine
 
   -- the pass's number, which is the place of its first entry, once it has one
-  abbrev pub number_of : Numbered (Option (Resting A R O)) (Front A R O) → Option ℕ
-  number_of pass = own_number (mine_of pass)
+  abbrev pub caller_of : Numbered (Option (Resting A R O)) (Front A R O) → Option ℕ
+  caller_of pass = own_number (mine_of pass)
 
   -- the passes that were joined into it, and into those: their numbers and entries
   abbrev pub ended_of : Numbered (Option (Resting A R O)) (Front A R O) → List (Ended A R O)
@@ -46,4 +46,4 @@ module _ {A R O : Type 0} where
     pub holds_nothing : pass.seat.me.1 ≡ []
     pub idle : pass.seat.me.0.stage ≡ Idle
     pub live : 0 < pass.seat.me.0.parts
-    pub numbered : pass.number ≡ number_of pass
+    pub numbered : pass.number ≡ caller_of pass

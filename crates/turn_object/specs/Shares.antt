@@ -1,9 +1,9 @@
 -- What a pass knows after a split, and after a join.
-use Rattle.std.specs.Prelude.{ℕ, ◌+◌, ◌-◌, cond, ltb, List, [], ◌∷◌, ◌++◌, length}
+use Rattle.std.specs.Prelude.{ℕ, ◌+◌, ◌-◌, cond, ltb, List, [], ◌++◌, length}
 use Rattle.turn_object.specs.declared.history.Entry.{Entry}
-use Rattle.turn_object.specs.declared.history.Ended.{Ended}
 use Rattle.turn_object.specs.declared.front.Front.{Front}
 use Rattle.turn_object.specs.declared.front.Stage.TheVariants.{Idle}
+use Rattle.turn_object.specs.Ended.{as_ended}
 
 module _ {A R S : Type 0} where
   -- the longer of two histories, or the first where they are as long
@@ -13,11 +13,6 @@ module _ {A R S : Type 0} where
   -- the other of the two
   abbrev pub shorter_of : List (Entry A R S) → List (Entry A R S) → List (Entry A R S)
   shorter_of xs ys = cond (ltb (length xs) (length ys)) xs ys
-
-  -- a pass with these entries as one that ended, if it had made a call
-  abbrev pub as_ended : List (Entry A R S) → List (Ended A R S)
-  as_ended [] = []
-  as_ended (e ∷ es) = record { number = e.caller; entries = e ∷ es } ∷ []
 
   -- a pass after it gave away so many parts
   abbrev pub kept_front : ℕ → Front A R S → Front A R S

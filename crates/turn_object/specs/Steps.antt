@@ -1,41 +1,23 @@
 -- What each atomic step tells the pass that makes it.
-use Rattle.std.specs.Prelude.{◌≡◌, ◌≢◌, ℕ, ◌^◌, ◌<◌, ◌≤◌, List, [], ◌∷◌, ◌++◌, length, Option, Some, None}
+use Rattle.std.specs.Prelude.{◌≡◌, ◌≢◌, ℕ, ◌<◌, ◌≤◌, List, [], ◌∷◌, length, Option, Some}
 use Rattle.std.specs.List.{All}
 use Rattle.std.specs.declared.snapshot.Snapshot.{Snapshot}
 use Rattle.atomic_table.specs.Table.{Me, Step}
 use Rattle.turn_object.specs.declared.history.Entry.{Entry}
 use Rattle.turn_object.specs.declared.history.Ended.{Ended}
 use Rattle.turn_object.specs.declared.front.Front.{Front}
-use Rattle.turn_object.specs.declared.front.Stage.{Stage}
-use Rattle.turn_object.specs.declared.front.Stage.TheVariants.{Idle, Waiting, Serving}
+use Rattle.turn_object.specs.declared.front.Stage.TheVariants.{Waiting}
 use Rattle.turn_object.specs.declared.slot.Resting.{Resting}
-use Rattle.turn_object.specs.History.{entry, state_after, number_at, StartsWith, IsLegal}
-use Rattle.turn_object.specs.Front.{IsOwn, KeepsIn, EndedIn, IsLegalFront}
+use Rattle.turn_object.specs.History.{entry, state_after, StartsWith}
+use Rattle.turn_object.specs.Callers.{number_or, IsOwn}
+use Rattle.turn_object.specs.Ended.{EndedIn}
+use Rattle.turn_object.specs.Front.{KeepsIn, IsHistory, IsLegalFront}
+use Rattle.turn_object.specs.Stages.{front_at, served_front, called_front}
 
 module _ {A R S : Type 0} where
-  -- the first pass
-  abbrev pub first_front : S → Front A R S
-  first_front start = record { start = Some start; seen = []; shorter = []; mine = []; ended = []; parts = 2 ^ 40; stage = Idle }
-
-  -- a pass that was joined into another one
-  abbrev pub spent_front : Front A R S
-  spent_front = record { start = None; seen = []; shorter = []; mine = []; ended = []; parts = 0; stage = Idle }
-
-  -- a pass whose call has come so far
-  abbrev pub at_stage : Stage → Front A R S → Front A R S
-  at_stage stage v = record { start = v.start; seen = v.seen; shorter = v.shorter; mine = v.mine; ended = v.ended; parts = v.parts; stage = stage }
-
-  -- a pass whose turn has come
-  abbrev pub served_front : ℕ → List (Entry A R S) → Front A R S → Front A R S
-  served_front ticket history v = record { start = v.start; seen = history; shorter = v.shorter; mine = v.mine; ended = v.ended; parts = v.parts; stage = Serving ticket }
-
-  -- a pass whose call is done
-  abbrev pub called_front : Entry A R S → Front A R S → Front A R S
-  called_front e v = record { start = v.start; seen = v.seen ++ e ∷ []; shorter = v.shorter; mine = v.mine ++ e ∷ []; ended = v.ended; parts = v.parts; stage = Idle }
-
   -- a ticket was taken
   abbrev pub Took : Step (Option (Resting A R S)) → Me (Option (Resting A R S)) (Front A R S) → ℕ → Me (Option (Resting A R S)) (Front A R S) → Type 0
-  Took st m found m' = m' ≡ (at_stage (Waiting found) m.0, m.1)
+  Took st m found m' = m' ≡ (front_at (Waiting found) m.0, m.1)
 
   -- who ended is another caller, whose entries stand among these
   abbrev pub EndedBefore : List (Entry A R S) → List (Entry A R S) → Ended A R S → Type 0
@@ -52,10 +34,10 @@ module _ {A R S : Type 0} where
       pub object : resting.object ≡ state_after start history
       pub length_is : length history ≡ ticket
       pub seen : StartsWith history m.0.seen
-      pub legal : IsLegal step may 0 start history
+      pub legal : IsHistory step may start history
       pub own : KeepsIn history m.0.mine
       pub own_before : KeepsIn m.0.seen m.0.mine
-      pub number_low : number_at m.0.mine (length history) ≤ length history
+      pub number_low : number_or m.0.mine (length history) ≤ length history
       pub ended : All (EndedBefore history m.0.mine) m.0.ended
 
     -- a look at the ticket that is served
@@ -72,4 +54,4 @@ module _ {A R S : Type 0} where
   abbrev pub Passed : Step (Option (Resting A R S)) → Me (Option (Resting A R S)) (Front A R S) → ℕ → Me (Option (Resting A R S)) (Front A R S) → Type 0
   Passed st m found m' =
       (object : S) (ask : Snapshot A) (reply : Snapshot R) → m.1 ≡ (0, Some (record { object = object; last = Some (ask, reply) })) ∷ []
-      → m' ≡ (called_front (entry (number_at m.0.mine (length m.0.seen)) ask.value reply.value object) m.0, [])
+      → m' ≡ (called_front (entry (number_or m.0.mine (length m.0.seen)) ask.value reply.value object) m.0, [])

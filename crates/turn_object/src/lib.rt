@@ -10,8 +10,6 @@ mod history;
 mod object;
 mod rule;
 mod slot;
-#[cfg(test)]
-mod tests;
 mod turn;
 
 pub use front::{Front, Stage};

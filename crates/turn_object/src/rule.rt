@@ -2,7 +2,8 @@
 ghost use Rattle.std.specs.Prelude.{ℕ};
 ghost use Rattle.turn_object.specs.Shares.{kept_front, given_front, joined_front};
 ghost use Rattle.turn_object.specs.Rule.{IsTurning};
-ghost use Rattle.turn_object.specs.Steps.{first_front, spent_front, Took, Looked, Passed, Learned};
+ghost use Rattle.turn_object.specs.Stages.{first_front, spent_front};
+ghost use Rattle.turn_object.specs.Steps.{Took, Looked, Passed, Learned};
 
 use crate::front::Front;
 use crate::object::Object;

@@ -14,13 +14,13 @@ trouble (Damaged folder file) = stuck.Damaged folder file 0
 trouble _ = stuck.Fault
 
 -- the writer stays, and this is what came of it
-abbrev pub stays : WriterHandle → Result ℕ Stuck → WriterOut
-stays handle result = record { handle = Some handle; result = result }
+abbrev pub stays_with : WriterHandle → Result ℕ Stuck → WriterOut
+stays_with handle result = record { handle = Some handle; result = result }
 
 -- the writer is no longer open, and this is what came of it
-abbrev pub gone : Result ℕ Stuck → WriterOut
-gone result = record { handle = None; result = result }
+abbrev pub gone_with : Result ℕ Stuck → WriterOut
+gone_with result = record { handle = None; result = result }
 
 -- the writer stays, and the reply is the trouble
 abbrev pub failed : WriterHandle → Reply → WriterOut
-failed handle reply = stays handle (Err (trouble reply))
+failed handle reply = stays_with handle (Err (trouble reply))

@@ -3,21 +3,21 @@ use Rattle.std.specs.Prelude.{ℕ, ◌+◌, true, false}
 use Rattle.writer_flow.specs.declared.handle.WriterHandle.{WriterHandle}
 
 -- a writer that was opened, and has done nothing
-abbrev pub opened : ℕ → ℕ → WriterHandle
-opened writer cap = record { writer = writer; cap = cap; pending = 0; closing = false; landed = 0 }
+abbrev pub opened_of : ℕ → ℕ → WriterHandle
+opened_of writer cap = record { writer = writer; cap = cap; pending = 0; closing = false; landed = 0 }
 
 -- its pending entries have landed
-abbrev pub flushed : WriterHandle → WriterHandle
-flushed handle = record handle { pending = 0 }
+abbrev pub flushed_of : WriterHandle → WriterHandle
+flushed_of handle = record handle { pending = 0 }
 
 -- one more entry is pending
-abbrev pub one_more : WriterHandle → WriterHandle
-one_more handle = record handle { pending = handle.pending + 1 }
+abbrev pub one_more_of : WriterHandle → WriterHandle
+one_more_of handle = record handle { pending = handle.pending + 1 }
 
 -- a sync told that so many of its entries have landed
-abbrev pub synced : ℕ → WriterHandle → WriterHandle
-synced landed handle = record handle { landed = landed }
+abbrev pub synced_of : ℕ → WriterHandle → WriterHandle
+synced_of landed handle = record handle { landed = landed }
 
 -- its metadata dropping was asked for
-abbrev pub closing : WriterHandle → WriterHandle
-closing handle = record handle { closing = true }
+abbrev pub closing_of : WriterHandle → WriterHandle
+closing_of handle = record handle { closing = true }

@@ -1,17 +1,17 @@
 -- The calls that open a writer: MakeContainer, Enter, Floor, MakeHostdir, MakeIndex, MakeLog.
 use Rattle.std.specs.Prelude.{ℕ, List, Result, Ok, Err}
 use Rattle.flow.specs.declared.trouble.Stuck.{Stuck}
-use Rattle.flow.specs.Program.{Program, done, ask}
+use Rattle.story.specs.Program.{Program, done, ask}
 use Rattle.mount_model.specs.declared.call.Call.{Call}
 use Rattle.mount_model.specs.declared.call.Call.TheVariants.{MakeContainer, Enter, Floor, MakeHostdir, MakeIndex, MakeLog, Exit}
 use Rattle.mount_model.specs.declared.reply.Reply.{Reply}
 use Rattle.mount_model.specs.declared.reply.Reply.TheVariants.{Room, Entered, Floored, Done}
 use Rattle.writer_flow.specs.declared.handle.WriterHandle.{WriterHandle}
-use Rattle.writer_flow.specs.Handle.{opened}
+use Rattle.writer_flow.specs.Handle.{opened_of}
 use Rattle.writer_flow.specs.Ending.{trouble}
 
 abbrev pub Opening : Type 0
-Opening = Program Call (Result WriterHandle Stuck)
+Opening = Program Call Reply (Result WriterHandle Stuck)
 
 -- it leaves, and the first trouble is the outcome, whatever is answered then
 abbrev pub leaves : ℕ → Stuck → Opening
@@ -23,7 +23,7 @@ if_done writer next Done = next
 if_done writer next reply = leaves writer (trouble reply)
 
 abbrev pub makes_log : ℕ → ℕ → Opening
-makes_log writer cap = ask (MakeLog writer) (if_done writer (done (Ok (opened writer cap))))
+makes_log writer cap = ask (MakeLog writer) (if_done writer (done (Ok (opened_of writer cap))))
 
 abbrev pub makes_index : ℕ → ℕ → Opening
 makes_index writer cap = ask (MakeIndex writer) (if_done writer (makes_log writer cap))

@@ -1,9 +1,10 @@
 -- Where the stages of an opening stand in its program.
 use Rattle.std.specs.Prelude.{ℕ, Result}
 use Rattle.flow.specs.declared.trouble.Stuck.{Stuck}
-use Rattle.flow.specs.Program.{done}
+use Rattle.story.specs.Program.{done}
 use Rattle.flow.specs.Standing.{Standing, ready}
 use Rattle.mount_model.specs.declared.call.Call.{Call}
+use Rattle.mount_model.specs.declared.reply.Reply.{Reply}
 use Rattle.writer_flow.specs.declared.handle.WriterHandle.{WriterHandle}
 use Rattle.writer_flow.specs.declared.opening.OpenWrite.{OpenWrite}
 use Rattle.writer_flow.specs.declared.opening.Stage.{Stage}
@@ -30,7 +31,7 @@ calls_left (Logging writer) = 2
 calls_left (Leaving writer why) = 1
 calls_left (Opened result) = 0
 
-abbrev pub open_standing : OpenWrite → Standing Call (Result WriterHandle Stuck)
+abbrev pub open_standing : OpenWrite → Standing Call Reply (Result WriterHandle Stuck)
 open_standing flow = ready (opening flow.cap flow.stage)
 
 abbrev pub open_left : OpenWrite → ℕ

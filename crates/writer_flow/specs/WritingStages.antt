@@ -1,17 +1,18 @@
 -- Where the stages of a write stand in its program.
 use Rattle.std.specs.Prelude.{ℕ}
-use Rattle.flow.specs.Program.{done}
+use Rattle.story.specs.Program.{done}
 use Rattle.flow.specs.Standing.{Standing, ready, asked}
 use Rattle.mount_model.specs.declared.call.Call.{Call}
+use Rattle.mount_model.specs.declared.reply.Reply.{Reply}
 use Rattle.writer_flow.specs.declared.handle.WriterOut.{WriterOut}
 use Rattle.writer_flow.specs.declared.writing.WriteFlow.{WriteFlow}
 use Rattle.writer_flow.specs.declared.writing.Stage.{Stage}
 use Rattle.writer_flow.specs.declared.writing.Stage.TheVariants.{Flushing, Ready, Sent, Ended}
-use Rattle.writer_flow.specs.Handle.{flushed}
+use Rattle.writer_flow.specs.Handle.{flushed_of}
 use Rattle.writer_flow.specs.Writing.{flush_then, writes, if_wrote}
 
-abbrev pub writing : ℕ → Stage → Standing Call WriterOut
-writing at (Flushing handle block) = ready (flush_then handle (writes (flushed handle) at block))
+abbrev pub writing : ℕ → Stage → Standing Call Reply WriterOut
+writing at (Flushing handle block) = ready (flush_then handle (writes (flushed_of handle) at block))
 writing at (Ready handle block) = ready (writes handle at block)
 writing at (Sent handle) = asked (if_wrote handle)
 writing at (Ended out) = ready (done out)
@@ -22,7 +23,7 @@ calls_left (Ready handle block) = 1
 calls_left (Sent handle) = 1
 calls_left (Ended out) = 0
 
-abbrev pub write_standing : WriteFlow → Standing Call WriterOut
+abbrev pub write_standing : WriteFlow → Standing Call Reply WriterOut
 write_standing flow = writing flow.at flow.stage
 
 abbrev pub write_left : WriteFlow → ℕ

@@ -1,10 +1,10 @@
 //! A close.
 ghost use Rattle.std.specs.Prelude.{◌≡◌, ◌+◌, ◌<◌, ◌≤◌};
-ghost use Rattle.flow.specs.Program.{then, done};
+ghost use Rattle.story.specs.Program.{followed_by, done};
 ghost use Rattle.flow.specs.Standing.{ready, next_of, rest_of, replied, Awaits};
 ghost use Rattle.writer_flow.specs.Closing.{close_program, after_sync, if_put, if_left};
 ghost use Rattle.writer_flow.specs.SyncingStages.{sync_stage, stage_left};
-ghost use Rattle.writer_flow.specs.ClosingStages.{closing, closes_left, close_standing, close_left};
+ghost use Rattle.writer_flow.specs.ClosingStages.{close_stage, closes_left, close_standing, close_left};
 
 use crate::handle::{WriterHandle, WriterOut, failed};
 use crate::syncing::{Stage, Syncing};
@@ -31,8 +31,8 @@ enum Closing {
 impl Closing {
     /// The stage after the reply to this one's call.
     fn after(self, reply: Reply) -> Closing
-        requires { Awaits (rest_of (ready (closing self))) }
-        ensures goes_on { closing result ≡ replied (rest_of (ready (closing self))) reply }
+        requires { Awaits (rest_of (ready (close_stage self))) }
+        ensures goes_on { close_stage result ≡ replied (rest_of (ready (close_stage self))) reply }
         ensures fewer { closes_left result < closes_left self }
     {
         match self {
@@ -46,7 +46,7 @@ impl Closing {
 
 // Only where the sync told how much has landed, the metadata dropping is asked for.
 fn after_sync(sync: Stage) -> Closing
-    ensures goes_on { closing result ≡ then (sync_stage sync) after_sync }
+    ensures goes_on { close_stage result ≡ followed_by (sync_stage sync) after_sync }
     ensures fewer { closes_left result ≤ stage_left sync + 2 }
 {
     match sync {
@@ -56,7 +56,7 @@ fn after_sync(sync: Stage) -> Closing
 }
 
 fn after_end(out: WriterOut) -> Closing
-    ensures goes_on { closing result ≡ after_sync out }
+    ensures goes_on { close_stage result ≡ after_sync out }
     ensures fewer { closes_left result ≤ 2 }
 {
     match out.result {
@@ -69,7 +69,7 @@ fn after_end(out: WriterOut) -> Closing
 }
 
 fn after_put(handle: WriterHandle, reply: Reply) -> Closing
-    ensures goes_on { closing result ≡ if_put handle reply }
+    ensures goes_on { close_stage result ≡ if_put handle reply }
     ensures fewer { closes_left result < 2 }
 {
     match reply {

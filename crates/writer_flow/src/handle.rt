@@ -1,13 +1,13 @@
 //! What one keeps of an open writer.
 ghost use Rattle.std.specs.Prelude.{◌≡◌, ◌+◌, ◌<◌, ◌^◌};
-ghost use Rattle.writer_flow.specs.Handle.{opened as opened_of, flushed as flushed_of, synced as synced_of, one_more as one_more_of, closing as closing_of};
+ghost use Rattle.writer_flow.specs.Handle.{opened_of, flushed_of, synced_of, one_more_of, closing_of};
 ghost use Rattle.writer_flow.specs.Ending.{trouble as trouble_of, failed as failed_of};
 
 use flow::Stuck;
 use mount_model::Reply;
 
 /// An open writer, as far as the machine before told of it.
-#[derive(Clone, Copy, Debug, PartialEq, Eq)]
+#[derive(Clone, Copy, PartialEq, Eq)]
 pub struct WriterHandle {
     /// Its id.
     pub writer: u64,

@@ -16,6 +16,3 @@ pub use handle::{WriterHandle, WriterOut};
 pub use opening::OpenWrite;
 pub use syncing::SyncFlow;
 pub use writing::WriteFlow;
-
-#[cfg(test)]
-mod tests;

@@ -46,7 +46,7 @@ impl WriteFlow {
 impl Stage {
     ghost use Rattle.std.specs.Prelude.{◌+◌};
     ghost use Rattle.flow.specs.Standing.{ready, rest_of, replied, Awaits};
-    ghost use Rattle.writer_flow.specs.Handle.{flushed};
+    ghost use Rattle.writer_flow.specs.Handle.{flushed_of};
     ghost use Rattle.writer_flow.specs.Writing.{writes, if_flushed, if_wrote};
     ghost use Rattle.writer_flow.specs.WritingStages.{writing, calls_left};
 
@@ -77,7 +77,7 @@ impl Stage {
     }
 
     fn after_flush(handle: WriterHandle, at: u64, block: Block, reply: Reply) -> Stage
-        ensures goes_on { writing at result ≡ ready (if_flushed handle (writes (flushed handle) at block) reply) }
+        ensures goes_on { writing at result ≡ ready (if_flushed handle (writes (flushed_of handle) at block) reply) }
         ensures fewer { calls_left result < 2 }
         ensures room { pending_then result ≡ 0 }
     {

@@ -2,15 +2,15 @@
 use Rattle.std.proofs.Common.{ℕ, ◌+◌, List, [], ◌∷◌, arith}
 use Rattle.mount_model.specs.declared.row.Row.{Row}
 use Rattle.mount_model.specs.State.{State}
-use Rattle.mount_model.specs.History.{Event, IsLegal, state_after}
-use Rattle.writer_laws.specs.Counting.{writes_told, entries_of, Stays}
-use Rattle.writer_laws.specs.Knowing.{HasRow, IsCounted}
-use Rattle.writer_laws.proofs.Steps.{step_kept}
+use Rattle.mount_model.specs.History.{Event, IsLawful, state_after}
+use Rattle.writer_laws.specs.Counting.{writes_told, entry_count, StaysIn}
+use Rattle.writer_laws.specs.Knowing.{HasRow, HasCount}
+use Rattle.writer_laws.proofs.Stops.{any_kept}
 
 -- while it is not taken out, it has one entry more for each of its writes that was told
-pub counted : (me w : ℕ) (row : Row) (start : State) (events : List Event) → HasRow me w row start → IsLegal start events → Stays w events → IsCounted me w (entries_of row + writes_told w events) (state_after start events)
+pub counted : (me w : ℕ) (row : Row) (start : State) (events : List Event) → HasRow me w row start → IsLawful start events → StaysIn w events → HasCount me w (entry_count row + writes_told w events) (state_after start events)
 counted me w row start [] h l s = record { row = row; has = h; total = omega arith }
 counted me w row start (event ∷ events) h l s =
-    let k = step_kept me w row start event.caller event.ask.call event.reply event.after h l.1.answers s.0 in
+    let k = any_kept me w row start event.caller event.ask event.reply event.after h l.1 s.0 in
     let c = counted me w k.after event.after events k.has l.2 s.1 in
     record { row = c.row; has = c.has; total = omega (arith, c.total, k.total) }

@@ -1,6 +1,7 @@
 mod Rows
 mod Steps
 mod Own
+mod Stops
 mod Histories
 mod Machines
 mod Closes
@@ -8,3 +9,4 @@ mod Opens
 mod Counts
 mod Regulars
 mod Waits
+mod Surviving

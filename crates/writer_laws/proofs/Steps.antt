@@ -19,18 +19,18 @@ use Rattle.mount_model.specs.declared.row.Stage.TheVariants as stage
 use Rattle.mount_model.specs.Paths.{Name, index_path, log_path}
 use Rattle.mount_model.specs.Table.{row_of, with_row, without_row, writer_of, only, may_close, is_live, at_stage}
 use Rattle.mount_model.specs.State.{State, Table, put, take_out}
-use Rattle.mount_model.specs.Making.{Told, Outcome, Refuses, Makes, OnWriter, UnlessRefused}
+use Rattle.mount_model.specs.Making.{Told, CallOutcome, Refuses, MakesAct, OnWriter, UnlessRefused, room_check}
 use Rattle.mount_model.specs.Finding.{find_outcome, make_outcome}
-use Rattle.mount_model.specs.Looking.{room_check, look_step, look_outcome}
+use Rattle.mount_model.specs.Looking.{look_step, look_outcome}
 use Rattle.mount_model.specs.Entering.{entered, enter_outcome, enter_check, EntersAs}
 use Rattle.mount_model.specs.Flooring.{floored, FloorOutcome, FloorsRow}
 use Rattle.mount_model.specs.Building.{build_outcome, hostdir_step, index_step, log_step}
 use Rattle.mount_model.specs.Writing.{write_check, write_outcome, entry_of, stamp_at, wrote as with_write, WritesAt}
-use Rattle.mount_model.specs.Flushing.{flushed, flush_step, flush_outcome, FlushesRow, sync_log_step, sync_log_outcome, sync_index_step, sync_index_outcome}
+use Rattle.mount_model.specs.Flushing.{log_synced, index_synced, flushed, flush_step, flush_outcome, FlushesRow, sync_log_step, sync_log_outcome, sync_index_step, sync_index_outcome}
 use Rattle.mount_model.specs.Leaving.{closing, closed, put_meta_check, put_meta_step, put_meta_outcome, exit_check, exit_step, exit_outcome}
 use Rattle.mount_model.specs.Step.{Answers}
 use Rattle.plfs_types.specs.declared.entries.Entry.{Entry}
-use Rattle.writer_laws.specs.Counting.{wrote, wrote_by, entries_of, StaysAt}
+use Rattle.writer_laws.specs.Counting.{wrote_count, wrote_by, entry_count, StaysInAt}
 use Rattle.writer_laws.specs.Knowing.{HasRow}
 use Rattle.writer_laws.specs.Waiting.{IsOn}
 use Rattle.writer_laws.proofs.Rows.{row_of_id, row_of_other-with_row, row_of-put, row_of_other-without_row, row_of-added, held_row, match_cases, some_eq}
@@ -40,7 +40,7 @@ use Rattle.writer_laws.proofs.Rows.{row_of_id, row_of_other-with_row, row_of-put
 pub record Kept (me w : ℕ) (row : Row) (caller told : ℕ) (on : Type 0) (new : State) : Type 0 where
   pub after : Row
   pub has : HasRow me w after new
-  pub total : entries_of after ≡ entries_of row + told
+  pub total : entry_count after ≡ entry_count row + told
   pub spared : (caller ≡ me → on → ⊥) → after ≡ row
 
 -- the table is as it was
@@ -54,7 +54,7 @@ kept_same me w row caller told old new h e t = record {
 
 -- a row was put in place of the caller's writer's
 pub kept_put : (me w : ℕ) (row : Row) (caller told : ℕ) (old new : State) (stages : Stage → Bool) (id : ℕ) (r x : Row) → HasRow me w row old → writer_of caller stages id old.table.writers ≡ Some r → x.id ≡ r.id → x.owner ≡ r.owner → new.table ≡ put x old.table
-    → (id ≡ w → entries_of x ≡ entries_of r + told) → (id ≢ w → told ≡ 0) → Kept me w row caller told (id ≡ w) new
+    → (id ≡ w → entry_count x ≡ entry_count r + told) → (id ≢ w → told ≡ 0) → Kept me w row caller told (id ≡ w) new
 kept_put me w row caller told old new stages id r x h e same_id same_owner t own other =
     let f = held_row caller stages (row_of id old.table.writers) r e in
     let x_id : x.id ≡ id = same_id ∙ row_of_id id old.table.writers r f.0 in
@@ -68,7 +68,7 @@ kept_put me w row caller told old new stages id r x h e same_id same_owner t own
           record {
             after = x;
             has = record { there = stands; owned = same_owner ∙ mine };
-            total = own is ∙ ap (λ (y : Row). entries_of y + told) same;
+            total = own is ∙ ap (λ (y : Row). entry_count y + told) same;
             spared = λ apart. absurd (apart (sym f.1 ∙ mine) is);
           }
       | inr away ↦ record {
@@ -94,7 +94,7 @@ unless_refused (Some why) old reply new does u = inl (why, u)
 table_of : (old new : State) → new ≡ old → new.table ≡ old.table
 table_of old new e = ap (λ (s : State). s.table) e
 
-pub made_table : (step : Step) (outcome : Told → Outcome) (old : State) (reply : Reply) (new : State) (m : Makes step outcome old reply new) → new.table ≡ (outcome m.told).table
+pub made_table : (step : Step) (outcome : Told → CallOutcome) (old : State) (reply : Reply) (new : State) (m : MakesAct step outcome old reply new) → new.table ≡ (outcome m.told).table
 made_table step outcome old reply new m = ap (λ (s : State). s.table) m.after
 
 -- ---- the tables that acts leave
@@ -126,17 +126,19 @@ flush_table row table (Err Fault) = inr (λ n e. cc, refl)
 flush_table row table (Err NoMemory) = inr (λ n e. cc, refl)
 flush_table row table told = inr (λ n e. cc, refl)
 
-pub sync_log_table : (row : Row) (table : Table) (told : Told) → (sync_log_outcome row table told).table ≡ table
-sync_log_table row table (Ok Made) = refl
-sync_log_table row table told = refl
+pub sync_log_table : (row : Row) (table : Table) (told : Told) → (((sync_log_outcome row table told).reply ≡ reply.Done) × ((sync_log_outcome row table told).table ≡ put (log_synced row) table)) ⊎ (((sync_log_outcome row table told).reply ≡ reply.Done → ⊥) × ((sync_log_outcome row table told).table ≡ table))
+sync_log_table row table (Ok Made) = inl (refl, refl)
+sync_log_table row table (Err Fault) = inr (λ e. cc, refl)
+sync_log_table row table (Err NoMemory) = inr (λ e. cc, refl)
+sync_log_table row table told = inr (λ e. cc, refl)
 
-pub sync_index_table : (row : Row) (table : Table) (told : Told) → (((sync_index_outcome row table told).reply ≡ reply.Synced row.landed) ⊎ ((n : ℕ) → (sync_index_outcome row table told).reply ≡ reply.Synced n → ⊥)) × ((sync_index_outcome row table told).table ≡ table)
-sync_index_table row table (Ok Made) = (inl refl, refl)
-sync_index_table row table (Err Fault) = (inr (λ n e. cc), refl)
-sync_index_table row table (Err NoMemory) = (inr (λ n e. cc), refl)
-sync_index_table row table told = (inr (λ n e. cc), refl)
+pub sync_index_table : (row : Row) (table : Table) (told : Told) → (((sync_index_outcome row table told).reply ≡ reply.Synced row.landed) × ((sync_index_outcome row table told).table ≡ put (index_synced row) table)) ⊎ (((n : ℕ) → (sync_index_outcome row table told).reply ≡ reply.Synced n → ⊥) × ((sync_index_outcome row table told).table ≡ table))
+sync_index_table row table (Ok Made) = inl (refl, refl)
+sync_index_table row table (Err Fault) = inr (λ n e. cc, refl)
+sync_index_table row table (Err NoMemory) = inr (λ n e. cc, refl)
+sync_index_table row table told = inr (λ n e. cc, refl)
 
-pub write_table : (stamp : ℕ) (row : Row) (at len : ℕ) (table : Table) (told : Told) → (((write_outcome stamp row at len table told).reply ≡ reply.Wrote stamp) × ((write_outcome stamp row at len table told).table ≡ put (with_write stamp row at len) table)) ⊎ ((wrote (write_outcome stamp row at len table told).reply ≡ 0) × ((write_outcome stamp row at len table told).table ≡ table))
+pub write_table : (stamp : ℕ) (row : Row) (at len : ℕ) (table : Table) (told : Told) → (((write_outcome stamp row at len table told).reply ≡ reply.Wrote stamp) × ((write_outcome stamp row at len table told).table ≡ put (with_write stamp row at len) table)) ⊎ ((wrote_count (write_outcome stamp row at len table told).reply ≡ 0) × ((write_outcome stamp row at len table told).table ≡ table))
 write_table stamp row at len table (Ok Made) = inl (refl, refl)
 write_table stamp row at len table (Err Fault) = inr (refl, refl)
 write_table stamp row at len table (Err NoMemory) = inr (refl, refl)
@@ -155,7 +157,7 @@ exit_table row table told = inr (inr refl)
 
 -- ---- calls
 
-kept_plain : (me w : ℕ) (row : Row) (caller : ℕ) (old new : State) (stages : Stage → Bool) (id : ℕ) (r x : Row) → HasRow me w row old → writer_of caller stages id old.table.writers ≡ Some r → x.id ≡ r.id → x.owner ≡ r.owner → entries_of x ≡ entries_of r → (new.table ≡ put x old.table) ⊎ (new.table ≡ old.table) → Kept me w row caller 0 (id ≡ w) new
+kept_plain : (me w : ℕ) (row : Row) (caller : ℕ) (old new : State) (stages : Stage → Bool) (id : ℕ) (r x : Row) → HasRow me w row old → writer_of caller stages id old.table.writers ≡ Some r → x.id ≡ r.id → x.owner ≡ r.owner → entry_count x ≡ entry_count r → (new.table ≡ put x old.table) ⊎ (new.table ≡ old.table) → Kept me w row caller 0 (id ≡ w) new
 kept_plain me w row caller old new stages id r x h e same_id same_owner same_entries turned = elim turned as (λ _. Kept me w row caller 0 (id ≡ w) new) [
   | inl t ↦ kept_put me w row caller 0 old new stages id r x h e same_id same_owner t (λ is. omega arith) (λ away. refl)
   | inr t ↦ kept_same me w row caller 0 old new h t refl
@@ -174,8 +176,8 @@ floors_kept me w row caller id old rep new r h e f = elim (floor_table r old.tab
   | inr t ↦ kept_same me w row caller 0 old new h t refl
 ]
 
-builds_kept : (me w : ℕ) (row : Row) (caller id : ℕ) (old : State) (rep : Reply) (new : State) (stages : Stage → Bool) (step : Row → Step) (s : Stage) (folder file : Row → Name) → HasRow me w row old → OnWriter caller stages id old rep new (λ r. Makes (step r) (build_outcome s (folder r) (file r) r old.table) old rep new) → Kept me w row caller 0 (id ≡ w) new
-builds_kept me w row caller id old rep new stages step s folder file h o = elim (on_writer caller stages id old rep new (λ r. Makes (step r) (build_outcome s (folder r) (file r) r old.table) old rep new) o) as (λ _. Kept me w row caller 0 (id ≡ w) new) [
+builds_kept : (me w : ℕ) (row : Row) (caller id : ℕ) (old : State) (rep : Reply) (new : State) (stages : Stage → Bool) (step : Row → Step) (s : Stage) (folder file : Row → Name) → HasRow me w row old → OnWriter caller stages id old rep new (λ r. MakesAct (step r) (build_outcome s (folder r) (file r) r old.table) old rep new) → Kept me w row caller 0 (id ≡ w) new
+builds_kept me w row caller id old rep new stages step s folder file h o = elim (on_writer caller stages id old rep new (λ r. MakesAct (step r) (build_outcome s (folder r) (file r) r old.table) old rep new) o) as (λ _. Kept me w row caller 0 (id ≡ w) new) [
   | inl refused ↦ kept_same me w row caller 0 old new h (table_of old new refused.1) refl
   | inr (r, e, m) ↦
       let t = made_table (step r) (build_outcome s (folder r) (file r) r old.table) old rep new m in
@@ -183,8 +185,8 @@ builds_kept me w row caller id old rep new stages step s folder file h o = elim 
       (elim (build_table s (folder r) (file r) r old.table m.told) as (λ _. (new.table ≡ put (at_stage s r) old.table) ⊎ (new.table ≡ old.table)) [ inl is ↦ inl (t ∙ is) | inr is ↦ inr (t ∙ is) ])
 ]
 
-refused_nothing : (why : Refusal) (old new : State) (rep : Reply) → Refuses why old rep new → wrote rep ≡ 0
-refused_nothing why old new rep r = subst (λ x. wrote x ≡ 0) (sym r.0) refl
+refused_nothing : (why : Refusal) (old new : State) (rep : Reply) → Refuses why old rep new → wrote_count rep ≡ 0
+refused_nothing why old new rep r = subst (λ x. wrote_count x ≡ 0) (sym r.0) refl
 
 none_by : (id w : ℕ) (n : ℕ) → n ≡ 0 → (if nat_eq id w then n else 0) ≡ 0
 none_by id w n e = elim (nat_eq id w) as (λ b. (if b then n else 0) ≡ 0) [ true ↦ e | false ↦ refl ]
@@ -198,19 +200,19 @@ other_by id w n o = let t : nat_eq id w ≡ false = grind (arith, nat_tests) in 
 length_more : (xs : List Entry) (x : Entry) → length (xs ++ x ∷ []) ≡ length xs + 1
 length_more xs x = length-append xs (x ∷ [])
 
-writes_row_kept : (me w : ℕ) (row : Row) (caller id at : ℕ) (bytes : List ℕ) (old : State) (rep : Reply) (new : State) (r : Row) → HasRow me w row old → writer_of caller (only stage.Open) id old.table.writers ≡ Some r → WritesAt r at bytes old rep new → Kept me w row caller (if nat_eq id w then wrote rep else 0) (id ≡ w) new
+writes_row_kept : (me w : ℕ) (row : Row) (caller id at : ℕ) (bytes : List ℕ) (old : State) (rep : Reply) (new : State) (r : Row) → HasRow me w row old → writer_of caller (only stage.Open) id old.table.writers ≡ Some r → WritesAt r at bytes old rep new → Kept me w row caller (if nat_eq id w then wrote_count rep else 0) (id ≡ w) new
 writes_row_kept me w row caller id at bytes old rep new r h e f =
     let stamp : ℕ = stamp_at f.time r in
     let t : new.table ≡ (write_outcome stamp r at (length bytes) old.table f.makes.told).table = ap (λ (s : State). s.table) f.makes.after in
-    elim (write_table stamp r at (length bytes) old.table f.makes.told) as (λ _. Kept me w row caller (if nat_eq id w then wrote rep else 0) (id ≡ w) new) [
+    elim (write_table stamp r at (length bytes) old.table f.makes.told) as (λ _. Kept me w row caller (if nat_eq id w then wrote_count rep else 0) (id ≡ w) new) [
       | inl (said, is) ↦
-          let one : wrote rep ≡ 1 = subst (λ x. wrote x ≡ 1) (sym (f.makes.answered ∙ said)) refl in
-          kept_put me w row caller (if nat_eq id w then wrote rep else 0) old new (only stage.Open) id r (with_write stamp r at (length bytes)) h e refl refl (t ∙ is)
-          (λ mine. let a : (if nat_eq id w then wrote rep else 0) ≡ 1 = own_by id w (wrote rep) mine ∙ one in omega (arith, length_more r.pending.entries (entry_of stamp r at (length bytes))))
-          (λ away. other_by id w (wrote rep) away)
+          let one : wrote_count rep ≡ 1 = subst (λ x. wrote_count x ≡ 1) (sym (f.makes.answered ∙ said)) refl in
+          kept_put me w row caller (if nat_eq id w then wrote_count rep else 0) old new (only stage.Open) id r (with_write stamp r at (length bytes)) h e refl refl (t ∙ is)
+          (λ mine. let a : (if nat_eq id w then wrote_count rep else 0) ≡ 1 = own_by id w (wrote_count rep) mine ∙ one in omega (arith, length_more r.pending.entries (entry_of stamp r at (length bytes))))
+          (λ away. other_by id w (wrote_count rep) away)
       | inr (said, is) ↦
-          let none : wrote rep ≡ 0 = subst (λ x. wrote x ≡ 0) (sym f.makes.answered) said in
-          kept_same me w row caller (if nat_eq id w then wrote rep else 0) old new h (t ∙ is) (none_by id w (wrote rep) none)
+          let none : wrote_count rep ≡ 0 = subst (λ x. wrote_count x ≡ 0) (sym f.makes.answered) said in
+          kept_same me w row caller (if nat_eq id w then wrote_count rep else 0) old new h (t ∙ is) (none_by id w (wrote_count rep) none)
     ]
 
 flushes_row_kept : (me w : ℕ) (row : Row) (caller id : ℕ) (old : State) (rep : Reply) (new : State) (r : Row) → HasRow me w row old → writer_of caller (only stage.Open) id old.table.writers ≡ Some r → (entries : List Entry) → FlushesRow r entries old rep new → Kept me w row caller 0 (id ≡ w) new
@@ -222,7 +224,7 @@ flushes_row_kept me w row caller id old rep new r h e (x ∷ xs) f =
       | inr (said, is) ↦ kept_same me w row caller 0 old new h (t ∙ is) refl
     ]
 
-puts_row_kept : (me w : ℕ) (row : Row) (caller id : ℕ) (old : State) (rep : Reply) (new : State) (r : Row) (step : Step) → HasRow me w row old → writer_of caller may_close id old.table.writers ≡ Some r → Makes step (put_meta_outcome r old.table) old rep new → Kept me w row caller 0 (id ≡ w) new
+puts_row_kept : (me w : ℕ) (row : Row) (caller id : ℕ) (old : State) (rep : Reply) (new : State) (r : Row) (step : Step) → HasRow me w row old → writer_of caller may_close id old.table.writers ≡ Some r → MakesAct step (put_meta_outcome r old.table) old rep new → Kept me w row caller 0 (id ≡ w) new
 puts_row_kept me w row caller id old rep new r step h e m =
     let t = made_table step (put_meta_outcome r old.table) old rep new m in
     elim (meta_table r old.table m.told) as (λ _. Kept me w row caller 0 (id ≡ w) new) [
@@ -233,10 +235,10 @@ puts_row_kept me w row caller id old rep new r step h e m =
       ]
     ]
 
-left_other : (id w : ℕ) (rep : Reply) → rep ≡ reply.Done → StaysAt w (call.Exit id) rep → id ≢ w
-left_other id w rep e s = subst (λ x. StaysAt w (call.Exit id) x) e s
+left_other : (id w : ℕ) (rep : Reply) → rep ≡ reply.Done → StaysInAt w (call.Exit id) rep → id ≢ w
+left_other id w rep e s = subst (λ x. StaysInAt w (call.Exit id) x) e s
 
-exits_row_kept : (me w : ℕ) (row : Row) (caller id : ℕ) (old : State) (rep : Reply) (new : State) (r : Row) (step : Step) → HasRow me w row old → writer_of caller is_live id old.table.writers ≡ Some r → Makes step (exit_outcome r old.table) old rep new → StaysAt w (call.Exit id) rep → Kept me w row caller 0 (id ≡ w) new
+exits_row_kept : (me w : ℕ) (row : Row) (caller id : ℕ) (old : State) (rep : Reply) (new : State) (r : Row) (step : Step) → HasRow me w row old → writer_of caller is_live id old.table.writers ≡ Some r → MakesAct step (exit_outcome r old.table) old rep new → StaysInAt w (call.Exit id) rep → Kept me w row caller 0 (id ≡ w) new
 exits_row_kept me w row caller id old rep new r step h e m stays =
     let t = made_table step (exit_outcome r old.table) old rep new m in
     elim (exit_table r old.table m.told) as (λ _. Kept me w row caller 0 (id ≡ w) new) [
@@ -257,31 +259,28 @@ exits_row_kept me w row caller id old rep new r step h e m stays =
     ]
 
 enters_kept : (me w : ℕ) (row : Row) (caller room host most : ℕ) (old : State) (rep : Reply) (new : State) → HasRow me w row old → EntersAs caller room host most old rep new → Kept me w row caller 0 ⊥ new
-enters_kept me w row caller room host most old rep new h f = elim f.does as (λ _. Kept me w row caller 0 ⊥ new) [
-  | inl m ↦
-      let mine : Row = entered old caller room host most in
-      let t : new.table ≡ (enter_outcome mine old.table m.told).table = ap (λ (s : State). s.table) m.after in
-      elim (enter_table mine old.table m.told) as (λ _. Kept me w row caller 0 ⊥ new) [
-        | inl (said, is) ↦
-            let rows : new.table.writers ≡ old.table.writers ++ mine ∷ [] = ap (λ (s : Table). s.writers) t ∙ is in
-            record {
-              after = row;
-              has = record { there = subst (λ rs. row_of w rs ≡ Some row) (sym rows) (row_of-added w old.table.writers mine row h.there); owned = h.owned };
-              total = omega arith;
-              spared = λ apart. refl;
-            }
-        | inr (said, is) ↦ kept_same me w row caller 0 old new h (t ∙ is) refl
-      ]
-  | inr (said, same) ↦ kept_same me w row caller 0 old new h (ap (λ (s : State). s.table) same) refl
-]
+enters_kept me w row caller room host most old rep new h f =
+    let mine : Row = entered old caller room host most in
+    let t : new.table ≡ (enter_outcome mine old.table f.makes.told).table = ap (λ (s : State). s.table) f.makes.after in
+    elim (enter_table mine old.table f.makes.told) as (λ _. Kept me w row caller 0 ⊥ new) [
+      | inl (said, is) ↦
+          let rows : new.table.writers ≡ old.table.writers ++ mine ∷ [] = ap (λ (s : Table). s.writers) t ∙ is in
+          record {
+            after = row;
+            has = record { there = subst (λ rs. row_of w rs ≡ Some row) (sym rows) (row_of-added w old.table.writers mine row h.there); owned = h.owned };
+            total = omega arith;
+            spared = λ apart. refl;
+          }
+      | inr (said, is) ↦ kept_same me w row caller 0 old new h (t ∙ is) refl
+    ]
 
 -- Whoever calls what, the caller's writer stays, with one entry more exactly where a write of it was answered Wrote.
-pub step_kept : (me w : ℕ) (row : Row) (old : State) (caller : ℕ) (c : Call) (rep : Reply) (new : State) → HasRow me w row old → Answers old caller c rep new → StaysAt w c rep → Kept me w row caller (wrote_by w c rep) (IsOn w c) new
+pub step_kept : (me w : ℕ) (row : Row) (old : State) (caller : ℕ) (c : Call) (rep : Reply) (new : State) → HasRow me w row old → Answers old caller c rep new → StaysInAt w c rep → Kept me w row caller (wrote_by w c rep) (IsOn w c) new
 step_kept me w row old caller call.Greet rep new h a s = kept_same me w row caller 0 old new h (table_of old new a.1) refl
 step_kept me w row old caller (call.Find name) rep new h a s = kept_same me w row caller 0 old new h (ap (λ (x : State). x.table) a.makes.after ∙ find_table old.table a.makes.told) refl
 step_kept me w row old caller (call.MakeContainer name) rep new h a s = kept_same me w row caller 0 old new h (ap (λ (x : State). x.table) a.makes.after ∙ make_table old.table a.makes.told) refl
 step_kept me w row old caller call.Rooms rep new h a s = kept_same me w row caller 0 old new h (ap (λ (x : State). x.table) a.after) refl
-step_kept me w row old caller (call.Look room look) rep new h a s = elim (unless_refused (room_check old room) old rep new (Makes (look_step room look) (look_outcome look old) old rep new) a) as (λ _. Kept me w row caller 0 ⊥ new) [
+step_kept me w row old caller (call.Look room look) rep new h a s = elim (unless_refused (room_check old room) old rep new (MakesAct (look_step room look) (look_outcome look old) old rep new) a) as (λ _. Kept me w row caller 0 ⊥ new) [
   | inl (why, refused) ↦ kept_same me w row caller 0 old new h (table_of old new refused.1) refl
   | inr m ↦ kept_same me w row caller 0 old new h (ap (λ (x : State). x.table) m.after) refl
 ]
@@ -296,10 +295,10 @@ step_kept me w row old caller (call.Floor id) rep new h a s = elim (on_writer ca
 step_kept me w row old caller (call.MakeHostdir id) rep new h a s = builds_kept me w row caller id old rep new (only stage.Floored) hostdir_step stage.Housed (λ r. hostdir_of r.host) (λ r. []) h a
 step_kept me w row old caller (call.MakeIndex id) rep new h a s = builds_kept me w row caller id old rep new (only stage.Housed) index_step stage.Indexed (λ r. hostdir_of r.host) (λ r. (index_path r.host r.id).file) h a
 step_kept me w row old caller (call.MakeLog id) rep new h a s = builds_kept me w row caller id old rep new (only stage.Indexed) log_step stage.Open (λ r. hostdir_of r.host) (λ r. (log_path r.host r.id).file) h a
-step_kept me w row old caller (call.Write id at block) rep new h a s = elim (on_writer caller (only stage.Open) id old rep new (λ r. UnlessRefused (write_check r at (length block)) old rep new (WritesAt r at block old rep new)) a) as (λ _. Kept me w row caller (if nat_eq id w then wrote rep else 0) (id ≡ w) new) [
-  | inl refused ↦ kept_same me w row caller _ old new h (table_of old new refused.1) (none_by id w (wrote rep) (refused_nothing NotOpen old new rep refused))
-  | inr (r, e, u) ↦ elim (unless_refused (write_check r at (length block)) old rep new (WritesAt r at block old rep new) u) as (λ _. Kept me w row caller (if nat_eq id w then wrote rep else 0) (id ≡ w) new) [
-    | inl (why, refused) ↦ kept_same me w row caller _ old new h (table_of old new refused.1) (none_by id w (wrote rep) (refused_nothing why old new rep refused))
+step_kept me w row old caller (call.Write id at block) rep new h a s = elim (on_writer caller (only stage.Open) id old rep new (λ r. UnlessRefused (write_check r at (length block)) old rep new (WritesAt r at block old rep new)) a) as (λ _. Kept me w row caller (if nat_eq id w then wrote_count rep else 0) (id ≡ w) new) [
+  | inl refused ↦ kept_same me w row caller _ old new h (table_of old new refused.1) (none_by id w (wrote_count rep) (refused_nothing NotOpen old new rep refused))
+  | inr (r, e, u) ↦ elim (unless_refused (write_check r at (length block)) old rep new (WritesAt r at block old rep new) u) as (λ _. Kept me w row caller (if nat_eq id w then wrote_count rep else 0) (id ≡ w) new) [
+    | inl (why, refused) ↦ kept_same me w row caller _ old new h (table_of old new refused.1) (none_by id w (wrote_count rep) (refused_nothing why old new rep refused))
     | inr f ↦ writes_row_kept me w row caller id at block old rep new r h e f
   ]
 ]
@@ -307,24 +306,30 @@ step_kept me w row old caller (call.Flush id) rep new h a s = elim (on_writer ca
   | inl refused ↦ kept_same me w row caller 0 old new h (table_of old new refused.1) refl
   | inr (r, e, f) ↦ flushes_row_kept me w row caller id old rep new r h e r.pending.entries f
 ]
-step_kept me w row old caller (call.SyncLog id) rep new h a s = elim (on_writer caller (only stage.Open) id old rep new (λ r. Makes (sync_log_step r) (sync_log_outcome r old.table) old rep new) a) as (λ _. Kept me w row caller 0 (id ≡ w) new) [
+step_kept me w row old caller (call.SyncLog id) rep new h a s = elim (on_writer caller (only stage.Open) id old rep new (λ r. MakesAct (sync_log_step r) (sync_log_outcome r old.table) old rep new) a) as (λ _. Kept me w row caller 0 (id ≡ w) new) [
   | inl refused ↦ kept_same me w row caller 0 old new h (table_of old new refused.1) refl
-  | inr (r, e, m) ↦ kept_same me w row caller 0 old new h (ap (λ (x : State). x.table) m.after ∙ sync_log_table r old.table m.told) refl
+  | inr (r, e, m) ↦ elim (sync_log_table r old.table m.told) as (λ _. Kept me w row caller 0 (id ≡ w) new) [
+    | inl is ↦ kept_plain me w row caller old new (only stage.Open) id r (log_synced r) h e refl refl refl (inl (ap (λ (x : State). x.table) m.after ∙ is.1))
+    | inr is ↦ kept_same me w row caller 0 old new h (ap (λ (x : State). x.table) m.after ∙ is.1) refl
+  ]
 ]
-step_kept me w row old caller (call.SyncIndex id) rep new h a s = elim (on_writer caller (only stage.Open) id old rep new (λ r. Makes (sync_index_step r) (sync_index_outcome r old.table) old rep new) a) as (λ _. Kept me w row caller 0 (id ≡ w) new) [
+step_kept me w row old caller (call.SyncIndex id) rep new h a s = elim (on_writer caller (only stage.Open) id old rep new (λ r. MakesAct (sync_index_step r) (sync_index_outcome r old.table) old rep new) a) as (λ _. Kept me w row caller 0 (id ≡ w) new) [
   | inl refused ↦ kept_same me w row caller 0 old new h (table_of old new refused.1) refl
-  | inr (r, e, m) ↦ kept_same me w row caller 0 old new h (ap (λ (x : State). x.table) m.after ∙ (sync_index_table r old.table m.told).1) refl
+  | inr (r, e, m) ↦ elim (sync_index_table r old.table m.told) as (λ _. Kept me w row caller 0 (id ≡ w) new) [
+    | inl is ↦ kept_plain me w row caller old new (only stage.Open) id r (index_synced r) h e refl refl refl (inl (ap (λ (x : State). x.table) m.after ∙ is.1))
+    | inr is ↦ kept_same me w row caller 0 old new h (ap (λ (x : State). x.table) m.after ∙ is.1) refl
+  ]
 ]
-step_kept me w row old caller (call.PutMeta id) rep new h a s = elim (on_writer caller may_close id old rep new (λ r. UnlessRefused (put_meta_check r) old rep new (Makes (put_meta_step r) (put_meta_outcome r old.table) old rep new)) a) as (λ _. Kept me w row caller 0 (id ≡ w) new) [
+step_kept me w row old caller (call.PutMeta id) rep new h a s = elim (on_writer caller may_close id old rep new (λ r. UnlessRefused (put_meta_check r) old rep new (MakesAct (put_meta_step r) (put_meta_outcome r old.table) old rep new)) a) as (λ _. Kept me w row caller 0 (id ≡ w) new) [
   | inl refused ↦ kept_same me w row caller 0 old new h (table_of old new refused.1) refl
-  | inr (r, e, u) ↦ elim (unless_refused (put_meta_check r) old rep new (Makes (put_meta_step r) (put_meta_outcome r old.table) old rep new) u) as (λ _. Kept me w row caller 0 (id ≡ w) new) [
+  | inr (r, e, u) ↦ elim (unless_refused (put_meta_check r) old rep new (MakesAct (put_meta_step r) (put_meta_outcome r old.table) old rep new) u) as (λ _. Kept me w row caller 0 (id ≡ w) new) [
     | inl (why, refused) ↦ kept_same me w row caller 0 old new h (table_of old new refused.1) refl
     | inr m ↦ puts_row_kept me w row caller id old rep new r (put_meta_step r) h e m
   ]
 ]
-step_kept me w row old caller (call.Exit id) rep new h a s = elim (on_writer caller is_live id old rep new (λ r. UnlessRefused (exit_check r) old rep new (Makes (exit_step r) (exit_outcome r old.table) old rep new)) a) as (λ _. Kept me w row caller 0 (id ≡ w) new) [
+step_kept me w row old caller (call.Exit id) rep new h a s = elim (on_writer caller is_live id old rep new (λ r. UnlessRefused (exit_check r) old rep new (MakesAct (exit_step r) (exit_outcome r old.table) old rep new)) a) as (λ _. Kept me w row caller 0 (id ≡ w) new) [
   | inl refused ↦ kept_same me w row caller 0 old new h (table_of old new refused.1) refl
-  | inr (r, e, u) ↦ elim (unless_refused (exit_check r) old rep new (Makes (exit_step r) (exit_outcome r old.table) old rep new) u) as (λ _. Kept me w row caller 0 (id ≡ w) new) [
+  | inr (r, e, u) ↦ elim (unless_refused (exit_check r) old rep new (MakesAct (exit_step r) (exit_outcome r old.table) old rep new) u) as (λ _. Kept me w row caller 0 (id ≡ w) new) [
     | inl (why, refused) ↦ kept_same me w row caller 0 old new h (table_of old new refused.1) refl
     | inr m ↦ exits_row_kept me w row caller id old rep new r (exit_step r) h e m s
   ]

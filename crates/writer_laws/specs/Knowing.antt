@@ -5,7 +5,7 @@ use Rattle.mount_model.specs.Table.{row_of}
 use Rattle.mount_model.specs.State.{State}
 use Rattle.writer_flow.specs.declared.handle.WriterHandle.{WriterHandle}
 use Rattle.writer_flow.specs.declared.handle.WriterOut.{WriterOut}
-use Rattle.writer_laws.specs.Counting.{entries_of}
+use Rattle.writer_laws.specs.Counting.{entry_count}
 
 -- this is the row of the caller's writer of this id
 pub record HasRow (caller writer : ℕ) (row : Row) (state : State) : Type 0 where
@@ -18,13 +18,13 @@ pub record Knows (caller : ℕ) (handle : WriterHandle) (row : Row) (state : Sta
   pub pending : handle.pending ≡ length row.pending.entries
 
 -- the caller has the writer, and it has so many entries, landed or in its buffer
-pub record IsCounted (caller writer count : ℕ) (state : State) : Type 0 where
+pub record HasCount (caller writer count : ℕ) (state : State) : Type 0 where
   pub row : Row
   pub has : HasRow caller writer row state
-  pub total : entries_of row ≡ count
+  pub total : entry_count row ≡ count
 
 -- A machine that began with a handle has ended: the writer stays the caller's, and the new handle tells of its buffer.
-pub record IsLeft (caller : ℕ) (first : WriterHandle) (out : WriterOut) (state : State) : Type 0 where
+pub record KeepsHandle (caller : ℕ) (first : WriterHandle) (out : WriterOut) (state : State) : Type 0 where
   pub handle : WriterHandle
   pub row : Row
   pub kept : out.handle ≡ Some handle
@@ -40,8 +40,10 @@ pub record IsSynced (caller : ℕ) (first : WriterHandle) (count : ℕ) (out : W
   pub same : handle.writer ≡ first.writer
   pub closing_is : handle.closing ≡ first.closing
   pub knows : Knows caller handle row state
-  pub total : entries_of row ≡ count
+  pub total : entry_count row ≡ count
   pub number : (n : ℕ) → out.result ≡ Ok n → (n ≡ count) × (handle.landed ≡ n) × (row.landed ≡ n)
+  -- all of its entries are synced then, and all that it stored
+  pub marked : (n : ℕ) → out.result ≡ Ok n → (row.index_mark ≡ n) × (row.log_mark ≡ row.stored)
 
 -- A writer of so many entries has stayed open after a close: the handle that is left tells of its buffer, and of all its
 -- entries once the metadata dropping was asked for.
@@ -49,7 +51,7 @@ pub record StaysOpen (caller : ℕ) (first left : WriterHandle) (count : ℕ) (s
   pub row : Row
   pub same : left.writer ≡ first.writer
   pub knows : Knows caller left row state
-  pub total : entries_of row ≡ count
+  pub total : entry_count row ≡ count
   pub told : left.closing ≡ true → left.landed ≡ count
 
 -- a close has ended so, of a writer with so many entries
@@ -61,5 +63,5 @@ pub record IsClosed (caller : ℕ) (first : WriterHandle) (count : ℕ) (out : W
 pub record IsOpened (caller : ℕ) (handle : WriterHandle) (state : State) : Type 0 where
   pub row : Row
   pub knows : Knows caller handle row state
-  pub none : entries_of row ≡ 0
+  pub none : entry_count row ≡ 0
   pub fresh : handle.closing ≡ false

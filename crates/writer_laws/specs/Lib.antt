@@ -1,4 +1,4 @@
-pub mod Running
 pub mod Counting
 pub mod Knowing
 pub mod Waiting
+pub mod Surviving

@@ -3,10 +3,12 @@ ghost use Rattle.std.specs.Prelude.{◌≡◌, ◌+◌, ◌^◌, ◌<◌, [], �
 ghost use Rattle.turn_object.specs.declared.history.Entry.{Entry};
 ghost use Rattle.turn_object.specs.declared.slot.Resting.{Resting};
 ghost use Rattle.turn_object.specs.declared.front.Stage.TheVariants.{Idle, Waiting, Serving};
-ghost use Rattle.turn_object.specs.History.{entry, state_after, number_at, own_number};
-ghost use Rattle.turn_object.specs.Steps.{IsServed, at_stage, called_front};
-ghost use Rattle.turn_object.specs.Calls.{MayAsk, IsCalled};
+ghost use Rattle.turn_object.specs.History.{entry, state_after};
+ghost use Rattle.turn_object.specs.Callers.{number_or, own_number};
 ghost use Rattle.turn_object.specs.Front.{IsLegalFront};
+ghost use Rattle.turn_object.specs.Calls.{MayAsk, IsCalled};
+ghost use Rattle.turn_object.specs.Stages.{front_at, called_front};
+ghost use Rattle.turn_object.specs.Steps.{IsServed};
 ghost use Rattle.turn_object.specs.Pass.{front, start_of, IsPassOf};
 
 use super::{Pass, Turn};
@@ -23,7 +25,7 @@ impl<O: Object> Turn<O> {
         requires table { seat.old.table_id ≡ self.now.table.shared.table_id }
         requires idle { (seat.old.me.1 ≡ []) × (seat.old.me.0.stage ≡ Idle) × (0 < seat.old.me.0.parts) }
         ensures seat { (seat.new.table_id ≡ seat.old.table_id) × (seat.new.id ≡ seat.old.id) }
-        ensures ticket { seat.new.me ≡ (at_stage (Waiting result) seat.old.me.0, []) }
+        ensures ticket { seat.new.me ≡ (front_at (Waiting result) seat.old.me.0, []) }
     {
         self.table.shared.fetch_add::<Takes>(seat, 0, 1)
     }
@@ -65,7 +67,7 @@ impl<O: Object> Turn<O> {
         requires table { (seat.old.table_id ≡ self.now.table.shared.table_id) × (seat.old.me.0.start ≡ Some (start_of self.now)) }
         requires slot { (resting : Resting O.Ask O.Reply O) × (seat.old.me.1 ≡ (0, Some resting) ∷ []) × (resting.object ≡ state_after (start_of self.now) seat.old.me.0.seen) }
         requires turn { (seat.old.me.0.stage ≡ Serving ticket) × (ticket < 2 ^ 63) × (0 < seat.old.me.0.parts) }
-        requires number { number ≡ number_at seat.old.me.0.mine (length seat.old.me.0.seen) }
+        requires number { number ≡ number_or seat.old.me.0.mine (length seat.old.me.0.seen) }
         requires may { O.may (state_after (start_of self.now) seat.old.me.0.seen) number ask.now }
         ensures seat { (seat.new.table_id ≡ seat.old.table_id) × (seat.new.id ≡ seat.old.id) }
         ensures called { (after : O) × O.step (state_after (start_of self.now) seat.old.me.0.seen) number ask.now result after × (seat.new.me ≡ (called_front (entry number ask.now result after) seat.old.me.0, [])) }

@@ -1,7 +1,8 @@
 //! How a turn is made, and how it ends.
-ghost use Rattle.std.specs.Prelude.{◌≡◌, ◌^◌, [], ◌∷◌, IfOk, IfErr, IsOk, None, Some};
+ghost use Rattle.std.specs.Prelude.{◌≡◌, ◌^◌, [], ◌∷◌, ◌++◌, IfOk, IfErr, IsOk, None, Some};
 ghost use Rattle.turn_object.specs.declared.slot.Resting.{Resting};
 ghost use Rattle.turn_object.specs.History.{state_after};
+ghost use Rattle.turn_object.specs.Ended.{AreApart, as_ended};
 ghost use Rattle.turn_object.specs.Front.{IsLegalFront, IsWhole};
 ghost use Rattle.turn_object.specs.Pass.{start_of, front, seen_of, mine_of, ended_of, parts_of, IsPassOf};
 
@@ -61,6 +62,7 @@ impl<O: Object> Turn<O> {
         ensures object { IfOk result (λ object. object ≡ state_after (start_of self) (seen_of pass)) }
         ensures legal { IsLegalFront O.step O.may (start_of self) (front pass) }
         ensures whole { IsWhole (front pass) }
+        ensures apart { AreApart (as_ended (mine_of pass) ++ ended_of pass) }
     {
         let Lock { table } = self;
         let Numbered { seat, number: _ } = pass;

@@ -2,8 +2,9 @@
 ghost use Rattle.std.specs.Prelude.{◌≡◌, ◌+◌, ◌-◌, ◌^◌, ◌<◌, ◌++◌, [], Some};
 ghost use Rattle.turn_object.specs.declared.front.Stage.TheVariants.{Idle};
 ghost use Rattle.turn_object.specs.History.{StartsWith};
+ghost use Rattle.turn_object.specs.Ended.{as_ended};
 ghost use Rattle.turn_object.specs.Front.{IsLegalFront};
-ghost use Rattle.turn_object.specs.Shares.{longer, as_ended, kept_front, given_front, joined_front};
+ghost use Rattle.turn_object.specs.Shares.{longer, kept_front, given_front, joined_front};
 ghost use Rattle.turn_object.specs.Pass.{start_of, front, seen_of, mine_of, ended_of, parts_of, IsPassOf};
 
 use super::{Numbered, Pass, Turn};

@@ -1,6 +1,6 @@
 use Rattle.std.proofs.Common.{◌≡◌, ℕ, rules}
 use Rattle.plain_file.specs.Sources.{source_at, kept_source}
-use Rattle.plain_file.proofs.MergeLemmas.{ArePieces-clipped}
+use Rattle.plain_file.proofs.Facts.{ArePieces-clipped}
 use Rattle.interval_merge.proofs.clipping.clip.Goals as goal
 
 pub returns-clause-truncated : goal.returns-clause-truncated

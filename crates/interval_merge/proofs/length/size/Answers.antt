@@ -1,6 +1,6 @@
 use Rattle.std.proofs.Common.{◌≡◌, ap, ◌∙◌, sym, rules}
 use Rattle.plain_file.specs.Size.{size_from}
-use Rattle.plain_file.proofs.SizeLemmas.{size-from_pieces}
+use Rattle.plain_file.proofs.Facts.{size-from_pieces}
 use Rattle.interval_merge.proofs.length.size.Goals as goal
 
 pub returns-clause-plain : goal.returns-clause-plain

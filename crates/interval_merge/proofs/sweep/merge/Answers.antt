@@ -1,6 +1,6 @@
 use Rattle.std.proofs.Common.{◌≡◌, ℕ, [], rules}
 use Rattle.plain_file.specs.Sources.{source_at, newer_source}
-use Rattle.plain_file.proofs.MergeLemmas.{ArePieces-merged}
+use Rattle.plain_file.proofs.Facts.{ArePieces-merged}
 use Rattle.interval_merge.proofs.sweep.merge.Goals as goal
 
 pub returns-clause-joined : goal.returns-clause-joined

@@ -1,4 +1,4 @@
-use Rattle.mount_core.specs.Opening.{no_names, no_next, no_mark}
+use Rattle.mount_model.specs.Failing.{no_names, no_next, no_mark}
 use Rattle.mount_core.proofs.opening.draw_mark.Goals as goal
 
 pub returns-in-Err-list_marks-clause-err : goal.returns-in-Err-list_marks-clause-err

@@ -2,7 +2,7 @@ use Rattle.std.proofs.Common.{◌≡◌, ◌<◌, List, ap, ◌∙◌, sym, subs
 use Rattle.std.specs.List.{All, sum_by}
 use Rattle.read_plan.specs.declared.part.Part.{Part}
 use Rattle.read_plan.specs.Parts.{part_len, is_logged, AreHolesApart, spelled}
-use Rattle.read_plan.specs.Ranges.{end_of, pieces_in}
+use Rattle.read_plan.specs.Ranges.{end_of, pieces_in_range}
 use Rattle.read_plan.specs.Plan.{plan_of}
 use Rattle.read_plan.proofs.PlanLemmas.{plan_is, lengths-plan, full-plan, AreHolesApart-filled, filter-filled, plan-nothing, spelled-plan}
 use Rattle.read_plan.proofs.planning.plan.Goals as goal
@@ -23,8 +23,8 @@ returns c =
       exact = is;
       lengths = ap (sum_by part_len) is ∙ lengths-plan pieces size at len runs;
       none_empty = subst full (sym is) (full-plan pieces size at len runs);
-      holes_apart = subst apart (sym is) (AreHolesApart-filled at until (pieces_in at until pieces));
-      each_piece = ap (filter is_logged) is ∙ filter-filled at until (pieces_in at until pieces);
+      holes_apart = subst apart (sym is) (AreHolesApart-filled at until (pieces_in_range at until pieces));
+      each_piece = ap (filter is_logged) is ∙ filter-filled at until (pieces_in_range at until pieces);
       no_bytes = λ none. is ∙ plan-nothing pieces size at len runs none;
       spells = λ changes logs keys bytes all are sizes. ap (spelled logs) is ∙ spelled-plan changes logs pieces size at len keys bytes all are sizes;
     }

@@ -1,10 +1,10 @@
 use Rattle.std.proofs.Common.{◌≡◌, ◌∷◌, ◌++◌, [], List, ◌-◌, ◌+◌, refl, ap, ◌∙◌, sym, subst, arith, drop, get_or, OnOk}
 use Rattle.std.proofs.lemmas.List.{drop_more, drop_all}
 use Rattle.plain_file.specs.declared.pieces.Piece.{Piece}
-use Rattle.plain_file.proofs.RunLemmas.{Starts}
+use Rattle.plain_file.proofs.Facts.{Starts}
 use Rattle.read_plan.specs.declared.part.Part.{Part}
 use Rattle.read_plan.specs.declared.part.Part.TheVariants.{From}
-use Rattle.read_plan.specs.Ranges.{pieces_in}
+use Rattle.read_plan.specs.Ranges.{pieces_in_range}
 use Rattle.read_plan.specs.Plan.{hole, filled}
 use Rattle.read_plan.proofs.RangeLemmas.{Lies-in_range}
 use Rattle.read_plan.proofs.StepLemmas.{Planning, Planning-step, Planning-end}
@@ -32,7 +32,7 @@ loop-piece-preserved c =
     let begin = c.max-begin.result in
     let end = c.min-end.result in
     let from = c.loop-piece.from in
-    let all = c.args.parts.now ++ filled at until (pieces_in at until pieces) in
+    let all = c.args.parts.now ++ filled at until (pieces_in_range at until pieces) in
     let P : List Piece → Type 0 = λ ps. Planning c.loop-piece.parts all ps at until from in
     let Q : List Part → Type 0 = λ parts. Planning parts all rest at until end in
     let plan : Planning c.loop-piece.parts all (p ∷ rest) at until from = subst P (drop_more pieces i none (omega arith)) c.loop-piece.invariant in
@@ -48,7 +48,7 @@ returns c =
     let i = c.loop-piece.piece-index in
     let at = c.args.at in
     let until = c.args.until in
-    let all = c.args.parts.now ++ filled at until (pieces_in at until pieces) in
+    let all = c.args.parts.now ++ filled at until (pieces_in_range at until pieces) in
     let S : List Piece → Type 0 = λ ps. Starts until ps in
     let R : List Part → Type 0 = λ parts. OnOk c.push_hole-2.result (c.push_hole-2.new.parts ≡ parts) in
     let starts : Starts until (drop i pieces) =

@@ -1,6 +1,9 @@
 use Rattle.std.proofs.Common.{◌∙◌}
-use Rattle.plfs_program.proofs.Driving.{taken_fresh, driven, ended}
+use Rattle.plfs_program.proofs.Driving.{taken_fresh, driven, ended, gave_awaits}
 use Rattle.plfs_program.proofs.session.Session.drive.Goals as goal
+
+pub take-requires : goal.take-requires
+take-requires g c = gave_awaits _ _ c.in_ok-call.field-0 c.in-Some.call c.in_ok-call.ensures.call c.in-Some.is c.in_ok-call.ensures.rest
 
 pub loop-flow-preserved : goal.loop-flow-preserved
 loop-flow-preserved g c = record {

@@ -1,6 +1,6 @@
 use Rattle.std.proofs.Common.{◌≡◌, ◌⊎◌, Bool, true}
 use Rattle.flow.specs.Standing.{IsFresh}
-use Rattle.plfs_program.specs.Ending.{EndsFrom}
+use Rattle.plfs_program.specs.Ending.{EndsStanding}
 use Rattle.plfs_program.proofs.session.Session.drive.Given as goal
 
 abbrev pub invariant-loop-flow : goal.invariant-loop-flow
@@ -8,7 +8,7 @@ invariant-loop-flow g l = record {
   fresh : IsFresh (g.F.Flow.standing l.flow);
   start : l.self.start.value ≡ l.fn.self.start.value;
   kept : l.fn.self.faulted ≡ true → l.self.faulted ≡ true;
-  ends : (fine : g.row.F-Out.Denot → Bool) → EndsFrom fine (g.F.Flow.standing l.fn.flow) → (l.self.faulted ≡ true) ⊎ EndsFrom fine (g.F.Flow.standing l.flow);
+  ends : (fine : g.row.F-Out.Denot → Bool) → EndsStanding fine (g.F.Flow.standing l.fn.flow) → (l.self.faulted ≡ true) ⊎ EndsStanding fine (g.F.Flow.standing l.flow);
 }
 
 abbrev pub decreases-loop-flow : goal.decreases-loop-flow

@@ -3,9 +3,9 @@ use mathlib.Core.Option as at
 use Rattle.atomic_table.specs.Table.{Allows, Me, step as table_step}
 use Rattle.turn_object.specs.declared.slot.Resting.{Resting}
 use Rattle.turn_object.specs.declared.front.Front.{Front}
+use Rattle.turn_object.specs.History.{state_after}
 use Rattle.turn_object.specs.Rule.{IsTurning}
 use Rattle.turn_object.specs.Steps.{Passed}
-use Rattle.turn_object.specs.History.{state_after}
 use Rattle.turn_object.specs.Pass.{start_of}
 use Rattle.turn_object.proofs.Keeps.{passes_turn}
 use Rattle.turn_object.proofs.Calls.{carried_state, held_twice, held_first, held_value}

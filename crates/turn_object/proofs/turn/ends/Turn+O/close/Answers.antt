@@ -28,3 +28,9 @@ returns-clause-whole g c =
     let shared = c.args.self.table.shared in
     let seat = c.args.pass.seat in
     (closes g.O.Object.step g.O.Object.may shared.key.value seat.id seat.me.0 _ _ c.requires.all c.requires.pass.idle c.close_with-closed.ensures.values.2).whole
+
+pub returns-clause-apart : goal.returns-clause-apart
+returns-clause-apart g c =
+    let shared = c.args.self.table.shared in
+    let seat = c.args.pass.seat in
+    (closes g.O.Object.step g.O.Object.may shared.key.value seat.id seat.me.0 _ _ c.requires.all c.requires.pass.idle c.close_with-closed.ensures.values.2).differ

@@ -2,7 +2,7 @@ use Rattle.std.proofs.Common.{rules, ◌≡◌, sym, subst, List, [], ◌∷◌,
 use Rattle.atomic_table.specs.Table.{opening}
 use Rattle.turn_object.specs.declared.slot.Resting.{Resting}
 use Rattle.turn_object.specs.Rule.{IsTurning}
-use Rattle.turn_object.specs.Steps.{first_front}
+use Rattle.turn_object.specs.Stages.{first_front}
 use Rattle.turn_object.proofs.Ends.{opens}
 use Rattle.turn_object.proofs.turn.ends.Turn+O.new.Goals as goal
 

@@ -3,8 +3,8 @@ use mathlib.Core.Option as at
 use Rattle.atomic_table.specs.Table.{Allows, Me, step as table_step}
 use Rattle.turn_object.specs.declared.slot.Resting.{Resting}
 use Rattle.turn_object.specs.declared.front.Front.{Front}
-use Rattle.turn_object.specs.Rule.{IsTurning}
 use Rattle.turn_object.specs.Shares.{joined_front}
+use Rattle.turn_object.specs.Rule.{IsTurning}
 use Rattle.turn_object.specs.Steps.{Learned}
 use Rattle.turn_object.proofs.Shares.{joins, learns, learns_both}
 use Rattle.turn_object.proofs.turn.shares.Turn+O.join_seats.Goals as goal

@@ -1,7 +1,7 @@
 use Rattle.std.proofs.Common.{ℕ, subst, arith}
 use Rattle.atomic_table.specs.Table.{Splits}
-use Rattle.turn_object.specs.Rule.{IsTurning}
 use Rattle.turn_object.specs.Shares.{kept_front, given_front}
+use Rattle.turn_object.specs.Rule.{IsTurning}
 use Rattle.turn_object.proofs.Shares.{splits}
 use Rattle.turn_object.proofs.turn.shares.Turn+O.split_off.Goals as goal
 

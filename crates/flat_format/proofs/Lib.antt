@@ -1,0 +1,7 @@
+mod Breaking
+pub mod Facts
+mod Fitting
+mod Formats
+mod Judging
+mod Ordered
+mod Spelled

@@ -1,0 +1,12 @@
+//! Tests of the formats: the names in a container, index entries, the buffer of a writer and flattened indices. Their
+//! texts and bytes stand here as they are on disk. They stand apart, so that no crate is proved twice for them.
+#![tactic(auto)]
+
+#[cfg(test)]
+mod buffers;
+#[cfg(test)]
+mod entries;
+#[cfg(test)]
+mod flat;
+#[cfg(test)]
+mod items;

@@ -1,5 +1,0 @@
-use Rattle.mount_sound.proofs.UndamagedSteps.{step_shows}
-use Rattle.mount_sound.proofs.laws.a_sound_mount_shows_no_damage.Goals as goal
-
-pub returns : goal.returns
-returns c = step_shows

@@ -1,0 +1,5 @@
+use Rattle.mount_sound.proofs.LandedLater.{landed_stays}
+use Rattle.mount_sound.proofs.laws.landed_never_falls.Goals as goal
+
+pub returns : goal.returns
+returns c = landed_stays

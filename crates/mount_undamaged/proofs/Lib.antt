@@ -1,0 +1,4 @@
+mod Acting
+mod Looking
+mod Writers
+mod Steps

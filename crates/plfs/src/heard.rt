@@ -1,0 +1,89 @@
+//! What is remembered of the standard streams, so that it can be said on standard error why a run ended.
+use std::alloc::Global;
+use std::cell::{Cell, RefCell};
+use std::io::{Read, Write};
+use std::{io, str};
+
+/// The most bytes of a line that are remembered.
+const MOST_REMEMBERED: usize = 1024;
+
+/// A reader, beside which stands why it failed last.
+#[derive(Drop)]
+pub struct Heard<'a, R> {
+    pub reader: R,
+    pub error: &'a Cell<Option<io::Error>>,
+}
+
+impl<'a, R: Read> Read for Heard<'a, R> {
+    fn read(&mut self, buf: &mut [u8]) -> io::Result<usize> {
+        let end = self.reader.read(buf);
+        if let Err(error) = &end {
+            self.error.set(Some(*error));
+        }
+        end
+    }
+}
+
+/// The last line that was written, up to its 1024th byte, and why the writing failed last.
+#[derive(Drop)]
+pub struct Said {
+    line: Vec<u8>,
+    is_ended: bool,
+    pub error: Option<io::Error>,
+}
+
+impl Said {
+    /// Nothing was written.
+    pub fn new(alloc: Global) -> Said {
+        Said {
+            line: Vec::new(alloc),
+            is_ended: false,
+            error: None,
+        }
+    }
+
+    /// The last line without its line feed. It is empty where it is no text, or where memory was refused for it.
+    pub fn line(&self) -> &str {
+        str::from_utf8(self.line.as_slice()).unwrap_or("")
+    }
+
+    fn hear(&mut self, bytes: &[u8]) {
+        for byte in bytes {
+            if self.is_ended {
+                self.line.clear();
+            }
+            self.is_ended = *byte == b'\n';
+            self.hear_byte(*byte);
+        }
+    }
+
+    fn hear_byte(&mut self, byte: u8) {
+        if byte != b'\n' && self.line.len() < MOST_REMEMBERED && self.line.push(byte).is_err() {
+            self.line.clear();
+        }
+    }
+}
+
+/// A writer, beside which stands what it wrote last.
+#[derive(Drop)]
+pub struct Saying<'a, W> {
+    pub writer: W,
+    pub said: &'a RefCell<Said>,
+}
+
+impl<'a, W: Write> Write for Saying<'a, W> {
+    fn write(&mut self, buf: &[u8]) -> io::Result<usize> {
+        let end = self.writer.write(buf);
+        if let Ok(mut said) = self.said.try_borrow_mut() {
+            match &end {
+                Ok(count) => said.hear(&buf[..*count]),
+                Err(error) => said.error = Some(*error),
+            }
+        }
+        end
+    }
+
+    fn flush(&mut self) -> io::Result<()> {
+        self.writer.flush()
+    }
+}

@@ -1,0 +1,145 @@
+//! Why a step failed, and where.
+use plfs_types::Name;
+use std::fmt::{Display, Formatter};
+use std::{fmt, io, str};
+
+/// What the system was asked for.
+#[derive(Clone, Copy)]
+pub enum Asked {
+    Look,
+    List,
+    Open,
+    Create,
+    Read,
+    Write,
+    Cut,
+    Sync,
+    MakeFolder,
+    RemoveFile,
+    RemoveFolder,
+    Rename,
+}
+
+impl Display for Asked {
+    fn fmt<W: fmt::Write>(&self, f: &mut Formatter<W>) -> fmt::Result {
+        match self {
+            Asked::Look => write!(f, "look"),
+            Asked::List => write!(f, "list"),
+            Asked::Open => write!(f, "open"),
+            Asked::Create => write!(f, "create"),
+            Asked::Read => write!(f, "read"),
+            Asked::Write => write!(f, "write"),
+            Asked::Cut => write!(f, "cut"),
+            Asked::Sync => write!(f, "sync"),
+            Asked::MakeFolder => write!(f, "make the folder"),
+            Asked::RemoveFile => write!(f, "remove"),
+            Asked::RemoveFolder => write!(f, "remove the folder"),
+            Asked::Rename => write!(f, "rename"),
+        }
+    }
+}
+
+/// What stands at a path, where no link is followed.
+#[derive(Clone, Copy)]
+pub enum Kind {
+    Absent,
+    /// A plain file of this length, in bytes.
+    File { len: u64 },
+    Folder,
+    /// Neither a plain file nor a folder, as a symbolic link.
+    Other,
+}
+
+impl Display for Kind {
+    fn fmt<W: fmt::Write>(&self, f: &mut Formatter<W>) -> fmt::Result {
+        match self {
+            Kind::Absent => write!(f, "it is not there"),
+            Kind::File { .. } => write!(f, "a file stands there"),
+            Kind::Folder => write!(f, "a folder stands there"),
+            Kind::Other => write!(f, "it is neither a plain file nor a folder"),
+        }
+    }
+}
+
+/// Why a step failed.
+#[derive(Clone, Copy)]
+pub enum Reason {
+    /// No item of a folder can have such a name, or no room.
+    Unnameable,
+    /// This stands where the step needs something else.
+    Found { kind: Kind },
+    /// The system failed what it was asked for.
+    System { asked: Asked, error: io::Error },
+}
+
+impl Display for Reason {
+    fn fmt<W: fmt::Write>(&self, f: &mut Formatter<W>) -> fmt::Result {
+        match self {
+            Reason::Unnameable => write!(f, "no such name can stand there"),
+            Reason::Found { kind } => write!(f, "{kind}"),
+            Reason::System { asked, error } => write!(f, "{asked}: {error}"),
+        }
+    }
+}
+
+/// A place below ROOT: a room, a folder of it, and a file or a further name in there. An empty name stands for
+/// none, and with no room it is ROOT itself.
+#[derive(Clone, Copy)]
+pub struct Place {
+    pub room: Name,
+    pub folder: Name,
+    pub file: Name,
+}
+
+impl Place {
+    /// ROOT itself.
+    pub fn root() -> Place {
+        Place {
+            room: Name::empty(),
+            folder: Name::empty(),
+            file: Name::empty(),
+        }
+    }
+
+    /// The room.
+    pub fn of_room(room: Name) -> Place {
+        Place {
+            room,
+            folder: Name::empty(),
+            file: Name::empty(),
+        }
+    }
+}
+
+/// Where a step failed, and why. It is shown as what follows ROOT in a path, and then the reason.
+#[derive(Clone, Copy)]
+pub struct Cause {
+    pub place: Place,
+    pub reason: Reason,
+}
+
+// The name as text. One that is no text in UTF-8 is no part of a path, and is shown as a question mark.
+fn text_of(name: &Name) -> &str {
+    str::from_utf8(name.bytes()).unwrap_or("?")
+}
+
+fn write_part<W: fmt::Write>(name: &Name, f: &mut Formatter<W>) -> fmt::Result {
+    if name.bytes().is_empty() {
+        return Ok(());
+    }
+    write!(f, "/{}", text_of(name))
+}
+
+impl Display for Place {
+    fn fmt<W: fmt::Write>(&self, f: &mut Formatter<W>) -> fmt::Result {
+        write_part(&self.room, f)?;
+        write_part(&self.folder, f)?;
+        write_part(&self.file, f)
+    }
+}
+
+impl Display for Cause {
+    fn fmt<W: fmt::Write>(&self, f: &mut Formatter<W>) -> fmt::Result {
+        write!(f, "{}: {}", self.place, self.reason)
+    }
+}

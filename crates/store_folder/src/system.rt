@@ -1,0 +1,262 @@
+//! The system itself.
+ghost use Rattle.std.specs.Prelude.{◌≡◌, None, IfErr, IfOk};
+ghost use Rattle.std.specs.Fs.{file_type, metadata_len};
+ghost use Rattle.store_folder.specs.Kinds.{IsKindOf};
+
+use crate::calls::{Calls, Removal};
+use crate::failure::Failure;
+use crate::reason::{Asked, Kind, Reason};
+use plfs_types::{Name, NameList};
+use std::alloc::Global;
+use std::fs::{self, DirEntry, File, Metadata, OpenOptions, ReadDir};
+use std::io::{self, ErrorKind};
+use std::os::unix::fs::{FileExt, MetadataExt};
+use std::rt::Files;
+
+/// What the store needs of the runtime that it keeps: the system's files, and memory for the names in a folder.
+pub trait System: Files<File = File> + AllocGlobal + Clone + Drop {}
+
+impl<R: Files<File = File> + AllocGlobal + Clone + Drop> System for R {}
+
+/// The system by a runtime. It tells no calls, and keeps why the last one failed or what the last one found.
+#[derive(Drop)]
+pub struct SystemCalls<R> {
+    rt: R,
+    last: Option<Reason>,
+}
+
+// What an item of a folder is, by what the system says of it.
+fn kind_of(found: &Metadata) -> Kind
+    ensures { IsKindOf (file_type found.now) (metadata_len found.now) result }
+{
+    if found.is_file() {
+        Kind::File { len: found.len() }
+    } else if found.is_dir() {
+        Kind::Folder
+    } else {
+        Kind::Other
+    }
+}
+
+// Whether both are one plain file.
+fn are_one_file(a: &Metadata, b: &Metadata) -> bool {
+    a.is_file() && b.is_file() && a.dev() == b.dev() && a.ino() == b.ino()
+}
+
+impl<R> SystemCalls<R> {
+    /// The system by this runtime.
+    pub fn new(rt: R) -> Self {
+        SystemCalls { rt, last: None }
+    }
+
+    /// Forgets what the last call told.
+    pub fn forget(&mut self) {
+        self.last = None;
+    }
+
+    /// Why the last call failed or what the last look found, since it was told to forget.
+    pub fn last(&self) -> Option<Reason> {
+        self.last
+    }
+
+    // Keeps what a call told, unless one failed before: that is why the step fails.
+    fn note(&mut self, reason: Reason) {
+        if !matches!(self.last, Some(Reason::System { .. })) {
+            self.last = Some(reason);
+        }
+    }
+
+    // Keeps why a call failed.
+    fn fail(&mut self, asked: Asked, error: io::Error) -> Failure
+        ensures { result ≡ Failure.Failed }
+    {
+        self.note(Reason::System { asked, error });
+        Failure::Failed
+    }
+
+    // A call's end, and why it failed.
+    fn ended<T: Drop>(&mut self, asked: Asked, end: io::Result<T>) -> Result<T, Failure>
+        ensures { IfErr result (λ failure. failure ≡ Failure.Failed) }
+    {
+        match end {
+            Ok(value) => Ok(value),
+            Err(error) => Err(self.fail(asked, error)),
+        }
+    }
+
+    // A call's end where this error is an answer, and not a failure.
+    fn unless(
+        &mut self,
+        asked: Asked,
+        answer: ErrorKind,
+        end: io::Result<()>,
+    ) -> Result<bool, Failure>
+        ensures { IfErr result (λ failure. failure ≡ Failure.Failed) }
+    {
+        match end {
+            Ok(()) => Ok(true),
+            Err(error) if error.kind() == answer => Ok(false),
+            Err(error) => Err(self.fail(asked, error)),
+        }
+    }
+
+    // Keeps why a listing failed. It changes nothing, so that want of memory in it may be answered as such.
+    fn fail_listing(&mut self, error: io::Error) -> Failure {
+        if error.kind() == ErrorKind::OutOfMemory {
+            Failure::NoMemory
+        } else {
+            self.fail(Asked::List, error)
+        }
+    }
+}
+
+impl<R: System> SystemCalls<R> {
+    // The name of a listed item. It fails where that is no text in UTF-8, or longer than 96 bytes.
+    fn name_of(&mut self, entry: &DirEntry<R, Global>) -> Result<Name, Failure> {
+        let name = entry.file_name();
+        match Name::from_bytes(name.as_bytes()) {
+            Some(name) => Ok(name),
+            None => Err(self.fail(
+                Asked::List,
+                io::Error::other("a name there is longer than 96 bytes"),
+            )),
+        }
+    }
+
+    fn names_of(
+        &mut self,
+        alloc: Global,
+        listing: ReadDir<R, Global>,
+    ) -> Result<NameList, Failure> {
+        let mut names = Vec::new(alloc);
+        for entry in listing {
+            match entry {
+                Ok(entry) => names.push(self.name_of(&entry)?)?,
+                Err(error) => return Err(self.fail_listing(error)),
+            }
+        }
+        Ok(NameList::from_vec(names))
+    }
+
+    // Opens a plain file. Where a link or another file came to the path meanwhile it fails, before any byte of that
+    // is read or written.
+    fn open_same(&mut self, path: &str, there: &Metadata) -> Result<Option<File>, Failure>
+        ensures { IfErr result (λ failure. failure ≡ Failure.Failed) }
+    {
+        let opened = OpenOptions::new()
+            .read(true)
+            .write(true)
+            .open(&self.rt, path);
+        let file = self.ended(Asked::Open, opened)?;
+        let found = file.metadata();
+        let found = self.ended(Asked::Open, found)?;
+        if are_one_file(there, &found) {
+            Ok(Some(file))
+        } else {
+            Err(self.fail(Asked::Open, io::Error::other("it was replaced meanwhile")))
+        }
+    }
+}
+
+#[tactic(auto, unfolding(crate::specs::Calls::with_call))]
+impl<R: System> Calls for SystemCalls<R> {
+    type File = File;
+
+    ghost log = { λ _. None };
+
+    fn look(&mut self, path: &str) -> Result<Kind, Failure> {
+        let kind = match fs::symlink_metadata(&self.rt, path) {
+            Ok(found) => kind_of(&found),
+            Err(error) if error.kind() == ErrorKind::NotFound => Kind::Absent,
+            Err(error) => return Err(self.fail(Asked::Look, error)),
+        };
+        self.note(Reason::Found { kind });
+        Ok(kind)
+    }
+
+    fn list(&mut self, alloc: Global, path: &str) -> Result<NameList, Failure> {
+        match fs::read_dir(&self.rt, path) {
+            Ok(listing) => self.names_of(alloc, listing),
+            Err(error) => Err(self.fail_listing(error)),
+        }
+    }
+
+    fn open(&mut self, path: &str) -> Result<Option<File>, Failure> {
+        match fs::symlink_metadata(&self.rt, path) {
+            Ok(there) if there.is_file() => self.open_same(path, &there),
+            Ok(there) => {
+                let kind = kind_of(&there);
+                self.note(Reason::Found { kind });
+                Err(Failure::Failed)
+            }
+            Err(error) if error.kind() == ErrorKind::NotFound => Ok(None),
+            Err(error) => Err(self.fail(Asked::Open, error)),
+        }
+    }
+
+    fn create(&mut self, path: &str) -> Result<Option<File>, Failure> {
+        match File::create_new(&self.rt, path) {
+            Ok(file) => Ok(Some(file)),
+            Err(error) if error.kind() == ErrorKind::AlreadyExists => Ok(None),
+            Err(error) => Err(self.fail(Asked::Create, error)),
+        }
+    }
+
+    fn length(&mut self, file: &File) -> Result<u64, Failure> {
+        let found = file.metadata();
+        Ok(self.ended(Asked::Open, found)?.len())
+    }
+
+    fn read_exact_at(&mut self, file: &File, into: &mut [u8], at: u64) -> Result<(), Failure> {
+        let end = file.read_exact_at(into, at);
+        self.ended(Asked::Read, end)
+    }
+
+    fn write_all_at(&mut self, file: &File, bytes: &[u8], at: u64) -> Result<(), Failure> {
+        let end = file.write_all_at(bytes, at);
+        self.ended(Asked::Write, end)
+    }
+
+    fn set_length(&mut self, file: &File, len: u64) -> Result<(), Failure> {
+        let end = file.set_len(len);
+        self.ended(Asked::Cut, end)
+    }
+
+    fn sync(&mut self, file: &File) -> Result<(), Failure> {
+        let end = file.sync_all();
+        self.ended(Asked::Sync, end)
+    }
+
+    fn make_folder(&mut self, path: &str) -> Result<bool, Failure> {
+        let end = fs::create_dir(&self.rt, path);
+        self.unless(Asked::MakeFolder, ErrorKind::AlreadyExists, end)
+    }
+
+    fn sync_folder(&mut self, path: &str) -> Result<(), Failure> {
+        let folder = File::open(&self.rt, path);
+        let folder = self.ended(Asked::Sync, folder)?;
+        let end = folder.sync_all();
+        self.ended(Asked::Sync, end)
+    }
+
+    fn remove_file(&mut self, path: &str) -> Result<bool, Failure> {
+        let end = fs::remove_file(&self.rt, path);
+        self.unless(Asked::RemoveFile, ErrorKind::NotFound, end)
+    }
+
+    fn remove_folder(&mut self, path: &str) -> Result<Removal, Failure> {
+        match fs::remove_dir(&self.rt, path) {
+            Ok(()) => Ok(Removal::Removed),
+            Err(error) => match error.kind() {
+                ErrorKind::NotFound => Ok(Removal::Absent),
+                ErrorKind::DirectoryNotEmpty | ErrorKind::AlreadyExists => Ok(Removal::NotEmpty),
+                _ => Err(self.fail(Asked::RemoveFolder, error)),
+            },
+        }
+    }
+
+    fn rename(&mut self, from: &str, to: &str) -> Result<(), Failure> {
+        let end = fs::rename(&self.rt, from, to);
+        self.ended(Asked::Rename, end)
+    }
+}

@@ -1,0 +1,5 @@
+use Rattle.store_laws.proofs.Losing.{have_lost}
+use Rattle.store_laws.proofs.losses.losses_leave_fronts.Goals as goal
+
+pub returns : goal.returns
+returns c = have_lost

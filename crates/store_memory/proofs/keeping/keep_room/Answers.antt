@@ -1,0 +1,10 @@
+use Rattle.std.proofs.Common.{arith, length, ap, ◌∙◌}
+use Rattle.store_memory.proofs.AllKept.{room_next, room_within}
+use Rattle.store_memory.proofs.keeping.keep_room.Goals as goal
+use Rattle.store_memory.proofs.keeping.keep_room.Goals.{in-Some, in_default}
+
+pub loop-place-preserved : goal.loop-place-preserved
+loop-place-preserved c = elim c.match-get_mut.branch [
+  | in-Some w ↦ w.room-is ∙ room_next c.args.room.now c.loop-place.room c.loop-place.place w.in-Some.file.now _ c.loop-place.invariant w.in-Some.ensures.value w.keep_file.ensures
+  | in_default w ↦ let there = w.in_default.ensures.there.1 (room_within c.args.room.now c.loop-place.room c.loop-place.place c.loop-place.invariant (omega (arith, c.loop-place-test.true, ap length c.as_slice-place-end.ensures))) in absurd (cc)
+]

@@ -1,0 +1,10 @@
+use Rattle.std.proofs.Common.{arith, length, ap, ◌∙◌}
+use Rattle.store_memory.proofs.Lost.{tree_next, tree_within}
+use Rattle.store_memory.proofs.losing.lose.Goals as goal
+use Rattle.store_memory.proofs.losing.lose.Goals.{in-Some, in_default}
+
+pub loop-number-preserved : goal.loop-number-preserved
+loop-number-preserved c = elim c.match-get_mut.branch [
+  | in-Some w ↦ w.tree-is ∙ tree_next c.args.keeps.now c.args.tree.now c.loop-number.tree c.loop-number.number w.in-Some.room.now _ c.loop-number.invariant w.in-Some.ensures.value w.lose_room.ensures
+  | in_default w ↦ let there = w.in_default.ensures.there.1 (tree_within c.args.keeps.now c.args.tree.now c.loop-number.tree c.loop-number.number c.loop-number.invariant (omega (arith, c.loop-number-test.true, ap length c.as_slice-number-end.ensures))) in absurd (cc)
+]

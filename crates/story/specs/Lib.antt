@@ -1,0 +1,13 @@
+pub mod Program
+pub mod Process
+pub mod Calls
+pub mod Moves
+pub mod Plays
+pub mod MakesCalls
+pub mod Turns
+pub mod InTurns
+pub mod Safe
+pub mod Going
+pub mod Players
+pub mod OneThread
+pub mod Closing

@@ -1,0 +1,136 @@
+"""What each check has at hand: a folder of its own with an empty ROOT, the program, and words for what must hold."""
+
+import os
+import pathlib
+import re
+import resource
+import signal
+import subprocess
+from collections import namedtuple
+
+# A run that has not ended by then has failed its check.
+SECONDS = 20
+
+CHECKS = []
+
+Ended = namedtuple("Ended", "status out err")
+
+# One actor writes and closes; another run reads it back.
+WORK = "actor a\na open f\na write 0 text:hello\na sync\na close\n"
+WORKED = "2 open 4294967297\n3 wrote 0 5 STAMP\n4 synced 1\n5 closed 1\n"
+READ = "actor a\na ropen f\na read 0 64\n"
+
+
+class Wrong(Exception):
+    """What a check found is not what it wants."""
+
+
+class Skipped(Exception):
+    """The machine lacks what a check needs."""
+
+
+def check(function):
+    """Adds a function of one Trial to the checks. Its name says what it shows."""
+    CHECKS.append(function)
+    return function
+
+
+def same(what, got, wanted):
+    if got != wanted:
+        raise Wrong(f"{what} is {got!r}, and not {wanted!r}")
+
+
+def true(what, fact):
+    if not fact:
+        raise Wrong(what)
+
+
+def masked(text):
+    """The text with STAMP for each stamp: no other number that is printed has 19 digits."""
+    return re.sub(r"\b[1-9]\d{18}\b", "STAMP", text)
+
+
+def listed(folder):
+    """All paths below a folder, each with its bytes, or with None where it is no plain file."""
+    found = {}
+    for at, folders, files in os.walk(folder):
+        for name in folders + files:
+            path = pathlib.Path(at, name)
+            is_plain = path.is_file() and not path.is_symlink()
+            found[str(path.relative_to(folder))] = path.read_bytes() if is_plain else None
+    return found
+
+
+class Trial:
+    """One check's folder, its empty ROOT in it, the program, and a source of random numbers."""
+
+    def __init__(self, program, top, folder, random):
+        self.program = str(program)
+        self.top = pathlib.Path(top)
+        self.folder = pathlib.Path(folder)
+        self.root = self.folder / "root"
+        self.random = random
+        self.root.mkdir()
+
+    def start(self, script, root=None, words=("play",), closed=(), limits=(), **how):
+        """Starts the program on a script, with these descriptors closed and these limits of the system set."""
+        place = self.folder / "script"
+        place.write_text(script)
+
+        def before():
+            for limit, most in limits:
+                limit(most)
+            for number in closed:
+                os.close(number)
+
+        how = {"stdout": subprocess.PIPE, "stderr": subprocess.PIPE, "cwd": self.folder, **how}
+        how.setdefault("env", {"PATH": os.environ.get("PATH", "/usr/bin:/bin"), "LANG": "C.UTF-8"})
+        for number, stream in enumerate(("stdin", "stdout", "stderr")):
+            if number in closed:
+                how[stream] = None
+        with open(place, "rb") as script_file:
+            how.setdefault("stdin", script_file)
+            return subprocess.Popen([self.program, root or self.root, *words], preexec_fn=before, **how)
+
+    def run(self, script, root=None, **how):
+        """Runs the program on a script to its end: its status, and what it printed."""
+        started = self.start(script, root, **how)
+        try:
+            out, err = started.communicate(timeout=SECONDS)
+        except subprocess.TimeoutExpired:
+            started.kill()
+            started.communicate()
+            raise Wrong(f"the program had not ended after {SECONDS} seconds")
+        text = [(it or b"").decode("utf-8", "backslashreplace") for it in (out, err)]
+        return Ended(started.returncode, masked(text[0]), text[1])
+
+    def ends(self, wanted, script, root=None, **how):
+        """Runs a script, which must end with this status and, where lines are given, print them; the end is returned."""
+        lines = how.pop("lines", None)
+        ended = self.run(script, root, **how)
+        said = f"the status ({ended.out[-200:]!r}, {ended.err[-200:]!r})"
+        same(said, ended.status, wanted)
+        if lines is not None:
+            same("standard output", ended.out, lines)
+        if wanted == 0:
+            same("standard error", ended.err, "")
+        return ended
+
+    def holds(self, content=b"hello", root=None):
+        """A run of its own must read this content of the file `f` back."""
+        shown = content.hex() or "-"
+        ended = self.ends(0, READ, root)
+        same("what is read back", ended.out.splitlines()[1:], [f"3 read 0 {shown}"])
+
+    def is_untouched(self):
+        same("what lies in ROOT", listed(self.root), {})
+
+
+def ignore(number):
+    """A limit for `start`: this signal is ignored."""
+    signal.signal(number, signal.SIG_IGN)
+
+
+def size_limit(most):
+    """A limit for `start`: no file gets longer than so many bytes."""
+    resource.setrlimit(resource.RLIMIT_FSIZE, (most, most))
