@@ -1,5 +1,5 @@
-use Rattle.mount_model.proofs.Histories.{lawful_parts, lawful_of}
-use Rattle.mount_model.proofs.laws.lawful_is_legal_and_owed.Goals as goal
+use Rattle.mount_sound.proofs.Histories.{lawful_parts, lawful_of}
+use Rattle.mount_sound.proofs.laws.lawful_is_legal_and_allowed.Goals as goal
 
 pub returns-clause-to : goal.returns-clause-to
 returns-clause-to c = lawful_parts

@@ -1,7 +1,7 @@
 -- How many entries are kept of a writer, by what it issued.
 use Rattle.std.proofs.Common.{◌≡◌, ℕ, zero, suc, ◌*◌, ◌/◌, ◌≤◌, List, [], ◌∷◌, length, min, take, Some, ap, sym, ◌∙◌, inl, subst, arith}
 use Rattle.std.specs.Prelude.{slice_get}
-use Rattle.std.proofs.lemmas.List.{length-map}
+use Rattle.std.proofs.lemmas.List.{length-map, length-take-le}
 use Rattle.plfs_types.specs.declared.entries.Entry.{Entry}
 use Rattle.container_layout.specs.declared.items.Item.TheVariants.{Index}
 use Rattle.store_api.specs.declared.tree.Room.{Room}
@@ -14,9 +14,11 @@ use Rattle.mount_sound.specs.Items.{HasItem}
 use Rattle.mount_sound.specs.Dropping.{IsWriter}
 use Rattle.mount_sound.specs.Fitting.{fitting}
 use Rattle.mount_sound.specs.Landed.{whole}
-use Rattle.mount_sound.specs.There.{landed_entries}
-use Rattle.mount_sound.proofs.Facts.{fit_length, fit_within, fit_least, take_less, landed_is, writer_told}
-use Rattle.mount_losses.specs.Keeping.{kept_in}
+use Rattle.mount_sound.specs.There.{landed_entries, landed_in}
+use Rattle.mount_sound.proofs.Fitting.{fit_length, fit_within, fit_least, take_less}
+use Rattle.mount_sound.proofs.HasLanded.{landed_is}
+use Rattle.mount_sound.proofs.There.{writer_told}
+use Rattle.mount_sound.specs.Keeping.{kept_in}
 
 -- so many of the writer's first entries are in its index dropping, and kept there, and their bytes are kept in its log
 pub record AreKept (room : Room) (host writer : ℕ) (issued : List Written) (count : ℕ) : Type 0 where
@@ -41,7 +43,7 @@ few zero (x ∷ xs) = omega arith
 few (suc n) [] = omega arith
 few (suc n) (x ∷ xs) = omega (arith, few n xs)
 
-fewer : {X : Type 0} (n : ℕ) (xs : List X) → length (take n xs) ≤ length xs
+pub fewer : {X : Type 0} (n : ℕ) (xs : List X) → length (take n xs) ≤ length xs
 fewer zero [] = omega arith
 fewer zero (x ∷ xs) = omega arith
 fewer (suc n) [] = omega arith
@@ -89,6 +91,9 @@ module _ (room : Room) (host writer : ℕ) (issued : List Written) (w : IsWriter
 
   its_entries : landed_entries room host writer ≡ take w.landed (entries_in issued)
   its_entries = ap (λ x. landed_entries room x writer) same_host ∙ writer_told room writer issued w h.is_item.widths.1 v
+
+  pub landed_number : landed_in room host writer ≡ min (whole bytes) (length issued)
+  landed_number = ap length its_entries ∙ length-take-le w.landed (entries_in issued) (omega (arith, w.within, length-map issued (λ (x : Written). x.entry))) ∙ landed_is room host writer issued bytes w h
 
   its_count : kept_in room host writer ≡ fitting (kept_at room (log_path host writer)) 0 (take (kept_at room (index_path host writer) / 40) (take w.landed (entries_in issued)))
   its_count = ap (λ es. fitting (kept_at room (log_path host writer)) 0 (take (kept_at room (index_path host writer) / 40) es)) its_entries
