@@ -1,39 +1,27 @@
--- A dropping that an earlier mount left with entries that don't count stays as it is.
+-- Who issues writes: an open writer of the table, and all that is in its index dropping was issued.
 use Rattle.std.proofs.Common.{◌≡◌, ℕ, ◌≤◌, ◌<◌, ◌^◌, true, false, nat_eq, List, [], ◌∷◌, ◌++◌, length, Option, Some, None, refl, ap, sym, ◌∙◌, ◌⊎◌, inl, inr, subst, arith}
-use Rattle.std.specs.Prelude.{MatchOption, ◌&&◌, if◌then◌else◌, suc}
+use Rattle.std.specs.Prelude.{MatchOption, ◌&&◌, if◌then◌else◌}
 use Rattle.std.proofs.lemmas.Bool.Decides.{nat_tests}
 use Rattle.plfs_types.specs.declared.entries.Entry.{Entry}
 use Rattle.index_entry.specs.Spelling.{spelling_all}
 use Rattle.index_entry.proofs.Facts.{length-spelling_all}
-use Rattle.container_layout.specs.declared.items.Item.TheVariants.{Index, Log}
-use Rattle.container_layout.specs.Paths.{hostdir_of}
-use Rattle.container_layout.proofs.Facts.{elsewhere, same_items}
 use Rattle.store_api.specs.declared.tree.Room.{Room}
-use Rattle.store_api.specs.Room.{is_top}
-use Rattle.store_api.specs.Step.{Step}
 use Rattle.store_laws.specs.Files.{file_at}
-use Rattle.store_laws.specs.Naming.{NamesFile}
 use Rattle.store_laws.proofs.Facts.{prefix_length}
 use Rattle.mount_model.specs.declared.call.Ask.{Ask}
 use Rattle.mount_model.specs.declared.call.Call.{Call}
-use Rattle.mount_model.specs.declared.call.Call.TheVariants.{Greet, Find, MakeContainer, Rooms, Look, Enter, Floor, MakeHostdir, MakeIndex, MakeLog, Write, Flush, SyncLog, SyncIndex, PutMeta, Exit}
-use Rattle.mount_model.specs.declared.call.Look.TheVariants.{Top, List as ListFolder, Length, Read}
+use Rattle.mount_model.specs.declared.call.Call.TheVariants.{Write}
 use Rattle.mount_model.specs.declared.reply.Reply.{Reply}
 use Rattle.mount_model.specs.declared.reply.Reply.TheVariants.{Wrote}
 use Rattle.mount_model.specs.declared.reply.Refusal.TheVariants.{NotOpen}
 use Rattle.mount_model.specs.declared.row.Row.{Row}
 use Rattle.mount_model.specs.declared.row.Stage.TheVariants as stage
-use Rattle.mount_model.specs.Paths.{open_path, index_path, log_path}
+use Rattle.mount_model.specs.Paths.{open_path, index_path}
 use Rattle.mount_model.specs.State.{State}
 use Rattle.mount_model.specs.Table.{row_of, writer_of, only, rank}
 use Rattle.mount_model.specs.Making.{OnWriter, Refuses, UnlessRefused}
-use Rattle.mount_model.specs.Entering.{enter_step}
-use Rattle.mount_model.specs.Building.{index_step, log_step}
-use Rattle.mount_model.specs.Writing.{write_check, write_step, WritesAt}
-use Rattle.mount_model.specs.Flushing.{flush_step}
-use Rattle.mount_model.specs.Leaving.{put_meta_step, exit_step}
+use Rattle.mount_model.specs.Writing.{write_check, WritesAt}
 use Rattle.mount_model.specs.Step.{Answers, IsStep}
-use Rattle.mount_model.specs.History.{Event}
 use Rattle.mount_model.proofs.Facts.{match_cases, is_held, at_only, step_cases, row_of_id, stop_replies}
 use Rattle.mount_sound.specs.Ledger.{Written, entries_in, Ledger}
 use Rattle.mount_sound.specs.Issued.{with_write, written_by, noted, issued_after}
@@ -41,11 +29,8 @@ use Rattle.mount_sound.specs.Dropping.{bytes_of, IsWriter}
 use Rattle.mount_sound.specs.Kept.{Begins, IsAtStage, IsKept}
 use Rattle.mount_sound.specs.Landed.{whole}
 use Rattle.mount_sound.proofs.Facts.{Fits, all_fit, live_stage, stop_issues}
-use Rattle.gathering.specs.Moments.{Moment, IsSoundAt, next_moment, Dropping, IsNamed, issued_by, index_then, log_then, HasUnissued}
-use Rattle.gathering.specs.Bounds.{SparesIndex}
-use Rattle.gathering.proofs.Acting.{IsActOf}
+use Rattle.gathering.specs.Moments.{Moment, IsSoundAt, Dropping, IsNamed, issued_by, index_then}
 use Rattle.gathering.proofs.Fronts.{stands, length-entries}
-use Rattle.gathering.proofs.Sparing.{as_its_act, first_byte, step_same, spares_index}
 
 -- a call on an open writer that wasn't refused
 pub open_row : {R : Type 0} (caller writer : ℕ) (old : State) (reply : Reply) (new : State) (does : Row → Type 0) → OnWriter caller (only stage.Open) writer old reply new does
@@ -123,86 +108,3 @@ open_within m s d file named o e =
     let k : IsKept st.room o.row (m.issued d.room d.writer) = subst (λ w. IsKept st.room o.row (m.issued d.room w)) (sym (o.of ∙ same)) ((s.sound.rooms d.room st.room st.there).kept o.id o.row o.held (sym o.here)) in
     st.host ∙ same_host st.room o.row d.writer (m.issued d.room d.writer) st.writer (all_fit m.state s.regular o.id o.row o.held) o.of (k.alive (live_stage o.row.stage (omega (arith, o.ready)))))
     e
-
--- ---------- no act is on a dropping that an earlier mount left so
-
-unnamed : (m : Moment) (s : IsSoundAt m) (d : Dropping) (id : ℕ) (row : Row) → IsNamed d → HasUnissued m d → row_of id m.state.table.writers ≡ Some row → d.room ≡ row.room → Index d.host d.writer ≡ Index row.host row.id → ⊥
-unnamed m s d id row named l held here is =
-    let host : d.host ≡ row.host = cc in
-    let of : d.writer ≡ row.id = cc in
-    omega (arith, l, row_within m s d (index_then m d) id row named held here of (λ bytes e. host) refl)
-
-index_unnamed : (m : Moment) (s : IsSoundAt m) (d : Dropping) (id : ℕ) (row : Row) → IsNamed d → HasUnissued m d → row_of id m.state.table.writers ≡ Some row → d.room ≡ row.room → (index_path d.host d.writer).folder ≡ (index_path row.host row.id).folder → (index_path d.host d.writer).file ≡ (index_path row.host row.id).file → ⊥
-index_unnamed m s d id row named l held here folder file =
-    let fits : Fits row = all_fit m.state s.regular id row held in
-    unnamed m s d id row named l held here (same_items (Index d.host d.writer) (Index row.host row.id) named (record { in_range = tt; widths = (fits.host, fits.id) }) (λ i. record { folder = folder i; file = file i }))
-
-log_unnamed : (m : Moment) (s : IsSoundAt m) (d : Dropping) (id : ℕ) (row : Row) → IsNamed d → HasUnissued m d → row_of id m.state.table.writers ≡ Some row → d.room ≡ row.room → (log_path d.host d.writer).folder ≡ (log_path row.host row.id).folder → (log_path d.host d.writer).file ≡ (log_path row.host row.id).file → ⊥
-log_unnamed m s d id row named l held here folder file =
-    let fits : Fits row = all_fit m.state s.regular id row held in
-    let same : Log d.host d.writer ≡ Log row.host row.id = same_items (Log d.host d.writer) (Log row.host row.id) (record { in_range = tt; widths = named.widths }) (record { in_range = tt; widths = (fits.host, fits.id) }) (λ i. record { folder = folder i; file = file i }) in
-    let host : d.host ≡ row.host = cc in
-    let of : d.writer ≡ row.id = cc in
-    unnamed m s d id row named l held here (ap (λ h. Index h d.writer) host ∙ ap (λ w. Index row.host w) of)
-
-left_index : (m : Moment) (s : IsSoundAt m) (call : Call) (step : Step) (d : Dropping) → IsNamed d → HasUnissued m d → IsActOf m.state call step → NamesFile step d.room (index_path d.host d.writer) → ⊥
-left_index m s (MakeIndex writer) step d named l (row, held, is) names =
-    let n : NamesFile (index_step row) d.room (index_path d.host d.writer) = as_its_act d.room (index_path d.host d.writer) is names in
-    index_unnamed m s d writer row named l held n.0 n.1.0 n.1.1
-left_index m s (Flush writer) step d named l (row, held, is) names =
-    let n : NamesFile (flush_step row) d.room (index_path d.host d.writer) = as_its_act d.room (index_path d.host d.writer) is names in
-    index_unnamed m s d writer row named l held n.0 n.1.0 n.1.1
-left_index m s call step d named l is names = spares_index m s call step d named tt is names
-
-left_log : (m : Moment) (s : IsSoundAt m) (call : Call) (step : Step) (d : Dropping) → IsNamed d → HasUnissued m d → IsActOf m.state call step → NamesFile step d.room (log_path d.host d.writer) → ⊥
-left_log m s Greet step d named l is names = is
-left_log m s (Find name) step d named l is names = as_its_act d.room (log_path d.host d.writer) is names
-left_log m s (MakeContainer name) step d named l is names = as_its_act d.room (log_path d.host d.writer) is names
-left_log m s Rooms step d named l is names = as_its_act d.room (log_path d.host d.writer) is names
-left_log m s (Look room Top) step d named l is names = as_its_act d.room (log_path d.host d.writer) is names
-left_log m s (Look room (ListFolder folder)) step d named l is names = as_its_act d.room (log_path d.host d.writer) is names
-left_log m s (Look room (Length path)) step d named l is names = as_its_act d.room (log_path d.host d.writer) is names
-left_log m s (Look room (Read path at len)) step d named l is names = as_its_act d.room (log_path d.host d.writer) is names
-left_log m s (Enter room host most) step d named l is names =
-    let n : NamesFile (enter_step m.state room host) d.room (log_path d.host d.writer) = as_its_act d.room (log_path d.host d.writer) is names in
-    elsewhere (first_byte _ _ n.1.0) refl
-left_log m s (Floor writer) step d named l (row, held, is) names = as_its_act d.room (log_path d.host d.writer) is names
-left_log m s (MakeHostdir writer) step d named l (row, held, is) names = as_its_act d.room (log_path d.host d.writer) is names
-left_log m s (MakeIndex writer) step d named l (row, held, is) names =
-    let n : NamesFile (index_step row) d.room (log_path d.host d.writer) = as_its_act d.room (log_path d.host d.writer) is names in
-    elsewhere (first_byte _ _ n.1.1) refl
-left_log m s (MakeLog writer) step d named l (row, held, is) names =
-    let n : NamesFile (log_step row) d.room (log_path d.host d.writer) = as_its_act d.room (log_path d.host d.writer) is names in
-    log_unnamed m s d writer row named l held n.0 n.1.0 n.1.1
-left_log m s (Write writer at block) step d named l (row, held, is) names =
-    let n : NamesFile (write_step row block) d.room (log_path d.host d.writer) = as_its_act d.room (log_path d.host d.writer) is names in
-    log_unnamed m s d writer row named l held n.0 n.1.0 n.1.1
-left_log m s (Flush writer) step d named l (row, held, is) names =
-    let n : NamesFile (flush_step row) d.room (log_path d.host d.writer) = as_its_act d.room (log_path d.host d.writer) is names in
-    elsewhere (first_byte _ _ n.1.1) refl
-left_log m s (SyncLog writer) step d named l (row, held, is) names = as_its_act d.room (log_path d.host d.writer) is names
-left_log m s (SyncIndex writer) step d named l (row, held, is) names = as_its_act d.room (log_path d.host d.writer) is names
-left_log m s (PutMeta writer) step d named l (row, held, is) names =
-    let n : NamesFile (put_meta_step row) d.room (log_path d.host d.writer) = as_its_act d.room (log_path d.host d.writer) is names in
-    elsewhere (first_byte _ _ n.1.0) refl
-left_log m s (Exit writer) step d named l (row, held, is) names =
-    let n : NamesFile (exit_step row) d.room (log_path d.host d.writer) = as_its_act d.room (log_path d.host d.writer) is names in
-    elsewhere (first_byte _ _ n.1.0) refl
-
-positive : (n : ℕ) → nat_eq (suc n) 0 ≡ false
-positive n = grind (arith, nat_tests)
-
-below : (host : ℕ) → is_top (hostdir_of host) ≡ false
-below host = positive _
-
--- Such a dropping is as it was after each step.
-pub left_stays : (m : Moment) (e : Event) (s : IsSoundAt m) → IsStep m.state e.caller e.ask e.reply e.after → (d : Dropping) → IsNamed d → HasUnissued m d
-    → (index_then (next_moment m e) d ≡ index_then m d) × (log_then (next_moment m e) d ≡ log_then m d) × (issued_by (next_moment m e) d ≡ issued_by m d)
-left_stays m e s step d named l = (
-  step_same m.state e.after e.caller e.ask e.reply s.shape.tree d.room (index_path d.host d.writer) s.shape.told (below d.host) (λ act is. left_index m s e.ask.call act d named l is) step,
-  step_same m.state e.after e.caller e.ask e.reply s.shape.tree d.room (log_path d.host d.writer) s.shape.told (below d.host) (λ act is. left_log m s e.ask.call act d named l is) step,
-  elim (step_issues_or_not m.issued m.state e.caller e.ask e.reply e.after d.room d.writer step) as (λ _. issued_by (next_moment m e) d ≡ issued_by m d) [
-    | inl same ↦ same
-    | inr o ↦ absurd (omega (arith, l, open_within m s d (index_then m d) named o refl))
-  ],
-)
