@@ -1,14 +1,21 @@
 # Completion for bash of the command plfs: `source completions/plfs.bash`.
 _plfs() {
-    local word=${COMP_WORDS[COMP_CWORD]}
+    local word=${COMP_WORDS[COMP_CWORD]} place=$COMP_CWORD i
+    # A colon parts the folders of ROOT, and is a word of its own here.
+    for ((i = 1; i <= COMP_CWORD; i++)); do
+        if [[ ${COMP_WORDS[i]} == *: ]]; then
+            place=$((place - 1))
+            [[ $i -lt $COMP_CWORD ]] && place=$((place - 1))
+        fi
+    done
     COMPREPLY=()
-    case $COMP_CWORD in
+    case $place in
     1)
         if [[ $word == -* ]]; then
             mapfile -t COMPREPLY < <(compgen -W '--help --version' -- "$word")
         else
             compopt -o filenames 2>/dev/null
-            mapfile -t COMPREPLY < <(compgen -d -- "$word")
+            mapfile -t COMPREPLY < <(compgen -d -- "${word##*:}")
         fi
         ;;
     2)

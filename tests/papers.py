@@ -47,6 +47,10 @@ def the_manual_is_well_formed_and_has_each_status_and_word(trial):
 @check
 def completion_offers_what_the_program_plays(trial):
     file = trial.top / "completions" / "plfs.bash"
-    asks = f"source '{file}'; COMP_WORDS=(plfs /tmp ''); COMP_CWORD=2; _plfs; printf '%s\\n' \"${{COMPREPLY[@]}}\""
-    ended = subprocess.run(["bash", "-c", asks], stdout=subprocess.PIPE, stderr=subprocess.PIPE, text=True, timeout=20)
-    same("what is offered", (ended.stdout, ended.stderr), ("play\n", ""))
+    (trial.folder / "store").mkdir()
+    for words, wanted in (("/tmp ''", "play"), ("/tmp : sto", "store"), ("/tmp : store p", "play")):
+        last = words.count(" ") + 1
+        asks = f"source '{file}'; COMP_WORDS=(plfs {words}); COMP_CWORD={last}; _plfs; printf '%s\\n' \"${{COMPREPLY[@]}}\""
+        how = {"stdout": subprocess.PIPE, "stderr": subprocess.PIPE, "text": True, "timeout": 20, "cwd": trial.folder}
+        ended = subprocess.run(["bash", "-c", asks], **how)
+        same(f"what is offered behind {words}", (ended.stdout, ended.stderr), (wanted + "\n", ""))

@@ -1,6 +1,6 @@
 -- Where a machine stands in its program.
 use Rattle.std.specs.Prelude.{Option, Some, None}
-use Rattle.story.specs.Program.{Program, done, ask}
+use Rattle.story.specs.Program.{AsksOnly, Program, done, ask}
 
 -- It is to go on with this program, or a question was given for which it goes on so with the reply.
 pub data Standing (Ask Reply Result : Type 0) : Type 0 where
@@ -42,3 +42,8 @@ IsOver (awaits k) = ⊥
 abbrev pub IsFresh : {A R X : Type 0} → Standing A R X → Type 0
 IsFresh (ready p) = Unit {0}
 IsFresh (asked k) = ⊥
+
+-- every question that is to come is one of these
+abbrev pub HasOnly : {A R X : Type 0} → (A → Type 0) → Standing A R X → Type 0
+HasOnly these (ready p) = AsksOnly these p
+HasOnly {R = R} these (asked k) = (reply : R) → AsksOnly these (k reply)

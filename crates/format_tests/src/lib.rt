@@ -1,5 +1,5 @@
-//! Tests of the formats: the names in a container, index entries, the buffer of a writer and flattened indices. Their
-//! texts and bytes stand here as they are on disk. They stand apart, so that no crate is proved twice for them.
+//! Tests of the formats: the names in a container, index entries, the buffer of a writer, flattened and packed indices.
+//! Their texts and bytes stand here as they are on disk. They stand apart, so that no crate is proved twice for them.
 #![tactic(auto)]
 
 #[cfg(test)]
@@ -10,3 +10,5 @@ mod entries;
 mod flat;
 #[cfg(test)]
 mod items;
+#[cfg(test)]
+mod packed;

@@ -3,7 +3,8 @@ use Rattle.std.proofs.Common.{◌≡◌, ℕ, List, ◌∷◌, ◌++◌, map, re
 use Rattle.plfs_types.specs.declared.entries.Trunc.{Trunc}
 use Rattle.plain_file.specs.File.{slice, plain_size}
 use Rattle.plain_file.specs.Runs.{ArePieces}
-use Rattle.mount_model.specs.History.{Event, IsLawful}
+use Rattle.mount_model.specs.History.{Event}
+use Rattle.mount_sound.specs.Owed.{IsLawful}
 use Rattle.mount_sound.specs.Ledger.{entries_in}
 use Rattle.gathering.specs.Moments.{Moment, IsSoundAt, moment_after, Grows}
 use Rattle.gathering.specs.Seen.{Asked, asked_in, calls_of}

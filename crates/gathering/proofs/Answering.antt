@@ -21,9 +21,9 @@ use Rattle.gathering.specs.Seen.{Asked, IsSeenCall, IsSeen}
 use Rattle.gathering.specs.Gathering.{Gathered, IsPrefixOf, IsAdmissible}
 use Rattle.gathering.specs.View.{writes_in, changes_in, view, WritersRise, logs_of, IsLogRead, IsAnswer}
 use Rattle.gathering.specs.Parts.{IsOfLog, IsPartOf}
-use Rattle.gathering.proofs.Growing.{grows_trans}
+use Rattle.gathering.proofs.Growing.{grows_trans, stood_grows}
 use Rattle.gathering.proofs.Looking.{read_told}
-use Rattle.gathering.proofs.Fronts.{stood_grows, log_slice}
+use Rattle.gathering.proofs.Fronts.{log_slice}
 use Rattle.gathering.proofs.Gathers.{answers_as}
 use Rattle.gathering.proofs.Viewing.{entries_of-changes, truncs_of-changes, bytes_all, logged_all, keys_differ}
 use Rattle.gathering.proofs.Parts.{plan_within}

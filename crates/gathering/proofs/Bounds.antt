@@ -1,52 +1,44 @@
 -- Bounds on what has landed: what a flush or a sync told, and what was issued at the last flush.
-use Rattle.std.proofs.Common.{◌≡◌, ℕ, ◌≤◌, false, List, [], ◌∷◌, length, min, Option, Some, None, refl, ap, sym, ◌∙◌, inl, inr, subst, arith, length-append}
+use Rattle.std.proofs.Common.{◌≡◌, ℕ, ◌≤◌, ◌<◌, List, [], ◌∷◌, length, min, Option, Some, None, refl, ap, sym, ◌∙◌, inl, inr, subst, arith}
 use Rattle.std.specs.Prelude.{Ok, Err, MatchOption}
-use Rattle.std.specs.List.{Any}
+use Rattle.std.specs.List.{Any, AllByRecursion}
 use Rattle.plfs_types.specs.declared.entries.Entry.{Entry}
 use Rattle.plfs_types.specs.declared.entries.Trunc.{Trunc}
-use Rattle.store_api.specs.Room.{is_top}
 use Rattle.store_api.specs.declared.step.Answer.TheVariants.{Made, NoRoom, NoFolder}
 use Rattle.store_api.specs.declared.store.Trouble.TheVariants.{Fault, NoMemory}
 use Rattle.store_laws.specs.Files.{file_at}
-use Rattle.plain_file.proofs.Facts.{Among}
-use Rattle.mount_model.specs.declared.call.Call.TheVariants.{Write, Flush, SyncIndex}
-use Rattle.mount_model.specs.declared.call.Call.{Call}
-use Rattle.mount_model.specs.declared.reply.Reply.{Reply}
-use Rattle.mount_model.specs.declared.reply.Reply.TheVariants.{Wrote, Flushed, Synced}
-use Rattle.mount_model.specs.declared.reply.Refusal.TheVariants.{NotOpen}
+use Rattle.plain_file.proofs.Facts.{Among, cases_Option}
+use Rattle.mount_model.specs.declared.call.Call.TheVariants.{Flush, SyncIndex}
+use Rattle.mount_model.specs.declared.reply.Reply.TheVariants.{Flushed, Synced}
 use Rattle.mount_model.specs.declared.row.Row.{Row}
 use Rattle.mount_model.specs.Paths.{index_path, trunc_path}
 use Rattle.mount_model.specs.State.{State, Table}
-use Rattle.mount_model.specs.Table.{row_of, with_row, writer_of, only, rank}
-use Rattle.mount_model.specs.Making.{Told, MakesAct, OnWriter, Refuses, UnlessRefused}
-use Rattle.mount_model.specs.Writing.{write_check, WritesAt}
+use Rattle.mount_model.specs.Table.{row_of, with_row, rank}
+use Rattle.mount_model.specs.Making.{Told, MakesAct}
 use Rattle.mount_model.specs.Flushing.{flushed, flush_outcome, FlushesRow, index_synced, sync_index_step, sync_index_outcome}
-use Rattle.mount_model.specs.Step.{Answers, IsStep}
-use Rattle.mount_model.specs.History.{Event, IsLawful}
+use Rattle.mount_model.specs.Step.{Answers}
+use Rattle.mount_model.specs.History.{Event}
+use Rattle.mount_sound.specs.Excluding.{IsAboveAll}
+use Rattle.mount_sound.specs.Owed.{InRoom, IsLawful}
 use Rattle.mount_sound.specs.Ledger.{entries_in}
-use Rattle.mount_sound.proofs.Facts.{call_issues, Fits, all_fit, live_stage, one_row}
-use Rattle.index_entry.specs.Spelling.{spelling_all}
-use Rattle.index_entry.proofs.Facts.{length-spelling_all}
-use Rattle.store_laws.proofs.Facts.{prefix_length}
-use Rattle.store_api.specs.declared.tree.Room.{Room}
-use Rattle.mount_sound.specs.Dropping.{bytes_of, IsWriter}
-use Rattle.mount_sound.specs.Kept.{Begins, IsAtStage, IsKept}
-use Rattle.mount_model.proofs.Facts.{match_cases, is_held, at_only, row_of_id, row_of-with_row}
+use Rattle.mount_sound.proofs.Facts.{Fits, all_fit, live_stage, one_row}
+use Rattle.mount_sound.specs.Dropping.{bytes_of}
+use Rattle.mount_sound.specs.Kept.{Begins, IsKept}
+use Rattle.mount_model.proofs.Facts.{row_of_id, row_of-with_row}
 use Rattle.mount_sound.specs.Landed.{whole}
-use Rattle.gathering.specs.Moments.{Moment, IsSoundAt, next_moment, moment_after, file_in_room, file_told, Dropping, IsNamed, issued_by, index_then, landed, HadTrunc, Grows}
+use Rattle.gathering.specs.Moments.{Moment, IsSoundAt, next_moment, moment_after, file_in_room, file_told, file_then, Dropping, IsNamed, issued_by, index_then, landed_by, landed, HadTrunc, Grows}
 use Rattle.gathering.specs.Gathering.{Gathered, IsPrefixOf}
-use Rattle.gathering.specs.Bounds.{IsOf, LandedAtLeast, IsFlushedIn, IsSyncedIn, SparesIndex, AllSpareIndex}
+use Rattle.gathering.specs.Bounds.{IsOf, LandedAtLeast, IsFlushedIn, IsSyncedIn, AllSpareIndex}
 use Rattle.gathering.specs.Opening.{HasView}
 use Rattle.gathering.proofs.Gathers.{answers_as}
-use Rattle.gathering.proofs.Growing.{trunc_grows}
-use Rattle.gathering.proofs.Seeing.{sound_next, grows_after}
-use Rattle.gathering.proofs.Fronts.{stood_grows, length-entries}
-use Rattle.gathering.proofs.Gathers.{landed_grows}
+use Rattle.gathering.proofs.Growing.{trunc_grows, stood_grows}
+use Rattle.gathering.proofs.Seeing.{grows_after}
+use Rattle.gathering.proofs.Stepping.{IsAboveThen, above_room, sound_next, grows_next, lands_none_next, trunc_next}
+use Rattle.gathering.proofs.Fronts.{length-entries, landed_whole, landed_stay}
+use Rattle.gathering.proofs.Viewing.{All-take}
 use Rattle.gathering.proofs.Members.{any_found, found_any}
 use Rattle.gathering.proofs.Answering.{prefix_of}
-use Rattle.gathering.proofs.Listings.{not_top}
-use Rattle.gathering.proofs.Left.{open_row, step_issues_or_not, open_within}
-use Rattle.gathering.proofs.Sparing.{Same, step_same, spares_index, spares_trunc}
+use Rattle.gathering.proofs.Issuing.{open_row}
 
 -- ---------- what the table counts has landed
 
@@ -66,9 +58,10 @@ row_landed m s row held ready =
     let file : file_at p.0 (index_path row.host row.id) ≡ index_then m (its_dropping row) = sym (ap (λ o. file_told o row.room (index_path row.host row.id)) s.shape.told ∙ ap (λ o. file_in_room o (index_path row.host row.id)) p.1) in
     let there = (k.alive (live_stage row.stage (omega (arith, ready)))).indexed (omega (arith, ready)) in
     let fits : Fits row = all_fit m.state s.regular row.id row held in
+    let named : IsNamed (its_dropping row) = record { in_range = tt; widths = (fits.host, fits.id) } in
     record {
-      stands = record { is_item = record { in_range = tt; widths = (fits.host, fits.id) }; bytes = there.0; there = sym file ∙ there.1 };
-      counted = subst (λ f. row.landed ≤ min (whole (bytes_of f)) (length (m.issued row.room row.id))) file (omega (arith, kept_landed row.landed (entries_in (m.issued row.room row.id)) (file_at p.0 (index_path row.host row.id)) k.index, k.numbers.landed, length-entries (m.issued row.room row.id)));
+      stands = record { is_item = named; bytes = there.0; there = sym file ∙ there.1 };
+      counted = subst (λ n. row.landed ≤ n) (sym (landed_whole m s (its_dropping row) named)) (subst (λ f. row.landed ≤ min (whole (bytes_of f)) (length (m.issued row.room row.id))) file (omega (arith, kept_landed row.landed (entries_in (m.issued row.room row.id)) (file_at p.0 (index_path row.host row.id)) k.index, k.numbers.landed, length-entries (m.issued row.room row.id))));
     }
 
 -- ---------- rows after a flush and a sync
@@ -145,7 +138,7 @@ sync_lands m event writer count legal s call reply =
     told_lands (next_moment m event) (sound_next m event [] legal s) writer count (sync_row m.state event.caller writer count event.after a)
 
 landed_later : (a b : Moment) (d : Dropping) (count : ℕ) → Grows a b → LandedAtLeast a d count → LandedAtLeast b d count
-landed_later a b d count g h = record { stands = stood_grows a b d g h.stands; counted = omega (arith, h.counted, landed_grows a b d g) }
+landed_later a b d count g h = record { stands = stood_grows a b d g h.stands; counted = omega (arith, h.counted, g.landed d h.stands.is_item) }
 
 -- the table has one dropping of a writer
 one_of : (state : State) (a b : Dropping) → a.writer ≡ b.writer → IsOf state a → IsOf state b → a ≡ b
@@ -192,52 +185,47 @@ flushed_gathered first before end room cut truncs d count legal s view its flush
 
 -- ---------- nothing lands but by the writer's own flushes
 
-step_spares : (m : Moment) (s : IsSoundAt m) (e : Event) (d : Dropping) → IsNamed d → SparesIndex e.ask.call d → IsStep m.state e.caller e.ask e.reply e.after → Same m.state e.after d.room (index_path d.host d.writer)
-step_spares m s e d named spares step =
-    step_same m.state e.after e.caller e.ask e.reply s.shape.tree d.room (index_path d.host d.writer) s.shape.told (not_top d.host)
-    (λ act is. spares_index m s e.ask.call act d named spares is)
-    step
-
--- nothing has landed where the dropping is as it was
-step_lands_none : (m : Moment) (e : Event) (d : Dropping) → IsNamed d → IsSoundAt m → IsStep m.state e.caller e.ask e.reply e.after → index_then (next_moment m e) d ≡ index_then m d → landed (next_moment m e) d ≡ landed m d
-step_lands_none m e d named s a same = elim (step_issues_or_not m.issued m.state e.caller e.ask e.reply e.after d.room d.writer a) as (λ _. landed (next_moment m e) d ≡ landed m d) [
-  | inl none ↦ omega (arith, ap (λ o. whole (bytes_of o)) same, ap length none)
-  | inr o ↦
-      let more = call_issues m.issued m.state e.ask.call e.reply d.room d.writer in
-      omega (arith, ap (λ f. whole (bytes_of f)) same, open_within m s d (index_then m d) named o refl, ap length more.1, length-append (issued_by m d) more.0)
-]
-
 landed_stays : (m : Moment) (events : List Event) (d : Dropping) → IsNamed d → IsLawful m.state events → IsSoundAt m → AllSpareIndex events d → landed (moment_after m events) d ≡ landed m d
 landed_stays m [] d named legal s spare = refl
 landed_stays m (e ∷ events) d named legal s spare =
-    landed_stays (next_moment m e) events d named legal.2 (sound_next m e events legal s) spare.1
-    ∙ step_lands_none m e d named s legal.1 (step_spares m s e d named spare.0 legal.1)
-
--- no more has landed than was issued
-landed_within : (m : Moment) (s : IsSoundAt m) (d : Dropping) (file : Option (List ℕ)) → IsNamed d → index_then m d ≡ file → landed m d ≤ length (issued_by m d)
-landed_within m s d file named e = omega arith
+    landed_stays (next_moment m e) events d named legal.2 (sound_next m e events legal s) spare.1 ∙ lands_none_next m e events d named legal s spare.0
 
 -- No more of a writer has landed than it had issued when it last was flushed.
 pub landed_most : (m : Moment) (events : List Event) (d : Dropping) → IsNamed d → IsLawful m.state events → IsSoundAt m → AllSpareIndex events d → landed (moment_after m events) d ≤ length (issued_by m d)
-landed_most m events d named legal s spare = omega (arith, landed_stays m events d named legal s spare, landed_within m s d (index_then m d) named refl)
+landed_most m events d named legal s spare = omega (arith, landed_stays m events d named legal s spare, landed_whole m s d named)
 
--- ---------- no truncate comes
-
-trunc_below : (stamp size : ℕ) → is_top (trunc_path stamp size).folder ≡ false
-trunc_below stamp size = refl
+-- ---------- truncates
 
 -- a truncate that is there stays
 pub trunc_stays : (m : Moment) (events : List Event) (room stamp size : ℕ) → IsLawful m.state events → IsSoundAt m → HadTrunc m room stamp size → HadTrunc (moment_after m events) room stamp size
 trunc_stays m events room stamp size legal s had = trunc_grows m (moment_after m events) room stamp size (grows_after m events legal s) had
 
--- a truncate that is there after these events was there before them
-pub trunc_before : (m : Moment) (events : List Event) (room stamp size : ℕ) → IsLawful m.state events → IsSoundAt m → HadTrunc (moment_after m events) room stamp size → HadTrunc m room stamp size
-trunc_before m [] room stamp size legal s had = had
-trunc_before m (e ∷ events) room stamp size legal s had =
+-- what is above all is above all that was there earlier
+above_earlier : (a b : Moment) (room stamp : ℕ) → IsSoundAt a → IsSoundAt b → Grows a b → IsAboveThen b room stamp → IsAboveThen a room stamp
+above_earlier a b room stamp s t grows above = record {
+  truncates = λ other size had. above.truncates other size (trunc_grows a b room other size grows had);
+  entries = λ d named its.
+      let P : Entry → Type 0 = λ (e : Entry). e.stamp < stamp in
+      subst (AllByRecursion P) (sym (landed_stay a b s t d named grows)) (All-take P (landed a d) (landed_by b d) (above.entries d named its));
+}
+
+-- A truncate that comes has a stamp above every truncate of its room that was there before it, and every entry that had
+-- landed.
+pub truncs_above : (m : Moment) (events : List Event) (room stamp size : ℕ) → IsLawful m.state events → IsSoundAt m → (HadTrunc m room stamp size → ⊥) → HadTrunc (moment_after m events) room stamp size → IsAboveThen m room stamp
+truncs_above m [] room stamp size legal s none had = absurd (none had)
+truncs_above m (e ∷ events) room stamp size legal s none had =
     let next : Moment = next_moment m e in
-    let now : HadTrunc next room stamp size = trunc_before next events room stamp size legal.2 (sound_next m e events legal s) had in
-    let same : Same m.state e.after room (trunc_path stamp size) =
-    step_same m.state e.after e.caller e.ask e.reply s.shape.tree room (trunc_path stamp size) s.shape.told (trunc_below stamp size)
-    (λ act is. spares_trunc m.state e.ask.call act room stamp size is)
-    legal.1 in
-    record { is_item = now.is_item; bytes = now.bytes; there = sym same ∙ now.there }
+    let then : IsSoundAt next = sound_next m e events legal s in
+    elim (cases_Option (file_then next room (trunc_path stamp size))) as (λ _. IsAboveThen m room stamp) [
+      | inl absent ↦
+          above_earlier m next room stamp s then (grows_next m e events legal s)
+          (truncs_above next events room stamp size legal.2 then (λ h. let clash : None ≡ Some h.bytes = sym absent ∙ h.there in cc) had)
+      | inr (bytes, there) ↦ elim (trunc_next m e events room stamp size legal s (record { is_item = had.is_item; bytes = bytes; there = there })) as (λ _. IsAboveThen m room stamp) [
+        | inl was ↦ absurd (none was)
+        | inr above ↦ above
+      ]
+    ]
+
+-- So it is in its room, as the store told it.
+pub truncs_come_above : (m : Moment) (events : List Event) (number stamp size : ℕ) → IsLawful m.state events → IsSoundAt m → (HadTrunc m number stamp size → ⊥) → HadTrunc (moment_after m events) number stamp size → InRoom m.state number (λ room. IsAboveAll room stamp)
+truncs_come_above m events number stamp size legal s none had = above_room m s number stamp (truncs_above m events number stamp size legal s none had)

@@ -1,6 +1,8 @@
 -- What a listing of a folder names, and what it doesn't.
-use Rattle.std.proofs.Common.{◌≡◌, ℕ, Bool, true, false, ◌||◌, ◌&&◌, List, [], ◌∷◌, Option, Some, None, refl, ap, sym, ◌∙◌, inl, inr}
+use Rattle.std.proofs.Common.{◌≡◌, ℕ, suc, nat_eq, Bool, true, false, ◌||◌, ◌&&◌, List, [], ◌∷◌, Option, Some, None, refl, ap, sym, ◌∙◌, inl, inr, arith}
 use Rattle.std.specs.Prelude.{is_some}
+use Rattle.std.proofs.lemmas.Bool.Decides.{nat_tests}
+use Rattle.container_layout.specs.Paths.{hostdir_of}
 use Rattle.plfs_types.specs.declared.names.Path.{Path}
 use Rattle.store_api.specs.declared.tree.Room.{Room}
 use Rattle.store_api.specs.Names.{same_name}
@@ -11,6 +13,15 @@ use Rattle.store_laws.specs.There.{AreNamesOf}
 use Rattle.store_laws.proofs.Facts.{name_eq, name_same}
 use Rattle.plain_file.proofs.Facts.{Among}
 use Rattle.mount_model.specs.Paths.{Name}
+
+-- ---------- folders of droppings
+
+some_length : (n : ℕ) → nat_eq (suc n) 0 ≡ false
+some_length n = grind (arith, nat_tests)
+
+-- a folder of droppings isn't the top
+pub not_top : (host : ℕ) → is_top (hostdir_of host) ≡ false
+not_top host = some_length _
 
 -- ---------- names that are listed
 

@@ -35,8 +35,8 @@ use Rattle.gathering.specs.Gathering.{Gathered}
 use Rattle.gathering.specs.Listing.{IsAmong}
 use Rattle.gathering.specs.Moments.{Moment, IsSoundAt, file_in_room, file_told, file_then, Dropping, Stood, issued_by, log_then, Grows}
 use Rattle.gathering.specs.Opening.{HasView}
-use Rattle.gathering.proofs.Growing.{in_a_room}
-use Rattle.gathering.proofs.Fronts.{in_tree, stood_grows, stands, content-append, log_slice}
+use Rattle.gathering.proofs.Growing.{in_a_room, stood_grows}
+use Rattle.gathering.proofs.Fronts.{in_tree, stands, content-append, log_slice}
 use Rattle.gathering.proofs.Members.{among}
 use Rattle.gathering.proofs.Answering.{prefix_of}
 

@@ -1,12 +1,9 @@
 -- What is read of an index dropping or a log is what its writer issued.
-use Rattle.std.proofs.Common.{◌≡◌, ℕ, suc, ◌+◌, ◌-◌, ◌*◌, ◌≤◌, List, [], ◌∷◌, ◌++◌, length, min, take, drop, Option, Some, refl, ap, sym, ◌∙◌, inl, subst, arith, length-append, append_assoc, length-take-le}
+use Rattle.std.proofs.Common.{◌≡◌, ℕ, suc, ◌+◌, ◌-◌, ◌≤◌, List, [], ◌∷◌, ◌++◌, length, min, take, drop, Option, Some, None, refl, ap, sym, ◌∙◌, inl, subst, arith, length-append, append_assoc, length-take-le}
 use Rattle.std.specs.Prelude.{slice_get}
-use Rattle.std.proofs.lemmas.List.{take-append-drop, take-append-le, drop-append-le, map-append, length-drop, drop-drop}
-use Rattle.std.proofs.Math.Seq.{take-add}
+use Rattle.std.proofs.lemmas.List.{take-append-le, drop-append-le, map-append, length-drop}
 use Rattle.plfs_types.specs.declared.entries.Entry.{Entry}
 use Rattle.plfs_types.specs.declared.names.Path.{Path}
-use Rattle.index_entry.specs.Spelling.{spelling_all}
-use Rattle.index_entry.proofs.Facts.{spelling_all-append, length-spelling_all}
 use Rattle.container_layout.specs.declared.items.Item.TheVariants.{Index}
 use Rattle.store_api.specs.declared.tree.Room.{Room}
 use Rattle.store_api.specs.declared.tree.Tree.{Tree}
@@ -18,9 +15,10 @@ use Rattle.mount_sound.specs.Ledger.{Written, entries_in, content}
 use Rattle.mount_sound.specs.Items.{HasItem}
 use Rattle.mount_sound.specs.Dropping.{bytes_of, log_bytes, IsWriter}
 use Rattle.mount_sound.specs.Landed.{HasLanded, whole}
-use Rattle.mount_sound.proofs.Facts.{landed_was_issued}
-use Rattle.gathering.specs.Moments.{Moment, IsSoundAt, file_in_tree, file_told, file_then, Dropping, IsNamed, Stood, index_then, log_then, issued_by, Grows}
-use Rattle.gathering.proofs.Growing.{in_a_room, index_grows}
+use Rattle.mount_sound.proofs.Facts.{landed_was_issued, landed_is, take_less, writer_told}
+use Rattle.mount_sound.specs.There.{entries_there, landed_entries}
+use Rattle.gathering.specs.Moments.{Moment, IsSoundAt, file_in_room, file_in_tree, file_told, file_then, Dropping, IsNamed, index_then, log_then, issued_by, landed_by, landed, Grows}
+use Rattle.gathering.proofs.Growing.{in_a_room}
 
 -- bytes within the front of a list
 pub front_slice : (a b : List ℕ) (at len : ℕ) → at + len ≤ length a → take len (drop at (a ++ b)) ≡ take len (drop at a)
@@ -28,16 +26,8 @@ front_slice a b at len within =
     let rest : length (drop at a) ≡ length a - at = length-drop at a in
     ap (take len) (drop-append-le at a b (omega arith)) ∙ take-append-le len (drop at a) b (omega (arith, rest))
 
--- two pieces that follow each other
-pub pieces_join : (whole : List ℕ) (at len more : ℕ) → take len (drop at whole) ++ take more (drop (at + len) whole) ≡ take (len + more) (drop at whole)
-pieces_join whole at len more = ap (λ l. take len (drop at whole) ++ take more l) (sym (drop-drop len at whole)) ∙ sym (take-add len more (drop at whole))
-
 pub in_tree : (m : Moment) (s : IsSoundAt m) (room : ℕ) (path : Path) (bytes : List ℕ) → file_then m room path ≡ Some bytes → file_in_tree s.shape.tree room path ≡ Some bytes
 in_tree m s room path bytes e = ap (λ o. file_told o room path) (sym s.shape.told) ∙ e
-
--- a dropping that stood stands
-pub stood_grows : (a b : Moment) (d : Dropping) → Grows a b → Stood a d → Stood b d
-stood_grows a b d g s = let l = index_grows a b d s.bytes g s.there in record { is_item = s.is_item; bytes = l.0; there = l.1 }
 
 -- the room that an index dropping stands in, and what is known of both
 pub record Stands (m : Moment) (tree : Tree) (d : Dropping) (bytes : List ℕ) : Type 0 where
@@ -70,9 +60,6 @@ length-entries (w ∷ writes) = ap suc (length-entries writes)
 pub length_taken : (n : ℕ) (es : List Entry) → n ≤ length es → length (take n es) ≡ n
 length_taken n es l = length-take-le n es l
 
-within_entries : (issued : List Written) (n : ℕ) → n ≤ length issued → n ≤ length (entries_in issued)
-within_entries issued n l = omega (arith, l, length-entries issued)
-
 pub entries-append : (a b : List Written) → entries_in (a ++ b) ≡ entries_in a ++ entries_in b
 entries-append a b = map-append (λ (w : Written). w.entry) a b
 
@@ -80,34 +67,66 @@ pub content-append : (a b : List Written) → content (a ++ b) ≡ content a ++ 
 content-append [] b = refl
 content-append (w ∷ a) b = ap (λ c. w.bytes ++ c) (content-append a b) ∙ sym (append_assoc w.bytes (content a) (content b))
 
--- the whole entries of a dropping, within what its writer issued, then and later
-whole_slice : (room : Room) (host writer : ℕ) (issued more : List Written) (bytes : List ℕ) (at len : ℕ) → HasLanded room host writer issued bytes → at + len ≤ 40 * min (whole bytes) (length issued) → take len (drop at bytes) ≡ take len (drop at (spelling_all (entries_in (issued ++ more))))
-whole_slice room host writer issued more bytes at len h within =
-    let n : ℕ = h.landed in
-    let es : List Entry = entries_in issued in
-    let front : List ℕ = spelling_all (take n es) in
-    let long : length front ≡ 40 * n = length-spelling_all (take n es) ∙ ap (λ k. 40 * k) (length_taken n es (within_entries issued n h.within)) in
-    let here : take len (drop at bytes) ≡ take len (drop at front) = ap (λ b. take len (drop at b)) (h.dropping.spelled ∙ ap (λ b. b ++ h.dropping.tail) (spelling_all-append (take n es) h.dropping.more) ∙ append_assoc front (spelling_all h.dropping.more) h.dropping.tail)
-    ∙ front_slice front (spelling_all h.dropping.more ++ h.dropping.tail) at len (omega (arith, long, within, h.is)) in
-    let split : spelling_all (entries_in (issued ++ more)) ≡ front ++ (spelling_all (drop n es) ++ spelling_all (entries_in more)) =
-    ap spelling_all (entries-append issued more) ∙ spelling_all-append es (entries_in more)
-    ∙ ap (λ l. spelling_all l ++ spelling_all (entries_in more)) (sym (take-append-drop n es))
-    ∙ ap (λ b. b ++ spelling_all (entries_in more)) (spelling_all-append (take n es) (drop n es))
-    ∙ append_assoc front (spelling_all (drop n es)) (spelling_all (entries_in more)) in
-    here ∙ sym (ap (λ b. take len (drop at b)) split ∙ front_slice front (spelling_all (drop n es) ++ spelling_all (entries_in more)) at len (omega (arith, long, within, h.is)))
+-- ---------- what has landed
 
--- Bytes read of the whole entries of an index dropping are those of what its writer issued.
-pub index_slice : (m end : Moment) (s : IsSoundAt m) (d : Dropping) (bytes : List ℕ) (at len : ℕ) → IsNamed d → Grows m end → index_then m d ≡ Some bytes → at + len ≤ 40 * min (whole bytes) (length (issued_by m d)) → take len (drop at bytes) ≡ take len (drop at (spelling_all (entries_in (issued_by end d))))
-index_slice m end s d bytes at len named grows e within =
-    let w = stands m s d bytes named e in
-    let more = grows.issued d.room d.writer in
-    whole_slice w.room d.host d.writer (issued_by m d) more.0 bytes at len w.landed within ∙ ap (λ l. take len (drop at (spelling_all (entries_in l)))) (sym more.1)
+-- the bytes of a file of a room
+file_bytes : (m : Moment) (s : IsSoundAt m) (number : ℕ) (room : Room) → slice_get s.shape.tree.rooms number ≡ Some room → (path : Path) → bytes_of (file_then m number path) ≡ bytes_of (file_at room path)
+file_bytes m s number room there path = ap (λ o. bytes_of (file_told o number path)) s.shape.told ∙ ap (λ o. bytes_of (file_in_room o path)) there
 
--- as many entries as landed were issued
-pub landed_issued : (m end : Moment) (s : IsSoundAt m) (d : Dropping) (bytes : List ℕ) → IsNamed d → Grows m end → index_then m d ≡ Some bytes → min (whole bytes) (length (issued_by m d)) ≤ length (issued_by end d)
-landed_issued m end s d bytes named grows e =
+-- what has landed of a writer is what its room tells
+pub landed_at : (m : Moment) (s : IsSoundAt m) (d : Dropping) (room : Room) → slice_get s.shape.tree.rooms d.room ≡ Some room → landed_by m d ≡ landed_entries room d.host d.writer
+landed_at m s d room there =
+    ap (λ b. entries_there b (bytes_of (log_then m d))) (file_bytes m s d.room room there (index_path d.host d.writer))
+    ∙ ap (λ l. entries_there (bytes_of (file_at room (index_path d.host d.writer))) l) (file_bytes m s d.room room there (log_path d.host d.writer))
+
+pub its_log : (m : Moment) (s : IsSoundAt m) (d : Dropping) (bytes : List ℕ) (st : Stands m s.shape.tree d bytes) → log_bytes st.room d.host d.writer ≡ bytes_of (log_then m d)
+its_log m s d bytes st = sym (file_bytes m s d.room st.room st.there (log_path d.host d.writer))
+
+-- the entries that have landed are the first that the writer issued
+pub landed_told : (m : Moment) (s : IsSoundAt m) (d : Dropping) (bytes : List ℕ) → IsNamed d → index_then m d ≡ Some bytes → landed_by m d ≡ take (min (whole bytes) (length (issued_by m d))) (entries_in (issued_by m d))
+landed_told m s d bytes named e =
+    let st = stands m s d bytes named e in
+    landed_at m s d st.room st.there
+    ∙ ap (λ h. landed_entries st.room h d.writer) st.host
+    ∙ writer_told st.room d.writer (issued_by m d) st.writer named.widths.1 (s.sound.writes d.room d.writer)
+    ∙ ap (λ n. take n (entries_in (issued_by m d))) (landed_is st.room d.host d.writer (issued_by m d) bytes st.writer (record { is_item = named; there = st.at }))
+
+landed_file : (m : Moment) (s : IsSoundAt m) (d : Dropping) (file : Option (List ℕ)) → IsNamed d → index_then m d ≡ file → landed_by m d ≡ take (min (whole (bytes_of file)) (length (issued_by m d))) (entries_in (issued_by m d))
+landed_file m s d None named e = ap (λ o. entries_there (bytes_of o) (bytes_of (log_then m d))) e ∙ none_first (length (issued_by m d)) (entries_in (issued_by m d))
+  where
+    none_taken : (es : List Entry) → [] ≡ take 0 es
+    none_taken [] = refl
+    none_taken (e ∷ es) = refl
+
+    none_first : (n : ℕ) (es : List Entry) → [] ≡ take (min (whole []) n) es
+    none_first n es = let zero_is : min (whole []) n ≡ 0 = omega arith in none_taken es ∙ ap (λ k. take k es) (sym zero_is)
+landed_file m s d (Some bytes) named e = landed_told m s d bytes named e
+
+-- they are its whole entries, as far as the writer issued them
+pub landed_whole : (m : Moment) (s : IsSoundAt m) (d : Dropping) → IsNamed d → landed m d ≡ min (whole (bytes_of (index_then m d))) (length (issued_by m d))
+landed_whole m s d named =
+    let n : ℕ = min (whole (bytes_of (index_then m d))) (length (issued_by m d)) in
+    ap length (landed_file m s d (index_then m d) named refl) ∙ length_taken n (entries_in (issued_by m d)) (omega (arith, length-entries (issued_by m d)))
+
+pub landed_is_first : (m : Moment) (s : IsSoundAt m) (d : Dropping) → IsNamed d → landed_by m d ≡ take (landed m d) (entries_in (issued_by m d))
+landed_is_first m s d named = landed_file m s d (index_then m d) named refl ∙ ap (λ n. take n (entries_in (issued_by m d))) (sym (landed_whole m s d named))
+
+-- the first that a writer issued stay the first
+pub entries_stay : (m end : Moment) (d : Dropping) (n : ℕ) → Grows m end → n ≤ length (issued_by m d) → take n (entries_in (issued_by end d)) ≡ take n (entries_in (issued_by m d))
+entries_stay m end d n grows l =
     let more = grows.issued d.room d.writer in
-    omega (arith, (stands m s d bytes named e).landed.within, ap length more.1, length-append (issued_by m d) more.0)
+    ap (λ w. take n (entries_in w)) more.1 ∙ ap (take n) (entries-append (issued_by m d) more.0) ∙ take-append-le n (entries_in (issued_by m d)) (entries_in more.0) (omega (arith, l, length-entries (issued_by m d)))
+
+pub issued_grows : (a b : Moment) (d : Dropping) → Grows a b → length (issued_by a d) ≤ length (issued_by b d)
+issued_grows a b d grows = let more = grows.issued d.room d.writer in omega (arith, ap length more.1, length-append (issued_by a d) more.0)
+
+-- and those of them that had landed stay the first that have
+pub landed_stay : (a b : Moment) → IsSoundAt a → IsSoundAt b → (d : Dropping) → IsNamed d → Grows a b → landed_by a d ≡ take (landed a d) (landed_by b d)
+landed_stay a b s t d named grows =
+    landed_is_first a s d named ∙ sym (entries_stay a b d (landed a d) grows (omega (arith, landed_whole a s d named)))
+    ∙ sym (take_less (landed a d) (landed b d) (entries_in (issued_by b d)) (grows.landed d named)) ∙ ap (take (landed a d)) (sym (landed_is_first b t d named))
+
+-- ---------- logs
 
 some_room : (a b : Room) (o : Option Room) → o ≡ Some a → o ≡ Some b → a ≡ b
 some_room a b o p q = cc

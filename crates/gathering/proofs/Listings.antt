@@ -1,17 +1,16 @@
 -- The scan of a container misses no dropping that was there before it.
-use Rattle.std.proofs.Common.{◌≡◌, ℕ, zero, suc, ◌+◌, ◌<◌, ◌≤◌, ◌%◌, List, [], ◌∷◌, ◌++◌, get_or, true, false, nat_eq, Some, refl, ap, sym, ◌∙◌, inl, inr, subst, arith}
+use Rattle.std.proofs.Common.{◌≡◌, ℕ, zero, suc, ◌+◌, ◌<◌, ◌≤◌, ◌%◌, List, [], ◌∷◌, ◌++◌, get_or, true, Some, refl, ap, sym, ◌∙◌, inl, inr, subst, arith}
 use Rattle.std.specs.Prelude.{slice_get, codes}
 use Rattle.std.specs.Fmt.{decimal}
 use Rattle.std.specs.List.{range_with_len}
 use Rattle.std.proofs.lemmas.Bool.{cases_eq}
-use Rattle.std.proofs.lemmas.Bool.Decides.{nat_tests}
 use Rattle.plfs_types.specs.declared.names.Path.{Path}
 use Rattle.container_layout.specs.declared.items.Item.TheVariants.{Index}
 use Rattle.container_layout.specs.Paths.{hostdir_of}
 use Rattle.container_layout.proofs.Facts.{one_item, elsewhere}
 use Rattle.store_api.specs.declared.tree.Room.{Room}
 use Rattle.store_api.specs.declared.step.Answer.TheVariants.{Names}
-use Rattle.store_api.specs.Room.{is_top, has_folder}
+use Rattle.store_api.specs.Room.{has_folder}
 use Rattle.store_laws.specs.Files.{file_at}
 use Rattle.mount_model.specs.declared.call.Call.TheVariants.{Look}
 use Rattle.mount_model.specs.declared.call.Look.TheVariants.{Top, List as ListFolder}
@@ -21,21 +20,15 @@ use Rattle.plain_file.proofs.Facts.{Among}
 use Rattle.gathering.specs.Moments.{Moment, IsSoundAt, Dropping, IsNamed, Stood, Grows}
 use Rattle.gathering.specs.Seen.{Asked, IsSeenCall, IsSeen}
 use Rattle.gathering.specs.Listing.{IsIndexName, AreDroppingsOf, ShowsHostdir, ListsHostdirs, hostdirs, IsScan}
-use Rattle.gathering.proofs.Growing.{in_a_room, grows_trans}
+use Rattle.gathering.proofs.Growing.{in_a_room, grows_trans, stood_grows}
 use Rattle.gathering.proofs.Seeing.{seen_grows, seen_split}
 use Rattle.gathering.proofs.Looking.{top_listed, folder_listed}
-use Rattle.gathering.proofs.Fronts.{in_tree, stood_grows}
+use Rattle.gathering.proofs.Fronts.{in_tree}
 use Rattle.gathering.proofs.Gathers.{answers_as}
 use Rattle.gathering.proofs.Members.{is_among, among_left, among_right}
-use Rattle.gathering.proofs.Entries.{file_named, folder_named}
+use Rattle.gathering.proofs.Entries.{file_named, folder_named, not_top}
 
 -- ---------- folders of droppings
-
-some_length : (n : ℕ) → nat_eq (suc n) 0 ≡ false
-some_length n = grind (arith, nat_tests)
-
-pub not_top : (host : ℕ) → is_top (hostdir_of host) ≡ false
-not_top host = some_length _
 
 remainder : (host k : ℕ) → host % 32 ≡ k → host % 32 ≡ k % 32
 remainder host k e = omega arith

@@ -1,25 +1,30 @@
 -- The reader's law over a history.
-use Rattle.std.proofs.Common.{◌≡◌, ℕ, ◌≤◌, List, [], ◌∷◌, ◌++◌, length, take, map, refl, ap, sym, ◌∙◌, subst, arith}
+use Rattle.std.proofs.Common.{◌≡◌, ℕ, ◌≤◌, List, [], ◌∷◌, ◌++◌, Option, length, take, map, refl, ap, sym, ◌∙◌, subst, arith}
 use Rattle.std.specs.List.{Any}
 use Rattle.std.proofs.lemmas.List.{take-append-le}
 use Rattle.plfs_types.specs.declared.entries.Trunc.{Trunc}
+use Rattle.flat_format.specs.declared.flat.Flat.{Flat}
 use Rattle.plain_file.specs.File.{slice, plain}
-use Rattle.mount_model.specs.History.{Event, IsLawful}
+use Rattle.plain_file.specs.Runs.{ArePieces}
+use Rattle.plain_file.proofs.Facts.{Among}
+use Rattle.mount_model.specs.History.{Event}
+use Rattle.mount_sound.specs.Owed.{IsLawful}
 use Rattle.mount_sound.specs.Ledger.{Written}
 use Rattle.gathering.specs.Moments.{Moment, IsSoundAt, moment_after, Dropping, Stood, issued_by, Grows}
 use Rattle.gathering.specs.Seen.{Asked, asked_in, calls_of, IsSeen}
 use Rattle.gathering.specs.Gathering.{Gathered, IsAdmissible}
-use Rattle.gathering.specs.View.{change_of, cut_off, writes_in, view}
-use Rattle.gathering.specs.Opening.{IsOpening, IsSharedOpening, ReadsSo, HasView}
-use Rattle.gathering.proofs.Growing.{grows_trans}
+use Rattle.gathering.specs.View.{change_of, covered_in, cut_off, writes_in, view}
+use Rattle.gathering.specs.Flats.{pieces_of}
+use Rattle.gathering.specs.Opening.{IsCutOf, IsOpening, IsSharedOpening, ReadsSo, HasView}
+use Rattle.gathering.proofs.Growing.{grows_trans, stood_grows}
 use Rattle.gathering.proofs.Seeing.{seen, seen_split, seen_grows, seen_waits, sound_after, grows_after}
-use Rattle.gathering.proofs.Fronts.{stood_grows}
-use Rattle.gathering.proofs.Gathers.{gathers_all, landed_grows}
+use Rattle.gathering.proofs.Gathers.{gathers_all}
 use Rattle.gathering.proofs.Listings.{scan_found}
 use Rattle.gathering.proofs.Truncates.{truncs_listed}
-use Rattle.gathering.proofs.Viewing.{content_is}
+use Rattle.gathering.proofs.Viewing.{tails_are}
 use Rattle.gathering.proofs.Answering.{answer_is_slice}
 use Rattle.gathering.proofs.Members.{all_at}
+use Rattle.gathering.proofs.Covering.{IsTaken, flat_taken}
 use Rattle.gathering.proofs.Shares.{gathered_admissible, shares_admissible}
 use Rattle.gathering.proofs.Placing.{legal_first, legal_rest, moment-append}
 
@@ -45,18 +50,45 @@ view_stays start end events cut truncs legal s a = view_kept start end (moment_a
 
 -- ---------- the laws
 
+-- a view that is complete between two moments, from an earlier start
+view_waits : (first start end : Moment) (room : ℕ) (cut : List Gathered) → Grows first start → IsAdmissible start end cut → IsAdmissible first end cut
+view_waits first start end room [] g a = tt
+view_waits first start end room (h ∷ cut) g (p, more) = (
+  record { least = omega (arith, g.landed h.dropping p.stands.is_item, p.least); most = p.most; were_issued = p.were_issued; stands = p.stands; entries = p.entries },
+  view_waits first start end room cut g more,
+)
+
+-- What the calls of an opening gathered: an admissible cut that misses no dropping that stood at first, and what a
+-- flattened index covers of it.
+pub record HasCut (start end : Moment) (room : ℕ) (cut : List Gathered) (flat : Option Flat) : Type 0 where
+  pub admissible : IsAdmissible start end cut
+  pub complete : (d : Dropping) → d.room ≡ room → Stood start d → Any (λ (g : Gathered). g.dropping ≡ d) cut
+  pub pieces : ArePieces (covered_in end cut) [] (pieces_of flat)
+
+-- those of the droppings that were found
+found_all : (room : ℕ) (ds : List Dropping) (cut : List Gathered) → IsCutOf room ds cut → (d : Dropping) → Among d ds → Any (λ (g : Gathered). g.dropping ≡ d) cut
+found_all room ds cut cuts d a = all_at (λ (x : Dropping). Any (λ (g : Gathered). g.dropping ≡ x) cut) ds d cuts.all a
+
 -- the calls of an opening: what it scanned and what it gathered
-pub gathered_seen : (caller room : ℕ) (start end : Moment) (cut : List Gathered) (truncs : List Trunc) (calls : List Asked) (listing : Asked) → IsSeen caller start calls end → IsOpening room cut truncs calls listing
-    → IsAdmissible start end cut × ((d : Dropping) → d.room ≡ room → Stood start d → Any (λ (g : Gathered). g.dropping ≡ d) cut)
+pub gathered_seen : (caller room : ℕ) (start end : Moment) (cut : List Gathered) (truncs : List Trunc) (calls : List Asked) (listing : Asked) → IsSeen caller start calls end → (o : IsOpening room cut truncs calls listing) → HasCut start end room cut o.flat
 gathered_seen caller room start end cut truncs calls listing seen opening =
-    let s = seen_split caller start end opening.earlier (opening.scan ++ opening.entries) (subst (λ a. IsSeen caller start a end) opening.split seen) in
-    let t = seen_split caller s.0 end opening.scan opening.entries s.2 in
+    let s = seen_split caller start end opening.earlier (opening.flattened ++ (opening.scan ++ opening.entries)) (subst (λ a. IsSeen caller start a end) opening.split seen) in
+    let f = seen_split caller s.0 end opening.flattened (opening.scan ++ opening.entries) s.2 in
+    let t = seen_split caller f.0 end opening.scan opening.entries f.2 in
+    let found : (d : Dropping) → d.room ≡ room → Stood f.0 d → Any (λ (g : Gathered). g.dropping ≡ d) cut = λ d its stood.
+    found_all room opening.droppings cut opening.cuts d (scan_found caller room f.0 t.0 opening.scan opening.droppings d t.1 opening.scans its stood) in
+    let taken : IsTaken s.0 f.0 cut opening.flat = flat_taken caller room s.0 f.0 opening.flat opening.flattened cut f.1 opening.reads opening.cuts.rise opening.covered found in
     let first : Grows start s.0 = seen_grows caller start s.0 opening.earlier s.1 in
-    let then : Grows start t.0 = grows_trans start s.0 t.0 first (seen_grows caller s.0 t.0 opening.scan t.1) in (
-      gathered_admissible start end opening.gathered cut (gathers_all caller start end opening.gathered opening.entries (seen_waits caller start t.0 end opening.entries then t.2) opening.gathers) opening.has,
-      λ d its stood. all_at (λ (x : Dropping). Any (λ (g : Gathered). g.dropping ≡ x) cut) opening.droppings d opening.cuts.all
-          (scan_found caller room s.0 t.0 opening.scan opening.droppings d t.1 opening.scans its (stood_grows start s.0 d first stood)),
-    )
+    let scanned : Grows f.0 t.0 = seen_grows caller f.0 t.0 opening.scan t.1 in
+    let gathered : Grows t.0 end = seen_grows caller t.0 end opening.entries t.2 in
+    let begins : Grows start taken.m = grows_trans start s.0 taken.m first taken.begins in
+    let admissible : IsAdmissible taken.m end cut =
+    gathered_admissible taken.m end opening.gathered cut (gathers_all caller taken.m end opening.gathered opening.entries (seen_waits caller taken.m t.0 end opening.entries (grows_trans taken.m f.0 t.0 taken.ends scanned) t.2) opening.gathers) opening.has taken.landed in
+    record {
+      admissible = view_waits start taken.m end room cut begins admissible;
+      complete = λ d its stood. found d its (stood_grows start f.0 d (grows_trans start taken.m f.0 begins taken.ends) stood);
+      pieces = taken.pieces end (grows_trans f.0 t.0 end scanned gathered) admissible;
+    }
 
 pub opened : (caller room : ℕ) (start : Moment) (gathering : List Event) (listing : Event) (later : List Event) (cut : List Gathered) (truncs : List Trunc) → IsLawful start.state (gathering ++ listing ∷ later) → IsSoundAt start → IsOpening room cut truncs (calls_of caller gathering) (asked_in listing)
     → HasView start (moment_after start gathering) room cut truncs
@@ -68,10 +100,10 @@ opened caller room start gathering listing later cut truncs legal sound opening 
     let g = gathered_seen caller room start end cut truncs (calls_of caller gathering) (asked_in listing) (seen caller start gathering first sound) opening in
     record {
       rise = opening.cuts.rise;
-      admissible = g.0;
-      complete = g.1;
+      admissible = g.admissible;
+      complete = g.complete;
       all_truncs = truncs_listed end s listing.caller room truncs (asked_in listing) listing.after rest.1 opening.lists;
-      entries = content_is start end cut g.0;
+      entries = tails_are start end cut g.admissible;
     }
 
 -- Each answer of who has a view is a slice of its plain file, whatever goes on.
@@ -100,13 +132,35 @@ answers_last caller room start gathering listing between reading rest cut truncs
     ∙ ap (λ f. slice f at len) (sym (view_stays start end (listing ∷ later) cut truncs (legal_rest start gathering (listing ∷ later) legal) s v.admissible))
     ∙ ap (λ m. slice (view m cut truncs) at len) (sym (moment-append start gathering (listing ∷ later)))
 
--- a view that is complete between two moments, from an earlier start
-view_waits : (first start end : Moment) (room : ℕ) (cut : List Gathered) → Grows first start → IsAdmissible start end cut → IsAdmissible first end cut
-view_waits first start end room [] g a = tt
-view_waits first start end room (h ∷ cut) g (p, more) = (
-  record { least = omega (arith, landed_grows first start h.dropping g, p.least); most = p.most; were_issued = p.were_issued; stands = p.stands; entries = p.entries },
-  view_waits first start end room cut g more,
-)
+-- The pieces of the flattened index that an opening read are those of the covered entries of its cut.
+pub opened_flat : (caller room : ℕ) (start : Moment) (gathering : List Event) (listing : Event) (cut : List Gathered) (truncs : List Trunc) → IsLawful start.state gathering → IsSoundAt start → (o : IsOpening room cut truncs (calls_of caller gathering) (asked_in listing))
+    → ArePieces (covered_in (moment_after start gathering) cut) [] (pieces_of o.flat)
+opened_flat caller room start gathering listing cut truncs legal sound opening =
+    (gathered_seen caller room start (moment_after start gathering) cut truncs (calls_of caller gathering) (asked_in listing) (seen caller start gathering legal sound) opening).pieces
+
+-- ---------- workers
+
+-- what the calls of an opening and its workers gathered
+shared_seen : (caller room : ℕ) (start : Moment) (scanning gathering : List Event) (cut : List Gathered) (truncs : List Trunc) (listing : Asked) → IsLawful start.state scanning → IsLawful (moment_after start scanning).state gathering → IsSoundAt start
+    → (o : IsSharedOpening room cut truncs (calls_of caller scanning) gathering listing) → HasCut start (moment_after (moment_after start scanning) gathering) room cut o.flat
+shared_seen caller room start scanning gathering cut truncs listing l1 l2 sound opening =
+    let middle : Moment = moment_after start scanning in
+    let end : Moment = moment_after middle gathering in
+    let s1 : IsSoundAt middle = sound_after start scanning l1 sound in
+    let s = seen_split caller start middle opening.earlier (opening.flattened ++ opening.scan) (subst (λ a. IsSeen caller start a middle) opening.split (seen caller start scanning l1 sound)) in
+    let f = seen_split caller s.0 middle opening.flattened opening.scan s.2 in
+    let found : (d : Dropping) → d.room ≡ room → Stood f.0 d → Any (λ (g : Gathered). g.dropping ≡ d) cut = λ d its stood.
+    found_all room opening.droppings cut opening.cuts d (scan_found caller room f.0 middle opening.scan opening.droppings d f.2 opening.scans its stood) in
+    let taken : IsTaken s.0 f.0 cut opening.flat = flat_taken caller room s.0 f.0 opening.flat opening.flattened cut f.1 opening.reads opening.cuts.rise opening.covered found in
+    let begins : Grows start taken.m = grows_trans start s.0 taken.m (seen_grows caller start s.0 opening.earlier s.1) taken.begins in
+    let scanned : Grows f.0 middle = seen_grows caller f.0 middle opening.scan f.2 in
+    let goes : Grows middle end = grows_after middle gathering l2 s1 in
+    let admissible : IsAdmissible taken.m end cut = shares_admissible taken.m middle gathering opening.shares cut (grows_trans taken.m f.0 middle taken.ends scanned) l2 s1 opening.gathers opening.shared taken.landed in
+    record {
+      admissible = view_waits start taken.m end room cut begins admissible;
+      complete = λ d its stood. found d its (stood_grows start f.0 d (grows_trans start taken.m f.0 begins taken.ends) stood);
+      pieces = taken.pieces end (grows_trans f.0 middle end scanned goes) admissible;
+    }
 
 -- The same of a reader whose workers gather.
 pub shared_opened : (caller room : ℕ) (start : Moment) (scanning gathering : List Event) (listing : Event) (later : List Event) (cut : List Gathered) (truncs : List Trunc)
@@ -121,13 +175,15 @@ shared_opened caller room start scanning gathering listing later cut truncs lega
     let l3 = legal_first middle gathering (listing ∷ later) l2 in
     let l4 = legal_rest middle gathering (listing ∷ later) l2 in
     let s2 : IsSoundAt end = sound_after middle gathering l3 s1 in
-    let t = seen_split caller start middle opening.earlier opening.scan (subst (λ a. IsSeen caller start a middle) opening.split (seen caller start scanning l1 sound)) in
-    let admissible : IsAdmissible start end cut = view_waits start middle end room cut (grows_after start scanning l1 sound) (shares_admissible middle gathering opening.shares cut l3 s1 opening.gathers opening.shared) in
+    let g = shared_seen caller room start scanning gathering cut truncs (asked_in listing) l1 l3 sound opening in
     record {
       rise = opening.cuts.rise;
-      admissible = admissible;
-      complete = λ d its stood. all_at (λ (x : Dropping). Any (λ (g : Gathered). g.dropping ≡ x) cut) opening.droppings d opening.cuts.all
-          (scan_found caller room t.0 middle opening.scan opening.droppings d t.2 opening.scans its (stood_grows start t.0 d (seen_grows caller start t.0 opening.earlier t.1) stood));
+      admissible = g.admissible;
+      complete = g.complete;
       all_truncs = truncs_listed end s2 listing.caller room truncs (asked_in listing) listing.after l4.1 opening.lists;
-      entries = content_is start end cut admissible;
+      entries = tails_are start end cut g.admissible;
     }
+
+pub shared_flat : (caller room : ℕ) (start : Moment) (scanning gathering : List Event) (listing : Event) (cut : List Gathered) (truncs : List Trunc) → IsLawful start.state scanning → IsLawful (moment_after start scanning).state gathering → IsSoundAt start
+    → (o : IsSharedOpening room cut truncs (calls_of caller scanning) gathering (asked_in listing)) → ArePieces (covered_in (moment_after (moment_after start scanning) gathering) cut) [] (pieces_of o.flat)
+shared_flat caller room start scanning gathering listing cut truncs l1 l2 sound opening = (shared_seen caller room start scanning gathering cut truncs (asked_in listing) l1 l2 sound opening).pieces

@@ -2,7 +2,8 @@
 use Rattle.std.proofs.Common.{◌≡◌, ℕ, List, [], ◌∷◌, ◌++◌, refl, ap, sym, ◌∙◌, arith, true, false, nat_eq}
 use Rattle.std.specs.Prelude.{if◌then◌else◌}
 use Rattle.std.proofs.lemmas.Bool.Decides.{nat_tests}
-use Rattle.mount_model.specs.History.{Event, IsLawful, state_after}
+use Rattle.mount_model.specs.History.{Event, state_after}
+use Rattle.mount_sound.specs.Owed.{IsLawful}
 use Rattle.mount_sound.specs.Issued.{issued}
 use Rattle.gathering.specs.Moments.{Moment, next_moment, moment_after}
 use Rattle.gathering.specs.Seen.{Asked, asked_in, calls_of, IsPlaceOf}

@@ -18,7 +18,7 @@ use Rattle.mount_model.specs.declared.reply.Reply.TheVariants.{Room as RoomIs, L
 use Rattle.mount_model.specs.declared.row.Row.{Row}
 use Rattle.mount_model.specs.declared.row.Stage.{Stage}
 use Rattle.mount_model.specs.declared.row.Stage.TheVariants as stage
-use Rattle.mount_model.specs.Paths.{Name, new_folders, marks_name, marks_folder, mark_path, access_path, open_path, index_path, log_path, openhosts, truncs}
+use Rattle.mount_model.specs.Paths.{flats, Name, new_folders, marks_name, marks_folder, mark_path, access_path, open_path, index_path, log_path, openhosts, truncs}
 use Rattle.mount_model.specs.History.{Event}
 use Rattle.mount_model.specs.State.{State, id_of}
 use Rattle.mount_model.specs.Writing.{wrote, entry_of}
@@ -227,41 +227,44 @@ opens_second = asks 2 (MakeLog second_writer) Done (state (both_files [] []) 16 
 abbrev pub writes_second : Event
 writes_second = asks 2 (Write second_writer 1 second_log) (Wrote 9) (state (both_files [] second_log) 17 0 2 both_wrote)
 
+abbrev pub lists_flats : Event
+lists_flats = asks 3 (Look 1 (ListFolder flats)) (Looked (Names [])) (state (both_files [] second_log) 18 0 2 both_wrote)
+
 abbrev pub lists_top : Event
-lists_top = asks 3 (Look 1 Top) (Looked (Names top_names)) (state (both_files [] second_log) 18 0 2 both_wrote)
+lists_top = asks 3 (Look 1 Top) (Looked (Names top_names)) (state (both_files [] second_log) 19 0 2 both_wrote)
 
 abbrev pub flush_tears : Event
-flush_tears = asks 2 (Flush second_writer) Fault (state (both_files torn second_log) 19 1 2 both_wrote)
+flush_tears = asks 2 (Flush second_writer) Fault (state (both_files torn second_log) 20 1 2 both_wrote)
 
 abbrev pub lists_folder : Event
-lists_folder = asks 3 (Look 1 (ListFolder (hostdir_of 0))) (Looked (Names folder_names)) (state (both_files torn second_log) 20 1 2 both_wrote)
+lists_folder = asks 3 (Look 1 (ListFolder (hostdir_of 0))) (Looked (Names folder_names)) (state (both_files torn second_log) 21 1 2 both_wrote)
 
 abbrev pub asks_first : Event
-asks_first = asks 3 (Look 1 (Length (index_path 0 first_writer))) (Looked (Number 40)) (state (both_files torn second_log) 21 1 2 both_wrote)
+asks_first = asks 3 (Look 1 (Length (index_path 0 first_writer))) (Looked (Number 40)) (state (both_files torn second_log) 22 1 2 both_wrote)
 
 abbrev pub asks_first_log : Event
-asks_first_log = asks 3 (Look 1 (Length (log_path 0 first_writer))) (Looked (Number 2)) (state (both_files torn second_log) 22 1 2 both_wrote)
+asks_first_log = asks 3 (Look 1 (Length (log_path 0 first_writer))) (Looked (Number 2)) (state (both_files torn second_log) 23 1 2 both_wrote)
 
 abbrev pub reads_first : Event
-reads_first = asks 3 (Look 1 (Read (index_path 0 first_writer) 0 40)) (Looked (Bytes first_bytes)) (state (both_files torn second_log) 23 1 2 both_wrote)
+reads_first = asks 3 (Look 1 (Read (index_path 0 first_writer) 0 40)) (Looked (Bytes first_bytes)) (state (both_files torn second_log) 24 1 2 both_wrote)
 
 abbrev pub asks_second : Event
-asks_second = asks 3 (Look 1 (Length (index_path 0 second_writer))) (Looked (Number 20)) (state (both_files torn second_log) 24 1 2 both_wrote)
+asks_second = asks 3 (Look 1 (Length (index_path 0 second_writer))) (Looked (Number 20)) (state (both_files torn second_log) 25 1 2 both_wrote)
 
 abbrev pub asks_second_log : Event
-asks_second_log = asks 3 (Look 1 (Length (log_path 0 second_writer))) (Looked (Number 2)) (state (both_files torn second_log) 25 1 2 both_wrote)
+asks_second_log = asks 3 (Look 1 (Length (log_path 0 second_writer))) (Looked (Number 2)) (state (both_files torn second_log) 26 1 2 both_wrote)
 
 abbrev pub lists_truncs : Event
-lists_truncs = asks 3 (Look 1 (ListFolder truncs)) (Looked (Names [])) (state (both_files torn second_log) 26 1 2 both_wrote)
+lists_truncs = asks 3 (Look 1 (ListFolder truncs)) (Looked (Names [])) (state (both_files torn second_log) 27 1 2 both_wrote)
 
 abbrev pub flushes_second : Event
-flushes_second = asks 2 (Flush second_writer) (Flushed 1) (state (both_files second_bytes second_log) 27 1 2 (flushed first_wrote ∷ flushed second_wrote ∷ []))
+flushes_second = asks 2 (Flush second_writer) (Flushed 1) (state (both_files second_bytes second_log) 28 1 2 (flushed first_wrote ∷ flushed second_wrote ∷ []))
 
 abbrev pub reads_log : Event
-reads_log = asks 3 (Look 1 (Read (log_path 0 first_writer) 0 2)) (Looked (Bytes first_log)) (state (both_files second_bytes second_log) 28 1 2 (flushed first_wrote ∷ flushed second_wrote ∷ []))
+reads_log = asks 3 (Look 1 (Read (log_path 0 first_writer) 0 2)) (Looked (Bytes first_log)) (state (both_files second_bytes second_log) 29 1 2 (flushed first_wrote ∷ flushed second_wrote ∷ []))
 
 abbrev pub gathering : List Event
-gathering = makes_room ∷ enters_first ∷ floors_first ∷ houses_first ∷ indexes_first ∷ opens_first ∷ writes_first ∷ flushes_first ∷ enters_second ∷ floors_second ∷ houses_second ∷ indexes_second ∷ opens_second ∷ writes_second ∷ lists_top ∷ flush_tears ∷ lists_folder ∷ asks_first ∷ asks_first_log ∷ reads_first ∷ asks_second ∷ asks_second_log ∷ []
+gathering = makes_room ∷ enters_first ∷ floors_first ∷ houses_first ∷ indexes_first ∷ opens_first ∷ writes_first ∷ flushes_first ∷ enters_second ∷ floors_second ∷ houses_second ∷ indexes_second ∷ opens_second ∷ writes_second ∷ lists_flats ∷ lists_top ∷ flush_tears ∷ lists_folder ∷ asks_first ∷ asks_first_log ∷ reads_first ∷ asks_second ∷ asks_second_log ∷ []
 
 abbrev pub later : List Event
 later = flushes_second ∷ reads_log ∷ []

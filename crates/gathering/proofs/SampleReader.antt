@@ -26,6 +26,7 @@ use Rattle.gathering.specs.Moments.{Moment, IsSoundAt, moment_after, Dropping}
 use Rattle.gathering.specs.Seen.{asked_in, calls_of}
 use Rattle.gathering.specs.Gathering.{Gathered, Gathers}
 use Rattle.gathering.specs.Listing.{IsAmong, IsIndexName, AreDroppingsOf, ListsHostdirs, IsScan}
+use Rattle.gathering.specs.Flats.{IsCoveredSo}
 use Rattle.gathering.specs.View.{writes_in}
 use Rattle.gathering.specs.Opening.{IsOpening, ReadsSo}
 use Rattle.gathering.specs.Example.{no_rooms, IsBesideTornFlush}
@@ -49,6 +50,7 @@ empty_is_sound = record {
   all_landed = λ number room there writer fits. absurd (no_place room there);
   fitting = λ number writer past. refl;
   roomless = λ number writer e. refl;
+  flats = λ number room there id bytes item. absurd (no_place room there);
 }
 
 abbrev pub start : Moment
@@ -160,10 +162,10 @@ scans = record {
 -- ---------- what was gathered
 
 abbrev first_gathered : Gathered
-first_gathered = record { dropping = first_dropping; covered = 0; count = 1; content = sample.first_bytes }
+first_gathered = record { dropping = first_dropping; covered = 0; count = 1; tail = sample.first_entry ∷ [] }
 
 abbrev second_gathered : Gathered
-second_gathered = record { dropping = second_dropping; covered = 0; count = 0; content = [] }
+second_gathered = record { dropping = second_dropping; covered = 0; count = 0; tail = [] }
 
 abbrev pub cut : List Gathered
 cut = first_gathered ∷ second_gathered ∷ []
@@ -178,13 +180,12 @@ gathers_first = record {
   calls = refl;
   told = 40;
   log = 2;
-  read = sample.first_bytes;
+  content = sample.first_bytes;
   index_length = record { call = refl; reply = refl };
   log_length = record { call = refl; reply = inl refl };
-  bytes = (40, sample.first_bytes, [], record { call = refl; reply = refl }, omega arith, (refl, refl), sym (append-nil sample.first_bytes));
-  covered = refl;
+  bytes = (1, sample.first_bytes, record { call = refl; reply = refl }, omega arith, inl (refl, ([], (refl, refl), sym (append-nil sample.first_bytes))));
+  tail = refl;
   count = refl;
-  content = refl;
 }
 
 gathers_second : Gathers second_gathered (asked_in sample.asks_second ∷ asked_in sample.asks_second_log ∷ [])
@@ -196,18 +197,20 @@ gathers_second = record {
   calls = refl;
   told = 20;
   log = 2;
-  read = [];
+  content = [];
   index_length = record { call = refl; reply = refl };
   log_length = record { call = refl; reply = inl refl };
   bytes = (refl, refl);
-  covered = refl;
+  tail = refl;
   count = refl;
-  content = refl;
 }
 
 opens : IsOpening 1 cut [] (calls_of 3 sample.gathering) (asked_in sample.lists_truncs)
 opens = record {
   earlier = [];
+  flattened = asked_in sample.lists_flats ∷ [];
+  flat = None;
+  reads = record { first = asked_in sample.lists_flats; reads = []; calls = refl; names = []; lists = record { call = refl; reply = refl }; takes = (λ id any. absurd (let f = any_found _ [] any in f.1), refl) };
   scan = asked_in sample.lists_top ∷ asked_in sample.lists_folder ∷ [];
   entries = asked_in sample.asks_first ∷ asked_in sample.asks_first_log ∷ asked_in sample.reads_first ∷ asked_in sample.asks_second ∷ asked_in sample.asks_second_log ∷ [];
   split = refl;
@@ -226,6 +229,7 @@ opens = record {
     gathers_first,
     (asked_in sample.asks_second ∷ asked_in sample.asks_second_log ∷ [], [], refl, gathers_second, refl),
   );
+  covered = All-from_recursion (IsCoveredSo []) cut (refl, (refl, tt));
   has = All-from_recursion (λ (g : Gathered). IsAmong g cut) cut (is_among cut first_gathered (inl refl), (is_among cut second_gathered (inr (inl refl)), tt));
   lists = record { names = []; lists = record { call = refl; reply = refl }; told = record { rise = tt; named = All-from_recursion _ [] tt; all = λ t any. absurd (let f = any_found _ [] any in f.1) } };
 }
@@ -257,7 +261,7 @@ reads = record {
 
 -- The premises of the laws of a reader can be met, beside a torn flush.
 pub beside_torn_flush : IsBesideTornFlush start sample.gathering sample.lists_truncs sample.later cut
-unfolding digits spelling file_at
+unfolding digits spelling entry_in file_at
 beside_torn_flush = record {
   opened = holds no_rooms 0 0;
   empty = refl;
@@ -265,7 +269,7 @@ beside_torn_flush = record {
   none_issued = λ number writer. refl;
   sound = start_sound;
   legal = legal;
-  torn = found_any _ sample.gathering sample.flush_tears (inr (inr (inr (inr (inr (inr (inr (inr (inr (inr (inr (inr (inr (inr (inr (inl refl)))))))))))))))) (second_writer, refl, refl);
+  torn = found_any _ sample.gathering sample.flush_tears (inr (inr (inr (inr (inr (inr (inr (inr (inr (inr (inr (inr (inr (inr (inr (inr (inl refl))))))))))))))))) (second_writer, refl, refl);
   tail = refl;
   opens = opens;
   counts = refl;

@@ -19,7 +19,8 @@ use Rattle.mount_model.specs.State.{State}
 use Rattle.mount_model.specs.Listed.{IsGreatest, HasStamp}
 use Rattle.mount_model.specs.Step.{Answers, IsStep}
 use Rattle.mount_model.specs.Stopping.{Stops}
-use Rattle.mount_model.specs.History.{Event, IsLawful}
+use Rattle.mount_model.specs.History.{Event}
+use Rattle.mount_sound.specs.Owed.{IsLawful}
 use Rattle.gathering.proofs.Sample.{first_writer, second_writer, holds, state, begun}
 use Rattle.gathering.proofs.Sample as sample
 
@@ -100,9 +101,13 @@ writes_second : IsAnswered sample.opens_second.after sample.writes_second
 unfolding digits spelling
 writes_second = record { some = omega arith; time = 9; times = None; in_range = omega arith; ticks = refl; makes = does (sample.both_files [] []) (sample.both_files [] sample.second_log) 16 0 2 _ _ _ Made refl }
 
-lists_top : IsAnswered sample.writes_second.after sample.lists_top
+lists_flats : IsAnswered sample.writes_second.after sample.lists_flats
 unfolding digits spelling
-lists_top = does (sample.both_files [] sample.second_log) (sample.both_files [] sample.second_log) 17 0 2 _ _ _ (Names sample.top_names) refl
+lists_flats = does (sample.both_files [] sample.second_log) (sample.both_files [] sample.second_log) 17 0 2 _ _ _ (Names []) refl
+
+lists_top : IsAnswered sample.lists_flats.after sample.lists_top
+unfolding digits spelling
+lists_top = does (sample.both_files [] sample.second_log) (sample.both_files [] sample.second_log) 18 0 2 _ _ _ (Names sample.top_names) refl
 
 flush_tears : IsAnswered sample.lists_top.after sample.flush_tears
 unfolding digits spelling
@@ -110,39 +115,39 @@ flush_tears = record { told = Err trouble.Fault; made = record { tree = ((sample
 
 lists_folder : IsAnswered sample.flush_tears.after sample.lists_folder
 unfolding digits spelling
-lists_folder = does (sample.both_files sample.torn sample.second_log) (sample.both_files sample.torn sample.second_log) 19 1 2 _ _ _ (Names sample.folder_names) refl
+lists_folder = does (sample.both_files sample.torn sample.second_log) (sample.both_files sample.torn sample.second_log) 20 1 2 _ _ _ (Names sample.folder_names) refl
 
 asks_first : IsAnswered sample.lists_folder.after sample.asks_first
 unfolding digits spelling
-asks_first = does (sample.both_files sample.torn sample.second_log) (sample.both_files sample.torn sample.second_log) 20 1 2 _ _ _ (Number 40) refl
+asks_first = does (sample.both_files sample.torn sample.second_log) (sample.both_files sample.torn sample.second_log) 21 1 2 _ _ _ (Number 40) refl
 
 asks_first_log : IsAnswered sample.asks_first.after sample.asks_first_log
 unfolding digits spelling
-asks_first_log = does (sample.both_files sample.torn sample.second_log) (sample.both_files sample.torn sample.second_log) 21 1 2 _ _ _ (Number 2) refl
+asks_first_log = does (sample.both_files sample.torn sample.second_log) (sample.both_files sample.torn sample.second_log) 22 1 2 _ _ _ (Number 2) refl
 
 reads_first : IsAnswered sample.asks_first_log.after sample.reads_first
 unfolding digits spelling
-reads_first = does (sample.both_files sample.torn sample.second_log) (sample.both_files sample.torn sample.second_log) 22 1 2 _ _ _ (Bytes sample.first_bytes) refl
+reads_first = does (sample.both_files sample.torn sample.second_log) (sample.both_files sample.torn sample.second_log) 23 1 2 _ _ _ (Bytes sample.first_bytes) refl
 
 asks_second : IsAnswered sample.reads_first.after sample.asks_second
 unfolding digits spelling
-asks_second = does (sample.both_files sample.torn sample.second_log) (sample.both_files sample.torn sample.second_log) 23 1 2 _ _ _ (Number 20) refl
+asks_second = does (sample.both_files sample.torn sample.second_log) (sample.both_files sample.torn sample.second_log) 24 1 2 _ _ _ (Number 20) refl
 
 asks_second_log : IsAnswered sample.asks_second.after sample.asks_second_log
 unfolding digits spelling
-asks_second_log = does (sample.both_files sample.torn sample.second_log) (sample.both_files sample.torn sample.second_log) 24 1 2 _ _ _ (Number 2) refl
+asks_second_log = does (sample.both_files sample.torn sample.second_log) (sample.both_files sample.torn sample.second_log) 25 1 2 _ _ _ (Number 2) refl
 
 lists_truncs : IsAnswered sample.asks_second_log.after sample.lists_truncs
 unfolding digits spelling
-lists_truncs = does (sample.both_files sample.torn sample.second_log) (sample.both_files sample.torn sample.second_log) 25 1 2 _ _ _ (Names []) refl
+lists_truncs = does (sample.both_files sample.torn sample.second_log) (sample.both_files sample.torn sample.second_log) 26 1 2 _ _ _ (Names []) refl
 
 flushes_second : IsAnswered sample.lists_truncs.after sample.flushes_second
 unfolding digits spelling
-flushes_second = does (sample.both_files sample.torn sample.second_log) (sample.both_files sample.second_bytes sample.second_log) 26 1 2 _ _ _ Made refl
+flushes_second = does (sample.both_files sample.torn sample.second_log) (sample.both_files sample.second_bytes sample.second_log) 27 1 2 _ _ _ Made refl
 
 reads_log : IsAnswered sample.flushes_second.after sample.reads_log
 unfolding digits spelling
-reads_log = does (sample.both_files sample.second_bytes sample.second_log) (sample.both_files sample.second_bytes sample.second_log) 27 1 2 _ _ _ (Bytes sample.first_log) refl
+reads_log = does (sample.both_files sample.second_bytes sample.second_log) (sample.both_files sample.second_bytes sample.second_log) 28 1 2 _ _ _ (Bytes sample.first_log) refl
 
 -- a call that is answered so is a step, where its caller owes nothing but that it isn't broken off
 abbrev IsStepOf : State → Event → Type 0
@@ -154,78 +159,82 @@ step old event whole answers = record { does = subst (λ (stop : Option ℕ). Ma
 -- The history is legal.
 pub legal : IsLawful begun (sample.gathering ++ sample.lists_truncs ∷ sample.later)
 legal = (
-  tt,
+  record { numbers = tt; owes = λ clean. tt },
   step begun sample.makes_room refl makes_room,
   (
-    (omega arith, omega arith),
+    record { numbers = (omega arith, omega arith); owes = λ clean. tt },
     step sample.makes_room.after sample.enters_first refl enters_first,
     (
-      tt,
+      record { numbers = tt; owes = λ clean. tt },
       step sample.enters_first.after sample.floors_first refl floors_first,
       (
-        tt,
+        record { numbers = tt; owes = λ clean. tt },
         step sample.floors_first.after sample.houses_first refl houses_first,
         (
-          tt,
+          record { numbers = tt; owes = λ clean. tt },
           step sample.houses_first.after sample.indexes_first refl indexes_first,
           (
-            tt,
+            record { numbers = tt; owes = λ clean. tt },
             step sample.indexes_first.after sample.opens_first refl opens_first,
             (
-              tt,
+              record { numbers = tt; owes = λ clean. tt },
               step sample.opens_first.after sample.writes_first refl writes_first,
               (
-                tt,
+                record { numbers = tt; owes = λ clean. tt },
                 step sample.writes_first.after sample.flushes_first refl flushes_first,
                 (
-                  (omega arith, omega arith),
+                  record { numbers = (omega arith, omega arith); owes = λ clean. tt },
                   step sample.flushes_first.after sample.enters_second refl enters_second,
                   (
-                    tt,
+                    record { numbers = tt; owes = λ clean. tt },
                     step sample.enters_second.after sample.floors_second refl floors_second,
                     (
-                      tt,
+                      record { numbers = tt; owes = λ clean. tt },
                       step sample.floors_second.after sample.houses_second refl houses_second,
                       (
-                        tt,
+                        record { numbers = tt; owes = λ clean. tt },
                         step sample.houses_second.after sample.indexes_second refl indexes_second,
                         (
-                          tt,
+                          record { numbers = tt; owes = λ clean. tt },
                           step sample.indexes_second.after sample.opens_second refl opens_second,
                           (
-                            tt,
+                            record { numbers = tt; owes = λ clean. tt },
                             step sample.opens_second.after sample.writes_second refl writes_second,
                             (
-                              tt,
-                              step sample.writes_second.after sample.lists_top refl lists_top,
+                              record { numbers = tt; owes = λ clean. tt },
+                              step sample.writes_second.after sample.lists_flats refl lists_flats,
                               (
-                                tt,
-                                step sample.lists_top.after sample.flush_tears refl flush_tears,
+                                record { numbers = tt; owes = λ clean. tt },
+                                step sample.lists_flats.after sample.lists_top refl lists_top,
                                 (
-                                  tt,
-                                  step sample.flush_tears.after sample.lists_folder refl lists_folder,
+                                  record { numbers = tt; owes = λ clean. tt },
+                                  step sample.lists_top.after sample.flush_tears refl flush_tears,
                                   (
-                                    tt,
-                                    step sample.lists_folder.after sample.asks_first refl asks_first,
+                                    record { numbers = tt; owes = λ clean. tt },
+                                    step sample.flush_tears.after sample.lists_folder refl lists_folder,
                                     (
-                                      tt,
-                                      step sample.asks_first.after sample.asks_first_log refl asks_first_log,
+                                      record { numbers = tt; owes = λ clean. tt },
+                                      step sample.lists_folder.after sample.asks_first refl asks_first,
                                       (
-                                        tt,
-                                        step sample.asks_first_log.after sample.reads_first refl reads_first,
+                                        record { numbers = tt; owes = λ clean. tt },
+                                        step sample.asks_first.after sample.asks_first_log refl asks_first_log,
                                         (
-                                          tt,
-                                          step sample.reads_first.after sample.asks_second refl asks_second,
+                                          record { numbers = tt; owes = λ clean. tt },
+                                          step sample.asks_first_log.after sample.reads_first refl reads_first,
                                           (
-                                            tt,
-                                            step sample.asks_second.after sample.asks_second_log refl asks_second_log,
+                                            record { numbers = tt; owes = λ clean. tt },
+                                            step sample.reads_first.after sample.asks_second refl asks_second,
                                             (
-                                              tt,
-                                              step sample.asks_second_log.after sample.lists_truncs refl lists_truncs,
+                                              record { numbers = tt; owes = λ clean. tt },
+                                              step sample.asks_second.after sample.asks_second_log refl asks_second_log,
                                               (
-                                                tt,
-                                                step sample.lists_truncs.after sample.flushes_second refl flushes_second,
-                                                (tt, step sample.flushes_second.after sample.reads_log refl reads_log, tt),
+                                                record { numbers = tt; owes = λ clean. tt },
+                                                step sample.asks_second_log.after sample.lists_truncs refl lists_truncs,
+                                                (
+                                                  record { numbers = tt; owes = λ clean. tt },
+                                                  step sample.lists_truncs.after sample.flushes_second refl flushes_second,
+                                                  (record { numbers = tt; owes = λ clean. tt }, step sample.flushes_second.after sample.reads_log refl reads_log, tt),
+                                                ),
                                               ),
                                             ),
                                           ),

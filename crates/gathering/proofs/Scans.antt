@@ -15,11 +15,12 @@ use Rattle.gathering.specs.Seen.{Asked, IsSeenCall, IsSeen}
 use Rattle.gathering.specs.Listing.{IsIndexName, AreDroppingsOf, ListsHostdir, ShowsHostdir, ListsHostdirs, hostdirs, IsScan, WritersDiffer, AreFound}
 use Rattle.gathering.proofs.Seeing.{seen_grows, seen_split}
 use Rattle.gathering.proofs.Looking.{folder_listed}
-use Rattle.gathering.proofs.Fronts.{stood_grows, stands}
+use Rattle.gathering.proofs.Fronts.{stands}
+use Rattle.gathering.proofs.Growing.{stood_grows}
 use Rattle.gathering.proofs.Gathers.{answers_as}
 use Rattle.gathering.proofs.Members.{is_among}
-use Rattle.gathering.proofs.Entries.{among_listed, named_file}
-use Rattle.gathering.proofs.Listings.{not_top, dropping_eq, scan_found}
+use Rattle.gathering.proofs.Entries.{among_listed, named_file, not_top}
+use Rattle.gathering.proofs.Listings.{dropping_eq, scan_found}
 use Rattle.gathering.proofs.Viewing.{All-append, All-weaker}
 
 -- ---------- droppings and their names

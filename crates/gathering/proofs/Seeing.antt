@@ -3,26 +3,19 @@ use Rattle.std.proofs.Common.{◌≡◌, ℕ, List, [], ◌∷◌, ◌++◌, ref
 use Rattle.std.specs.Prelude.{if◌then◌else◌}
 use Rattle.std.proofs.lemmas.Bool.Decides.{nat_tests}
 use Rattle.mount_model.specs.Step.{IsStep}
-use Rattle.mount_model.specs.History.{Event, IsLawful}
-use Rattle.mount_sound.proofs.Facts.{step_keeps}
+use Rattle.mount_model.specs.History.{Event}
+use Rattle.mount_sound.specs.Owed.{IsLawful}
 use Rattle.gathering.specs.Moments.{Moment, IsSoundAt, next_moment, moment_after, Grows}
 use Rattle.gathering.specs.Seen.{Asked, asked_in, calls_of, IsSeen}
-use Rattle.gathering.proofs.Left.{left_stays}
-use Rattle.gathering.proofs.Growing.{step_grows, grows_refl, grows_trans}
+use Rattle.gathering.proofs.Growing.{grows_refl, grows_trans}
+use Rattle.gathering.proofs.Stepping.{sound_next, grows_next}
 
 pub alike : (a b : ℕ) → nat_eq a b ≡ true → a ≡ b
 alike a b t = grind (arith, nat_tests)
 
--- soundness at the moment after a step
-pub sound_next : (m : Moment) (e : Event) (rest : List Event) → IsLawful m.state (e ∷ rest) → IsSoundAt m → IsSoundAt (next_moment m e)
-sound_next m e rest legal sound = step_keeps m.issued m.state e.after e.caller e.ask e.reply legal.0 legal.1 sound
-
 pub sound_after : (m : Moment) (events : List Event) → IsLawful m.state events → IsSoundAt m → IsSoundAt (moment_after m events)
 sound_after m [] legal sound = sound
 sound_after m (e ∷ rest) legal sound = sound_after (next_moment m e) rest legal.2 (sound_next m e rest legal sound)
-
-pub grows_next : (m : Moment) (e : Event) (rest : List Event) → IsLawful m.state (e ∷ rest) → IsSoundAt m → Grows m (next_moment m e)
-grows_next m e rest legal sound = step_grows m e sound.shape.tree sound.shape.told legal.1 (left_stays m e sound legal.1)
 
 -- Later moments of a legal history extend earlier ones.
 pub grows_after : (m : Moment) (events : List Event) → IsLawful m.state events → IsSoundAt m → Grows m (moment_after m events)

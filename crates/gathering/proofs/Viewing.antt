@@ -6,8 +6,6 @@ use Rattle.std.proofs.lemmas.List.Elements.{All-from_recursion}
 use Rattle.std.proofs.Math.Seq.{drop-append_seam, take-append_seam}
 use Rattle.plfs_types.specs.declared.entries.Entry.{Entry}
 use Rattle.plfs_types.specs.declared.entries.Trunc.{Trunc}
-use Rattle.index_entry.specs.Spelling.{spelling_all}
-use Rattle.index_entry.proofs.Facts.{spelling_all-append}
 use Rattle.plain_file.specs.declared.changes.Change.{Change}
 use Rattle.plain_file.specs.declared.changes.Change.TheVariants.{Truncate}
 use Rattle.plain_file.specs.File.{HasItsBytes, slice}
@@ -18,7 +16,7 @@ use Rattle.mount_sound.specs.Entries.{AreEntriesOf}
 use Rattle.mount_sound.specs.Ledger.{Written, entries_in, content, AreFull}
 use Rattle.gathering.specs.Moments.{Moment, IsSoundAt, issued_by}
 use Rattle.gathering.specs.Gathering.{Gathered, IsAdmissible}
-use Rattle.gathering.specs.View.{change_of, cut_off, writes_in, changes_in, content_of, own_entries, tails_in, WritersRise, logs_of}
+use Rattle.gathering.specs.View.{change_of, cut_off, writes_in, changes_in, tails_of, own_entries, tails_in, WritersRise, logs_of}
 use Rattle.gathering.proofs.Fronts.{entries-append}
 
 -- ---------- entries and truncates of the changes
@@ -48,12 +46,11 @@ entries_in-take (suc n) (w ∷ writes) = ap (λ l. w.entry ∷ l) (entries_in-ta
 pub entries_split : (end : Moment) (g : Gathered) (cut : List Gathered) → entries_in (writes_in end (g ∷ cut)) ≡ own_entries end g ++ entries_in (writes_in end cut)
 entries_split end g cut = entries-append (take g.count (issued_by end g.dropping)) (writes_in end cut) ∙ ap (λ l. l ++ entries_in (writes_in end cut)) (entries_in-take g.count (issued_by end g.dropping))
 
--- What the reader read of the index droppings is the spelling of its cut's entries, but for the covered ones.
-pub content_is : (start end : Moment) (cut : List Gathered) → IsAdmissible start end cut → content_of cut ≡ spelling_all (tails_in end cut)
-content_is start end [] a = refl
-content_is start end (g ∷ cut) a =
-    let tail : List Entry = drop g.covered (take g.count (entries_in (issued_by end g.dropping))) in
-    ap (λ c. c ++ content_of cut) a.0.entries ∙ ap (λ c. spelling_all tail ++ c) (content_is start end cut a.1) ∙ sym (spelling_all-append tail (tails_in end cut))
+-- What the reader gathered of the index droppings are its cut's entries, but for the covered ones.
+pub tails_are : (start end : Moment) (cut : List Gathered) → IsAdmissible start end cut → tails_of cut ≡ tails_in end cut
+tails_are start end [] a = refl
+tails_are start end (g ∷ cut) a =
+    ap (λ c. c ++ tails_of cut) a.0.entries ∙ ap (λ c. drop g.covered (own_entries end g) ++ c) (tails_are start end cut a.1)
 
 -- ---------- facts of all changes
 

@@ -3,7 +3,7 @@ use Rattle.std.specs.Prelude.{◌≡◌, ◌≢◌, ◌≤◌, ℕ, List, [], �
 use Rattle.std.specs.List.{Any}
 use Rattle.mount_model.specs.declared.row.Row.{Row}
 use Rattle.mount_model.specs.declared.call.Call.{Call}
-use Rattle.mount_model.specs.declared.call.Call.TheVariants.{MakeIndex, Flush, SyncIndex}
+use Rattle.mount_model.specs.declared.call.Call.TheVariants.{Flush, SyncIndex}
 use Rattle.mount_model.specs.declared.reply.Reply.TheVariants.{Flushed, Synced}
 use Rattle.mount_model.specs.Table.{row_of}
 use Rattle.mount_model.specs.State.{State}
@@ -30,9 +30,8 @@ IsSyncedIn events d count = Any (λ (e : Event). (e.ask.call ≡ SyncIndex d.wri
 abbrev pub IsFlushedIn : List Event → Dropping → ℕ → Type 0
 IsFlushedIn events d count = Any (λ (e : Event). (e.ask.call ≡ Flush d.writer) × (e.reply ≡ Flushed count) × IsOf e.after d) events
 
--- a call that lets this index dropping be: none that makes or flushes it
+-- a call that lands nothing in this index dropping: it doesn't flush its writer
 abbrev pub SparesIndex : Call → Dropping → Type 0
-SparesIndex (MakeIndex writer) d = writer ≢ d.writer
 SparesIndex (Flush writer) d = writer ≢ d.writer
 SparesIndex call d = Unit {0}
 

@@ -6,7 +6,8 @@ use Rattle.store_api.specs.Acts.{Stored}
 use Rattle.mount_model.specs.declared.call.Call.TheVariants.{Flush}
 use Rattle.mount_model.specs.declared.reply.Reply.TheVariants.{Fault}
 use Rattle.mount_model.specs.Mounting.{IsMounted}
-use Rattle.mount_model.specs.History.{Event, IsLawful}
+use Rattle.mount_model.specs.History.{Event}
+use Rattle.mount_sound.specs.Owed.{IsLawful}
 use Rattle.mount_sound.specs.Dropping.{bytes_of}
 use Rattle.gathering.specs.Moments.{Moment, IsSoundAt, moment_after, index_then, landed}
 use Rattle.gathering.specs.Seen.{asked_in, calls_of}

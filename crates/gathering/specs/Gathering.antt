@@ -1,14 +1,15 @@
 -- How a reader gathers the entries of writers.
-use Rattle.std.specs.Prelude.{◌≡◌, ◌⊎◌, ◌≤◌, ◌+◌, ◌*◌, ◌/◌, ◌++◌, ℕ, List, [], ◌∷◌, length, take, drop}
+use Rattle.std.specs.Prelude.{◌≡◌, ◌⊎◌, ◌≤◌, ◌<◌, ◌+◌, ◌*◌, ◌/◌, ◌++◌, ℕ, List, [], ◌∷◌, length, take, drop}
 use Rattle.std.specs.List.{All, Any, AllByRecursion}
+use Rattle.plfs_types.specs.declared.entries.Entry.{Entry}
 use Rattle.plfs_types.specs.declared.limits.TheConstants.{ENTRY_SIZE}
-use Rattle.index_entry.specs.Spelling.{spelling_all}
 use Rattle.store_api.specs.declared.step.Answer.TheVariants.{Number, Bytes, Absent}
 use Rattle.mount_model.specs.declared.call.Call.TheVariants.{Look}
 use Rattle.mount_model.specs.declared.call.Look.TheVariants.{Length, Read}
 use Rattle.mount_model.specs.declared.reply.Reply.TheVariants.{Looked}
 use Rattle.mount_model.specs.Paths.{index_path, log_path}
 use Rattle.mount_model.specs.History.{Event}
+use Rattle.mount_sound.specs.Landed.{whole}
 use Rattle.mount_sound.specs.Ledger.{entries_in}
 use Rattle.index_entry.specs.Within.{within_log}
 use Rattle.gathering.specs.Moments.{Moment, Dropping, IsNamed, Stood, issued_by, landed}
@@ -30,20 +31,24 @@ pub record IsRead (d : Dropping) (at len : ℕ) (bytes : List ℕ) (asked : Aske
   pub call : asked.ask.call ≡ Look d.room (Read (index_path d.host d.writer) at len)
   pub reply : asked.reply ≡ Looked (Bytes bytes)
 
--- Reads of the bytes from one place to another, piece by piece, and what they gave.
+-- Reads of the whole entries from this one on, up to that one, one Read after the other, and what they gave. A Read that
+-- gave less than it asked for is the last.
 abbrev pub AreReads : Dropping → ℕ → ℕ → List Asked → List ℕ → Type 0
-AreReads d at end [] content = (at ≡ end) × (content ≡ [])
-AreReads d at end (asked ∷ rest) content = (len : ℕ) × (bytes more : List ℕ) × IsRead d at len bytes asked × (at + len ≤ end) × AreReads d (at + len) end rest more × (content ≡ bytes ++ more)
+AreReads d first end [] content = (first ≡ end) × (content ≡ [])
+AreReads d first end (asked ∷ rest) content =
+    (count : ℕ) × (bytes : List ℕ) × IsRead d (ENTRY_SIZE * first) (ENTRY_SIZE * count) bytes asked × (first + count ≤ end)
+    × (((length bytes ≡ ENTRY_SIZE * count) × ((more : List ℕ) × AreReads d (first + count) end rest more × (content ≡ bytes ++ more)))
+    ⊎ ((length bytes < ENTRY_SIZE * count) × (rest ≡ []) × (content ≡ bytes)))
 
--- What was gathered of a writer: how many entries, and the bytes of those that a flattened index doesn't cover.
+-- What was gathered of a writer: how many entries, and those that a flattened index doesn't cover.
 pub record Gathered : Type 0 where
   pub dropping : Dropping
   pub covered : ℕ
   pub count : ℕ
-  pub content : List ℕ
+  pub tail : List Entry
 
--- The calls that gathered it: the length, that of the log, then the bytes of the whole entries. Those count that end
--- within the log, up to the first that doesn't. (There are no flattened indices yet.)
+-- The calls that gathered it: the length of the index dropping, that of the log, then the bytes of the whole entries
+-- past the covered ones. Those count that end within the log, up to the first that doesn't.
 pub record Gathers (g : Gathered) (asked : List Asked) : Type 0 where
   pub named : IsNamed g.dropping
   pub first : Asked
@@ -52,13 +57,16 @@ pub record Gathers (g : Gathered) (asked : List Asked) : Type 0 where
   pub calls : asked ≡ first ∷ second ∷ reads
   pub told : ℕ
   pub log : ℕ
-  pub read : List ℕ
+  pub content : List ℕ
   pub index_length : IsLength g.dropping told first
   pub log_length : IsLogLength g.dropping log second
-  pub bytes : AreReads g.dropping 0 (ENTRY_SIZE * (told / ENTRY_SIZE)) reads read
-  pub covered : g.covered ≡ 0
-  pub count : g.count ≡ length (within_log log (told / ENTRY_SIZE) read)
-  pub content : g.content ≡ spelling_all (within_log log (told / ENTRY_SIZE) read)
+  pub bytes : AreReads g.dropping g.covered (told / ENTRY_SIZE) reads content
+  pub tail : g.tail ≡ within_log log (whole content) content
+  pub count : g.count ≡ g.covered + length g.tail
+
+-- what a flattened index covers of it had landed at that moment
+abbrev pub CoversLanded : Moment → Gathered → Type 0
+CoversLanded moment g = g.covered ≤ landed moment g.dropping
 
 -- the calls that gathered them all, one writer after the other
 abbrev pub GathersAll : List Gathered → List Asked → Type 0
@@ -75,7 +83,7 @@ pub record IsPrefixOf (start end : Moment) (g : Gathered) : Type 0 where
   pub most : g.count ≤ landed end g.dropping
   pub were_issued : g.count ≤ length (issued_by end g.dropping)
   pub stands : Stood end g.dropping
-  pub entries : g.content ≡ spelling_all (drop g.covered (take g.count (entries_in (issued_by end g.dropping))))
+  pub entries : g.tail ≡ drop g.covered (take g.count (entries_in (issued_by end g.dropping)))
 
 -- each count lies between what had landed at the two moments
 abbrev pub IsAdmissible : Moment → Moment → List Gathered → Type 0

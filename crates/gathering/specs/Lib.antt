@@ -3,6 +3,7 @@ pub mod Seen
 pub mod Gathering
 pub mod Listing
 pub mod View
+pub mod Flats
 pub mod Parts
 pub mod Opening
 pub mod Bounds

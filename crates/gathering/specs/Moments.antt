@@ -1,22 +1,23 @@
 -- Moments of a history, and how later ones extend earlier ones.
-use Rattle.std.specs.Prelude.{◌≡◌, ◌≢◌, ◌≤◌, ◌<◌, ℕ, List, [], ◌∷◌, length, min, Option, Some, None, slice_get}
+use Rattle.std.specs.Prelude.{◌≡◌, ◌≤◌, ℕ, List, [], ◌∷◌, length, Option, Some, None, slice_get}
+use Rattle.plfs_types.specs.declared.entries.Entry.{Entry}
 use Rattle.plfs_types.specs.declared.names.Path.{Path}
 use Rattle.container_layout.specs.declared.items.Item.{Item}
-use Rattle.container_layout.specs.declared.items.Item.TheVariants.{Index, Trunc}
+use Rattle.container_layout.specs.declared.items.Item.TheVariants.{Flat, Index, Trunc}
 use Rattle.container_layout.specs.Items.{IsItem}
 use Rattle.container_layout.specs.Paths.{path_of}
 use Rattle.store_api.specs.declared.tree.Room.{Room}
 use Rattle.store_api.specs.declared.tree.Tree.{Tree}
 use Rattle.store_laws.specs.Files.{file_at}
-use Rattle.mount_model.specs.Paths.{openhosts, index_path, log_path}
+use Rattle.mount_model.specs.Paths.{flat_path, index_path, log_path}
 use Rattle.mount_model.specs.State.{State}
 use Rattle.mount_model.specs.History.{Event}
 use Rattle.mount_sound.specs.Ledger.{Written, Ledger}
 use Rattle.mount_sound.specs.Dropping.{bytes_of}
 use Rattle.mount_sound.specs.Issued.{issued_after}
-use Rattle.mount_sound.specs.Landed.{whole}
-use Rattle.mount_sound.specs.Growing.{IssuesMore}
+use Rattle.mount_sound.specs.Growing.{IssuesMore, Stays}
 use Rattle.mount_sound.specs.Sound.{IsSoundFor}
+use Rattle.mount_sound.specs.There.{entries_there}
 
 -- a state, and what was issued until then
 pub record Moment : Type 0 where
@@ -84,19 +85,19 @@ index_then moment d = file_then moment d.room (index_path d.host d.writer)
 abbrev pub log_then : Moment → Dropping → Option (List ℕ)
 log_then moment d = file_then moment d.room (log_path d.host d.writer)
 
--- How many of its entries have landed: the whole ones in its index dropping, as far as it issued them. (Of a dropping
--- that an earlier mount left, those have been issued that end within its log.)
+-- its entries that have landed: the first whole ones of its index dropping that end within its log
+abbrev pub landed_by : Moment → Dropping → List Entry
+landed_by moment d = entries_there (bytes_of (index_then moment d)) (bytes_of (log_then moment d))
+
+-- how many have landed
 abbrev pub landed : Moment → Dropping → ℕ
-landed moment d = min (whole (bytes_of (index_then moment d))) (length (issued_by moment d))
+landed moment d = length (landed_by moment d)
 
--- a dropping of an earlier mount has entries that count as not there, since its log lacks their bytes
-abbrev pub HasUnissued : Moment → Dropping → Type 0
-HasUnissued moment d = length (issued_by moment d) < whole (bytes_of (index_then moment d))
-
--- A later moment: writers issued no less, and each file is still there and no shorter, but for those that say who is
--- open.
+-- A later moment: writers issued no less, what stays stands, no dropping has lost an entry that had landed, no log a
+-- byte, and flattened indices are as they were.
 pub record Grows (old new : Moment) : Type 0 where
   pub issued : IssuesMore old.issued new.issued
-  pub files : (room : ℕ) (path : Path) (bytes : List ℕ) → path.folder ≢ openhosts → file_then old room path ≡ Some bytes → (later : List ℕ) × (file_then new room path ≡ Some later) × (length bytes ≤ length later)
-  -- such a dropping stays as it is
-  pub left : (d : Dropping) → IsNamed d → HasUnissued old d → (index_then new d ≡ index_then old d) × (log_then new d ≡ log_then old d) × (issued_by new d ≡ issued_by old d)
+  pub stands : (room : ℕ) (item : Item) → Stays item → HadItem old room item → HadItem new room item
+  pub landed : (d : Dropping) → IsNamed d → landed old d ≤ landed new d
+  pub logs : (d : Dropping) (log : List ℕ) → IsNamed d → log_then old d ≡ Some log → (later : List ℕ) × (log_then new d ≡ Some later) × (length log ≤ length later)
+  pub flats : (room id : ℕ) (bytes : List ℕ) → IsItem (Flat id) → file_then old room (flat_path id) ≡ Some bytes → file_then new room (flat_path id) ≡ Some bytes

@@ -1,11 +1,11 @@
 -- The opening of a reader, and what it sees from then on.
-use Rattle.std.specs.Prelude.{◌≡◌, ℕ, List, ◌∷◌, ◌++◌}
+use Rattle.std.specs.Prelude.{◌≡◌, ℕ, List, ◌∷◌, ◌++◌, Option}
 use Rattle.std.specs.List.{All, Any}
 use Rattle.plfs_types.specs.declared.entries.Trunc.{Trunc}
-use Rattle.index_entry.specs.Spelling.{spelling_all}
 use Rattle.plain_file.specs.declared.pieces.Piece.{Piece}
 use Rattle.plain_file.specs.File.{plain_size}
 use Rattle.plain_file.specs.Runs.{ArePieces}
+use Rattle.flat_format.specs.declared.flat.Flat.{Flat}
 use Rattle.read_plan.specs.Plan.{plan_of}
 use Rattle.mount_model.specs.declared.call.Look.TheVariants.{List as ListFolder}
 use Rattle.mount_model.specs.Paths.{Name, truncs as truncs_folder}
@@ -15,7 +15,8 @@ use Rattle.gathering.specs.Moments.{Moment, moment_after, Dropping, Stood}
 use Rattle.gathering.specs.Seen.{Asked, calls_of}
 use Rattle.gathering.specs.Gathering.{Gathered, GathersAll, AreGathered, Share, GatherShares, AreShared, IsAdmissible}
 use Rattle.gathering.specs.Listing.{IsAmong, IsListed, IsScan, AreTruncsOf, AreTruncsAt}
-use Rattle.gathering.specs.View.{writes_in, tails_in, content_of, changes_in, WritersRise, IsAnswer}
+use Rattle.gathering.specs.Flats.{IsCoveredSo, ReadsFlat, covers_of}
+use Rattle.gathering.specs.View.{writes_in, tails_in, tails_of, changes_in, WritersRise, IsAnswer}
 
 -- The truncates of the room were asked and told.
 pub record ListsTruncs (room : ℕ) (truncs : List Trunc) (asked : Asked) : Type 0 where
@@ -29,33 +30,42 @@ pub record IsCutOf (room : ℕ) (ds : List Dropping) (cut : List Gathered) : Typ
   pub found : All (λ (g : Gathered). IsAmong g.dropping ds) cut
   pub all : All (λ (d : Dropping). Any (λ (g : Gathered). g.dropping ≡ d) cut) ds
 
--- The calls that open a reader: it scans the room for droppings, gathers the cut, and last lists the truncates.
+-- The calls that open a reader: it reads the newest flattened index, scans the room for droppings, gathers what that
+-- doesn't cover of the cut, and last lists the truncates.
 pub record IsOpening (room : ℕ) (cut : List Gathered) (truncs : List Trunc) (calls : List Asked) (listing : Asked) : Type 0 where
-  -- it finds the room, and reads the newest flattened index
+  -- it finds the room
   pub earlier : List Asked
+  pub flattened : List Asked
   pub scan : List Asked
   pub entries : List Asked
-  pub split : calls ≡ earlier ++ (scan ++ entries)
+  pub split : calls ≡ earlier ++ (flattened ++ (scan ++ entries))
+  pub flat : Option Flat
+  pub reads : ReadsFlat room flat flattened
   pub droppings : List Dropping
   pub scans : IsScan room droppings scan
   pub cuts : IsCutOf room droppings cut
   -- in the order of the shares where these are read one after the other, else by rising writer
   pub gathered : List Gathered
   pub gathers : GathersAll gathered entries
+  pub covered : All (IsCoveredSo (covers_of flat)) cut
   pub has : AreGathered gathered cut
   pub lists : ListsTruncs room truncs listing
 
--- The calls that open a reader whose workers gather: it scans the room for droppings, each worker gathers its share in
--- these events, and last it lists the truncates.
+-- The calls that open a reader whose workers gather: it reads the newest flattened index, scans the room for droppings,
+-- each worker gathers its share in these events, and last it lists the truncates.
 pub record IsSharedOpening (room : ℕ) (cut : List Gathered) (truncs : List Trunc) (calls : List Asked) (gathering : List Event) (listing : Asked) : Type 0 where
   pub earlier : List Asked
+  pub flattened : List Asked
   pub scan : List Asked
-  pub split : calls ≡ earlier ++ scan
+  pub split : calls ≡ earlier ++ (flattened ++ scan)
+  pub flat : Option Flat
+  pub reads : ReadsFlat room flat flattened
   pub droppings : List Dropping
   pub scans : IsScan room droppings scan
   pub cuts : IsCutOf room droppings cut
   pub shares : List Share
   pub gathers : GatherShares gathering shares
+  pub covered : All (IsCoveredSo (covers_of flat)) cut
   pub shared : AreShared shares cut
   pub lists : ListsTruncs room truncs listing
 
@@ -75,7 +85,7 @@ pub record HasView (start end : Moment) (room : ℕ) (cut : List Gathered) (trun
   pub admissible : IsAdmissible start end cut
   pub complete : (d : Dropping) → d.room ≡ room → Stood start d → Any (λ (g : Gathered). g.dropping ≡ d) cut
   pub all_truncs : AreTruncsAt end room truncs
-  pub entries : content_of cut ≡ spelling_all (tails_in end cut)
+  pub entries : tails_of cut ≡ tails_in end cut
 
 -- The places in a history at which a caller's opening of a reader began and at which it listed the truncates, with what
 -- the reader then has.

@@ -1,6 +1,6 @@
 -- The file that a reader sees, and its answers.
 use Rattle.std.specs.Prelude.{◌≡◌, ◌<◌, ℕ, List, [], ◌∷◌, ◌++◌, take, drop, map, replicate}
-use Rattle.std.specs.List.{AllByRecursion, Any}
+use Rattle.std.specs.List.{All, AllByRecursion, Any}
 use Rattle.plfs_types.specs.declared.entries.Entry.{Entry}
 use Rattle.plfs_types.specs.declared.entries.Trunc.{Trunc}
 use Rattle.index_entry.specs.Valid.{IsValidEntry}
@@ -39,14 +39,18 @@ changes_in moment cut truncs = map change_of (writes_in moment cut) ++ map cut_o
 abbrev pub view : Moment → List Gathered → List Trunc → List ℕ
 view moment cut truncs = plain (changes_in moment cut truncs)
 
--- all that a reader read of the index droppings
-abbrev pub content_of : List Gathered → List ℕ
-content_of [] = []
-content_of (g ∷ cut) = g.content ++ content_of cut
+-- the entries that a reader gathered of the index droppings
+abbrev pub tails_of : List Gathered → List Entry
+tails_of [] = []
+tails_of (g ∷ cut) = g.tail ++ tails_of cut
 
 -- the entries of one writer of the cut
 abbrev pub own_entries : Moment → Gathered → List Entry
 own_entries moment g = take g.count (entries_in (issued_by moment g.dropping))
+
+-- the truncate has a stamp above every entry of the cut
+abbrev pub IsAboveCut : Moment → List Gathered → Trunc → Type 0
+IsAboveCut end cut t = All (λ (e : Entry). e.stamp < t.stamp) (entries_in (writes_in end cut))
 
 -- the entries of the cut that a flattened index covers
 abbrev pub covered_in : Moment → List Gathered → List Entry

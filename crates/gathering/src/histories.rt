@@ -4,7 +4,9 @@ ghost use Rattle.plfs_types.specs.declared.names.Path.{Path};
 ghost use Rattle.mount_model.specs.Paths.{log_path};
 ghost use Rattle.mount_model.specs.State.{State};
 ghost use Rattle.mount_model.specs.Step.{Answers};
-ghost use Rattle.mount_model.specs.History.{Event, IsLawful, state_after};
+ghost use Rattle.mount_model.specs.History.{Event, state_after};
+ghost use Rattle.mount_sound.specs.Excluding.{IsAboveAll};
+ghost use Rattle.mount_sound.specs.Owed.{InRoom, IsLawful};
 ghost use Rattle.mount_model.specs.declared.call.Call.TheVariants.{Flush, Look, SyncIndex};
 ghost use Rattle.mount_model.specs.declared.call.Look.TheVariants.{Read};
 ghost use Rattle.mount_model.specs.declared.reply.Reply.{Reply};
@@ -21,8 +23,9 @@ pub fn moments_follow_histories()
     ensures { (moment : Moment) (events : List Event) → ((moment_after moment events).state ≡ state_after moment.state events) × ((moment_after moment events).issued ≡ issued moment.issued moment.state events) }
 {}
 
-/// A law: at later moments of a legal history each writer has issued no less, and each file outside
-/// the folder of who is open is there and no shorter.
+/// A law: at later moments of a lawful history each writer has issued no less and none of its
+/// entries that had landed is lost, no log is shorter, flattened indices are as they were, and each
+/// item stands that stood, but for entries of open writers and indices that were being written.
 pub fn history_grows()
     ensures { (moment : Moment) (events : List Event) → IsLawful moment.state events → IsSoundAt moment → Grows moment (moment_after moment events) }
 {}
@@ -59,9 +62,11 @@ pub fn truncates_stay()
     ensures { (moment : Moment) (events : List Event) (room stamp size : ℕ) → IsLawful moment.state events → IsSoundAt moment → HadTrunc moment room stamp size → HadTrunc (moment_after moment events) room stamp size }
 {}
 
-/// A law: a truncate that is there after events was there before them, since no call puts one yet.
-pub fn no_truncate_comes()
-    ensures { (moment : Moment) (events : List Event) (room stamp size : ℕ) → IsLawful moment.state events → IsSoundAt moment → HadTrunc (moment_after moment events) room stamp size → HadTrunc moment room stamp size }
+/// A law: a truncate that is there after events, and was not before them, has a stamp above every
+/// truncate of its room that was there before them, and every entry that had landed.
+pub fn truncates_come_above()
+    ensures { (moment : Moment) (events : List Event) (number stamp size : ℕ) → IsLawful moment.state events → IsSoundAt moment
+        → (HadTrunc moment number stamp size → ⊥) → HadTrunc (moment_after moment events) number stamp size → InRoom moment.state number (λ room. IsAboveAll room stamp) }
 {}
 
 /// A law: a read of a container's file gives its bytes, or the store's count of faults rose, or

@@ -11,30 +11,34 @@ ghost use Rattle.read_plan.specs.Plan.{plan_of};
 ghost use Rattle.mount_model.specs.Paths.{log_path};
 ghost use Rattle.mount_model.specs.State.{State};
 ghost use Rattle.mount_model.specs.Step.{Answers};
-ghost use Rattle.mount_model.specs.History.{Event, IsLawful};
+ghost use Rattle.mount_model.specs.History.{Event};
+ghost use Rattle.mount_sound.specs.Owed.{IsLawful};
 ghost use Rattle.mount_model.specs.declared.call.Call.TheVariants.{Look};
 ghost use Rattle.mount_model.specs.declared.call.Look.TheVariants.{Read};
 ghost use Rattle.mount_model.specs.declared.reply.Reply.{Reply};
 ghost use Rattle.mount_sound.specs.Ledger.{content, entries_in};
 ghost use Rattle.gathering.specs.Moments.{Moment, IsSoundAt, moment_after, Dropping, issued_by, Grows};
 ghost use Rattle.gathering.specs.Seen.{Asked, asked_in, calls_of, IsSeen};
-ghost use Rattle.gathering.specs.Gathering.{Gathered, Gathers, Share, GatherShares, AreShared, IsPrefixOf, IsAdmissible};
-ghost use Rattle.gathering.specs.Listing.{IsAmong, IsScan, AreFound};
-ghost use Rattle.gathering.specs.View.{FollowsCovered, IsReadable, view, changes_in, writes_in, covered_in, tails_in, WritersRise};
+ghost use Rattle.gathering.specs.Gathering.{Gathered, Gathers, CoversLanded, Share, GatherShares, AreShared, IsPrefixOf, IsAdmissible};
+ghost use Rattle.gathering.specs.Listing.{IsAmong, IsScan, AreFound, AreTruncsAt};
+ghost use Rattle.gathering.specs.Flats.{pieces_of};
+ghost use Rattle.gathering.specs.View.{FollowsCovered, IsAboveCut, IsReadable, view, changes_in, writes_in, covered_in, tails_in, WritersRise};
 ghost use Rattle.gathering.specs.Parts.{IsPartOf};
 ghost use Rattle.gathering.specs.Opening.{IsOpening, IsSharedOpening, ReadsSo, HasView, HasOpened};
 ghost use Rattle.gathering.specs.Bounds.{IsFlushedIn, IsSyncedIn};
 ghost use Rattle.gathering.specs.Failing.{BytesOrTrouble};
 
-/// A law: a caller that asked an index dropping's length and read its whole entries has the first
-/// writes that the writer issued, no fewer than had landed at first and no more than had at last.
+/// A law: a caller that asked the lengths of an index dropping and its log, and read the whole
+/// entries past covered ones that had landed at first, has the first writes that the writer issued,
+/// no fewer than had landed at first and no more than had at last.
 pub fn one_writer()
-    ensures { (caller : ℕ) (start end : Moment) (gathered : Gathered) (asked : List Asked) → IsSeen caller start asked end → Gathers gathered asked → IsPrefixOf start end gathered }
+    ensures { (caller : ℕ) (start end : Moment) (gathered : Gathered) (asked : List Asked) → IsSeen caller start asked end → Gathers gathered asked → CoversLanded start gathered → IsPrefixOf start end gathered }
 {}
 
-/// A law: workers that gathered their shares have an admissible cut together.
+/// A law: workers that gathered their shares have an admissible cut together, where what is covered
+/// had landed at first.
 pub fn workers_gather()
-    ensures { (start : Moment) (events : List Event) (shares : List Share) (cut : List Gathered) → IsLawful start.state events → IsSoundAt start → GatherShares events shares → AreShared shares cut → IsAdmissible start (moment_after start events) cut }
+    ensures { (start : Moment) (events : List Event) (shares : List Share) (cut : List Gathered) → IsLawful start.state events → IsSoundAt start → GatherShares events shares → AreShared shares cut → All (CoversLanded start) cut → IsAdmissible start (moment_after start events) cut }
 {}
 
 /// A law: a scan finds droppings that stand, one a writer, and misses none that stood before it.
@@ -44,7 +48,7 @@ pub fn scan_finds()
 
 /// A law: the cut of a reader lies between its first call and its listing of truncates and misses no
 /// dropping that stood at first, its truncates are those of its listing, by rising stamp, and what
-/// it read are the entries of its cut.
+/// it gathered are the entries of its cut, but for covered ones.
 pub fn reader_opens()
     ensures { (caller room : ℕ) (start : Moment) (gathering : List Event) (listing : Event) (later : List Event) (cut : List Gathered) (truncs : List Trunc)
         → IsLawful start.state (gathering ++ listing ∷ later) → IsSoundAt start → IsOpening room cut truncs (calls_of caller gathering) (asked_in listing)
@@ -121,6 +125,26 @@ pub fn flushed_is_gathered()
     ensures { (first : Moment) (before : List Event) (end : Moment) (room : ℕ) (cut : List Gathered) (truncs : List Trunc) (d : Dropping) (count : ℕ)
         → IsLawful first.state before → IsSoundAt first → HasView (moment_after first before) end room cut truncs → d.room ≡ room → IsFlushedIn before d count
         → Any (λ (g : Gathered). (g.dropping ≡ d) × (count ≤ g.count)) cut }
+{}
+
+/// A law: the truncates of a room at any moment from a reader's listing on are those that it listed,
+/// and behind them such as have a stamp above every entry of its cut.
+pub fn later_truncates_are_above()
+    ensures { (start end : Moment) (events : List Event) (room : ℕ) (cut : List Gathered) (truncs later : List Trunc)
+        → IsLawful end.state events → IsSoundAt end → HasView start end room cut truncs → AreTruncsAt (moment_after end events) room later
+        → (more : List Trunc) × (later ≡ truncs ++ more) × All (IsAboveCut end cut) more }
+{}
+
+/// A law: the pieces of the flattened index that an opening read, if there was one, are those of the
+/// entries of its cut that it covers.
+pub fn an_opened_flattened_index_is_right()
+    ensures alone { (caller room : ℕ) (start : Moment) (gathering : List Event) (listing : Event) (cut : List Gathered) (truncs : List Trunc)
+        → IsLawful start.state gathering → IsSoundAt start → (opening : IsOpening room cut truncs (calls_of caller gathering) (asked_in listing))
+        → ArePieces (covered_in (moment_after start gathering) cut) [] (pieces_of opening.flat) }
+    ensures shared { (caller room : ℕ) (start : Moment) (scanning gathering : List Event) (listing : Event) (cut : List Gathered) (truncs : List Trunc)
+        → IsLawful start.state scanning → IsLawful (moment_after start scanning).state gathering → IsSoundAt start
+        → (opening : IsSharedOpening room cut truncs (calls_of caller scanning) gathering (asked_in listing))
+        → ArePieces (covered_in (moment_after (moment_after start scanning) gathering) cut) [] (pieces_of opening.flat) }
 {}
 
 /// A law: a flattened index that is right for the entries that it covers changes no piece.

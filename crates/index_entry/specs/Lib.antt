@@ -1,3 +1,4 @@
+pub mod Entries
 pub mod Messages
 pub mod Records
 pub mod Spelling

@@ -1,10 +1,8 @@
-pub mod Rows
-pub mod Counts
-pub mod Rolls
 pub mod Fine
 pub mod Timed
-pub mod Scans
-pub mod Admits
+pub mod Admitted
 pub mod Logical
-pub mod Ended
 pub mod Mounts
+pub mod Settled
+pub mod Stopped
+pub mod Truncating

@@ -1,7 +1,6 @@
 -- A mount that has drawn its mark.
-use Rattle.std.proofs.Common.{◌≡◌, ℕ, ◌<◌, ◌≤◌, ◌^◌, ◌⊎◌, List, Option, Some, Ok, Err, refl, ap, subst, arith, inl, inr}
-use Rattle.std.proofs.lemmas.Option.{same_Some}
-use Rattle.store_api.specs.declared.step.Answer.TheVariants.{Old, Number, Names}
+use Rattle.std.proofs.Common.{◌≡◌, ℕ, ◌<◌, ◌≤◌, ◌^◌, List, Option, Ok, Err, refl, ap, arith, inl, inr}
+use Rattle.store_api.specs.declared.step.Answer.TheVariants.{Names}
 use Rattle.store_api.specs.declared.store.Trouble.TheVariants as trouble
 use Rattle.plfs_types.specs.Counts.{HasRisen}
 use Rattle.store_api.specs.Step.{Step}
@@ -11,7 +10,7 @@ use Rattle.mount_model.specs.Paths.{Name}
 use Rattle.mount_model.specs.Listed.{IsGreatest, IsMarkOf}
 use Rattle.mount_model.specs.Mounting.{marks_step, list_step, mark_step, DrawsMark, IsMounted}
 use Rattle.mount_model.specs.Failing.{trouble_of, LeavesNone, FailsToMount, no_room, no_names, no_next, no_mark}
-use Rattle.mount_core.specs.Roll.{new_roll, state_of}
+use Rattle.mount_table.specs.Roll.{new_roll, state_of}
 use Rattle.mount_model.specs.declared.trouble.MountTrouble.{MountTrouble}
 use Rattle.mount_model.specs.declared.trouble.MountTrouble.TheVariants.{Fault}
 

@@ -7,8 +7,8 @@ use Rattle.mount_model.specs.declared.reply.Reply.{Reply}
 use Rattle.mount_model.specs.State.{State, timed}
 use Rattle.mount_model.specs.Making.{MakesAct}
 use Rattle.mount_model.specs.Writing.{stamp_at, write_step, write_outcome, WritesAt}
-use Rattle.mount_core.specs.Writable.{MayTake}
-use Rattle.mount_core.specs.Standing.{AtPlace}
+use Rattle.mount_table.specs.Writable.{MayTake}
+use Rattle.mount_table.specs.Standing.{AtPlace}
 
 both : (found : Option Row) (P Q R : Row → Type 0) → ((row : Row) → P row → Q row → R row) → IfSome found P → IfSome found Q → IfSome found R
 both None P Q R step p q = tt

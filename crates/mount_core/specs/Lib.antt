@@ -1,9 +1,2 @@
-pub mod Places
-pub mod Roll
-pub mod Stages
-pub mod Writable
-pub mod Settling
-pub mod Standing
 pub mod Breaking
-pub mod Admitting
-pub mod Scanning
+pub mod Holding

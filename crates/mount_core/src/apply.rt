@@ -1,5 +1,6 @@
 //! Any call.
 ghost use Rattle.mount_model.specs.Step.{Answers, IsOwed, IsStep, OwedBy};
+ghost use Rattle.mount_sound.specs.Owed.{May};
 ghost use Rattle.mount_sound.specs.Sound.{IsFine};
 
 use crate::mount::Mount;
@@ -9,13 +10,14 @@ use store_api::Store;
 
 impl<S: Store + Drop, C: Clock + Drop> Mount<S, C> {
     /// Makes the caller's call, which is a check and at most one act. A caller owes a capacity of 1 to 4096 where it
-    /// enters a writer. Broken off, the call makes a part of its act, and its caller is at its end. What was fine stays so: the table is regular, and where the store told a
-    /// sound tree as it was mounted, the state is sound.
+    /// enters a writer. Broken off, the call makes a part of its act, and its caller is at its end. Where the caller owes
+    /// no more of the state than it meets, what was fine stays so: the table is regular, and where the store told a sound
+    /// tree as it was mounted, the state is sound.
     #[tactic(auto, using(mount_sound::proofs::Facts::step_fine))]
     pub fn apply(&mut self, caller: u64, ask: &Ask) -> Reply
         requires { IsOwed ask.now }
         ensures step { IsStep self.old caller ask.now result self.new }
-        ensures fine { IsFine self.old → IsFine self.new }
+        ensures fine { May self.old caller ask.now → IsFine self.old → IsFine self.new }
     {
         self.make_step(caller, ask)
     }
@@ -51,6 +53,35 @@ impl<S: Store + Drop, C: Clock + Drop> Mount<S, C> {
             Call::SyncIndex { writer } => self.sync_index(caller, *writer),
             Call::PutMeta { writer } => self.put_meta(caller, *writer),
             Call::Exit { writer } => self.exit(caller, *writer),
+            Call::Hold { room } => self.hold(caller, *room),
+            Call::Mark { holder, size, top } => self.truncate(caller, *holder, *size, *top),
+            Call::Move { holder, to } => self.rename(caller, *holder, to),
+            Call::Release { holder } => self.release(caller, *holder),
+            Call::StartFlat { room } => self.start_flat(caller, *room),
+            Call::PutFlat { flat, bytes } => self.put_flat(caller, *flat, bytes.as_slice()),
+            Call::SyncFlat { flat } => self.sync_flat(caller, *flat),
+            Call::InstallFlat { flat } => self.install_flat(caller, *flat),
+            Call::SyncDropping {
+                room,
+                host,
+                writer,
+                log,
+            } => self.sync_dropping(*room, *host, *writer, *log),
+            Call::Inspect { writer } => self.inspect(*writer),
+            Call::Mend {
+                room,
+                host,
+                writer,
+                whole,
+            } => self.mend(*room, *host, *writer, *whole),
+            Call::MendMeta {
+                room,
+                host,
+                cover,
+                last,
+            } => self.mend_meta(*room, *host, cover, *last),
+            Call::Bury { room, host, writer } => self.bury(*room, *host, *writer),
+            Call::MendHold { room } => self.mend_hold(*room),
         }
     }
 }

@@ -5,44 +5,16 @@ ghost use Rattle.mount_model.specs.declared.row.Stage.TheVariants.{Housed, Index
 ghost use Rattle.mount_model.specs.Making.{MakesAct};
 ghost use Rattle.mount_model.specs.Paths.{index_path as index_path_of, log_path as log_path_of};
 ghost use Rattle.mount_model.specs.Building.{build_outcome, hostdir_step, index_step, log_step, MakesHostdir, MakesIndex, MakesLog};
-ghost use Rattle.mount_core.specs.Settling.{IsSettled};
-ghost use Rattle.mount_core.specs.Standing.{AtPlace};
+ghost use Rattle.mount_table.specs.Standing.{AtPlace};
 
 use crate::mount::Mount;
-use crate::paths::{hostdir_path, index_path, log_path};
-use crate::roster::Roster;
-use crate::stages::Stages;
-use crate::telling::otherwise;
 use edge_io::Clock;
 use mount_model::{Refusal, Reply, Stage};
-use plfs_types::Path;
-use store_api::{Answer, Step, Store, Trouble};
-
-impl Roster {
-    /// Settles the making of something at this path: the writer comes to the stage where it is there.
-    pub(crate) fn built(
-        &mut self,
-        place: usize,
-        stage: Stage,
-        at: &Path,
-        told: Result<Answer, Trouble>,
-    ) -> Reply
-        requires { place < length self.old.table.writers }
-        ensures { AtPlace self.old.table place (λ row. IsSettled (build_outcome stage at.now.folder at.now.file row self.old.table told) self.old result self.new) }
-    {
-        match told {
-            Ok(Answer::Made | Answer::Old { .. }) => {
-                self.set_stage(place, stage);
-                Reply::Done
-            }
-            Ok(answer) => otherwise(at, Ok(answer)),
-            Err(trouble) => otherwise(at, Err(trouble)),
-        }
-    }
-}
+use mount_table::{Stages, hostdir_path, index_path, log_path};
+use store_api::{Step, Store};
 
 impl<S: Store + Drop, C: Clock + Drop> Mount<S, C> {
-    /// MakesAct the folder of the droppings of the caller's floored writer.
+    /// Makes the folder of the droppings of the caller's floored writer.
     pub(crate) fn make_hostdir(&mut self, caller: u64, writer: u64) -> Reply
         ensures { MakesHostdir caller writer self.old result self.new }
     {
@@ -69,7 +41,7 @@ impl<S: Store + Drop, C: Clock + Drop> Mount<S, C> {
         self.roster.built(place, Stage::Housed, &at, told)
     }
 
-    /// MakesAct the index dropping of the caller's housed writer.
+    /// Makes the index dropping of the caller's housed writer.
     pub(crate) fn make_index(&mut self, caller: u64, writer: u64) -> Reply
         ensures { MakesIndex caller writer self.old result self.new }
     {
@@ -97,7 +69,7 @@ impl<S: Store + Drop, C: Clock + Drop> Mount<S, C> {
         self.roster.built(place, Stage::Indexed, &at, told)
     }
 
-    /// MakesAct the log of the caller's writer, which may write from then on.
+    /// Makes the log of the caller's writer, which may write from then on.
     pub(crate) fn make_log(&mut self, caller: u64, writer: u64) -> Reply
         ensures { MakesLog caller writer self.old result self.new }
     {

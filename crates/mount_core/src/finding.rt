@@ -7,22 +7,12 @@ ghost use Rattle.mount_model.specs.Paths.{new_folders, new_files};
 ghost use Rattle.store_api.specs.Step.{make_room};
 
 use crate::mount::Mount;
-use crate::telling::otherwise;
 use container_layout::{flats, metadata, openhosts, truncs};
 use edge_io::Clock;
 use mount_model::{Refusal, Reply};
-use plfs_types::{LogicalName, Name, NameList, Path};
+use mount_table::{nowhere, otherwise};
+use plfs_types::{LogicalName, Name, NameList};
 use store_api::{Answer, Step, Store, Trouble};
-
-/// No folder and no file.
-fn nowhere() -> Path
-    ensures { result ≡ record { folder = []; file = [] } }
-{
-    Path {
-        folder: Name::empty(),
-        file: Name::empty(),
-    }
-}
 
 /// The top file of a container.
 pub(crate) fn access() -> Name
@@ -72,7 +62,7 @@ impl<S: Store + Drop, C: Clock + Drop> Mount<S, C> {
         }
     }
 
-    /// MakesAct a container of this name, where there is none.
+    /// Makes a container of this name, where there is none.
     pub(crate) fn make_container(&mut self, name: &LogicalName) -> Reply
         ensures { MakesContainer name.now self.old result self.new }
     {

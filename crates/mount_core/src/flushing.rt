@@ -1,69 +1,15 @@
 //! A writer's pending entries go to its index dropping, and its droppings are synced.
 ghost use Rattle.std.specs.Prelude.{◌≡◌, ◌<◌, length};
-ghost use Rattle.container_layout.specs.Paths.{hostdir_of};
 ghost use Rattle.mount_model.specs.Making.{MakesAct};
-ghost use Rattle.mount_model.specs.Paths.{index_path as index_path_of, log_path as log_path_of};
 ghost use Rattle.mount_model.specs.Flushing.{FlushesRow, Flushes, flush_step, flush_outcome, SyncsLog, sync_log_step, sync_log_outcome, SyncsIndex, sync_index_step, sync_index_outcome};
-ghost use Rattle.mount_core.specs.Settling.{IsSettled};
-ghost use Rattle.mount_core.specs.Standing.{AtPlace};
+ghost use Rattle.mount_table.specs.Standing.{AtPlace};
 
 use crate::mount::Mount;
-use crate::paths::{index_path, log_path};
-use crate::roster::Roster;
-use crate::stages::Stages;
-use crate::telling::otherwise;
 use edge_io::Clock;
 use mount_model::{Refusal, Reply, Stage};
-use plfs_types::{ENTRY_SIZE, Path};
-use store_api::{Answer, Step, Store, Trouble};
-
-impl Roster {
-    /// Settles the write of the pending entries to the index dropping at this path.
-    fn flushed(&mut self, place: usize, at: &Path, told: Result<Answer, Trouble>) -> Reply
-        requires within { place < length self.old.table.writers }
-        requires of_writer { AtPlace self.old.table place (λ row. at.now ≡ index_path_of row.host row.id) }
-        ensures { AtPlace self.old.table place (λ row. IsSettled (flush_outcome row self.old.table told) self.old result self.new) }
-    {
-        match told {
-            Ok(Answer::Made) => {
-                let landed = self.land(place);
-                Reply::Flushed { landed }
-            }
-            Ok(answer) => otherwise(at, Ok(answer)),
-            Err(trouble) => otherwise(at, Err(trouble)),
-        }
-    }
-
-    /// Settles the sync of the log at this path.
-    fn synced_log(&mut self, place: usize, at: &Path, told: Result<Answer, Trouble>) -> Reply
-        requires within { place < length self.old.table.writers }
-        requires of_writer { AtPlace self.old.table place (λ row. at.now ≡ log_path_of row.host row.id) }
-        ensures { AtPlace self.old.table place (λ row. IsSettled (sync_log_outcome row self.old.table told) self.old result self.new) }
-    {
-        match told {
-            Ok(Answer::Made) => {
-                self.set_log_synced(place);
-                Reply::Done
-            }
-            other => otherwise(at, other),
-        }
-    }
-
-    /// Settles the sync of the index dropping at this path.
-    fn synced_index(&mut self, place: usize, at: &Path, told: Result<Answer, Trouble>) -> Reply
-        requires within { place < length self.old.table.writers }
-        requires of_writer { AtPlace self.old.table place (λ row. at.now ≡ index_path_of row.host row.id) }
-        ensures { AtPlace self.old.table place (λ row. IsSettled (sync_index_outcome row self.old.table told) self.old result self.new) }
-    {
-        match told {
-            Ok(Answer::Made) => {
-                let landed = self.set_index_synced(place);
-                Reply::Synced { landed }
-            }
-            other => otherwise(at, other),
-        }
-    }
-}
+use mount_table::{Stages, index_path, log_path};
+use plfs_types::ENTRY_SIZE;
+use store_api::{Step, Store};
 
 impl<S: Store + Drop, C: Clock + Drop> Mount<S, C> {
     /// Writes the pending entries of the caller's open writer to its index dropping.

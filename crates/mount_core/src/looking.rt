@@ -5,9 +5,9 @@ ghost use Rattle.mount_model.specs.Making.{MakesAct, says};
 ghost use Rattle.mount_model.specs.Looking.{listing_reply, length_reply, read_reply, look_step, look_outcome, LooksAt};
 
 use crate::mount::Mount;
-use crate::telling::otherwise;
 use edge_io::Clock;
 use mount_model::{Look, Refusal, Reply};
+use mount_table::otherwise;
 use plfs_types::{Name, Path};
 use store_api::{Answer, Step, Store, Trouble};
 
@@ -63,7 +63,7 @@ fn read(at: &Path, len: u64, told: Result<Answer, Trouble>) -> Reply
 }
 
 impl<S: Store + Drop, C: Clock + Drop> Mount<S, C> {
-    /// LooksAt at the container.
+    /// Looks at the container.
     pub(crate) fn look(&mut self, room: u64, look: &Look) -> Reply
         ensures { LooksAt room look.now self.old result self.new }
     {

@@ -2,8 +2,8 @@
 ghost use Rattle.std.specs.Prelude.{◌≡◌};
 ghost use Rattle.mount_model.specs.Regular.{IsRegular};
 
-use crate::roster::Roster;
 use edge_io::Clock;
+use mount_table::Roster;
 use std::alloc::Global;
 use std::marker::Model;
 use std::snapshot::Snapshot;
@@ -23,7 +23,7 @@ pub struct Mount<S: Store + Drop, C: Clock + Drop> {
 impl<S: Store + Drop, C: Clock + Drop> Model for Mount<S, C> {
     ghost use Rattle.mount_model.specs.State.{State};
     ghost use Rattle.mount_model.specs.Codes.{state_code};
-    ghost use Rattle.mount_core.specs.Roll.{state_of};
+    ghost use Rattle.mount_table.specs.Roll.{state_of};
 
     ghost Value = { State };
 

@@ -8,11 +8,10 @@ ghost use Rattle.mount_model.specs.Failing.{names_told, made_told, FailsAt, Leav
 ghost use Rattle.mount_model.specs.Paths.{marks_name as marks_room_name, marks_folder as marks_folder_name};
 
 use crate::mount::Mount;
-use crate::roster::Roster;
-use crate::scanning::{Listing, greatest};
 use container_layout::print_number;
 use edge_io::Clock;
 use mount_model::MountTrouble;
+use mount_table::{Listing, Roster, greatest};
 use plfs_types::{Name, NameList};
 use std::alloc::Global;
 use std::snapshot::Snapshot;

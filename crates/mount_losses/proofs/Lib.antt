@@ -1,5 +1,4 @@
 pub mod Facts
-mod Keeping
 mod Losing
 mod Losses
 mod Surviving

@@ -20,7 +20,8 @@ use Rattle.mount_sound.specs.Ledger.{Written, entries_in, content, AreWritesOf}
 use Rattle.mount_sound.specs.Items.{HasItem, HasMeta, HasItemOf}
 use Rattle.mount_sound.specs.Dropping.{bytes_of, log_bytes, EndPast, IsDropping, IsKeptWhole, IsToldOf, AreBeside, IsWriter}
 use Rattle.mount_sound.specs.Fitting.{fitting}
-use Rattle.mount_sound.proofs.Facts.{fit_length, fit_within, fit_past, fit_least, fit_below, front_of_front, front_items, order_append, order_drop, logged_append, logged_parts, take_less, all_take, content_take, in_order_take, logged_take, entries_take as entries_first, entries_landed, writes_take, length-content}
+use Rattle.mount_sound.specs.Keeping.{kept_in}
+use Rattle.mount_sound.proofs.Facts.{AreKept, KeepsEntries, are_kept, kept_entries, kept_landed, kept_long, same_host, fit_length, fit_within, fit_past, fit_least, fit_below, front_of_front, front_items, order_append, order_drop, logged_append, logged_parts, take_less, all_take, content_take, in_order_take, logged_take, entries_take as entries_first, entries_landed, writes_take, length-content}
 
 -- ---- the bytes of a file, where a missing one counts as empty
 
@@ -194,22 +195,21 @@ by_file room new writer host issued landed (Some bytes) h e m within v shorter =
 
 -- ---- the writer
 
--- The room that was left holds of this writer its first writes, so many, and those have landed; entries that had landed
--- and were kept, with their bytes, are among them.
+-- The room that was left holds of this writer its first writes, so many, and those have landed; the entries that were
+-- kept, with their bytes, are among them, and are kept.
 pub record WriterLost (room new : Room) (writer : ℕ) (issued : List Written) : Type 0 where
   pub was : IsWriter room writer issued
   pub count : ℕ
   pub within : count ≤ was.landed
   pub of : IsWriter new writer (take count issued)
   pub all : of.landed ≡ length (take count issued)
-  pub same_host : of.host ≡ was.host
-  pub keeps : (k : ℕ) → k ≤ was.landed → 40 * k ≤ kept_at room (index_path was.host writer) → 40 * k ≤ length (bytes_of (file_at room (index_path was.host writer))) → logged (take k (entries_in issued)) ≤ kept_at room (log_path was.host writer) → k ≤ count
+  pub entries : (host : ℕ) (bytes : List ℕ) → HasItem room (Index host writer) bytes → KeepsEntries room new host writer
 
 beside_take : (stamp n : ℕ) (es : List Entry) → AreBeside stamp es → AreBeside stamp (take n es)
 beside_take stamp n es (inl below) = inl (all_take (λ (e : Entry). e.stamp < stamp) n es below)
 beside_take stamp n es (inr above) = inr (all_take (λ (e : Entry). stamp < e.stamp) n es above)
 
-same_length : (a b : List ℕ) → IsPrefix a b → length b ≤ length a → a ≡ b
+pub same_length : (a b : List ℕ) → IsPrefix a b → length b ≤ length a → a ≡ b
 same_length [] [] p l = refl
 same_length [] (y ∷ b) p l = absurd (omega arith)
 same_length (x ∷ a) [] p l = absurd p
@@ -280,6 +280,44 @@ module _ (room new : Room) (writer : ℕ) (issued : List Written) (w : IsWriter 
         subst (AreBeside stamp) (take_less lost.count w.landed (entries_in issued) lost.within ∙ sym (entries_landed lost.count issued)) (beside_take stamp lost.count (take w.landed (entries_in issued)) (w.beside stamp size was.0 was.1));
   }
 
+  -- ---- the entries that were kept
+
+  module _ (host : ℕ) (bytes : List ℕ) (i : HasItem room (Index host writer) bytes) where
+    kept : AreKept room host writer issued (kept_in room host writer)
+    kept = are_kept room host writer issued w v bytes i
+
+    its_host : host ≡ w.host
+    its_host = same_host room host writer issued w v bytes i
+
+    still_kept : kept_in room host writer ≤ lost.count
+    still_kept =
+        let at : file_at room (index_path w.host writer) ≡ Some bytes = ap (λ x. file_at room (index_path x writer)) (sym its_host) ∙ i.there in
+        keeps (kept_in room host writer) (kept_landed room host writer issued w v bytes i)
+        (subst (λ x. 40 * kept_in room host writer ≤ kept_at room (index_path x writer)) its_host kept.index)
+        (omega (arith, kept_long room host writer issued w v bytes i, ap (λ f. length (bytes_of f)) at))
+        (subst (λ x. logged (take (kept_in room host writer) (entries_in issued)) ≤ kept_at room (log_path x writer)) its_host kept.log)
+
+    kept_first : take (kept_in room host writer) (entries_in (take lost.count issued)) ≡ take (kept_in room host writer) (entries_in issued)
+    kept_first = ap (λ es. take (kept_in room host writer) es) (entries_first lost.count issued) ∙ take_less (kept_in room host writer) lost.count (entries_in issued) still_kept
+
+    are_left : AreKept new host writer (take lost.count issued) (kept_in room host writer)
+    are_left =
+        let l = h.files (index_path host writer) bytes i.there in
+        let b : LostBytes room new (log_path host writer) = lost_bytes room new (log_path host writer) h in
+        let long = kept_long room host writer issued w v bytes i in
+        let all : logged (take (kept_in room host writer) (entries_in issued)) ≤ length (log_bytes room host writer) = subst (λ x. logged (take (kept_in room host writer) (entries_in issued)) ≤ length (log_bytes room x writer)) (sym its_host) (log_has (kept_in room host writer)) in
+        record {
+          bytes = l.front;
+          has = record { is_item = i.is_item; there = l.there };
+          issued_were = omega (arith, still_kept, length-take-le lost.count issued (omega (arith, lost.within, w.within)));
+          long = omega (arith, kept.index, long, l.long);
+          index = omega (arith, kept.index, long, l.long, l.kept);
+          log = omega (arith, ap logged kept_first, kept.log, all, b.long, b.kept);
+        }
+
+    entries_left : KeepsEntries room new host writer
+    entries_left = kept_entries room new host writer issued (take lost.count issued) w v left_writer (writes_take lost.count writer issued v) bytes i kept_first are_left
+
   pub writer_lost : WriterLost room new writer issued
   unfolding left_writer
   writer_lost = record {
@@ -288,6 +326,5 @@ module _ (room new : Room) (writer : ℕ) (issued : List Written) (w : IsWriter 
     within = lost.within;
     of = left_writer;
     all = sym (length-take-le lost.count issued (omega (arith, lost.within, w.within)));
-    same_host = refl;
-    keeps = keeps;
+    entries = entries_left;
   }

@@ -1,11 +1,9 @@
 -- What a loss of power leaves of a sound tree is sound, and has all that was kept.
-use Rattle.std.proofs.Common.{◌≡◌, ℕ, ◌*◌, ◌≤◌, ◌<◌, ◌^◌, List, [], length, take, drop, Option, Some, None, refl, ap, sym, ◌∙◌, inl, inr, subst, arith}
+use Rattle.std.proofs.Common.{◌≡◌, ℕ, ◌/◌, ◌*◌, ◌≤◌, ◌<◌, ◌^◌, List, [], length, take, drop, Option, Some, None, refl, ap, sym, ◌∙◌, inl, inr, subst, arith}
 use Rattle.std.specs.Prelude.{slice_get, MatchOption}
 use Rattle.std.proofs.lemmas.Bool.{cases_lt}
 use Rattle.std.proofs.lemmas.List.{length-take-le, length-map, take-append-drop}
-use Rattle.index_entry.specs.Spelling.{spelling_all}
-use Rattle.index_entry.proofs.Facts.{length-spelling_all}
-use Rattle.container_layout.specs.declared.items.Item.TheVariants.{Trunc, Index}
+use Rattle.container_layout.specs.declared.items.Item.TheVariants.{Trunc, Flat, Index}
 use Rattle.plfs_types.specs.declared.entries.Entry.{Entry}
 use Rattle.store_api.specs.declared.tree.Room.{Room}
 use Rattle.store_api.specs.declared.tree.Tree.{Tree}
@@ -14,7 +12,7 @@ use Rattle.store_laws.specs.Files.{file_at, kept_at}
 use Rattle.store_laws.specs.Losing.{HasLost, HaveLost}
 use Rattle.store_laws.proofs.Facts.{have_lost, room_back}
 use Rattle.mount_model.specs.declared.row.Row.{Row}
-use Rattle.mount_model.specs.Paths.{index_path, log_path}
+use Rattle.mount_model.specs.Paths.{flat_path, index_path, log_path}
 use Rattle.mount_model.specs.Table.{row_of}
 use Rattle.mount_model.specs.State.{State}
 use Rattle.mount_model.proofs.Facts.{row_of_id}
@@ -23,18 +21,17 @@ use Rattle.mount_shape.specs.Shape.{IsShapedTree}
 use Rattle.mount_shape.proofs.Facts.{left_shaped, lost_shaped}
 use Rattle.mount_sound.specs.Entries.{logged}
 use Rattle.mount_sound.specs.Ledger.{Written, entries_in, AreWritesOf, Ledger}
-use Rattle.mount_sound.specs.Dropping.{bytes_of}
 use Rattle.mount_sound.specs.Growing.{IsMore}
 use Rattle.mount_sound.specs.Fitting.{fitting}
+use Rattle.mount_sound.specs.Flats.{IsRightFlat, AreRightFlats}
 use Rattle.mount_sound.specs.Items.{HasItem}
 use Rattle.mount_sound.specs.There.{landed_entries, landed_in}
 use Rattle.mount_sound.specs.Kept.{Begins, IsKept}
 use Rattle.mount_sound.specs.Sound.{TruncatesDiffer, AreSoundRooms, IsSoundFor, IsSoundTree}
-use Rattle.mount_losses.specs.Keeping.{kept_in, safe_of}
+use Rattle.mount_sound.specs.Keeping.{kept_in, safe_of}
 use Rattle.mount_losses.specs.Losing.{HasKept, LosesUnkept}
-use Rattle.mount_sound.proofs.Facts.{IsWhole, no_writes, writes_take, is_index, all_fit, one_tree, fit_length, fit_within, fit_least, take_less, writer_told}
-use Rattle.mount_losses.proofs.Keeping.{AreKept, few, same_host, kept_landed, kept_long, are_kept, kept_most}
-use Rattle.mount_losses.proofs.Losing.{WriterLost, writer_lost, had_item}
+use Rattle.mount_sound.proofs.Facts.{IsWhole, KeepsAllEntries, KeepsEntries, flats_frame, few, fewer, kept_most, no_writes, writes_take, is_index, all_fit, one_tree, fit_length, fit_within, fit_least, take_less}
+use Rattle.mount_losses.proofs.Losing.{WriterLost, writer_lost, had_item, same_length}
 
 -- ---- the first writes of each writer
 
@@ -92,8 +89,12 @@ module _ (issued : ℕ → List Written) (P : Room → ℕ → ℕ → Type 0) w
     | inr far ↦ (issued writer, refl)
   ]
 
-all_taken : (n : ℕ) (es : List Entry) → n ≡ length es → length (take n es) ≡ length es
-all_taken n es e = length-take-le n es (omega (arith, e)) ∙ e
+-- what is kept has landed
+kept_few : (room : Room) (host writer : ℕ) → kept_in room host writer ≤ landed_in room host writer
+kept_few room host writer =
+    let es : List Entry = landed_entries room host writer in
+    let n : ℕ = kept_at room (index_path host writer) / 40 in
+    omega (arith, fit_length (kept_at room (log_path host writer)) 0 (take n es), fewer n es)
 
 -- ---- a tree
 
@@ -138,8 +139,8 @@ module _ (issued : Ledger) (rows : List Row) (tree new : Tree) (s : AreSoundRoom
       let w : IsWhole c.1.now writer (take c.1.lost.count (issued number writer)) = (c.1.lost.of, c.1.lost.all) in
       subst (λ r. IsWhole r writer (cut number writer)) same (subst (IsWhole c.1.now writer) first w)
 
-  lost_sound : IsShapedTree (IsOfMark new) new → IsSoundTree new
-  lost_sound shaped = record {
+  lost_sound : IsShapedTree (IsOfMark new) new → AreRightFlats new → IsSoundTree new
+  lost_sound shaped flats = record {
     shaped = shaped;
     issued = cut;
     rooms = λ number room there. record {
@@ -151,29 +152,37 @@ module _ (issued : Ledger) (rows : List Row) (tree new : Tree) (s : AreSoundRoom
     all_landed = λ number room there writer fits. (whole number room there writer fits).1;
     fitting = λ number writer past. cut_past (issued number) (Left number) (slice_get tree.rooms number) (each number) writer past;
     roomless = λ number writer none. cut_nowhere (issued number) (Left number) (slice_get tree.rooms number) (each number) writer (no_longer tree new number (slice_get tree.rooms number) h refl none);
+    flats = flats;
   }
+
+  -- the entries that were kept are left in each room
+  lost_entries : (number : ℕ) (room left : Room) → slice_get tree.rooms number ≡ Some room → slice_get new.rooms number ≡ Some left → KeepsAllEntries room left
+  lost_entries number room left e there host writer bytes item =
+      let c = is_cut number room e writer item.is_item.widths.1 in
+      let both : Some c.1.now ≡ Some left = sym c.1.there ∙ there in
+      let now : c.1.now ≡ left = cc in
+      subst (λ r. KeepsEntries room r host writer) now (c.1.lost.entries host bytes item)
 
   kept_left : HasKept tree new
   kept_left number room left e there host writer bytes item =
-      let count : ℕ = kept_in room host writer in
-      let c = is_cut number room e writer item.is_item.widths.1 in
-      let l = c.1.lost in
-      let v : AreWritesOf writer (issued number writer) = writes number writer in
-      let k : AreKept room host writer (issued number writer) count = are_kept room host writer (issued number writer) l.was v bytes item in
-      let same : host ≡ l.was.host = same_host room host writer (issued number writer) l.was v bytes item in
-      let at : file_at room (index_path l.was.host writer) ≡ Some bytes = ap (λ x. file_at room (index_path x writer)) (sym same) ∙ item.there in
-      let has : count ≤ l.count = l.keeps count (kept_landed room host writer (issued number writer) l.was v bytes item) (subst (λ x. 40 * count ≤ kept_at room (index_path x writer)) same k.index) (omega (arith, kept_long room host writer (issued number writer) l.was v bytes item, ap (λ f. length (bytes_of f)) at)) (subst (λ x. logged (take count (entries_in (issued number writer))) ≤ kept_at room (log_path x writer)) same k.log) in
-      let told : landed_entries c.1.now l.of.host writer ≡ take l.of.landed (entries_in (take l.count (issued number writer))) = writer_told c.1.now writer (take l.count (issued number writer)) l.of item.is_item.widths.1 (writes_take l.count writer (issued number writer) v) in
-      let landed : landed_in c.1.now l.of.host writer ≡ l.count = ap length told ∙ all_taken l.of.landed (entries_in (take l.count (issued number writer))) (l.all ∙ sym (length-map (take l.count (issued number writer)) (λ (x : Written). x.entry))) ∙ length-map (take l.count (issued number writer)) (λ (x : Written). x.entry) ∙ length-take-le l.count (issued number writer) (omega (arith, l.within, l.was.within)) in
-      let both : Some c.1.now ≡ Some left = sym c.1.there ∙ there in
-      let now : c.1.now ≡ left = cc in
-      let here : landed_in left host writer ≡ l.count = ap (λ r. landed_in r host writer) (sym now) ∙ ap (λ x. landed_in c.1.now x writer) (same ∙ sym l.same_host) ∙ landed in
-      omega (arith, has, here)
+      omega (arith, (lost_entries number room left e there host writer bytes item).no_fewer, kept_few left host writer)
 
-  pub loses_unkept : IsShapedTree (IsOfMark new) new → LosesUnkept issued tree new
+  -- no byte of a flattened index is lost
+  lost_flats : AreRightFlats tree → AreRightFlats new
+  lost_flats flats number left there id front item =
+      let was = room_back tree new number left h there in
+      let i = had_item was.0 left (Flat id) front was.2 item in
+      let right = flats number was.0 was.1 id i.0 i.1 in
+      let l = was.2.files (flat_path id) i.0 i.1.there in
+      let fronts : Some l.front ≡ Some front = sym l.there ∙ item.there in
+      let same : l.front ≡ front = cc in
+      let whole : l.front ≡ i.0 = same_length l.front i.0 l.begins (omega (arith, right.1, l.long)) in
+      (subst (IsRightFlat left) (sym whole ∙ same) (flats_frame was.0 left (lost_entries number was.0 left was.1 there) i.0 right.0), omega (arith, l.kept, ap length same))
+
+  pub loses_unkept : IsShapedTree (IsOfMark new) new → AreRightFlats tree → LosesUnkept issued tree new
   unfolding lost_sound
-  loses_unkept shaped = record {
-    sound = lost_sound shaped;
+  loses_unkept shaped flats = record {
+    sound = lost_sound shaped (lost_flats flats);
     first = λ number writer. cut_first (issued number) (Left number) (slice_get tree.rooms number) (each number) writer;
     kept = kept_left;
   }
@@ -232,11 +241,11 @@ marked_kept issued state s id row room e there =
 
 -- A loss of a sound tree is sound.
 pub lost_tree_sound : (tree new : Tree) → HaveLost tree new → (s : IsSoundTree tree) → LosesUnkept s.issued tree new
-lost_tree_sound tree new h s = loses_unkept s.issued [] tree new s.rooms s.writes h (lost_shaped tree new h s.shaped)
+lost_tree_sound tree new h s = loses_unkept s.issued [] tree new s.rooms s.writes h (lost_shaped tree new h s.shaped) s.flats
 
 -- So is one of the tree of a sound mount.
 pub lost_mount_sound : (issued : Ledger) (state : State) (s : IsSoundFor issued state) (new : Tree) → HaveLost s.shape.tree new → LosesUnkept issued s.shape.tree new
-lost_mount_sound issued state s new h = loses_unkept issued state.table.writers s.shape.tree new s.sound.rooms s.sound.writes h (lost_shaped s.shape.tree new h (left_shaped state s.shape))
+lost_mount_sound issued state s new h = loses_unkept issued state.table.writers s.shape.tree new s.sound.rooms s.sound.writes h (lost_shaped s.shape.tree new h (left_shaped state s.shape)) s.flats
 
 -- So is one of the tree that its store tells.
 pub lost_told : (issued : Ledger) (state : State) → IsSoundFor issued state → (tree lost : Tree) → state.store.tree ≡ Some tree → Loses tree lost → LosesUnkept issued tree lost

@@ -12,21 +12,22 @@ use Rattle.mount_model.specs.declared.call.Call.TheVariants.{SyncIndex}
 use Rattle.mount_model.specs.declared.reply.Reply.TheVariants.{Synced}
 use Rattle.mount_model.specs.declared.row.Row.{Row}
 use Rattle.mount_model.specs.declared.row.Stage.TheVariants as stage
-use Rattle.mount_model.specs.Flushing.{index_synced, sync_index_step, sync_index_outcome, SyncsIndex}
-use Rattle.mount_model.specs.History.{Event, IsLawful, told_tree_after}
-use Rattle.mount_model.specs.Making.{Told, MakesAct}
+use Rattle.mount_model.specs.Flushing.{index_synced, sync_index_outcome, SyncsIndex}
+use Rattle.mount_model.specs.History.{Event, told_tree_after}
+use Rattle.mount_model.specs.Making.{Told}
 use Rattle.mount_model.specs.State.{State, Table}
-use Rattle.mount_model.specs.Step.{Answers, IsStep, IsOwed}
+use Rattle.mount_model.specs.Step.{Answers, IsStep}
 use Rattle.mount_model.specs.Table.{row_of, only, writer_of, with_row}
 use Rattle.mount_model.proofs.Facts.{is_held, match_cases, step_cases, stop_replies, row_of_id, row_of-with_row}
 use Rattle.mount_sound.specs.Entries.{logged}
 use Rattle.mount_sound.specs.Issued.{issued_after}
 use Rattle.mount_sound.specs.Kept.{IsKept}
 use Rattle.mount_sound.specs.Ledger.{entries_in, Ledger}
+use Rattle.mount_sound.specs.Owed.{May, IsLawful}
 use Rattle.mount_sound.specs.Sound.{IsSoundFor}
 use Rattle.mount_sound.specs.There.{landed_in}
 use Rattle.mount_sound.proofs.Facts.{step_keeps}
-use Rattle.mount_losses.specs.Keeping.{safe_of, kept_in}
+use Rattle.mount_sound.specs.Keeping.{safe_of, kept_in}
 use Rattle.mount_losses.proofs.Losses.{HasIndex, has_index, least_safe_of, marked_kept}
 use Rattle.mount_losses.proofs.Surviving.{kept_survive}
 
@@ -68,13 +69,13 @@ step_marks caller writer n ask row old new there is step = step_cases old caller
 
 -- Where the log was synced to its landed entries, a sync of its index dropping tells a number that every later loss leaves.
 pub sync_survives : (l : Ledger) (start next : State) (caller writer n : ℕ) (ask : Ask) (row : Row) → IsSoundFor l start → row_of writer start.table.writers ≡ Some row → logged (take row.landed (entries_in (l row.room writer))) ≤ row.log_mark
-    → ask.call ≡ SyncIndex writer → IsOwed ask → IsStep start caller ask (Synced n) next → (later : List Event) → IsLawful next later → (after lost : Tree) → told_tree_after next later ≡ Some after → Loses after lost
+    → ask.call ≡ SyncIndex writer → May start caller ask → IsStep start caller ask (Synced n) next → (later : List Event) → IsLawful next later → (after lost : Tree) → told_tree_after next later ≡ Some after → Loses after lost
     → (left : Room) → slice_get lost.rooms row.room ≡ Some left → n ≤ landed_in left row.host writer
-sync_survives l start next caller writer n ask row sound there synced is owed step later legal after lost now loses left here = elim (cases_lt 0 n) as (λ _. n ≤ landed_in left row.host writer) [
+sync_survives l start next caller writer n ask row sound there synced is may step later legal after lost now loses left here = elim (cases_lt 0 n) as (λ _. n ≤ landed_in left row.host writer) [
   | inl some ↦
       let m : IsMarked row n start.table next.table = step_marks caller writer n ask row start next there is step in
       let own : row.id ≡ writer = row_of_id writer start.table.writers row there in
-      let s : IsSoundFor l next = subst (λ i. IsSoundFor i next) (ap (λ c. issued_after l start c (Synced n)) is) (step_keeps l start next caller ask (Synced n) owed step sound) in
+      let s : IsSoundFor l next = subst (λ i. IsSoundFor i next) (ap (λ c. issued_after l start c (Synced n)) is) (step_keeps l start next caller ask (Synced n) may step sound) in
       let stands : row_of row.id start.table.writers ≡ Some row = ap (λ w. row_of w start.table.writers) own ∙ there in
       let e : row_of writer next.table.writers ≡ Some (index_synced row) = ap (λ (t : Table). row_of writer t.writers) m.after ∙ ap (λ w. row_of w (with_row (index_synced row) start.table.writers)) (sym own) ∙ row_of-with_row (index_synced row) start.table.writers row stands in
       let place = s.sound.placed writer (index_synced row) e in

@@ -8,7 +8,7 @@ use Rattle.mount_sound.specs.Items.{HasItem}
 use Rattle.mount_sound.specs.There.{landed_in}
 use Rattle.mount_sound.specs.Sound.{IsSoundTree}
 use Rattle.mount_sound.specs.Growing.{IsMore}
-use Rattle.mount_losses.specs.Keeping.{kept_in}
+use Rattle.mount_sound.specs.Keeping.{kept_in}
 
 -- in each room as many entries of each index dropping have landed as were kept with their bytes
 abbrev pub HasKept : Tree → Tree → Type 0

@@ -10,16 +10,17 @@ ghost use Rattle.mount_model.specs.declared.call.Call.TheVariants.{SyncIndex};
 ghost use Rattle.mount_model.specs.declared.reply.Reply.TheVariants.{Synced};
 ghost use Rattle.mount_model.specs.declared.row.Row.{Row};
 ghost use Rattle.mount_model.specs.State.{State};
-ghost use Rattle.mount_model.specs.Step.{IsStep, IsOwed};
-ghost use Rattle.mount_model.specs.History.{Event, IsLawful, told_tree_after};
+ghost use Rattle.mount_model.specs.Step.{IsStep};
+ghost use Rattle.mount_model.specs.History.{Event, told_tree_after};
 ghost use Rattle.mount_model.specs.Mounting.{IsMounted};
 ghost use Rattle.mount_model.specs.Table.{row_of};
 ghost use Rattle.mount_sound.specs.Entries.{logged};
 ghost use Rattle.mount_sound.specs.Ledger.{Ledger, entries_in};
 ghost use Rattle.mount_sound.specs.Items.{HasItem};
 ghost use Rattle.mount_sound.specs.There.{landed_in};
+ghost use Rattle.mount_sound.specs.Owed.{May, IsLawful};
 ghost use Rattle.mount_sound.specs.Sound.{IsSoundFor, IsSoundTree};
-ghost use Rattle.mount_losses.specs.Keeping.{kept_in, safe_of};
+ghost use Rattle.mount_sound.specs.Keeping.{kept_in, safe_of};
 ghost use Rattle.mount_losses.specs.Losing.{HasKept, LosesUnkept};
 
 /// What a loss of power leaves of a sound tree is sound, for the first of its entries, and has those that were kept
@@ -40,7 +41,7 @@ pub fn what_was_synced_is_kept()
         → safe_of row (issued row.room writer) ≤ kept_in room row.host writer }
 {}
 
-/// Along a history of a sound mount no index dropping keeps fewer entries with their bytes, whatever the store answers
+/// Along a lawful history of a sound mount no index dropping keeps fewer entries with their bytes, whatever the store answers
 /// and whoever breaks off.
 pub fn what_is_kept_stays_kept()
     ensures { (before : Ledger) (start : State) (events : List Event) → IsLawful start events → IsSoundFor before start
@@ -71,7 +72,7 @@ pub fn synced_entries_survive()
     ensures { (before : Ledger) (start next : State) (caller writer n : ℕ) (ask : Ask) (row : Row) → IsSoundFor before start
         → row_of writer start.table.writers ≡ Some row
         → logged (take row.landed (entries_in (before row.room writer))) ≤ row.log_mark
-        → ask.call ≡ SyncIndex writer → IsOwed ask → IsStep start caller ask (Synced n) next
+        → ask.call ≡ SyncIndex writer → May start caller ask → IsStep start caller ask (Synced n) next
         → (later : List Event) → IsLawful next later
         → (after lost : Tree) → told_tree_after next later ≡ Some after → Loses after lost
         → (left : Room) → slice_get lost.rooms row.room ≡ Some left → n ≤ landed_in left row.host writer }

@@ -1,5 +1,5 @@
 -- A name among the truncates that is no truncate's is no item's.
-use Rattle.std.proofs.Common.{ℕ, refl}
+use Rattle.std.proofs.Common.{refl}
 use Rattle.container_layout.specs.declared.items.Item.{Item}
 use Rattle.container_layout.specs.declared.items.Item.TheVariants.{Trunc}
 use Rattle.container_layout.specs.Paths.{IsIn}

@@ -14,33 +14,40 @@ use Rattle.store_laws.specs.Outcomes.{ChangesOrStays}
 use Rattle.store_laws.proofs.Facts.{look_same, create_cases, remove_folder_cases, make_folder_cases, replace_cases, make_room_cases, rename_room_cases, remove_cases, sync_cases, write_cases, cut_cases}
 use Rattle.mount_model.specs.declared.row.Row.{Row}
 use Rattle.mount_model.specs.declared.row.Stage.{Stage}
+use Rattle.mount_model.specs.declared.row.Holder.{Holder}
+use Rattle.mount_model.specs.declared.row.Flattening.{Flattening}
+use Rattle.mount_model.specs.declared.row.FlatStage.{FlatStage}
+use Rattle.mount_model.specs.declared.row.FlatStage.TheVariants as flat_stage
 use Rattle.mount_model.specs.declared.call.Look.{Look as Sight}
 use Rattle.mount_model.specs.declared.call.Look.TheVariants as sight
 use Rattle.mount_model.specs.declared.call.Call.{Call}
-use Rattle.mount_model.specs.declared.call.Call.TheVariants.{Greet, Find, MakeContainer, Rooms, Look, Enter, Floor, MakeHostdir, MakeIndex, MakeLog, Write, Flush, SyncLog, SyncIndex, PutMeta, Exit}
+use Rattle.mount_model.specs.declared.call.Call.TheVariants.{Greet, Find, MakeContainer, Rooms, Look, Enter, Floor, MakeHostdir, MakeIndex, MakeLog, Write, Flush, SyncLog, SyncIndex, PutMeta, Exit, Hold, Mark, Move, Release, StartFlat, PutFlat, SyncFlat, InstallFlat, SyncDropping, Inspect, Mend, MendMeta, Bury, MendHold}
 use Rattle.mount_model.specs.declared.call.Ask.{Ask}
 use Rattle.mount_model.specs.declared.reply.Refusal.{Refusal}
 use Rattle.mount_model.specs.declared.reply.Refusal.TheVariants.{NoRoom}
 use Rattle.mount_model.specs.declared.reply.Reply.{Reply}
-use Rattle.mount_model.specs.declared.reply.Reply.TheVariants.{Looked, Damaged, Refused, Stopped, NoMemory}
-use Rattle.mount_model.specs.Paths.{Name, truncs, openhosts, metadata, open_path, index_path, log_path}
+use Rattle.mount_model.specs.declared.reply.Reply.TheVariants.{Looked, Damaged, Holding, Done, Refused, NoMemory}
+use Rattle.mount_model.specs.Paths.{Name, truncs, openhosts, metadata, dropping_path, open_path, index_path, log_path, trunc_path, temporary}
 use Rattle.container_layout.specs.Paths.{hostdir_of}
 use Rattle.mount_model.specs.Table.{may_close, writer_of}
 use Rattle.mount_model.specs.State.{State, Table, put, drawn, timed}
 use Rattle.mount_model.specs.Making.{Told, CallOutcome, otherwise, MakesAct, room_check, OnWriter, UnlessRefused}
 use Rattle.mount_model.specs.Finding.{find_outcome, make_outcome, RoomsReply}
 use Rattle.mount_model.specs.Looking.{look_reply, listing_reply, length_reply, read_reply}
-use Rattle.mount_model.specs.Entering.{enter_check, enter_outcome, entered}
+use Rattle.mount_model.specs.Entering.{draw_check, enter_outcome, entered}
 use Rattle.mount_model.specs.Flooring.{FloorOutcome}
 use Rattle.mount_model.specs.Building.{build_outcome}
 use Rattle.mount_model.specs.Writing.{WritesAt, write_check, write_outcome, stamp_at}
 use Rattle.mount_model.specs.Flushing.{FlushesRow, flush_outcome, sync_log_outcome, sync_index_outcome}
-use Rattle.mount_model.specs.Leaving.{meta_file, closing, put_meta_check, put_meta_outcome, exit_check, exit_outcome}
-use Rattle.mount_model.specs.Stopping.{part_made, begun, MakesPart, IsEndedBy, Stops}
+use Rattle.mount_model.specs.Leaving.{closing, put_meta_check, put_meta_outcome, exit_check, exit_outcome}
+use Rattle.mount_model.specs.Holding.{holding, HoldOutcome, OnHolder, truncate_check, truncate_outcome, TruncatesAt, rename_outcome, RenamesRoom, release_outcome}
+use Rattle.mount_model.specs.Flattening.{begun_flat, start_outcome, OnFlattening, put_flat_outcome, sync_flat_outcome, install_outcome}
+use Rattle.mount_model.specs.Recovering.{done_outcome, SyncsIt, alive_check, mend_check, MendsIt, mended_file, mend_meta_outcome, MendsItsMeta, bury_outcome, BuriesIt, mend_hold_check, mend_hold_outcome}
+use Rattle.mount_model.specs.Stopping.{part_made, begun, MakesPart, IsEndedBy}
 use Rattle.mount_model.specs.Step.{Answers, IsStep}
 use Rattle.mount_model.specs.Unchanged.{IsGivenUp, OnlyCloses, ChangesNothing}
-use Rattle.mount_model.proofs.Deciding.{match_cases, on_writer, unless_refused, is_held, step_cases}
-use Rattle.mount_model.proofs.Stopping.{begun_store, begun_table}
+use Rattle.mount_model.proofs.Deciding.{match_cases, on_writer, on_holder, on_flattening, unless_refused, is_held, step_cases}
+use Rattle.mount_model.proofs.Stopping.{begun_table}
 
 -- ---- answers that leave a tree
 
@@ -156,6 +163,58 @@ module _ (table : Table) where
   exit_idle row (Err trouble.Fault) g = never _ _ (λ why e. cc) (λ e. cc) g
   exit_idle row told g = rest openhosts (open_path row.host row.id).file told g
 
+  truncate_idle : (stamp size : ℕ) (told : Told) → IsGivenUp (truncate_outcome stamp size table told).reply → IsIdle table told (truncate_outcome stamp size table told).table
+  truncate_idle stamp size (Ok answer.Made) g = never _ _ (λ why e. cc) (λ e. cc) g
+  truncate_idle stamp size told g = rest truncs (trunc_path stamp size).file told g
+
+  rename_idle : (told : Told) → IsGivenUp (rename_outcome table told).reply → IsIdle table told (rename_outcome table told).table
+  rename_idle (Ok answer.Made) g = never _ _ (λ why e. cc) (λ e. cc) g
+  rename_idle (Ok answer.TargetThere) g = record { still = inr (answer.TargetThere, refl, record { not_made = λ e. cc; not_numbered = λ n e. cc }); same = refl }
+  rename_idle told g = rest [] [] told g
+
+  release_idle : (h : Holder) (told : Told) → IsGivenUp (release_outcome h table told).reply → IsIdle table told (release_outcome h table told).table
+  release_idle h (Ok answer.Made) g = never _ _ (λ why e. cc) (λ e. cc) g
+  release_idle h (Ok (answer.Old room)) g = never _ _ (λ why e. cc) (λ e. cc) g
+  release_idle h (Err trouble.Fault) g = never _ _ (λ why e. cc) (λ e. cc) g
+  release_idle h told g = rest openhosts [] told g
+
+  start_idle : (f : Flattening) (told : Told) → IsGivenUp (start_outcome f table told).reply → IsIdle table told (start_outcome f table told).table
+  start_idle f (Ok answer.Made) g = never _ _ (λ why e. cc) (λ e. cc) g
+  start_idle f told g = rest (temporary f).folder (temporary f).file told g
+
+  put_flat_idle : (f : Flattening) (told : Told) → IsGivenUp (put_flat_outcome f table told).reply → IsIdle table told (put_flat_outcome f table told).table
+  put_flat_idle f (Ok answer.Made) g = never _ _ (λ why e. cc) (λ e. cc) g
+  put_flat_idle f told g = rest (temporary f).folder (temporary f).file told g
+
+  sync_flat_idle : (f : Flattening) (told : Told) → IsGivenUp (sync_flat_outcome f table told).reply → IsIdle table told (sync_flat_outcome f table told).table
+  sync_flat_idle f (Ok answer.Made) g = never _ _ (λ why e. cc) (λ e. cc) g
+  sync_flat_idle f told g = rest (temporary f).folder (temporary f).file told g
+
+  install_idle : (f : Flattening) (told : Told) → IsGivenUp (install_outcome f table told).reply → IsIdle table told (install_outcome f table told).table
+  install_idle f (Ok answer.Made) g = never _ _ (λ why e. cc) (λ e. cc) g
+  install_idle f (Err trouble.Fault) g = never _ _ (λ why e. cc) (λ e. cc) g
+  install_idle f told g = rest (temporary f).folder (temporary f).file told g
+
+  done_idle : (folder file : Name) (told : Told) → IsGivenUp (done_outcome folder file table told).reply → IsIdle table told (done_outcome folder file table told).table
+  done_idle folder file (Ok answer.Made) g = never _ _ (λ why e. cc) (λ e. cc) g
+  done_idle folder file told g = rest folder file told g
+
+  mend_meta_idle : (file : Name) (told : Told) → IsGivenUp (mend_meta_outcome file table told).reply → IsIdle table told (mend_meta_outcome file table told).table
+  mend_meta_idle file (Ok answer.Made) g = never _ _ (λ why e. cc) (λ e. cc) g
+  mend_meta_idle file (Ok (answer.Old room)) g = never _ _ (λ why e. cc) (λ e. cc) g
+  mend_meta_idle file told g = rest metadata file told g
+
+  bury_idle : (file : Name) (told : Told) → IsGivenUp (bury_outcome file table told).reply → IsIdle table told (bury_outcome file table told).table
+  bury_idle file (Ok answer.Made) g = never _ _ (λ why e. cc) (λ e. cc) g
+  bury_idle file (Ok answer.Absent) g = never _ _ (λ why e. cc) (λ e. cc) g
+  bury_idle file (Ok answer.NoFolder) g = never _ _ (λ why e. cc) (λ e. cc) g
+  bury_idle file told g = rest openhosts file told g
+
+  mend_hold_idle : (told : Told) → IsGivenUp (mend_hold_outcome table told).reply → IsIdle table told (mend_hold_outcome table told).table
+  mend_hold_idle (Ok answer.Made) g = never _ _ (λ why e. cc) (λ e. cc) g
+  mend_hold_idle (Ok (answer.Old room)) g = never _ _ (λ why e. cc) (λ e. cc) g
+  mend_hold_idle told g = rest openhosts [] told g
+
 -- the making of a metadata dropping: its writer closes where the room isn't there
 record ClosesOrIdle (row : Row) (table : Table) (told : Told) (reply : Reply) (after : Table) : Type 0 where
   still : IsStill told
@@ -210,6 +269,12 @@ floor_idle row table (Ok (answer.Names names)) reply after o g = elim o as (λ _
 ]
 floor_idle row table told reply after o g = record { still = otherwise_still truncs [] told (subst IsGivenUp o.0 g); same = o.1 }
 
+hold_idle : (h : Holder) (table : Table) (told : Told) (reply : Reply) (after : Table) → HoldOutcome h table told reply after → IsGivenUp reply → IsIdle table told after
+hold_idle h table (Ok answer.Made) reply after o g = never _ reply (λ why e. let f : reply ≡ Holding h.number = o.0 in cc) (λ e. let f : reply ≡ Holding h.number = o.0 in cc) g
+hold_idle h table (Ok answer.NoFolder) reply after o g = record { still = inr (answer.NoFolder, refl, record { not_made = λ e. cc; not_numbered = λ n e. cc }); same = o.1 }
+hold_idle h table (Ok (answer.NotEmpty least)) reply after o g = record { still = inr (answer.NotEmpty least, refl, record { not_made = λ e. cc; not_numbered = λ n e. cc }); same = o.1 }
+hold_idle h table told reply after o g = record { still = otherwise_still openhosts [] told (subst IsGivenUp o.0 g); same = o.1 }
+
 -- ---- each call
 
 module _ (caller : ℕ) (call : Call) (old : State) (reply : Reply) (new : State) (given : IsGivenUp reply) where
@@ -227,6 +292,12 @@ module _ (caller : ℕ) (call : Call) (old : State) (reply : Reply) (new : State
 
   on_own : (stages : Stage → Bool) (id : ℕ) (does : Row → Type 0) → OnWriter caller stages id old reply new does → ((row : Row) → does row → ChangesNothing caller call old reply new) → ChangesNothing caller call old reply new
   on_own stages id does on made = on_writer caller stages id old reply new does (ChangesNothing caller call old reply new) on unchanged (λ row held. made row)
+
+  on_held : (number : ℕ) (does : Holder → Type 0) → OnHolder caller number old reply new does → ((h : Holder) → does h → ChangesNothing caller call old reply new) → ChangesNothing caller call old reply new
+  on_held number does on made = on_holder caller number old reply new does (ChangesNothing caller call old reply new) on unchanged (λ h held. made h)
+
+  on_flat : (stage : FlatStage) (id : ℕ) (does : Flattening → Type 0) → OnFlattening caller stage id old reply new does → ((f : Flattening) → does f → ChangesNothing caller call old reply new) → ChangesNothing caller call old reply new
+  on_flat stage id does on made = on_flattening caller stage id old reply new does (ChangesNothing caller call old reply new) on unchanged (λ f flat. made f)
 
   by_check : (check : Option Refusal) (does : Type 0) → UnlessRefused check old reply new does → (does → ChangesNothing caller call old reply new) → ChangesNothing caller call old reply new
   by_check check does on made = unless_refused check old reply new does (ChangesNothing caller call old reply new) on unchanged (λ none. made)
@@ -262,7 +333,7 @@ answers_idle caller (Find name) old reply new given a = making caller (Find name
 answers_idle caller (MakeContainer name) old reply new given a = making caller (MakeContainer name) old reply new given _ _ old refl (make_idle old.table) a.makes
 answers_idle caller Rooms old reply new given a = by_act caller Rooms old reply new given _ a.told a.made (record { still = rooms_still a.told reply a.answered given; same = ap (λ (s : State). s.table) a.after })
 answers_idle caller (Look room look) old reply new given a = by_check caller (Look room look) old reply new given _ _ a (λ m. making caller (Look room look) old reply new given _ _ old refl (λ told g. record { still = look_still look told g; same = refl }) m)
-answers_idle caller (Enter room host most) old reply new given a = by_check caller (Enter room host most) old reply new given (enter_check old room) _ a (λ e. making caller (Enter room host most) old reply new given _ _ (drawn old) refl (enter_idle old.table (entered old caller room host most)) e.makes)
+answers_idle caller (Enter room host most) old reply new given a = by_check caller (Enter room host most) old reply new given (draw_check old room) _ a (λ e. making caller (Enter room host most) old reply new given _ _ (drawn old) refl (enter_idle old.table (entered old caller room host most)) e.makes)
 answers_idle caller (Floor writer) old reply new given a = on_own caller (Floor writer) old reply new given _ writer _ a (λ row f. by_act caller (Floor writer) old reply new given _ f.told f.made (floor_idle row old.table f.told reply new.table f.outcome given))
 answers_idle caller (MakeHostdir writer) old reply new given a = on_own caller (MakeHostdir writer) old reply new given _ writer _ a (λ row m. making caller (MakeHostdir writer) old reply new given _ _ old refl (build_idle old.table _ _ _ row) m)
 answers_idle caller (MakeIndex writer) old reply new given a = on_own caller (MakeIndex writer) old reply new given _ writer _ a (λ row m. making caller (MakeIndex writer) old reply new given _ _ old refl (build_idle old.table _ _ _ row) m)
@@ -276,6 +347,29 @@ answers_idle caller (SyncIndex writer) old reply new given a = on_own caller (Sy
 answers_idle caller (PutMeta writer) old reply new given a = put_meta_idles caller writer old reply new given a
 answers_idle caller (Exit writer) old reply new given a = on_own caller (Exit writer) old reply new given _ writer _ a (λ row u.
     by_check caller (Exit writer) old reply new given (exit_check row) _ u (λ m. making caller (Exit writer) old reply new given _ _ old refl (exit_idle old.table row) m))
+answers_idle caller (Hold room) old reply new given a = by_check caller (Hold room) old reply new given (draw_check old room) _ a (λ h.
+    by_act caller (Hold room) old reply new given _ h.told h.made (hold_idle (holding old caller room) old.table h.told reply new.table h.outcome given))
+answers_idle caller (Mark number size top) old reply new given a = on_held caller (Mark number size top) old reply new given number _ a (λ h u.
+    by_check caller (Mark number size top) old reply new given (truncate_check size top) _ u (λ (t : TruncatesAt h size top old reply new).
+    making caller (Mark number size top) old reply new given _ _ (timed t.times old) refl (truncate_idle old.table _ size) t.makes))
+answers_idle caller (Move number to) old reply new given a = on_held caller (Move number to) old reply new given number _ a (λ h (r : RenamesRoom h to old reply new).
+    making caller (Move number to) old reply new given _ _ old refl (rename_idle old.table) r.makes)
+answers_idle caller (Release number) old reply new given a = on_held caller (Release number) old reply new given number _ a (λ h m. making caller (Release number) old reply new given _ _ old refl (release_idle old.table h) m)
+answers_idle caller (StartFlat room) old reply new given a = by_check caller (StartFlat room) old reply new given (draw_check old room) _ a (λ m.
+    making caller (StartFlat room) old reply new given _ _ (drawn old) refl (start_idle old.table (begun_flat old caller room)) m)
+answers_idle caller (PutFlat flat bytes) old reply new given a = on_flat caller (PutFlat flat bytes) old reply new given flat_stage.Begun flat _ a (λ f m. making caller (PutFlat flat bytes) old reply new given _ _ old refl (put_flat_idle old.table f) m)
+answers_idle caller (SyncFlat flat) old reply new given a = on_flat caller (SyncFlat flat) old reply new given flat_stage.Put flat _ a (λ f m. making caller (SyncFlat flat) old reply new given _ _ old refl (sync_flat_idle old.table f) m)
+answers_idle caller (InstallFlat flat) old reply new given a = on_flat caller (InstallFlat flat) old reply new given flat_stage.Synced flat _ a (λ f m. making caller (InstallFlat flat) old reply new given _ _ old refl (install_idle old.table f) m)
+answers_idle caller (SyncDropping room host writer is_log) old reply new given a = by_check caller (SyncDropping room host writer is_log) old reply new given (room_check old room) _ a (λ (m : SyncsIt room host writer is_log old reply new).
+    making caller (SyncDropping room host writer is_log) old reply new given _ _ old refl (done_idle old.table (dropping_path is_log host writer).folder (dropping_path is_log host writer).file) m.makes)
+answers_idle caller (Inspect writer) old reply new given a = by_check caller (Inspect writer) old reply new given (alive_check old writer) ((reply ≡ Done) × (new ≡ old)) a (λ m. unchanged caller (Inspect writer) old reply new given m.1)
+answers_idle caller (Mend room host writer count) old reply new given a = by_check caller (Mend room host writer count) old reply new given (mend_check old room writer) _ a (λ (m : MendsIt room host writer count old reply new).
+    making caller (Mend room host writer count) old reply new given _ _ old refl (done_idle old.table (index_path host writer).folder (index_path host writer).file) m.makes)
+answers_idle caller (MendMeta room host cover last) old reply new given a = by_check caller (MendMeta room host cover last) old reply new given (mend_check old room cover.writer) _ a (λ (m : MendsItsMeta room host cover last old reply new).
+    making caller (MendMeta room host cover last) old reply new given _ _ old refl (mend_meta_idle old.table (mended_file host cover last)) m.makes)
+answers_idle caller (Bury room host writer) old reply new given a = by_check caller (Bury room host writer) old reply new given (mend_check old room writer) _ a (λ (m : BuriesIt room host writer old reply new).
+    making caller (Bury room host writer) old reply new given _ _ old refl (bury_idle old.table (open_path host writer).file) m.makes)
+answers_idle caller (MendHold room) old reply new given a = by_check caller (MendHold room) old reply new given (mend_hold_check old room) _ a (λ m. making caller (MendHold room) old reply new given _ _ old refl (mend_hold_idle old.table) m)
 
 -- ---- a call that is broken off
 
@@ -283,17 +377,17 @@ part_idle : (part : Option Step) (old new : Stored) → MakesPart part old new (
 part_idle None old new m = absurd (let told = m.0 in cc)
 part_idle (Some step) old new m = ap (λ (s : Stored). s.tree) m
 
-stop_idle : (caller k : ℕ) (call : Call) (old : State) (reply : Reply) (new : State) (told : Told) (store : Stored) → IsGivenUp reply → MakesPart (part_made k old caller call) old.store store told
-    → IsEndedBy told reply (record (begun old call) { store = store }) caller new → ChangesNothing caller call old reply new
-stop_idle caller k call old reply new (Err trouble.NoMemory) store given made e = record {
-  tree = ap (λ (s : State). s.store.tree) e.1 ∙ part_idle (part_made k old caller call) old.store store made;
+stop_idle : (caller k time : ℕ) (call : Call) (old : State) (reply : Reply) (new : State) (told : Told) (store : Stored) (times : Option (List ℕ)) → IsGivenUp reply → MakesPart (part_made k time old caller call) old.store store told
+    → IsEndedBy told reply (record (begun old call) { store = store; times = times }) caller new → ChangesNothing caller call old reply new
+stop_idle caller k time call old reply new (Err trouble.NoMemory) store times given made e = record {
+  tree = ap (λ (s : State). s.store.tree) e.1 ∙ part_idle (part_made k time old caller call) old.store store made;
   table = inl (ap (λ (s : State). s.table) e.1 ∙ begun_table old call);
 }
-stop_idle caller k call old reply new (Err trouble.Fault) store given made e = never _ reply (λ why f. let s = e.0 in cc) (λ f. let s = e.0 in cc) given
-stop_idle caller k call old reply new (Ok told) store given made e = never _ reply (λ why f. let s = e.0 in cc) (λ f. let s = e.0 in cc) given
+stop_idle caller k time call old reply new (Err trouble.Fault) store times given made e = never _ reply (λ why f. let s = e.0 in cc) (λ f. let s = e.0 in cc) given
+stop_idle caller k time call old reply new (Ok told) store times given made e = never _ reply (λ why f. let s = e.0 in cc) (λ f. let s = e.0 in cc) given
 
 -- Where a call is given up, it changes nothing.
 pub step_idle : (old new : State) (caller : ℕ) (ask : Ask) (reply : Reply) → IsStep old caller ask reply new → IsGivenUp reply → ChangesNothing caller ask.call old reply new
 step_idle old new caller ask reply s given = step_cases old caller ask reply new (ChangesNothing caller ask.call old reply new) s
     (λ none a. answers_idle caller ask.call old reply new given a)
-    (λ k some x. stop_idle caller k ask.call old reply new x.told x.store given x.made x.after)
+    (λ k some x. stop_idle caller k x.time ask.call old reply new x.told x.store x.times given x.made x.after)

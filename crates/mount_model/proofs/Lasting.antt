@@ -3,7 +3,7 @@ use Rattle.std.proofs.Common.{◌≡◌, ◌≢◌, ℕ, ◌≤◌, ◌<◌, Lis
 use Rattle.std.specs.Prelude.{if◌then◌else◌}
 use Rattle.std.specs.List.{All}
 use Rattle.std.proofs.lemmas.List.Elements.{All-nil, All-cons, All-head, All-tail}
-use Rattle.store_api.specs.declared.step.Answer.TheVariants.{Names}
+use Rattle.store_api.specs.declared.step.Answer.TheVariants.{Made, NoFolder, NotEmpty, Names}
 use Rattle.store_api.specs.declared.store.Trouble.TheVariants as trouble
 use Rattle.store_api.specs.Step.{Step}
 use Rattle.store_api.specs.Acts.{Stored}
@@ -11,30 +11,36 @@ use Rattle.plfs_types.specs.declared.entries.Entry.{Entry}
 use Rattle.mount_model.specs.declared.row.Row.{Row}
 use Rattle.mount_model.specs.declared.row.Holder.{Holder}
 use Rattle.mount_model.specs.declared.row.Flattening.{Flattening}
+use Rattle.mount_model.specs.declared.row.FlatStage.{FlatStage}
+use Rattle.mount_model.specs.declared.row.FlatStage.TheVariants.{Begun, Put, Synced}
 use Rattle.mount_model.specs.declared.row.Stage.{Stage}
 use Rattle.mount_model.specs.declared.row.Stage.TheVariants as stage
 use Rattle.mount_model.specs.declared.call.Call.{Call}
-use Rattle.mount_model.specs.declared.call.Call.TheVariants.{Greet, Find, MakeContainer, Rooms, Look, Enter, Floor, MakeHostdir, MakeIndex, MakeLog, Write, Flush, SyncLog, SyncIndex, PutMeta, Exit}
+use Rattle.mount_model.specs.declared.call.Call.TheVariants.{Greet, Find, MakeContainer, Rooms, Look, Enter, Floor, MakeHostdir, MakeIndex, MakeLog, Write, Flush, SyncLog, SyncIndex, PutMeta, Exit, Hold, Mark, Move, Release, StartFlat, PutFlat, SyncFlat, InstallFlat, SyncDropping, Inspect, Mend, MendMeta, Bury, MendHold}
 use Rattle.mount_model.specs.declared.call.Ask.{Ask}
 use Rattle.mount_model.specs.declared.reply.Refusal.{Refusal}
 use Rattle.mount_model.specs.declared.reply.Reply.{Reply}
+use Rattle.mount_model.specs.declared.reply.Reply.TheVariants.{Done}
 use Rattle.mount_model.specs.Paths.{Name}
 use Rattle.mount_model.specs.Table.{at_stage}
 use Rattle.mount_model.specs.State.{State, Table, put, drawn, timed}
 use Rattle.mount_model.specs.Making.{Told, CallOutcome, MakesAct, OnWriter, UnlessRefused}
 use Rattle.mount_model.specs.Finding.{NamesRooms}
-use Rattle.mount_model.specs.Entering.{EntersAs, enter_check, entered}
+use Rattle.mount_model.specs.Entering.{EntersAs, draw_check, entered}
 use Rattle.mount_model.specs.Flooring.{FloorsRow, FloorOutcome, floored}
 use Rattle.mount_model.specs.Writing.{WritesAt, write_check, wrote, stamp_at}
 use Rattle.mount_model.specs.Building.{build_outcome}
 use Rattle.mount_model.specs.Flushing.{FlushesRow, flushed, log_synced, index_synced}
 use Rattle.mount_model.specs.Leaving.{closed, closing}
+use Rattle.mount_model.specs.Holding.{holding, HoldOutcome, HoldsRoom, OnHolder, TruncatesAt, RenamesRoom, let_go}
+use Rattle.mount_model.specs.Flattening.{OnFlattening, begun_flat, start_step, start_outcome, come_to, drop_flat}
+use Rattle.mount_model.specs.Recovering.{SyncsIt, alive_check, MendsIt, MendsItsMeta, BuriesIt}
 use Rattle.mount_model.specs.Step.{Answers, IsStep, OwedBy, IsOwed}
 use Rattle.mount_model.specs.Stopping.{row_ended, without_caller, drawn_unless, begun, IsEndedBy}
 use Rattle.mount_model.specs.Regular.{IsCounted, AreAscending, IsDrawn, IsRegular}
-use Rattle.mount_model.proofs.Deciding.{IsHeld, on_writer, unless_refused, may_enter, may_write, step_cases}
+use Rattle.mount_model.proofs.Deciding.{IsHeld, IsHolding, IsUnderway, on_flattening, on_holder, on_writer, unless_refused, may_enter, may_write, step_cases}
 use Rattle.mount_model.proofs.Ranges.{counted_entered, counted_staged, counted_log_synced, counted_index_synced, counted_closed, counted_floored, counted_flushed, counted_wrote, floor_fits}
-use Rattle.mount_model.proofs.Rows.{AreRegularFor, rows_of, regular_of, regular_for, regular_row, regular_put, regular_taken, regular_drawn, regular_pushed, drawn_later, some_drawn}
+use Rattle.mount_model.proofs.Rows.{AreRegularFor, rows_of, regular_of, regular_for, regular_row, regular_put, regular_taken, regular_drawn, regular_pushed, drawn_later, holders_pushed, holders_without, flattenings_pushed, flattenings_with, flattenings_without, flattening_apart, some_drawn}
 use Rattle.mount_model.proofs.Outcomes as table
 
 regular_as : (old new : State) → IsRegular old → new ≡ old → IsRegular new
@@ -67,7 +73,7 @@ put_regular old id row new r caller stages held same_id same_room counted =
     }
 
 -- a serial is drawn
-next_regular : (old : State) (room : ℕ) → enter_check old room ≡ None → IsRegular old → IsRegular (drawn old)
+next_regular : (old : State) (room : ℕ) → draw_check old room ≡ None → IsRegular old → IsRegular (drawn old)
 next_regular old room none r =
     let may = may_enter old room none in
     regular_of (drawn old) r.mount_fits (omega (arith, may.1)) (record {
@@ -90,7 +96,7 @@ module _ (old : State) (regular : IsRegular old) (reply : Reply) (new : State) w
   rooms_regular : NamesRooms old reply new → IsRegular new
   rooms_regular n = subst IsRegular (sym n.after) (regular_of (record old { store = new.store }) regular.mount_fits regular.serial_fits (regular_for old (record old { store = new.store }) old.table refl refl refl kept))
 
-  enter_regular : (caller room host most : ℕ) → 1 ≤ most → most ≤ 4096 → enter_check old room ≡ None → EntersAs caller room host most old reply new → IsRegular new
+  enter_regular : (caller room host most : ℕ) → 1 ≤ most → most ≤ 4096 → draw_check old room ≡ None → EntersAs caller room host most old reply new → IsRegular new
   enter_regular caller room host most some few none e =
       let may = may_enter old room none in
       let next : IsRegular (drawn old) = next_regular old room none regular in
@@ -145,6 +151,68 @@ module _ (old : State) (regular : IsRegular old) (reply : Reply) (new : State) w
       (table.flush_table (AreRegularFor old) old.table kept row (put_regular old writer row (flushed row) regular caller stages held refl refl (counted_flushed row)))
       f
 
+  by_holder : (caller number : ℕ) (does : Holder → Type 0) → OnHolder caller number old reply new does
+      → ((h : Holder) → IsHolding caller number old.table.holders h → does h → IsRegular new) → IsRegular new
+  by_holder caller number does on keeps = on_holder caller number old reply new does (IsRegular new) on (regular_as old new regular) keeps
+
+  by_flattening : (caller : ℕ) (stage : FlatStage) (id : ℕ) (does : Flattening → Type 0) → OnFlattening caller stage id old reply new does
+      → ((f : Flattening) → IsUnderway caller stage id old.table.flattenings f → does f → IsRegular new) → IsRegular new
+  by_flattening caller stage id does on keeps = on_flattening caller stage id old reply new does (IsRegular new) on (regular_as old new regular) keeps
+
+  hold_told : (caller room : ℕ) → draw_check old room ≡ None → (after : Table) (told : Told)
+      → HoldOutcome (holding old caller room) old.table told reply after → AreRegularFor (drawn old) after
+  hold_told caller room none after (Ok Made) o =
+      let may = may_enter old room none in
+      let next : IsRegular (drawn old) = next_regular old room none regular in
+      subst (AreRegularFor (drawn old)) (sym o.1) (record {
+        writers = (rows_of (drawn old) next).writers;
+        holders = holders_pushed old.mount old.serial old.marks old.table.holders (holding old caller room) refl may.0 kept.holders;
+        flattenings = next.flattenings;
+      })
+  hold_told caller room none after (Ok NoFolder) o = subst (AreRegularFor (drawn old)) (sym o.1) (rows_of (drawn old) (next_regular old room none regular))
+  hold_told caller room none after (Ok (NotEmpty least)) o = subst (AreRegularFor (drawn old)) (sym o.1) (rows_of (drawn old) (next_regular old room none regular))
+  hold_told caller room none after told o = subst (AreRegularFor (drawn old)) (sym o.1) (rows_of (drawn old) (next_regular old room none regular))
+
+  hold_regular : (caller room : ℕ) → draw_check old room ≡ None → HoldsRoom caller room old reply new → IsRegular new
+  hold_regular caller room none h =
+      let next : IsRegular (drawn old) = next_regular old room none regular in
+      subst IsRegular (sym h.after)
+      (regular_of (record (drawn old) { store = new.store; table = new.table }) next.mount_fits next.serial_fits
+      (regular_for (drawn old) (record (drawn old) { store = new.store; table = new.table }) new.table refl refl refl (hold_told caller room none new.table h.told h.outcome)))
+
+  truncate_regular : (h : Holder) (size top : ℕ) → TruncatesAt h size top old reply new → IsRegular new
+  truncate_regular h size top t =
+      let later : IsRegular (timed t.times old) = regular_of (timed t.times old) regular.mount_fits regular.serial_fits (regular_for old (timed t.times old) old.table refl refl refl kept) in
+      makes_regular _ _ (timed t.times old) reply new later (table.truncate_table (AreRegularFor (timed t.times old)) old.table (rows_of (timed t.times old) later) _ size) t.makes
+
+  start_regular : (caller room : ℕ) → draw_check old room ≡ None
+      → MakesAct (start_step (begun_flat old caller room)) (start_outcome (begun_flat old caller room) old.table) (drawn old) reply new → IsRegular new
+  start_regular caller room none m =
+      let may = may_enter old room none in
+      let next : IsRegular (drawn old) = next_regular old room none regular in
+      makes_regular _ _ (drawn old) reply new next
+      (table.start_table (AreRegularFor (drawn old)) old.table (rows_of (drawn old) next) (begun_flat old caller room)
+      (record {
+        writers = (rows_of (drawn old) next).writers;
+        holders = next.holders;
+        flattenings = flattenings_pushed old.mount old.serial old.marks old.table.flattenings (begun_flat old caller room) refl may.0 kept.flattenings;
+      }))
+      m
+
+  come_regular : (caller : ℕ) (from to : FlatStage) (id : ℕ) (f : Flattening) → IsUnderway caller from id old.table.flattenings f → AreRegularFor old (come_to to f old.table)
+  come_regular caller from to id f is = record {
+    writers = kept.writers;
+    holders = kept.holders;
+    flattenings = flattenings_with old.mount old.serial old.marks old.table.flattenings (record f { stage = to })
+        (flattening_apart old.mount old.serial old.marks old.table.flattenings id f kept.flattenings is.found) kept.flattenings;
+  }
+
+  let_go_regular : (number : ℕ) → AreRegularFor old (let_go number old.table)
+  let_go_regular number = record { writers = kept.writers; holders = holders_without old.mount old.serial old.marks old.table.holders number kept.holders; flattenings = kept.flattenings }
+
+  drop_regular : (id : ℕ) → AreRegularFor old (drop_flat id old.table)
+  drop_regular id = record { writers = kept.writers; holders = kept.holders; flattenings = flattenings_without old.mount old.serial old.marks old.table.flattenings id kept.flattenings }
+
   answers_regular : (caller : ℕ) (call : Call) → OwedBy call → Answers old caller call reply new → IsRegular new
   answers_regular caller Greet owed a = regular_as old new regular a.1
   answers_regular caller (Find name) owed a = makes_regular _ _ old reply new regular (table.find_table (AreRegularFor old) old.table kept) a.makes
@@ -170,6 +238,20 @@ module _ (old : State) (regular : IsRegular old) (reply : Reply) (new : State) w
       (record { writers = regular_taken old.mount old.serial old.marks row.id old.table.writers kept.writers; holders = kept.holders; flattenings = kept.flattenings })
       (put_regular old writer row (at_stage stage.Dead row) regular caller _ held refl refl (counted_staged stage.Dead row)))
       m))
+  answers_regular caller (Hold room) owed a = by_check _ _ a (hold_regular caller room)
+  answers_regular caller (Mark holder size top) owed a = by_holder caller holder _ a (λ h is u. by_check _ _ u (λ none. truncate_regular h size top))
+  answers_regular caller (Move holder to) owed a = by_holder caller holder _ a (λ h is. λ (x : RenamesRoom h to old reply new). makes_regular _ _ old reply new regular (table.rename_table (AreRegularFor old) old.table kept) x.makes)
+  answers_regular caller (Release holder) owed a = by_holder caller holder _ a (λ h is m. makes_regular _ _ old reply new regular (table.release_table (AreRegularFor old) old.table kept h (let_go_regular h.number)) m)
+  answers_regular caller (StartFlat room) owed a = by_check _ _ a (start_regular caller room)
+  answers_regular caller (PutFlat flat bytes) owed a = by_flattening caller Begun flat _ a (λ f is m. makes_regular _ _ old reply new regular (table.put_flat_table (AreRegularFor old) old.table kept f (come_regular caller _ _ flat f is)) m)
+  answers_regular caller (SyncFlat flat) owed a = by_flattening caller Put flat _ a (λ f is m. makes_regular _ _ old reply new regular (table.sync_flat_table (AreRegularFor old) old.table kept f (come_regular caller _ _ flat f is)) m)
+  answers_regular caller (InstallFlat flat) owed a = by_flattening caller Synced flat _ a (λ f is m. makes_regular _ _ old reply new regular (table.install_table (AreRegularFor old) old.table kept f (drop_regular f.id)) m)
+  answers_regular caller (SyncDropping room host writer is_log) owed a = by_check _ _ a (λ none. λ (x : SyncsIt room host writer is_log old reply new). makes_regular _ _ old reply new regular (table.done_table (AreRegularFor old) old.table kept _ _) x.makes)
+  answers_regular caller (Inspect writer) owed a = by_check (alive_check old writer) ((reply ≡ Done) × (new ≡ old)) a (λ none x. regular_as old new regular x.1)
+  answers_regular caller (Mend room host writer count) owed a = by_check _ _ a (λ none. λ (x : MendsIt room host writer count old reply new). makes_regular _ _ old reply new regular (table.done_table (AreRegularFor old) old.table kept _ _) x.makes)
+  answers_regular caller (MendMeta room host cover last) owed a = by_check _ _ a (λ none. λ (x : MendsItsMeta room host cover last old reply new). makes_regular _ _ old reply new regular (table.mend_meta_table (AreRegularFor old) old.table kept _) x.makes)
+  answers_regular caller (Bury room host writer) owed a = by_check _ _ a (λ none. λ (x : BuriesIt room host writer old reply new). makes_regular _ _ old reply new regular (table.bury_table (AreRegularFor old) old.table kept _) x.makes)
+  answers_regular caller (MendHold room) owed a = by_check _ _ a (λ none. makes_regular _ _ old reply new regular (table.mend_hold_table (AreRegularFor old) old.table kept))
 
 -- ---- a caller that is at its end
 
@@ -210,16 +292,18 @@ ended_regular caller state r = record {
 }
 
 -- the state in which a call's act is made
-drawn_regular : (old : State) (room : ℕ) (check : Option Refusal) → (check ≡ None → enter_check old room ≡ None) → IsRegular old → IsRegular (drawn_unless check old)
+drawn_regular : (old : State) (room : ℕ) (check : Option Refusal) → (check ≡ None → draw_check old room ≡ None) → IsRegular old → IsRegular (drawn_unless check old)
 drawn_regular old room None is r = next_regular old room (is refl) r
 drawn_regular old room (Some why) is r = r
 
 pub begun_regular : (old : State) (call : Call) → IsRegular old → IsRegular (begun old call)
-begun_regular old (Enter room host most) r = drawn_regular old room (enter_check old room) (λ e. e) r
+begun_regular old (Enter room host most) r = drawn_regular old room (draw_check old room) (λ e. e) r
+begun_regular old (Hold room) r = drawn_regular old room (draw_check old room) (λ e. e) r
+begun_regular old (StartFlat room) r = drawn_regular old room (draw_check old room) (λ e. e) r
 begun_regular old call r = r
 
-stored_regular : (state : State) (store : Stored) → IsRegular state → IsRegular (record state { store = store })
-stored_regular state store r = record {
+stored_regular : (state : State) (store : Stored) (times : Option (List ℕ)) → IsRegular state → IsRegular (record state { store = store; times = times })
+stored_regular state store times r = record {
   mount_fits = r.mount_fits;
   serial_fits = r.serial_fits;
   counted = r.counted;
@@ -239,4 +323,4 @@ by_end (Ok answer) reply at caller new e r = subst IsRegular (sym e.1) (ended_re
 pub step_regular : (old new : State) (caller : ℕ) (ask : Ask) (reply : Reply) → IsOwed ask → IsStep old caller ask reply new → IsRegular old → IsRegular new
 step_regular old new caller ask reply owed s r = step_cases old caller ask reply new (IsRegular new) s
     (λ none a. answers_regular old r reply new caller ask.call owed a)
-    (λ k some x. by_end x.told reply _ caller new x.after (stored_regular (begun old ask.call) x.store (begun_regular old ask.call r)))
+    (λ k some x. by_end x.told reply _ caller new x.after (stored_regular (begun old ask.call) x.store x.times (begun_regular old ask.call r)))

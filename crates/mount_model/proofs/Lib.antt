@@ -1,12 +1,15 @@
+mod Before
 mod Beginning
 mod Broken
+mod Dead
 mod Deciding
 pub mod Facts
 mod Foreign
-mod Histories
+mod Holders
 mod Holding
 mod Idle
 mod Lasting
+mod NoWriters
 mod Outcomes
 mod Places
 mod Ranges

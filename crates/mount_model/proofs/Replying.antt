@@ -5,6 +5,7 @@ use Rattle.std.specs.Prelude.{if◌then◌else◌, MatchOption}
 use Rattle.plfs_types.specs.Counts.{HasRisen}
 use Rattle.plfs_types.specs.declared.names.Path.{Path}
 use Rattle.plfs_types.specs.declared.entries.Entry.{Entry}
+use Rattle.plfs_types.specs.declared.limits.TheConstants.{MAX_SIZE, MAX_STAMP}
 use Rattle.store_api.specs.declared.step.Answer.{Answer}
 use Rattle.store_api.specs.declared.step.Answer.TheVariants as answer
 use Rattle.store_api.specs.declared.store.Trouble.TheVariants as trouble
@@ -12,34 +13,41 @@ use Rattle.store_api.specs.Step.{Step}
 use Rattle.store_api.specs.Acts.{Stored, Acts}
 use Rattle.mount_model.specs.declared.row.Row.{Row}
 use Rattle.mount_model.specs.declared.row.Stage.{Stage}
+use Rattle.mount_model.specs.declared.row.Holder.{Holder}
+use Rattle.mount_model.specs.declared.row.Flattening.{Flattening}
+use Rattle.mount_model.specs.declared.row.FlatStage.{FlatStage}
+use Rattle.mount_model.specs.declared.row.FlatStage.TheVariants as flat_stage
 use Rattle.mount_model.specs.declared.call.Look.{Look as Sight}
 use Rattle.mount_model.specs.declared.call.Look.TheVariants as sight
 use Rattle.mount_model.specs.declared.call.Call.{Call}
-use Rattle.mount_model.specs.declared.call.Call.TheVariants.{Greet, Find, MakeContainer, Rooms, Look, Enter, Floor, MakeHostdir, MakeIndex, MakeLog, Write, Flush, SyncLog, SyncIndex, PutMeta, Exit}
+use Rattle.mount_model.specs.declared.call.Call.TheVariants.{Greet, Find, MakeContainer, Rooms, Look, Enter, Floor, MakeHostdir, MakeIndex, MakeLog, Write, Flush, SyncLog, SyncIndex, PutMeta, Exit, Hold, Mark, Move, Release, StartFlat, PutFlat, SyncFlat, InstallFlat, SyncDropping, Inspect, Mend, MendMeta, Bury, MendHold}
 use Rattle.mount_model.specs.declared.call.Ask.{Ask}
 use Rattle.mount_model.specs.declared.reply.Refusal.{Refusal}
 use Rattle.mount_model.specs.declared.reply.Refusal.TheVariants as refusal
 use Rattle.mount_model.specs.declared.reply.Reply.{Reply}
 use Rattle.mount_model.specs.declared.reply.Reply.TheVariants as reply_of
 use Rattle.container_layout.specs.Paths.{hostdir_of}
-use Rattle.mount_model.specs.Paths.{Name, truncs, openhosts, metadata, open_path, index_path, log_path}
+use Rattle.mount_model.specs.Paths.{Name, truncs, openhosts, metadata, dropping_path, open_path, index_path, log_path, trunc_path, temporary}
 use Rattle.mount_model.specs.State.{State, Table, drawn, timed}
 use Rattle.mount_model.specs.Making.{Told, CallOutcome, otherwise, MakesAct, room_check, or_reason, OnWriter, UnlessRefused}
 use Rattle.mount_model.specs.Finding.{find_outcome, make_outcome, RoomsReply}
 use Rattle.mount_model.specs.Looking.{look_reply, listing_reply, length_reply, read_reply}
-use Rattle.mount_model.specs.Entering.{EntersAs, serial_check, enter_check, enter_outcome, entered}
+use Rattle.mount_model.specs.Entering.{EntersAs, serial_check, draw_check, enter_outcome, entered}
 use Rattle.mount_model.specs.Flooring.{FloorOutcome}
 use Rattle.mount_model.specs.Building.{build_outcome}
 use Rattle.mount_model.specs.Writing.{write_check, write_outcome}
 use Rattle.mount_model.specs.Flushing.{FlushesRow, flush_outcome, sync_log_outcome, sync_index_outcome}
 use Rattle.mount_model.specs.Leaving.{meta_file, put_meta_check, put_meta_outcome, exit_check, exit_outcome}
+use Rattle.mount_model.specs.Holding.{holding, NotEmptyReply, HoldOutcome, OnHolder, truncate_check, truncate_outcome, TruncatesAt, rename_outcome, RenamesRoom, release_outcome}
+use Rattle.mount_model.specs.Flattening.{begun_flat, start_outcome, OnFlattening, put_flat_outcome, sync_flat_outcome, install_outcome}
+use Rattle.mount_model.specs.Recovering.{done_outcome, SyncsIt, live_reason, alive_check, mend_check, MendsIt, mended_file, mend_meta_outcome, MendsItsMeta, bury_outcome, BuriesIt, held_reason, mend_hold_check, mend_hold_outcome}
 use Rattle.mount_model.specs.Stopping.{part_made, begun, MakesPart, IsEndedBy, Stops}
 use Rattle.mount_model.specs.Step.{Answers, IsStep}
 use Rattle.mount_model.specs.Replies.{IsTrouble, refused, damaged, fault, no_memory, IsAnswerTo, FitsCall, FitsAsk, HasItsCause}
-use Rattle.mount_model.specs.Refusals.{MayRefuse}
+use Rattle.mount_model.specs.Refusals.{IsOneOf, MayRefuse}
 use Rattle.mount_model.specs.Shown.{IsListing, MayShow}
 use Rattle.mount_model.specs.Mounting.{marks_step, list_step, mark_step, IsMounted}
-use Rattle.mount_model.specs.Table.{writer_of}
+use Rattle.mount_model.specs.Table.{row_of, is_live, writer_of, holder_of, is_held_room, flattening_of}
 use Rattle.mount_model.proofs.Deciding.{match_cases, step_cases}
 
 -- ---- what an act told decides
@@ -107,6 +115,58 @@ module _ (call : Call) (nowhere : MayRefuse call refusal.NoRoom) (table : Table)
   exit_tells row is (Ok answer.Made) = done_tells call nowhere _ _ is (λ e. cc)
   exit_tells row is (Err trouble.Fault) = record { fits = inr (fault refl); faulted = λ e. refl }
   exit_tells row is told = otherwise_tells call nowhere openhosts (open_path row.host row.id).file told
+
+  truncate_tells : (stamp size : ℕ) → IsAnswerTo call (reply_of.Marked stamp) → (told : Told) → Tells call told (truncate_outcome stamp size table told).reply
+  truncate_tells stamp size is (Ok answer.Made) = done_tells call nowhere _ _ is (λ e. cc)
+  truncate_tells stamp size is told = otherwise_tells call nowhere truncs (trunc_path stamp size).file told
+
+  rename_tells : MayRefuse call refusal.Exists → IsAnswerTo call reply_of.Done → (told : Told) → Tells call told (rename_outcome table told).reply
+  rename_tells taken is (Ok answer.Made) = done_tells call nowhere _ _ is (λ e. cc)
+  rename_tells taken is (Ok answer.TargetThere) = record { fits = inr (refused refusal.Exists taken refl); faulted = λ e. absurd (cc) }
+  rename_tells taken is told = otherwise_tells call nowhere [] [] told
+
+  release_tells : (h : Holder) → IsAnswerTo call reply_of.Done → (told : Told) → Tells call told (release_outcome h table told).reply
+  release_tells h is (Ok answer.Made) = done_tells call nowhere _ _ is (λ e. cc)
+  release_tells h is (Ok (answer.Old room)) = done_tells call nowhere _ _ is (λ e. cc)
+  release_tells h is (Err trouble.Fault) = record { fits = inr (fault refl); faulted = λ e. refl }
+  release_tells h is told = otherwise_tells call nowhere openhosts [] told
+
+  start_tells : (f : Flattening) → IsAnswerTo call (reply_of.Started f.id) → (told : Told) → Tells call told (start_outcome f table told).reply
+  start_tells f is (Ok answer.Made) = done_tells call nowhere _ _ is (λ e. cc)
+  start_tells f is told = otherwise_tells call nowhere (temporary f).folder (temporary f).file told
+
+  put_flat_tells : (f : Flattening) → IsAnswerTo call reply_of.Done → (told : Told) → Tells call told (put_flat_outcome f table told).reply
+  put_flat_tells f is (Ok answer.Made) = done_tells call nowhere _ _ is (λ e. cc)
+  put_flat_tells f is told = otherwise_tells call nowhere (temporary f).folder (temporary f).file told
+
+  sync_flat_tells : (f : Flattening) → IsAnswerTo call reply_of.Done → (told : Told) → Tells call told (sync_flat_outcome f table told).reply
+  sync_flat_tells f is (Ok answer.Made) = done_tells call nowhere _ _ is (λ e. cc)
+  sync_flat_tells f is told = otherwise_tells call nowhere (temporary f).folder (temporary f).file told
+
+  install_tells : (f : Flattening) → IsAnswerTo call reply_of.Done → (told : Told) → Tells call told (install_outcome f table told).reply
+  install_tells f is (Ok answer.Made) = done_tells call nowhere _ _ is (λ e. cc)
+  install_tells f is (Err trouble.Fault) = record { fits = inr (fault refl); faulted = λ e. refl }
+  install_tells f is told = otherwise_tells call nowhere (temporary f).folder (temporary f).file told
+
+  done_outcome_tells : (folder file : Name) → IsAnswerTo call reply_of.Done → (told : Told) → Tells call told (done_outcome folder file table told).reply
+  done_outcome_tells folder file is (Ok answer.Made) = done_tells call nowhere _ _ is (λ e. cc)
+  done_outcome_tells folder file is told = otherwise_tells call nowhere folder file told
+
+  mend_meta_tells : (file : Name) → IsAnswerTo call reply_of.Done → (told : Told) → Tells call told (mend_meta_outcome file table told).reply
+  mend_meta_tells file is (Ok answer.Made) = done_tells call nowhere _ _ is (λ e. cc)
+  mend_meta_tells file is (Ok (answer.Old room)) = done_tells call nowhere _ _ is (λ e. cc)
+  mend_meta_tells file is told = otherwise_tells call nowhere metadata file told
+
+  bury_tells : (file : Name) → IsAnswerTo call reply_of.Done → (told : Told) → Tells call told (bury_outcome file table told).reply
+  bury_tells file is (Ok answer.Made) = done_tells call nowhere _ _ is (λ e. cc)
+  bury_tells file is (Ok answer.Absent) = done_tells call nowhere _ _ is (λ e. cc)
+  bury_tells file is (Ok answer.NoFolder) = done_tells call nowhere _ _ is (λ e. cc)
+  bury_tells file is told = otherwise_tells call nowhere openhosts file told
+
+  mend_hold_tells : ((made : Bool) → IsAnswerTo call (reply_of.Mended made)) → (told : Told) → Tells call told (mend_hold_outcome table told).reply
+  mend_hold_tells is (Ok answer.Made) = done_tells call nowhere _ _ (is true) (λ e. cc)
+  mend_hold_tells is (Ok (answer.Old room)) = done_tells call nowhere _ _ (is false) (λ e. cc)
+  mend_hold_tells is told = otherwise_tells call nowhere openhosts [] told
 
 at_most : (a b : ℕ) → nat_le a b ≡ true → a ≤ b
 at_most a b t = grind (arith, nat_tests)
@@ -197,6 +257,18 @@ module _ (call : Call) (old : State) (reply : Reply) (new : State) where
     | inr (row, is, made) ↦ made_so row made
   ]
 
+  on_holder : MayRefuse call refusal.NotHolder → (caller number : ℕ) (does : Holder → Type 0) → OnHolder caller number old reply new does → ((h : Holder) → does h → IsAnswered call old new reply) → IsAnswered call old new reply
+  on_holder may caller number does on made_so = elim (match_cases (holder_of caller number old.table.holders) _ _ on) as (λ _. IsAnswered call old new reply) [
+    | inl (none, r) ↦ refusing refusal.NotHolder may r.0 r.1
+    | inr (h, is, made) ↦ made_so h made
+  ]
+
+  on_flattening : MayRefuse call refusal.NotOpen → (caller : ℕ) (stage : FlatStage) (id : ℕ) (does : Flattening → Type 0) → OnFlattening caller stage id old reply new does → ((f : Flattening) → does f → IsAnswered call old new reply) → IsAnswered call old new reply
+  on_flattening may caller stage id does on made_so = elim (match_cases (flattening_of caller stage id old.table.flattenings) _ _ on) as (λ _. IsAnswered call old new reply) [
+    | inl (none, r) ↦ refusing refusal.NotOpen may r.0 r.1
+    | inr (f, is, made) ↦ made_so f made
+  ]
+
   unless_refused : (check : Option Refusal) → ((why : Refusal) → check ≡ Some why → MayRefuse call why) → (does : Type 0) → UnlessRefused check old reply new does → (does → IsAnswered call old new reply) → IsAnswered call old new reply
   unless_refused check may does on made_so = elim (match_cases check _ _ on) as (λ _. IsAnswered call old new reply) [
     | inl (none, made) ↦ made_so made
@@ -213,6 +285,16 @@ floor_tells writer row table (Ok (answer.Names names)) reply after o = elim o as
   | inr (name, foreign, answered, same) ↦ record { fits = inr (damaged truncs name answered); faulted = λ e. absurd (cc) }
 ]
 floor_tells writer row table told reply after o = subst (Tells (Floor writer) _) (sym o.0) (otherwise_tells (Floor writer) (inl refl) truncs [] _)
+
+hold_tells : (room : ℕ) (h : Holder) (table : Table) (told : Told) (reply : Reply) (after : Table) → HoldOutcome h table told reply after → Tells (Hold room) told reply
+hold_tells room h table (Ok answer.Made) reply after o = done_tells (Hold room) (inl (inl refl)) _ reply (h.number, o.0) (λ e. let f : reply ≡ reply_of.Holding h.number = o.0 in cc)
+hold_tells room h table (Ok answer.NoFolder) reply after o = record { fits = inr (refused refusal.Held (inl (inr (inr (inl refl)))) o.0); faulted = λ e. let f : reply ≡ reply_of.Refused refusal.Held = o.0 in absurd (cc) }
+hold_tells room h table (Ok (answer.NotEmpty least)) reply after o = not_empty o.0
+  where
+    not_empty : NotEmptyReply least reply → Tells (Hold room) (Ok (answer.NotEmpty least)) reply
+    not_empty (inl (host, writer, is, answered)) = record { fits = inr (refused (refusal.Busy host writer) (inr (host, writer, refl)) answered); faulted = λ e. absurd (cc) }
+    not_empty (inr (none, answered)) = record { fits = inr (damaged openhosts least answered); faulted = λ e. absurd (cc) }
+hold_tells room h table told reply after o = subst (Tells (Hold room) _) (sym o.0) (otherwise_tells (Hold room) (inl (inl refl)) openhosts [] _)
 
 enter_answered : (old : State) (reply : Reply) (new : State) (caller room host most : ℕ) → EntersAs caller room host most old reply new → IsAnswered (Enter room host most) old new reply
 enter_answered old reply new caller room host most e = making (Enter room host most) old reply new _ _ (drawn old) refl (enter_tells (Enter room host most) (inl refl) old.table (inr (inr (inl refl))) (entered old caller room host most) (_, refl)) e.makes
@@ -231,13 +313,58 @@ first_or : (first other : Option Refusal) (got : Refusal) → or_reason first ot
 first_or None other got e = inr e
 first_or (Some why) other got e = inl e
 
-room_reason : (old : State) (room : ℕ) (look : Sight) (why : Refusal) → room_check old room ≡ Some why → MayRefuse (Look room look) why
-room_reason old room look why e = inl (only_reason (nat_eq room old.marks) refusal.NoRoom why e)
+-- what a check of the room alone, or then of the serials, has against a call
+no_room_reason : (old : State) (room : ℕ) (why : Refusal) → room_check old room ≡ Some why → why ≡ refusal.NoRoom
+no_room_reason old room why e = only_reason (nat_eq room old.marks) refusal.NoRoom why e
 
-enter_reason : (old : State) (room host most : ℕ) (why : Refusal) → enter_check old room ≡ Some why → MayRefuse (Enter room host most) why
-enter_reason old room host most why e = elim (first_or (room_check old room) (serial_check old) why e) as (λ _. MayRefuse (Enter room host most) why) [
-  | inl nowhere ↦ inl (only_reason (nat_eq room old.marks) refusal.NoRoom why nowhere)
-  | inr spent ↦ inr (inl (only_reason (nat_le (2 ^ 32 - 1) old.serial) refusal.IdsSpent why spent))
+draw_reason : (old : State) (room : ℕ) (why : Refusal) → draw_check old room ≡ Some why → (why ≡ refusal.NoRoom) ⊎ (why ≡ refusal.IdsSpent)
+draw_reason old room why e = elim (first_or (room_check old room) (serial_check old) why e) as (λ _. (why ≡ refusal.NoRoom) ⊎ (why ≡ refusal.IdsSpent)) [
+  | inl nowhere ↦ inl (no_room_reason old room why nowhere)
+  | inr spent ↦ inr (only_reason (nat_le (2 ^ 32 - 1) old.serial) refusal.IdsSpent why spent)
+]
+
+room_reason : (old : State) (room : ℕ) (look : Sight) (why : Refusal) → room_check old room ≡ Some why → MayRefuse (Look room look) why
+room_reason old room look why e = inl (no_room_reason old room why e)
+
+enter_reason : (old : State) (room host most : ℕ) (why : Refusal) → draw_check old room ≡ Some why → MayRefuse (Enter room host most) why
+enter_reason old room host most why e = elim (draw_reason old room why e) as (λ _. MayRefuse (Enter room host most) why) [
+  | inl nowhere ↦ inl nowhere
+  | inr spent ↦ inr (inl spent)
+]
+
+hold_reason : (old : State) (room : ℕ) (why : Refusal) → draw_check old room ≡ Some why → MayRefuse (Hold room) why
+hold_reason old room why e = elim (draw_reason old room why e) as (λ _. MayRefuse (Hold room) why) [
+  | inl nowhere ↦ inl (inl nowhere)
+  | inr spent ↦ inl (inr (inl spent))
+]
+
+start_reason : (old : State) (room : ℕ) (why : Refusal) → draw_check old room ≡ Some why → MayRefuse (StartFlat room) why
+start_reason old room why e = elim (draw_reason old room why e) as (λ _. MayRefuse (StartFlat room) why) [
+  | inl nowhere ↦ inl nowhere
+  | inr spent ↦ inr (inl spent)
+]
+
+truncate_reason : (number size top : ℕ) (why : Refusal) → truncate_check size top ≡ Some why → MayRefuse (Mark number size top) why
+truncate_reason number size top why e = elim (reason (nat_lt MAX_SIZE size) refusal.TooFar why (if nat_le MAX_STAMP top then Some refusal.StampsSpent else None) e) as (λ _. MayRefuse (Mark number size top) why) [
+  | inl far ↦ inr (inr (inl far))
+  | inr near ↦ inr (inr (inr (inl (only_reason (nat_le MAX_STAMP top) refusal.StampsSpent why near))))
+]
+
+live_why : (found : Option Row) (why : Refusal) → live_reason found ≡ Some why → why ≡ refusal.Alive
+live_why None why e = absurd (cc)
+live_why (Some row) why e = only_reason (is_live row.stage) refusal.Alive why e
+
+-- why a writer's droppings are not mended
+mend_reason : (old : State) (room writer : ℕ) (why : Refusal) → mend_check old room writer ≡ Some why → IsOneOf why (refusal.NoRoom ∷ refusal.Alive ∷ [])
+mend_reason old room writer why e = elim (first_or (room_check old room) (alive_check old writer) why e) as (λ _. IsOneOf why (refusal.NoRoom ∷ refusal.Alive ∷ [])) [
+  | inl nowhere ↦ inl (no_room_reason old room why nowhere)
+  | inr live ↦ inr (inl (live_why (row_of writer old.table.writers) why live))
+]
+
+mend_hold_reason : (old : State) (room : ℕ) (why : Refusal) → mend_hold_check old room ≡ Some why → MayRefuse (MendHold room) why
+mend_hold_reason old room why e = elim (first_or (room_check old room) (held_reason room old.table.holders) why e) as (λ _. MayRefuse (MendHold room) why) [
+  | inl nowhere ↦ inl (no_room_reason old room why nowhere)
+  | inr held ↦ inr (inl (only_reason (is_held_room room old.table.holders) refusal.Held why held))
 ]
 
 write_reason : (writer at : ℕ) (block : List ℕ) (row : Row) (why : Refusal) → write_check row at (length block) ≡ Some why → MayRefuse (Write writer at block) why
@@ -260,7 +387,7 @@ answered old reply new caller (MakeContainer name) a = making (MakeContainer nam
 answered old reply new caller Rooms a = by_act Rooms old reply new _ a.told a.made (rooms_tell a.told reply a.answered)
 answered old reply new caller (Look room look) a = unless_refused (Look room look) old reply new (room_check old room) (room_reason old room look) _ a (λ m.
     making (Look room look) old reply new _ _ old refl (look_tells room look) m)
-answered old reply new caller (Enter room host most) a = unless_refused (Enter room host most) old reply new (enter_check old room) (enter_reason old room host most) _ a (enter_answered old reply new caller room host most)
+answered old reply new caller (Enter room host most) a = unless_refused (Enter room host most) old reply new (draw_check old room) (enter_reason old room host most) _ a (enter_answered old reply new caller room host most)
 answered old reply new caller (Floor writer) a = on_writer (Floor writer) old reply new (inr (inl refl)) caller _ writer _ a (λ row f.
     by_act (Floor writer) old reply new _ f.told f.made (floor_tells writer row old.table f.told reply new.table f.outcome))
 answered old reply new caller (MakeHostdir writer) a = on_writer (MakeHostdir writer) old reply new (inr (inl refl)) caller _ writer _ a (λ row m.
@@ -283,6 +410,35 @@ answered old reply new caller (PutMeta writer) a = on_writer (PutMeta writer) ol
 answered old reply new caller (Exit writer) a = on_writer (Exit writer) old reply new (inr (inl refl)) caller _ writer _ a (λ row u.
     unless_refused (Exit writer) old reply new (exit_check row) (λ why e. inr (inr (inl (only_reason _ refusal.NoMeta why e)))) _ u (λ m.
     making (Exit writer) old reply new _ _ old refl (exit_tells (Exit writer) (inl refl) old.table row refl) m))
+answered old reply new caller (Hold room) a = unless_refused (Hold room) old reply new (draw_check old room) (hold_reason old room) _ a (λ h.
+    by_act (Hold room) old reply new _ h.told h.made (hold_tells room (holding old caller room) old.table h.told reply new.table h.outcome))
+answered old reply new caller (Mark number size top) a = on_holder (Mark number size top) old reply new (inr (inl refl)) caller number _ a (λ h u.
+    unless_refused (Mark number size top) old reply new (truncate_check size top) (truncate_reason number size top) _ u (λ (t : TruncatesAt h size top old reply new).
+    making (Mark number size top) old reply new _ _ (timed t.times old) refl (truncate_tells (Mark number size top) (inl refl) old.table _ size (_, refl)) t.makes))
+answered old reply new caller (Move number to) a = on_holder (Move number to) old reply new (inr (inl refl)) caller number _ a (λ h (r : RenamesRoom h to old reply new).
+    making (Move number to) old reply new _ _ old refl (rename_tells (Move number to) (inl refl) old.table (inr (inr (inl refl))) refl) r.makes)
+answered old reply new caller (Release number) a = on_holder (Release number) old reply new (inr (inl refl)) caller number _ a (λ h m.
+    making (Release number) old reply new _ _ old refl (release_tells (Release number) (inl refl) old.table h refl) m)
+answered old reply new caller (StartFlat room) a = unless_refused (StartFlat room) old reply new (draw_check old room) (start_reason old room) _ a (λ m.
+    making (StartFlat room) old reply new _ _ (drawn old) refl (start_tells (StartFlat room) (inl refl) old.table (begun_flat old caller room) (_, refl)) m)
+answered old reply new caller (PutFlat flat bytes) a = on_flattening (PutFlat flat bytes) old reply new (inr (inl refl)) caller flat_stage.Begun flat _ a (λ f m.
+    making (PutFlat flat bytes) old reply new _ _ old refl (put_flat_tells (PutFlat flat bytes) (inl refl) old.table f refl) m)
+answered old reply new caller (SyncFlat flat) a = on_flattening (SyncFlat flat) old reply new (inr (inl refl)) caller flat_stage.Put flat _ a (λ f m.
+    making (SyncFlat flat) old reply new _ _ old refl (sync_flat_tells (SyncFlat flat) (inl refl) old.table f refl) m)
+answered old reply new caller (InstallFlat flat) a = on_flattening (InstallFlat flat) old reply new (inr (inl refl)) caller flat_stage.Synced flat _ a (λ f m.
+    making (InstallFlat flat) old reply new _ _ old refl (install_tells (InstallFlat flat) (inl refl) old.table f refl) m)
+answered old reply new caller (SyncDropping room host writer is_log) a = unless_refused (SyncDropping room host writer is_log) old reply new (room_check old room) (λ why e. inl (no_room_reason old room why e)) _ a (λ (m : SyncsIt room host writer is_log old reply new).
+    making (SyncDropping room host writer is_log) old reply new _ _ old refl (done_outcome_tells (SyncDropping room host writer is_log) (inl refl) old.table (dropping_path is_log host writer).folder (dropping_path is_log host writer).file refl) m.makes)
+answered old reply new caller (Inspect writer) a = unless_refused (Inspect writer) old reply new (alive_check old writer) (λ why e. inl (live_why (row_of writer old.table.writers) why e)) ((reply ≡ reply_of.Done) × (new ≡ old)) a (λ m.
+    unchanged (Inspect writer) old reply new m.1 m.0 (λ e. let g : reply ≡ reply_of.Done = m.0 in cc))
+answered old reply new caller (Mend room host writer count) a = unless_refused (Mend room host writer count) old reply new (mend_check old room writer) (mend_reason old room writer) _ a (λ (m : MendsIt room host writer count old reply new).
+    making (Mend room host writer count) old reply new _ _ old refl (done_outcome_tells (Mend room host writer count) (inl refl) old.table (index_path host writer).folder (index_path host writer).file refl) m.makes)
+answered old reply new caller (MendMeta room host cover last) a = unless_refused (MendMeta room host cover last) old reply new (mend_check old room cover.writer) (mend_reason old room cover.writer) _ a (λ (m : MendsItsMeta room host cover last old reply new).
+    making (MendMeta room host cover last) old reply new _ _ old refl (mend_meta_tells (MendMeta room host cover last) (inl refl) old.table (mended_file host cover last) refl) m.makes)
+answered old reply new caller (Bury room host writer) a = unless_refused (Bury room host writer) old reply new (mend_check old room writer) (mend_reason old room writer) _ a (λ (m : BuriesIt room host writer old reply new).
+    making (Bury room host writer) old reply new _ _ old refl (bury_tells (Bury room host writer) (inl refl) old.table (open_path host writer).file refl) m.makes)
+answered old reply new caller (MendHold room) a = unless_refused (MendHold room) old reply new (mend_hold_check old room) (mend_hold_reason old room) _ a (λ m.
+    making (MendHold room) old reply new _ _ old refl (mend_hold_tells (MendHold room) (inl refl) old.table (λ made. (made, refl))) m)
 
 -- ---- a call that is broken off
 
@@ -295,10 +451,10 @@ record EndsSo (old new : State) (store : Stored) (reply : Reply) : Type 0 where
   pub answered : (reply ≡ reply_of.Stopped) ⊎ (reply ≡ reply_of.NoMemory)
   pub store_is : new.store ≡ store
 
-ends_so : (told : Told) (reply : Reply) (old from : State) (store : Stored) (caller : ℕ) (new : State) → IsEndedBy told reply (record from { store = store }) caller new → EndsSo old new store reply
-ends_so (Err trouble.NoMemory) reply old from store caller new e = record { answered = inr e.0; store_is = ap (λ (s : State). s.store) e.1 }
-ends_so (Err trouble.Fault) reply old from store caller new e = record { answered = inl e.0; store_is = ap (λ (s : State). s.store) e.1 }
-ends_so (Ok answer) reply old from store caller new e = record { answered = inl e.0; store_is = ap (λ (s : State). s.store) e.1 }
+ends_so : (told : Told) (reply : Reply) (old from : State) (store : Stored) (times : Option (List ℕ)) (caller : ℕ) (new : State) → IsEndedBy told reply (record from { store = store; times = times }) caller new → EndsSo old new store reply
+ends_so (Err trouble.NoMemory) reply old from store times caller new e = record { answered = inr e.0; store_is = ap (λ (s : State). s.store) e.1 }
+ends_so (Err trouble.Fault) reply old from store times caller new e = record { answered = inl e.0; store_is = ap (λ (s : State). s.store) e.1 }
+ends_so (Ok answer) reply old from store times caller new e = record { answered = inl e.0; store_is = ap (λ (s : State). s.store) e.1 }
 
 not_fault : (reply : Reply) → (reply ≡ reply_of.Stopped) ⊎ (reply ≡ reply_of.NoMemory) → reply ≡ reply_of.Fault → ⊥
 not_fault reply (inl stopped) f = let both : reply_of.Stopped ≡ reply_of.Fault = sym stopped ∙ f in cc
@@ -306,15 +462,15 @@ not_fault reply (inr memory) f = let both : reply_of.NoMemory ≡ reply_of.Fault
 
 stopped_causes : (old new : State) (caller k : ℕ) (call : Call) (reply : Reply) → Stops caller k call old reply new → HasItsCause old new reply
 stopped_causes old new caller k call reply x =
-    let e = ends_so x.told reply old (begun old call) x.store caller new x.after in
+    let e = ends_so x.told reply old (begun old call) x.store x.times caller new x.after in
     record {
-      never_falls = omega (arith, part_falls (part_made k old caller call) old.store x.store x.told x.made, ap (λ (s : Stored). s.faults) e.store_is);
+      never_falls = omega (arith, part_falls (part_made k x.time old caller call) old.store x.store x.told x.made, ap (λ (s : Stored). s.faults) e.store_is);
       cause = λ f. absurd (not_fault reply e.answered f);
     }
 
 -- A stop is answered so, or by want of memory.
 pub stop_replies : (old : State) (caller k : ℕ) (call : Call) (reply : Reply) (new : State) → Stops caller k call old reply new → (reply ≡ reply_of.Stopped) ⊎ (reply ≡ reply_of.NoMemory)
-stop_replies old caller k call reply new x = (ends_so x.told reply old (begun old call) x.store caller new x.after).answered
+stop_replies old caller k call reply new x = (ends_so x.told reply old (begun old call) x.store x.times caller new x.after).answered
 
 fits_call : (old : State) (reply : Reply) (new : State) (caller : ℕ) (call : Call) → Answers old caller call reply new → FitsCall call reply
 fits_call old reply new caller Greet a = a.0
@@ -324,7 +480,7 @@ fits_call old reply new caller call a = (answered old reply new caller call a).f
 pub step_fits : (old new : State) (caller : ℕ) (ask : Ask) (reply : Reply) → IsStep old caller ask reply new → FitsAsk ask reply
 step_fits old new caller ask reply s = step_cases old caller ask reply new (FitsAsk ask reply) s
     (λ none a. subst (λ stop. MatchOption stop (FitsCall ask.call reply) (λ k. (reply ≡ reply_of.Stopped) ⊎ (reply ≡ reply_of.NoMemory))) (sym none) (fits_call old reply new caller ask.call a))
-    (λ k some x. subst (λ stop. MatchOption stop (FitsCall ask.call reply) (λ k. (reply ≡ reply_of.Stopped) ⊎ (reply ≡ reply_of.NoMemory))) (sym some) (ends_so x.told reply old (begun old ask.call) x.store caller new x.after).answered)
+    (λ k some x. subst (λ stop. MatchOption stop (FitsCall ask.call reply) (λ k. (reply ≡ reply_of.Stopped) ⊎ (reply ≡ reply_of.NoMemory))) (sym some) (ends_so x.told reply old (begun old ask.call) x.store x.times caller new x.after).answered)
 
 -- A fault has its cause.
 pub step_causes : (old new : State) (caller : ℕ) (ask : Ask) (reply : Reply) → IsStep old caller ask reply new → HasItsCause old new reply

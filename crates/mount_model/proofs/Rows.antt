@@ -1,12 +1,16 @@
 -- The rows of a table stay regular where one of them changes.
-use Rattle.std.proofs.Common.{◌≡◌, ◌≢◌, ℕ, ◌+◌, ◌<◌, ◌≤◌, ◌^◌, List, [], ◌∷◌, ◌++◌, map, filter, Bool, true, false, Some, arith, if◌then◌else◌}
+use Rattle.std.proofs.Common.{◌≡◌, ◌≢◌, ℕ, ◌+◌, ◌<◌, ◌^◌, List, [], ◌∷◌, ◌++◌, map, filter, Bool, true, false, Some, None, sym, subst, arith, if◌then◌else◌}
 use Rattle.std.specs.List.{All}
-use Rattle.std.proofs.lemmas.List.Elements.{All-nil, All-cons, All-head, All-tail, All-append, All-weaker}
+use Rattle.std.proofs.lemmas.List.{map-append}
+use Rattle.std.proofs.lemmas.List.Elements.{All-nil, All-cons, All-head, All-tail, All-append, All-map, All-weaker}
 use Rattle.mount_model.specs.declared.row.Row.{Row}
+use Rattle.mount_model.specs.declared.row.Holder.{Holder}
+use Rattle.mount_model.specs.declared.row.Flattening.{Flattening}
 use Rattle.mount_model.specs.State.{State, Table, id_of}
-use Rattle.mount_model.specs.Table.{row_of, with_row, without_row}
+use Rattle.mount_model.specs.Table.{row_of, with_row, without_row, holder_at, without_holder, flattening_at, with_flattening, without_flattening}
 use Rattle.mount_model.specs.Regular.{IsCounted, AreAscending, IsOfSerial, Ascend, AreDrawn, AreHolders, AreFlattenings, IsRegular}
 use Rattle.mount_model.proofs.Tables.{row_of_all, all-with_row, ascending-with_row, all-without_row, ascending-without_row, ascending-push}
+use Rattle.mount_model.proofs.Holders as held
 
 -- what is regular of the rows, of a mount whose last serial and marks' room these are
 pub record AreRegular (mount last marks : ℕ) (rows : List Row) : Type 0 where
@@ -129,6 +133,80 @@ drawn_later mount last marks numbers rooms d = record {
   drawn = All-weaker (IsOfSerial mount last) (IsOfSerial mount (last + 1)) (λ id is. later_serial mount last id is) numbers d.drawn;
   apart = d.apart;
 }
+
+-- and a number is added that has it
+drawn_pushed : (mount last marks number room : ℕ) (numbers rooms : List ℕ) → number ≡ id_of mount (last + 1) → room ≢ marks
+    → AreDrawn mount last marks numbers rooms → AreDrawn mount (last + 1) marks (numbers ++ number ∷ []) (rooms ++ room ∷ [])
+drawn_pushed mount last marks number room numbers rooms is apart d =
+    let wider = drawn_later mount last marks numbers rooms d in
+    let less : All (λ other. other < number) numbers =
+    All-weaker (IsOfSerial mount last) (λ other. other < number) (λ other o. omega (arith, below_next mount last other o, is)) numbers d.drawn in
+    record {
+      ascending = held.ascend-push numbers number less d.ascending;
+      drawn = All-append (IsOfSerial mount (last + 1)) numbers (number ∷ []) wider.drawn
+          (All-cons (IsOfSerial mount (last + 1)) number [] (last + 1, omega arith, omega arith, is) (All-nil (IsOfSerial mount (last + 1))));
+      apart = All-append (λ r. r ≢ marks) rooms (room ∷ []) d.apart (All-cons (λ r. r ≢ marks) room [] apart (All-nil (λ r. r ≢ marks)));
+    }
+
+-- none has the next number
+next_apart : (mount last marks : ℕ) (numbers rooms : List ℕ) → AreDrawn mount last marks numbers rooms → All (λ number. number ≡ id_of mount (last + 1) → ⊥) numbers
+next_apart mount last marks numbers rooms d =
+    All-weaker (IsOfSerial mount last) (λ number. number ≡ id_of mount (last + 1) → ⊥) (λ number o same. omega (arith, below_next mount last number o, same)) numbers d.drawn
+
+module _ (mount last marks : ℕ) (holders : List Holder) where
+  pub holders_pushed : (new : Holder) → new.number ≡ id_of mount (last + 1) → new.room ≢ marks → AreHolders mount last marks holders → AreHolders mount (last + 1) marks (holders ++ new ∷ [])
+  holders_pushed new is apart are =
+      rw (map-append (λ (h : Holder). h.number) holders (new ∷ []), map-append (λ (h : Holder). h.room) holders (new ∷ []))
+      (drawn_pushed mount last marks new.number new.room (map (λ (h : Holder). h.number) holders) (map (λ (h : Holder). h.room) holders) is apart are)
+
+  pub holders_without : (number : ℕ) → AreHolders mount last marks holders → AreHolders mount last marks (without_holder number holders)
+  holders_without number are = record {
+    ascending = held.ascend-without_holder number holders are.ascending;
+    drawn = held.all_of-without_holder (IsOfSerial mount last) (λ (h : Holder). h.number) number holders are.drawn;
+    apart = held.all_of-without_holder (λ room. room ≢ marks) (λ (h : Holder). h.room) number holders are.apart;
+  }
+
+  -- who is found to hold a room holds no marks' room
+  pub holder_apart : (number : ℕ) (h : Holder) → AreHolders mount last marks holders → holder_at number holders ≡ Some h → h.room ≢ marks
+  holder_apart number h are found = held.holder_at_all (λ (x : Holder). x.room ≢ marks) number holders h
+      (held.all-unmap (λ room. room ≢ marks) (λ (x : Holder). x.room) holders are.apart) found
+
+  -- nobody holds by the next number
+  pub next_not_held : AreHolders mount last marks holders → holder_at (id_of mount (last + 1)) holders ≡ None
+  next_not_held are = held.holder_at_none (id_of mount (last + 1)) holders
+      (held.all-unmap (λ number. number ≡ id_of mount (last + 1) → ⊥) (λ (h : Holder). h.number) holders (next_apart mount last marks _ _ are))
+
+module _ (mount last marks : ℕ) (flattenings : List Flattening) where
+  pub flattenings_pushed : (new : Flattening) → new.id ≡ id_of mount (last + 1) → new.room ≢ marks → AreFlattenings mount last marks flattenings → AreFlattenings mount (last + 1) marks (flattenings ++ new ∷ [])
+  flattenings_pushed new is apart are =
+      rw (map-append (λ (f : Flattening). f.id) flattenings (new ∷ []), map-append (λ (f : Flattening). f.room) flattenings (new ∷ []))
+      (drawn_pushed mount last marks new.id new.room (map (λ (f : Flattening). f.id) flattenings) (map (λ (f : Flattening). f.room) flattenings) is apart are)
+
+  pub flattenings_with : (new : Flattening) → new.room ≢ marks → AreFlattenings mount last marks flattenings → AreFlattenings mount last marks (with_flattening new flattenings)
+  flattenings_with new apart are = record {
+    ascending = subst Ascend (sym (held.ids-with_flattening new flattenings)) are.ascending;
+    drawn = subst (All (IsOfSerial mount last)) (sym (held.ids-with_flattening new flattenings)) are.drawn;
+    apart = All-map (λ room. room ≢ marks) (λ (f : Flattening). f.room) (with_flattening new flattenings)
+        (held.all-with_flattening (λ (f : Flattening). f.room ≢ marks) new flattenings (λ f same a. apart)
+        (held.all-unmap (λ room. room ≢ marks) (λ (f : Flattening). f.room) flattenings are.apart));
+  }
+
+  pub flattenings_without : (id : ℕ) → AreFlattenings mount last marks flattenings → AreFlattenings mount last marks (without_flattening id flattenings)
+  flattenings_without id are = record {
+    ascending = held.ascend-without_flattening id flattenings are.ascending;
+    drawn = held.all_of-without_flattening (IsOfSerial mount last) (λ (f : Flattening). f.id) id flattenings are.drawn;
+    apart = held.all_of-without_flattening (λ room. room ≢ marks) (λ (f : Flattening). f.room) id flattenings are.apart;
+  }
+
+  -- the flattening that is found is of no marks' room
+  pub flattening_apart : (id : ℕ) (f : Flattening) → AreFlattenings mount last marks flattenings → flattening_at id flattenings ≡ Some f → f.room ≢ marks
+  flattening_apart id f are found = held.flattening_at_all (λ (x : Flattening). x.room ≢ marks) id flattenings f
+      (held.all-unmap (λ room. room ≢ marks) (λ (x : Flattening). x.room) flattenings are.apart) found
+
+  -- no flattening has the next id
+  pub next_not_flattened : AreFlattenings mount last marks flattenings → flattening_at (id_of mount (last + 1)) flattenings ≡ None
+  next_not_flattened are = held.flattening_at_none (id_of mount (last + 1)) flattenings
+      (held.all-unmap (λ id. id ≡ id_of mount (last + 1) → ⊥) (λ (f : Flattening). f.id) flattenings (next_apart mount last marks _ _ are))
 
 -- some of them go
 module _ {X : Type 0} (number room : X → ℕ) (stays : X → Bool) where

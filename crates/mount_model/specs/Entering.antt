@@ -16,8 +16,9 @@ use Rattle.mount_model.specs.Making.{Told, CallOutcome, says, otherwise, MakesAc
 abbrev pub serial_check : State → Option Refusal
 serial_check old = if nat_le (2 ^ 32 - 1) old.serial then Some IdsSpent else None
 
-abbrev pub enter_check : State → ℕ → Option Refusal
-enter_check old room = or_reason (room_check old room) (serial_check old)
+-- why no serial is drawn for a call on this room
+abbrev pub draw_check : State → ℕ → Option Refusal
+draw_check old room = or_reason (room_check old room) (serial_check old)
 
 -- the id of the next serial
 abbrev pub next_id : State → ℕ
@@ -56,5 +57,5 @@ pub record EntersAs (caller room host cap : ℕ) (old : State) (reply : Reply) (
   pub makes : MakesAct (enter_step old room host) (enter_outcome (entered old caller room host cap) old.table) (drawn old) reply new
 
 abbrev pub Enters : ℕ → ℕ → ℕ → ℕ → State → Reply → State → Type 0
-Enters caller room host cap old reply new = UnlessRefused (enter_check old room) old reply new
+Enters caller room host cap old reply new = UnlessRefused (draw_check old room) old reply new
     (EntersAs caller room host cap old reply new)

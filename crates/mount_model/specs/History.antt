@@ -6,7 +6,7 @@ use Rattle.turn_object.specs.History as history
 use Rattle.mount_model.specs.declared.call.Ask.{Ask}
 use Rattle.mount_model.specs.declared.reply.Reply.{Reply}
 use Rattle.mount_model.specs.State.{State}
-use Rattle.mount_model.specs.Step.{IsStep, IsOwed}
+use Rattle.mount_model.specs.Step.{IsStep}
 
 -- one call: who made it, what was asked and answered, and the state after it
 abbrev pub Event : Type 0
@@ -16,16 +16,6 @@ Event = turn.Entry Ask Reply State
 abbrev pub IsLegal : State → List Event → Type 0
 IsLegal start [] = Unit {0}
 IsLegal start (event ∷ events) = IsStep start event.caller event.ask event.reply event.after × IsLegal event.after events
-
--- no caller owed more than it met
-abbrev pub AreOwed : List Event → Type 0
-AreOwed [] = Unit {0}
-AreOwed (event ∷ events) = IsOwed event.ask × AreOwed events
-
--- both at once
-abbrev pub IsLawful : State → List Event → Type 0
-IsLawful start [] = Unit {0}
-IsLawful start (event ∷ events) = IsOwed event.ask × IsStep start event.caller event.ask event.reply event.after × IsLawful event.after events
 
 -- the state after the events
 abbrev pub state_after : State → List Event → State

@@ -11,6 +11,9 @@ pub mod Building
 pub mod Writing
 pub mod Flushing
 pub mod Leaving
+pub mod Holding
+pub mod Flattening
+pub mod Recovering
 pub mod Acting
 pub mod Stopping
 pub mod Step

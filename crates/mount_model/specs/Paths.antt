@@ -1,9 +1,12 @@
 -- Where the folders and files of a container lie.
-use Rattle.std.specs.Prelude.{ℕ, List, [], ◌∷◌, codes}
+use Rattle.std.specs.Prelude.{ℕ, List, [], ◌∷◌, codes, Bool, if◌then◌else◌}
 use Rattle.std.specs.Fmt.{decimal}
 use Rattle.plfs_types.specs.declared.names.Path.{Path}
-use Rattle.container_layout.specs.declared.items.Item.TheVariants.{Access, OpenHost, Meta, Trunc, Index, Log}
+use Rattle.container_layout.specs.declared.items.Item.TheVariants.{Access, OpenHost, Meta, Trunc, Flat, TmpFlat, Index, Log, Packed, TmpPacked}
 use Rattle.container_layout.specs.Paths.{path_of}
+use Rattle.mount_model.specs.declared.row.Flattening.{Flattening}
+use Rattle.mount_model.specs.declared.row.Making.{Making}
+use Rattle.mount_model.specs.declared.row.Making.TheVariants as making
 
 abbrev pub Name : Type 0
 Name = List ℕ
@@ -59,3 +62,25 @@ meta_path last bytes stamp host writer = path_of (Meta last bytes stamp host wri
 
 abbrev pub trunc_path : ℕ → ℕ → Path
 trunc_path stamp size = path_of (Trunc stamp size)
+
+abbrev pub flat_path : ℕ → Path
+flat_path id = path_of (Flat id)
+
+-- the file to which a flattening is written, and the one that it becomes
+abbrev pub temporary_of : Making → ℕ → Path
+temporary_of making.Flat id = path_of (TmpFlat id)
+temporary_of (making.Pack host writer) id = path_of (TmpPacked host id)
+
+abbrev pub installed_of : Making → ℕ → Path
+installed_of making.Flat id = path_of (Flat id)
+installed_of (making.Pack host writer) id = path_of (Packed host writer)
+
+abbrev pub temporary : Flattening → Path
+temporary f = temporary_of f.makes f.id
+
+abbrev pub installed : Flattening → Path
+installed f = installed_of f.makes f.id
+
+-- a writer's log, or its index dropping
+abbrev pub dropping_path : Bool → ℕ → ℕ → Path
+dropping_path is_log host writer = if is_log then log_path host writer else index_path host writer

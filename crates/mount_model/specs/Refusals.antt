@@ -1,9 +1,9 @@
 -- Which refusals each call has.
-use Rattle.std.specs.Prelude.{◌≡◌, ◌⊎◌, List, [], ◌∷◌}
+use Rattle.std.specs.Prelude.{◌≡◌, ◌⊎◌, ℕ, List, [], ◌∷◌}
 use Rattle.mount_model.specs.declared.call.Call.{Call}
-use Rattle.mount_model.specs.declared.call.Call.TheVariants.{Greet, Find, MakeContainer, Rooms, Look, Enter, Floor, MakeHostdir, MakeIndex, MakeLog, Write, Flush, SyncLog, SyncIndex, PutMeta, Exit}
+use Rattle.mount_model.specs.declared.call.Call.TheVariants.{Greet, Find, MakeContainer, Rooms, Look, Enter, Floor, MakeHostdir, MakeIndex, MakeLog, Write, Flush, SyncLog, SyncIndex, PutMeta, Exit, Hold, Mark, Move, Release, StartFlat, PutFlat, SyncFlat, InstallFlat, SyncDropping, Inspect, Mend, MendMeta, Bury, MendHold}
 use Rattle.mount_model.specs.declared.reply.Refusal.{Refusal}
-use Rattle.mount_model.specs.declared.reply.Refusal.TheVariants.{NoRoom, Held, Full, NotFlushed, NoMeta, TooFar, StampsSpent, IdsSpent, NotOpen}
+use Rattle.mount_model.specs.declared.reply.Refusal.TheVariants.{NoRoom, Held, Busy, Exists, Full, NotFlushed, NoMeta, TooFar, StampsSpent, IdsSpent, NotOpen, NotHolder, Alive}
 
 abbrev pub IsOneOf : Refusal → List Refusal → Type 0
 IsOneOf why [] = ⊥
@@ -27,3 +27,17 @@ MayRefuse (SyncLog writer) why = IsOneOf why (NoRoom ∷ NotOpen ∷ [])
 MayRefuse (SyncIndex writer) why = IsOneOf why (NoRoom ∷ NotOpen ∷ [])
 MayRefuse (PutMeta writer) why = IsOneOf why (NoRoom ∷ NotOpen ∷ NotFlushed ∷ [])
 MayRefuse (Exit writer) why = IsOneOf why (NoRoom ∷ NotOpen ∷ NoMeta ∷ [])
+MayRefuse (Hold room) why = IsOneOf why (NoRoom ∷ IdsSpent ∷ Held ∷ []) ⊎ ((host : ℕ) × (writer : ℕ) × (why ≡ Busy host writer))
+MayRefuse (Mark holder size top) why = IsOneOf why (NoRoom ∷ NotHolder ∷ TooFar ∷ StampsSpent ∷ [])
+MayRefuse (Move holder to) why = IsOneOf why (NoRoom ∷ NotHolder ∷ Exists ∷ [])
+MayRefuse (Release holder) why = IsOneOf why (NoRoom ∷ NotHolder ∷ [])
+MayRefuse (StartFlat room) why = IsOneOf why (NoRoom ∷ IdsSpent ∷ [])
+MayRefuse (PutFlat flat bytes) why = IsOneOf why (NoRoom ∷ NotOpen ∷ [])
+MayRefuse (SyncFlat flat) why = IsOneOf why (NoRoom ∷ NotOpen ∷ [])
+MayRefuse (InstallFlat flat) why = IsOneOf why (NoRoom ∷ NotOpen ∷ [])
+MayRefuse (SyncDropping room host writer is_log) why = IsOneOf why (NoRoom ∷ [])
+MayRefuse (Inspect writer) why = IsOneOf why (Alive ∷ [])
+MayRefuse (Mend room host writer count) why = IsOneOf why (NoRoom ∷ Alive ∷ [])
+MayRefuse (MendMeta room host cover last) why = IsOneOf why (NoRoom ∷ Alive ∷ [])
+MayRefuse (Bury room host writer) why = IsOneOf why (NoRoom ∷ Alive ∷ [])
+MayRefuse (MendHold room) why = IsOneOf why (NoRoom ∷ Held ∷ [])

@@ -1,12 +1,12 @@
 -- Which replies each call has, and what a fault says of the store.
-use Rattle.std.specs.Prelude.{◌≡◌, ◌⊎◌, ◌≤◌, ℕ, List, MatchOption}
+use Rattle.std.specs.Prelude.{◌≡◌, ◌⊎◌, ◌≤◌, ℕ, List, Bool, MatchOption}
 use Rattle.plfs_types.specs.Counts.{HasRisen}
 use Rattle.store_api.specs.declared.step.Answer.{Answer}
 use Rattle.mount_model.specs.declared.call.Ask.{Ask}
 use Rattle.mount_model.specs.declared.call.Call.{Call}
 use Rattle.mount_model.specs.declared.call.Call.TheVariants as call
 use Rattle.mount_model.specs.declared.reply.Reply.{Reply}
-use Rattle.mount_model.specs.declared.reply.Reply.TheVariants.{Greeted, Room, Rooms, Looked, Entered, Floored, Done, Wrote, Flushed, Synced, Refused, Stopped, Damaged, Fault, NoMemory}
+use Rattle.mount_model.specs.declared.reply.Reply.TheVariants.{Greeted, Room, Rooms, Looked, Entered, Floored, Done, Wrote, Flushed, Synced, Holding, Marked, Started, Mended, Refused, Stopped, Damaged, Fault, NoMemory}
 use Rattle.mount_model.specs.declared.reply.Refusal.{Refusal}
 use Rattle.mount_model.specs.Paths.{Name}
 use Rattle.mount_model.specs.Refusals.{MayRefuse}
@@ -38,6 +38,20 @@ IsAnswerTo (call.SyncLog writer) reply = reply ≡ Done
 IsAnswerTo (call.SyncIndex writer) reply = (landed : ℕ) × (reply ≡ Synced landed)
 IsAnswerTo (call.PutMeta writer) reply = reply ≡ Done
 IsAnswerTo (call.Exit writer) reply = reply ≡ Done
+IsAnswerTo (call.Hold room) reply = (holder : ℕ) × (reply ≡ Holding holder)
+IsAnswerTo (call.Mark holder size top) reply = (stamp : ℕ) × (reply ≡ Marked stamp)
+IsAnswerTo (call.Move holder to) reply = reply ≡ Done
+IsAnswerTo (call.Release holder) reply = reply ≡ Done
+IsAnswerTo (call.StartFlat room) reply = (flat : ℕ) × (reply ≡ Started flat)
+IsAnswerTo (call.PutFlat flat bytes) reply = reply ≡ Done
+IsAnswerTo (call.SyncFlat flat) reply = reply ≡ Done
+IsAnswerTo (call.InstallFlat flat) reply = reply ≡ Done
+IsAnswerTo (call.SyncDropping room host writer is_log) reply = reply ≡ Done
+IsAnswerTo (call.Inspect writer) reply = reply ≡ Done
+IsAnswerTo (call.Mend room host writer count) reply = reply ≡ Done
+IsAnswerTo (call.MendMeta room host cover last) reply = reply ≡ Done
+IsAnswerTo (call.Bury room host writer) reply = reply ≡ Done
+IsAnswerTo (call.MendHold room) reply = (made : Bool) × (reply ≡ Mended made)
 
 -- a greeting has no trouble
 abbrev pub FitsCall : Call → Reply → Type 0

@@ -1,12 +1,13 @@
 -- A call that is broken off within its act.
-use Rattle.std.specs.Prelude.{◌≡◌, ◌^◌, ◌≤◌, ◌<◌, ℕ, length, map, filter, take, not, ◌==◌, Option, Some, None, Ok, Err, option_and_then, if◌then◌else◌}
+use Rattle.std.specs.Prelude.{◌≡◌, ◌^◌, ◌≤◌, ◌<◌, ℕ, List, length, map, filter, take, not, ◌==◌, Option, Some, None, Ok, Err, option_and_then, if◌then◌else◌}
 use Rattle.plfs_types.specs.Names.{IsLogicalName}
+use Rattle.edge_io.specs.Clock.{Ticks}
 use Rattle.store_api.specs.declared.step.Answer.TheVariants.{Made}
 use Rattle.store_api.specs.declared.store.Trouble.TheVariants as trouble
 use Rattle.store_api.specs.Step.{Step, write_at}
 use Rattle.store_api.specs.Acts.{Stored, Acts}
 use Rattle.mount_model.specs.declared.call.Call.{Call}
-use Rattle.mount_model.specs.declared.call.Call.TheVariants.{Find, MakeContainer, Enter, Write}
+use Rattle.mount_model.specs.declared.call.Call.TheVariants.{Find, MakeContainer, Enter, Write, Hold, Mark, Move, StartFlat, SyncDropping, Mend, MendMeta, Bury}
 use Rattle.mount_model.specs.declared.reply.Reply.{Reply}
 use Rattle.mount_model.specs.declared.reply.Reply.TheVariants.{Stopped, NoMemory}
 use Rattle.mount_model.specs.declared.reply.Refusal.{Refusal}
@@ -16,7 +17,8 @@ use Rattle.mount_model.specs.declared.row.Flattening.{Flattening}
 use Rattle.mount_model.specs.declared.row.Stage.TheVariants as stage
 use Rattle.mount_model.specs.Table.{at_stage}
 use Rattle.mount_model.specs.State.{State, Table, drawn}
-use Rattle.mount_model.specs.Entering.{enter_check}
+use Rattle.mount_model.specs.Entering.{draw_check}
+use Rattle.mount_model.specs.Recovering.{IsHostAndWriter}
 use Rattle.mount_model.specs.Making.{Told}
 use Rattle.mount_model.specs.Acting.{act_of}
 
@@ -25,9 +27,9 @@ abbrev pub part_of : ℕ → Step → Option Step
 part_of k (write_at room folder file at bytes) = Some (write_at room folder file at (take k bytes))
 part_of k step = if k == 0 then None else Some step
 
--- what is made of the call's act, if any
-abbrev pub part_made : ℕ → State → ℕ → Call → Option Step
-part_made k old caller call = option_and_then (part_of k) (act_of old caller call)
+-- what is made of the call's act at this time, if any
+abbrev pub part_made : ℕ → ℕ → State → ℕ → Call → Option Step
+part_made k time old caller call = option_and_then (part_of k) (act_of time old caller call)
 
 -- the row is dead where it is the caller's
 abbrev pub row_ended : ℕ → Row → Row
@@ -48,7 +50,9 @@ drawn_unless (Some why) old = old
 
 -- the state in which the act is made
 abbrev pub begun : State → Call → State
-begun old (Enter room host cap) = drawn_unless (enter_check old room) old
+begun old (Enter room host cap) = drawn_unless (draw_check old room) old
+begun old (Hold room) = drawn_unless (draw_check old room) old
+begun old (StartFlat room) = drawn_unless (draw_check old room) old
 begun old call = old
 
 -- the part is made, if any
@@ -67,12 +71,25 @@ IsWellTyped (Find name) = IsLogicalName name
 IsWellTyped (MakeContainer name) = IsLogicalName name
 IsWellTyped (Enter room host cap) = host < 2 ^ 32
 IsWellTyped (Write writer at block) = 1 ≤ length block
+IsWellTyped (Move holder to) = IsLogicalName to
+IsWellTyped (SyncDropping room host writer is_log) = IsHostAndWriter host writer
+IsWellTyped (Mend room host writer count) = IsHostAndWriter host writer
+IsWellTyped (MendMeta room host cover last) = IsHostAndWriter host cover.writer
+IsWellTyped (Bury room host writer) = IsHostAndWriter host writer
 IsWellTyped call = Unit {0}
 
--- The first k bytes of the call's act are made, and then its caller is at its end. No clock is asked.
+-- the clock is asked where a truncate's dropping is made, and nowhere else
+abbrev pub TicksFor : Call → Option Step → Option (List ℕ) → Option (List ℕ) → ℕ → Type 0
+TicksFor (Mark holder size top) (Some step) times left time = (time < 2 ^ 64) × Ticks times left time
+TicksFor call part times left time = left ≡ times
+
+-- The first k bytes of the call's act are made, and then its caller is at its end.
 pub record Stops (caller k : ℕ) (call : Call) (old : State) (reply : Reply) (new : State) : Type 0 where
   pub typed : IsWellTyped call
+  pub time : ℕ
+  pub times : Option (List ℕ)
   pub told : Told
   pub store : Stored
-  pub made : MakesPart (part_made k old caller call) old.store store told
-  pub after : IsEndedBy told reply (record (begun old call) { store = store }) caller new
+  pub ticks : TicksFor call (part_made k time old caller call) old.times times time
+  pub made : MakesPart (part_made k time old caller call) old.store store told
+  pub after : IsEndedBy told reply (record (begun old call) { store = store; times = times }) caller new

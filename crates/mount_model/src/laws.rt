@@ -13,7 +13,6 @@ ghost use Rattle.mount_model.specs.Mounting.{IsMounted};
 ghost use Rattle.mount_model.specs.Stopping.{Stops};
 ghost use Rattle.mount_model.specs.Stopped.{IsLeftBy};
 ghost use Rattle.mount_model.specs.declared.call.Call.{Call};
-ghost use Rattle.mount_model.specs.History.{Event, IsLegal, AreOwed, IsLawful};
 
 /// A mount begins with a regular table.
 pub fn mounting_is_regular()
@@ -50,12 +49,6 @@ pub fn faults_have_causes()
 /// its caller is at its end.
 pub fn a_stop_is_a_fault_and_an_end()
     ensures { (old new : State) (caller k : ℕ) (call : Call) (reply : Reply) → Stops caller k call old reply new → IsLeftBy old caller call new }
-{}
-
-/// A history is lawful where it is legal and no caller owes more than it met.
-pub fn lawful_is_legal_and_owed()
-    ensures to { (start : State) (events : List Event) → IsLawful start events → IsLegal start events × AreOwed events }
-    ensures from { (start : State) (events : List Event) → IsLegal start events → AreOwed events → IsLawful start events }
 {}
 
 /// Mounting never lowers the store's count of faults.

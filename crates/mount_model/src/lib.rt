@@ -15,8 +15,7 @@ mod trouble;
 pub use call::{Ask, Call, Look};
 pub use laws::{
     a_refusal_changes_nothing, a_stop_is_a_fault_and_an_end, faults_have_causes,
-    lawful_is_legal_and_owed, mounting_is_regular, mounting_lowers_no_count, place_lasts,
-    regular_lasts, replies_fit,
+    mounting_is_regular, mounting_lowers_no_count, place_lasts, regular_lasts, replies_fit,
 };
 pub use reply::{Refusal, Reply};
 pub use row::{FlatStage, Flattening, Holder, Making, Row, Stage};

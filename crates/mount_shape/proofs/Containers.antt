@@ -12,26 +12,26 @@ use Rattle.store_api.specs.declared.tree.Tree.{Tree}
 use Rattle.store_api.specs.Names.{same_name}
 use Rattle.store_api.specs.Room.{is_top, has_folder}
 use Rattle.store_laws.specs.Files.{file_at, AreTwo, SameButFile, SameButFolder}
-use Rattle.store_laws.specs.Differ.{is_listed, FoldersDiffer, PathsDiffer}
-use Rattle.store_laws.specs.Changes.{RoomMade}
-use Rattle.store_laws.proofs.Facts.{name_eq, name_cases, path_cases, path_eq, folder_kept, folders_differ_kept, each_file, file_kept, paths_differ_kept, each_folder, each_new_file, has_new_file, has_new_folder, new_folders_differ}
+use Rattle.store_laws.specs.Differ.{is_listed, NamesDiffer, FoldersDiffer, FilesDiffer, PathsDiffer}
+use Rattle.store_laws.specs.Changes.{RoomMade, Moved, beside}
+use Rattle.store_laws.proofs.Facts.{name_eq, name_cases, path_cases, path_eq, folder_kept, file_at_same, has_folder_same, each_file, file_kept, paths_differ_kept, each_folder, each_new_file, has_new_file, has_new_folder, new_folders_differ}
 use Rattle.mount_model.specs.Paths.{Name, openhosts, metadata, truncs, flats, new_folders, new_files, access_path}
-use Rattle.mount_shape.specs.Container.{IsContainerFolder, MayHold, IsWritersOf, IsItemFile, IsContainer}
+use Rattle.mount_shape.specs.Container.{IsContainerFolder, IsOfId, IsItemFile, IsContainer}
 use Rattle.mount_shape.proofs.Items.{access_is_at, access_holds}
 
 -- ---- more ids
 
-pub writers_wider : (few many : ℕ → Type 0) (item : Item) → ((id : ℕ) → few id → many id) → IsWritersOf few item → IsWritersOf many item
-writers_wider few many (OpenHost host writer) more is = more writer is
-writers_wider few many (Meta last bytes stamp host writer) more is = more writer is
-writers_wider few many (Index host writer) more is = more writer is
-writers_wider few many (Log host writer) more is = more writer is
-writers_wider few many (Packed host writer) more is = more writer is
-writers_wider few many Access more is = tt
-writers_wider few many (Trunc stamp size) more is = tt
-writers_wider few many (Flat id) more is = tt
-writers_wider few many (TmpFlat id) more is = tt
-writers_wider few many (TmpPacked host id) more is = tt
+pub ids_wider : (few many : ℕ → Type 0) (item : Item) → ((id : ℕ) → few id → many id) → IsOfId few item → IsOfId many item
+ids_wider few many (OpenHost host writer) more is = more writer is
+ids_wider few many (Meta last bytes stamp host writer) more is = more writer is
+ids_wider few many (Index host writer) more is = more writer is
+ids_wider few many (Log host writer) more is = more writer is
+ids_wider few many (Packed host writer) more is = more writer is
+ids_wider few many Access more is = tt
+ids_wider few many (Trunc stamp size) more is = tt
+ids_wider few many (Flat id) more is = more id is
+ids_wider few many (TmpFlat id) more is = more id is
+ids_wider few many (TmpPacked host id) more is = more id is
 
 -- a container stays one where more ids are allowed
 pub container_wider : (few many : ℕ → Type 0) (room : Room) → ((id : ℕ) → few id → many id) → IsContainer few room → IsContainer many room
@@ -47,62 +47,87 @@ container_wider few many room more c = record {
   top_unlisted = c.top_unlisted;
   files = λ path bytes at.
       let f = c.files path bytes at in
-      record { item = f.item; is_at = f.is_at; holds = f.holds; writer = writers_wider few many f.item more f.writer; housed = f.housed };
+      record { item = f.item; is_at = f.is_at; holds = f.holds; id = ids_wider few many f.item more f.id; housed = f.housed };
 }
 
 -- ---- a file
 
 -- what a container has, but for its files, where one of them has changed
 file_in_folder : (allowed : ℕ → Type 0) (room new : Room) (path : Path) (bytes : List ℕ) → has_folder new path.folder ≡ has_folder room path.folder → IsItemFile allowed room path bytes → IsItemFile allowed new path bytes
-file_in_folder allowed room new path bytes same f = record { item = f.item; is_at = f.is_at; holds = f.holds; writer = f.writer; housed = same ∙ f.housed }
+file_in_folder allowed room new path bytes same f = record { item = f.item; is_at = f.is_at; holds = f.holds; id = f.id; housed = same ∙ f.housed }
 
-module _ (allowed : ℕ → Type 0) (room new : Room) (path : Path) (others : SameButFile path room new) (differ : PathsDiffer room → PathsDiffer new) (c : IsContainer allowed room) where
+module _ (allowed : ℕ → Type 0) (room new : Room) (name : new.name ≡ room.name) (folders : new.folders ≡ room.folders) (c : IsContainer allowed room) where
   same_folder : (folder : Name) → has_folder new folder ≡ has_folder room folder
-  same_folder folder = folder_kept path room new folder others
+  same_folder folder = has_folder_same room new folder folders
 
   -- the files that a container may have in place of those that it has
-  with_files : file_at new access_path ≡ Some [] → ((other : Path) (bytes : List ℕ) → file_at new other ≡ Some bytes → IsItemFile allowed new other bytes) → IsContainer allowed new
-  with_files access files = record {
-    named = subst IsLogicalName (sym others.name) c.named;
-    folders_differ = folders_differ_kept path room new others c.folders_differ;
-    paths_differ = differ c.paths_differ;
+  with_files : PathsDiffer new → file_at new access_path ≡ Some [] → ((other : Path) (bytes : List ℕ) → file_at new other ≡ Some bytes → IsItemFile allowed new other bytes) → IsContainer allowed new
+  with_files differ access files = record {
+    named = subst IsLogicalName (sym name) c.named;
+    folders_differ = subst (λ folders. NamesDiffer folders) (sym folders) c.folders_differ;
+    paths_differ = differ;
     has_metadata = same_folder metadata ∙ c.has_metadata;
     has_truncs = same_folder truncs ∙ c.has_truncs;
     has_flats = same_folder flats ∙ c.has_flats;
     has_access = access;
     folders = λ folder at. c.folders folder (sym (same_folder folder) ∙ at);
-    top_unlisted = ap (λ folders. is_listed [] folders) others.folders ∙ c.top_unlisted;
+    top_unlisted = ap (λ folders. is_listed [] folders) folders ∙ c.top_unlisted;
     files = files;
   }
 
+  -- a file that was there, and still is
+  file_stays : (path : Path) (bytes : List ℕ) → file_at room path ≡ Some bytes → IsItemFile allowed new path bytes
+  file_stays path bytes there = file_in_folder allowed room new path bytes (same_folder path.folder) (c.files path bytes there)
+
+module _ (allowed : ℕ → Type 0) (room new : Room) (path : Path) (others : SameButFile path room new) (differ : PathsDiffer room → PathsDiffer new) (c : IsContainer allowed room) where
   -- the file of an item has come, or other bytes of it
-  pub container_filed : (item : Item) (bytes : List ℕ) → IsAt path item → MayHold item bytes → IsWritersOf allowed item → has_folder room path.folder ≡ true → file_at new path ≡ Some bytes → IsContainer allowed new
-  container_filed item bytes at holds writer folder now =
-      with_files
+  pub container_filed : (bytes : List ℕ) → IsItemFile allowed room path bytes → file_at new path ≡ Some bytes → IsContainer allowed new
+  container_filed bytes is now =
+      with_files allowed room new others.name others.folders c (differ c.paths_differ)
       (elim (path_cases access_path path) as (λ _. file_at new access_path ≡ Some []) [
-        | inl same ↦ ap (λ p. file_at new p) same ∙ now ∙ ap (λ b. Some b) (access_holds path item bytes at holds same)
+        | inl same ↦ ap (λ p. file_at new p) same ∙ now ∙ ap (λ b. Some b) (access_holds path is.item bytes is.is_at is.holds same)
         | inr two ↦ others.files access_path two ∙ c.has_access
       ])
       (λ other stored there. elim (each_file path other room new stored others there) as (λ _. IsItemFile allowed new other stored) [
         | inl same ↦
             let both : Some bytes ≡ Some stored = sym now ∙ ap (λ p. file_at new p) (sym same) ∙ there in
-            let is : bytes ≡ stored = cc in
-            let here : IsItemFile allowed new path bytes = record { item = item; is_at = at; holds = holds; writer = writer; housed = same_folder path.folder ∙ folder } in
-            subst (λ b. IsItemFile allowed new other b) is (subst (λ p. IsItemFile allowed new p bytes) (sym same) here)
-        | inr old ↦ file_in_folder allowed room new other stored (same_folder other.folder) (c.files other stored old.1)
+            let equal : bytes ≡ stored = cc in
+            let here : IsItemFile allowed new path bytes = file_in_folder allowed room new path bytes (folder_kept path room new path.folder others) is in
+            subst (λ b. IsItemFile allowed new other b) equal (subst (λ p. IsItemFile allowed new p bytes) (sym same) here)
+        | inr old ↦ file_stays allowed room new others.name others.folders c other stored old.1
       ])
 
   -- a file has gone
   pub container_removed : AreTwo access_path path → (PathsDiffer room → file_at new path ≡ None) → IsContainer allowed new
   container_removed apart gone =
-      with_files
+      with_files allowed room new others.name others.folders c (differ c.paths_differ)
       (others.files access_path apart ∙ c.has_access)
       (λ other stored there. elim (each_file path other room new stored others there) as (λ _. IsItemFile allowed new other stored) [
         | inl same ↦
             let both : None ≡ Some stored = sym (gone c.paths_differ) ∙ ap (λ p. file_at new p) (sym same) ∙ there in
             absurd (cc)
-        | inr old ↦ file_in_folder allowed room new other stored (same_folder other.folder) (c.files other stored old.1)
+        | inr old ↦ file_stays allowed room new others.name others.folders c other stored old.1
       ])
+
+-- a file has got another name in its folder, and is that of another item there
+pub container_moved : (allowed : ℕ → Type 0) (tree : Tree) (n : ℕ) (path : Path) (to : Name) (after : Tree) (m : Moved tree n path to after) → AreTwo access_path path → AreTwo access_path (beside path to)
+    → (IsItemFile allowed m.room path m.bytes → IsItemFile allowed m.room (beside path to) m.bytes) → IsContainer allowed m.room → IsContainer allowed m.new
+container_moved allowed tree n path to after m from_apart to_apart becomes c =
+    with_files allowed m.room m.new m.same_name m.same_folders c (m.differ c.paths_differ)
+    (m.others access_path from_apart to_apart ∙ c.has_access)
+    (λ other stored there. elim (path_cases other (beside path to)) as (λ _. IsItemFile allowed m.new other stored) [
+      | inl same ↦
+          let both : Some m.bytes ≡ Some stored = sym (m.now c.paths_differ) ∙ ap (λ p. file_at m.new p) (sym same) ∙ there in
+          let equal : m.bytes ≡ stored = cc in
+          let here : IsItemFile allowed m.new (beside path to) m.bytes = file_in_folder allowed m.room m.new (beside path to) m.bytes (has_folder_same m.room m.new path.folder m.same_folders) (becomes (c.files path m.bytes m.there)) in
+          subst (λ b. IsItemFile allowed m.new other b) equal (subst (λ p. IsItemFile allowed m.new p m.bytes) (sym same) here)
+      | inr two ↦ elim (path_cases other path) as (λ _. IsItemFile allowed m.new other stored) [
+        | inl same ↦
+            let both : None ≡ Some stored = sym (m.gone c.paths_differ) ∙ ap (λ p. file_at m.new p) (sym same) ∙ there in
+            absurd (cc)
+        | inr apart ↦ file_stays allowed m.room m.new m.same_name m.same_folders c other stored (sym (m.others other apart two) ∙ there)
+      ]
+    ])
 
 -- ---- a folder
 
@@ -130,7 +155,58 @@ container_foldered allowed room new folder known now others differ top c = recor
   top_unlisted = top;
   files = λ path bytes at.
       let f = c.files path bytes (sym (file_kept folder room new path others) ∙ at) in
-      record { item = f.item; is_at = f.is_at; holds = f.holds; writer = f.writer; housed = has_still folder path.folder room new others now f.housed };
+      record { item = f.item; is_at = f.is_at; holds = f.holds; id = f.id; housed = has_still folder path.folder room new others now f.housed };
+}
+
+-- the folder of who has the container open has gone, in which no file was
+pub container_closed : (allowed : ℕ → Type 0) (room new : Room) → SameButFolder openhosts room new → (FoldersDiffer room → FoldersDiffer new) → ((name : Name) → file_at room (record { folder = openhosts; file = name }) ≡ None) → is_listed [] new.folders ≡ false
+    → IsContainer allowed room → IsContainer allowed new
+container_closed allowed room new others differ empty top c = record {
+  named = subst IsLogicalName (sym others.name) c.named;
+  folders_differ = differ c.folders_differ;
+  paths_differ = paths_differ_kept openhosts room new others c.paths_differ;
+  has_metadata = others.folders metadata (λ same. cc) ∙ c.has_metadata;
+  has_truncs = others.folders truncs (λ same. cc) ∙ c.has_truncs;
+  has_flats = others.folders flats (λ same. cc) ∙ c.has_flats;
+  has_access = file_kept openhosts room new access_path others ∙ c.has_access;
+  folders = λ other at. elim (each_folder openhosts other room new others at) as (λ _. IsContainerFolder other) [
+    | inl same ↦ inr (inl same)
+    | inr old ↦ c.folders other old.1
+  ];
+  top_unlisted = top;
+  files = λ path bytes at.
+      let was : file_at room path ≡ Some bytes = sym (file_kept openhosts room new path others) ∙ at in
+      let f = c.files path bytes was in
+      record {
+        item = f.item;
+        is_at = f.is_at;
+        holds = f.holds;
+        id = f.id;
+        housed = elim (name_cases path.folder openhosts) as (λ _. has_folder new path.folder ≡ true) [
+          | inl same ↦
+              let none : file_at room path ≡ None = ap (λ p. file_at room p) (path_eq path (record { folder = openhosts; file = path.file }) same refl) ∙ empty path.file in
+              let both : None ≡ Some bytes = sym none ∙ was in
+              absurd (cc)
+          | inr apart ↦ others.folders path.folder apart ∙ f.housed
+        ];
+      };
+}
+
+-- ---- another name
+
+-- a container has got another logical name
+pub container_renamed : (allowed : ℕ → Type 0) (room new : Room) → IsLogicalName new.name → new.folders ≡ room.folders → new.files ≡ room.files → IsContainer allowed room → IsContainer allowed new
+container_renamed allowed room new logical folders files c = record {
+  named = logical;
+  folders_differ = subst (λ names. NamesDiffer names) (sym folders) c.folders_differ;
+  paths_differ = subst (λ stored. FilesDiffer stored) (sym files) c.paths_differ;
+  has_metadata = has_folder_same room new metadata folders ∙ c.has_metadata;
+  has_truncs = has_folder_same room new truncs folders ∙ c.has_truncs;
+  has_flats = has_folder_same room new flats folders ∙ c.has_flats;
+  has_access = file_at_same room new access_path files ∙ c.has_access;
+  folders = λ folder at. c.folders folder (sym (has_folder_same room new folder folders) ∙ at);
+  top_unlisted = ap (λ names. is_listed [] names) folders ∙ c.top_unlisted;
+  files = λ path bytes at. file_in_folder allowed room new path bytes (has_folder_same room new path.folder folders) (c.files path bytes (sym (file_at_same room new path files) ∙ at));
 }
 
 -- ---- a new room
@@ -188,7 +264,7 @@ module _ (allowed : ℕ → Type 0) (tree : Tree) (name : Name) (after : Tree) (
         item = Access;
         is_at = subst (λ p. IsAt p Access) (sym same) access_is_at;
         holds = is.0;
-        writer = tt;
+        id = tt;
         housed = has_new_folder tree name new_folders new_files after made path.folder ∙ ap (λ t. t || is_listed path.folder new_folders) is.1;
       }
 

@@ -1,7 +1,6 @@
 -- What a file at an item's path says, in a room of a sound tree.
-use Rattle.std.proofs.Common.{◌≡◌, ◌<◌, ℕ, List, [], true, slice_get, Option, Some, None, refl, sym, ap, ◌∙◌, subst, arith}
+use Rattle.std.proofs.Common.{◌≡◌, ℕ, List, [], true, slice_get, Some, None, refl, sym, ap, ◌∙◌, subst}
 use Rattle.container_layout.specs.declared.items.Item.{Item}
-use Rattle.container_layout.specs.declared.items.Item.TheVariants.{OpenHost, Meta, Index, Log, Packed}
 use Rattle.container_layout.specs.Items.{IsItem}
 use Rattle.container_layout.specs.Paths.{path_of, IsAt}
 use Rattle.container_layout.proofs.Facts.{one_item}
@@ -10,15 +9,19 @@ use Rattle.store_api.specs.declared.tree.Tree.{Tree}
 use Rattle.store_api.specs.Room.{has_folder}
 use Rattle.store_laws.specs.Files.{file_at}
 use Rattle.mount_shape.specs.Marks.{IsOfMark}
-use Rattle.mount_shape.specs.Container.{MayHold, IsWritersOf, IsContainer}
+use Rattle.mount_shape.specs.Container.{MayHold, IsOfId, IsContainer}
 use Rattle.mount_shape.specs.Shape.{IsShapedTree, IsDrawnBy, IsShaped}
+use Rattle.mount_model.specs.declared.row.Making.{Making}
+use Rattle.mount_model.specs.declared.row.Making.TheVariants as making
+use Rattle.mount_model.specs.Paths.{temporary_of}
 use Rattle.mount_model.specs.State.{State, last_id}
-use Rattle.mount_shape.proofs.Trees.{IsShapedFor, container_at, room_kept}
+use Rattle.mount_shape.proofs.Items.{no_packing}
+use Rattle.mount_shape.proofs.Trees.{IsShapedFor, shape_of, container_at, room_kept}
 
 -- a container has the item's file, with bytes that it may hold
 pub record Holds (allowed : ℕ → Type 0) (room : Room) (item : Item) (bytes : List ℕ) : Type 0 where
   pub holds : MayHold item bytes
-  pub writer : IsWritersOf allowed item
+  pub id : IsOfId allowed item
   pub housed : has_folder room (path_of item).folder ≡ true
 
 pub item_held : (allowed : ℕ → Type 0) (room : Room) (item : Item) (bytes : List ℕ) → IsContainer allowed room → IsItem item → file_at room (path_of item) ≡ Some bytes → Holds allowed room item bytes
@@ -28,39 +31,25 @@ item_held allowed room item bytes c is there =
     let same : f.item ≡ item = one_item (path_of item) f.item item f.is_at own in
     record {
       holds = subst (λ i. MayHold i bytes) same f.holds;
-      writer = subst (IsWritersOf allowed) same f.writer;
+      id = subst (IsOfId allowed) same f.id;
       housed = f.housed;
     }
 
--- an item of this writer
-abbrev pub IsOfWriter : ℕ → Item → Type 0
-IsOfWriter id (OpenHost host writer) = writer ≡ id
-IsOfWriter id (Meta last bytes stamp host writer) = writer ≡ id
-IsOfWriter id (Index host writer) = writer ≡ id
-IsOfWriter id (Log host writer) = writer ≡ id
-IsOfWriter id (Packed host writer) = writer ≡ id
-IsOfWriter id item = ⊥
+-- the id in the name of an item that stands in a container was drawn
+pub item_drawn : (state : State) (tree : Tree) (number : ℕ) (room : Room) (item : Item) (bytes : List ℕ) → IsShaped state → state.store.tree ≡ Some tree → slice_get tree.rooms number ≡ Some room → (number ≡ state.marks → ⊥)
+    → IsItem item → file_at room (path_of item) ≡ Some bytes → IsOfId (IsDrawnBy (last_id state) tree) item
+item_drawn state tree number room item bytes shape told there apart is at =
+    let both : Some shape.tree ≡ Some tree = sym shape.told ∙ told in
+    let same : shape.tree ≡ tree = cc in
+    let s : IsShapedFor (last_id state) state.marks state.mount tree = subst (IsShapedFor (last_id state) state.marks state.mount) same (shape_of state shape) in
+    (item_held (IsDrawnBy (last_id state) tree) room item bytes (container_at (last_id state) state.marks state.mount number tree room s apart there) is at).id
 
-allowed_of : (allowed : ℕ → Type 0) (id : ℕ) (item : Item) → IsOfWriter id item → IsWritersOf allowed item → allowed id
-allowed_of allowed id (OpenHost host writer) of w = subst allowed of w
-allowed_of allowed id (Meta last bytes stamp host writer) of w = subst allowed of w
-allowed_of allowed id (Index host writer) of w = subst allowed of w
-allowed_of allowed id (Log host writer) of w = subst allowed of w
-allowed_of allowed id (Packed host writer) of w = subst allowed of w
-allowed_of allowed id item of w = absurd of
-
-no_bytes : (found : Option (List ℕ)) → ((bytes : List ℕ) → found ≡ Some bytes → ⊥) → found ≡ None
-no_bytes None never = refl
-no_bytes (Some bytes) never = absurd (never bytes refl)
-
--- no room has an item of an id that was not drawn yet
-pub no_new_item : (last marks mount n : ℕ) (tree : Tree) (room : Room) (id : ℕ) (item : Item) → IsShapedFor last marks mount tree → (n ≡ marks → ⊥) → slice_get tree.rooms n ≡ Some room
-    → last < id → IsItem item → IsOfWriter id item → file_at room (path_of item) ≡ None
-no_new_item last marks mount n tree room id item s apart there new is of =
-    no_bytes (file_at room (path_of item)) (λ bytes at.
-    let held = item_held (IsDrawnBy last tree) room item bytes (container_at last marks mount n tree room s apart there) is at in
-    let within = (allowed_of (IsDrawnBy last tree) id item of held.writer).1 in
-    omega (arith, new, within))
+-- where the temporary file of a flattening stands, it makes a flattened index
+pub made_flat : (allowed : ℕ → Type 0) (room : Room) (makes : Making) (id : ℕ) (bytes : List ℕ) → IsContainer allowed room → file_at room (temporary_of makes id) ≡ Some bytes → makes ≡ making.Flat
+made_flat allowed room making.Flat id bytes c there = refl
+made_flat allowed room (making.Pack host writer) id bytes c there =
+    let f = c.files (temporary_of (making.Pack host writer) id) bytes there in
+    absurd (no_packing host id f.item bytes f.is_at f.holds)
 
 -- ---- trees that no mount is over
 

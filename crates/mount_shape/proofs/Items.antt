@@ -1,17 +1,22 @@
--- The items of a writer, and where they stand.
-use Rattle.std.proofs.Common.{◌≡◌, ℕ, ◌%◌, ◌<◌, ◌^◌, List, [], ◌++◌, refl, ap, inr, subst, arith}
+-- Where items stand, and what their files may hold.
+use Rattle.std.proofs.Common.{◌≡◌, ℕ, ◌%◌, ◌<◌, ◌^◌, List, [], ◌∷◌, ◌++◌, get_or, refl, ap, inr, subst, arith}
 use Rattle.std.specs.Prelude.{codes}
 use Rattle.std.specs.Fmt.{decimal}
 use Rattle.plfs_types.specs.declared.names.Path.{Path}
 use Rattle.container_layout.specs.declared.items.Item.{Item}
-use Rattle.container_layout.specs.declared.items.Item.TheVariants.{Access, OpenHost, Meta, Index, Log}
-use Rattle.container_layout.specs.Items.{IsMetaRange}
-use Rattle.container_layout.specs.Paths.{IsAt, hostdir_of}
-use Rattle.container_layout.proofs.Facts.{one_item}
+use Rattle.container_layout.specs.declared.items.Item.TheVariants.{Access, OpenHost, Meta, Trunc, Flat, TmpFlat, Index, Log, Packed, TmpPacked}
+use Rattle.container_layout.specs.Items.{IsMetaRange, IsTruncRange}
+use Rattle.container_layout.specs.Paths.{path_of, IsAt, hostdir_of}
+use Rattle.container_layout.proofs.Facts.{elsewhere, first_of_folder, one_item}
+use Rattle.store_api.specs.declared.tree.Room.{Room}
 use Rattle.store_laws.specs.Files.{AreTwo}
-use Rattle.mount_model.specs.Paths.{access_path, open_path, index_path, log_path, meta_path}
+use Rattle.store_laws.specs.Prefix.{IsPrefix}
+use Rattle.store_laws.specs.Changes.{beside}
+use Rattle.mount_model.specs.declared.row.Making.{Making}
+use Rattle.mount_model.specs.declared.row.Making.TheVariants as making
+use Rattle.mount_model.specs.Paths.{Name, access_path, open_path, index_path, log_path, meta_path, trunc_path, flat_path, temporary_of, installed_of}
 use Rattle.mount_model.specs.State.{id_of}
-use Rattle.mount_shape.specs.Container.{IsContainerFolder, MayHold}
+use Rattle.mount_shape.specs.Container.{IsContainerFolder, MayHold, IsOfId, IsItemFile}
 
 -- ids have 64 bits
 pub id_fits : (mount serial : ℕ) → mount < 2 ^ 32 → serial < 2 ^ 32 → id_of mount serial < 2 ^ 64
@@ -32,6 +37,9 @@ log_is_at host writer h w = record { is_item = record { in_range = tt; widths = 
 pub meta_is_at : (last bytes stamp host writer : ℕ) → IsMetaRange last bytes stamp → host < 2 ^ 32 → writer < 2 ^ 64 → IsAt (meta_path last bytes stamp host writer) (Meta last bytes stamp host writer)
 meta_is_at last bytes stamp host writer r h w = record { is_item = record { in_range = r; widths = (h, w) }; printed = refl }
 
+pub trunc_is_at : (stamp size : ℕ) → IsTruncRange stamp size → IsAt (trunc_path stamp size) (Trunc stamp size)
+trunc_is_at stamp size r = record { is_item = record { in_range = r; widths = tt }; printed = refl }
+
 -- the file `access` is no other item, so that it holds nothing
 pub access_holds : (path : Path) (item : Item) (bytes : List ℕ) → IsAt path item → MayHold item bytes → access_path ≡ path → bytes ≡ []
 access_holds path item bytes at holds same =
@@ -48,3 +56,73 @@ remainder host = (omega arith, omega arith)
 -- the folder of a host's droppings is one that a container may have
 pub hostdir_is_folder : (host : ℕ) → IsContainerFolder (hostdir_of host)
 hostdir_is_folder host = let r = remainder host in inr (inr (inr (inr (inr (host % 32, r.0, ap (λ n. codes "hostdir." ++ decimal n) r.1)))))
+
+-- ---- what a file may hold
+
+pub empty_front : (front bytes : List ℕ) → IsPrefix front bytes → bytes ≡ [] → front ≡ []
+empty_front [] bytes p e = refl
+empty_front (x ∷ front) [] p e = absurd p
+empty_front (x ∷ front) (y ∷ bytes) p e = absurd (cc)
+
+-- what an item may hold, it may lose
+pub may_lose : (item : Item) (front bytes : List ℕ) → IsPrefix front bytes → MayHold item bytes → MayHold item front
+may_lose Access front bytes p h = empty_front front bytes p h
+may_lose (OpenHost host writer) front bytes p h = empty_front front bytes p h
+may_lose (Meta last count stamp host writer) front bytes p h = empty_front front bytes p h
+may_lose (Trunc stamp size) front bytes p h = empty_front front bytes p h
+may_lose (Flat id) front bytes p h = tt
+may_lose (TmpFlat id) front bytes p h = tt
+may_lose (Index host writer) front bytes p h = tt
+may_lose (Log host writer) front bytes p h = tt
+may_lose (Packed host writer) front bytes p h = absurd h
+may_lose (TmpPacked host id) front bytes p h = absurd h
+
+-- whatever item's file stands at this path, it may hold any bytes
+abbrev pub MayHoldAny : Path → Type 0
+MayHoldAny path = (item : Item) (old bytes : List ℕ) → IsAt path item → MayHold item old → MayHold item bytes
+
+any_of : (path : Path) (item : Item) → IsAt path item → ((bytes : List ℕ) → MayHold item bytes) → MayHoldAny path
+any_of path item at any other old bytes also holds = subst (λ i. MayHold i bytes) (one_item path item other at also) (any bytes)
+
+pub index_holds_any : (host writer : ℕ) → host < 2 ^ 32 → writer < 2 ^ 64 → MayHoldAny (index_path host writer)
+index_holds_any host writer h w = any_of (index_path host writer) (Index host writer) (index_is_at host writer h w) (λ bytes. tt)
+
+pub log_holds_any : (host writer : ℕ) → host < 2 ^ 32 → writer < 2 ^ 64 → MayHoldAny (log_path host writer)
+log_holds_any host writer h w = any_of (log_path host writer) (Log host writer) (log_is_at host writer h w) (λ bytes. tt)
+
+-- ---- flattenings
+
+pub temporary_is_at : (id : ℕ) → id < 2 ^ 64 → IsAt (temporary_of making.Flat id) (TmpFlat id)
+temporary_is_at id fits = record { is_item = record { in_range = tt; widths = fits }; printed = refl }
+
+flat_is_at : (id : ℕ) → id < 2 ^ 64 → IsAt (flat_path id) (Flat id)
+flat_is_at id fits = record { is_item = record { in_range = tt; widths = fits }; printed = refl }
+
+-- no file stands where a packed index would be written
+pub no_packing : (host id : ℕ) (item : Item) (bytes : List ℕ) → IsAt (path_of (TmpPacked host id)) item → MayHold item bytes → ⊥
+no_packing host id Access bytes at holds = elsewhere (first_of_folder at.printed) refl
+no_packing host id (OpenHost h w) bytes at holds = elsewhere (first_of_folder at.printed) refl
+no_packing host id (Meta last count stamp h w) bytes at holds = elsewhere (first_of_folder at.printed) refl
+no_packing host id (Trunc stamp size) bytes at holds = elsewhere (first_of_folder at.printed) refl
+no_packing host id (Flat flat) bytes at holds = elsewhere (first_of_folder at.printed) refl
+no_packing host id (TmpFlat flat) bytes at holds = elsewhere (first_of_folder at.printed) refl
+no_packing host id (Index h w) bytes at holds = elsewhere (ap (λ (p : Path). get_or p.file 0 0) at.printed) refl
+no_packing host id (Log h w) bytes at holds = elsewhere (ap (λ (p : Path). get_or p.file 0 0) at.printed) refl
+no_packing host id (Packed h w) bytes at holds = holds
+no_packing host id (TmpPacked h w) bytes at holds = holds
+
+pub temporary_holds_any : (makes : Making) (id : ℕ) → id < 2 ^ 64 → MayHoldAny (temporary_of makes id)
+temporary_holds_any making.Flat id fits = any_of (temporary_of making.Flat id) (TmpFlat id) (temporary_is_at id fits) (λ bytes. tt)
+temporary_holds_any (making.Pack host writer) id fits = λ item old bytes at holds. absurd (no_packing host id item old at holds)
+
+-- the temporary file may get the name of what it was made for
+pub may_install : (makes : Making) (id : ℕ) → id < 2 ^ 64 → (allowed : ℕ → Type 0) (room : Room) (bytes : List ℕ) → IsItemFile allowed room (temporary_of makes id) bytes → IsItemFile allowed room (beside (temporary_of makes id) (installed_of makes id).file) bytes
+may_install making.Flat id fits allowed room bytes f =
+    let same : f.item ≡ TmpFlat id = one_item (temporary_of making.Flat id) f.item (TmpFlat id) f.is_at (temporary_is_at id fits) in
+    let of : IsOfId allowed (TmpFlat id) = subst (IsOfId allowed) same f.id in
+    record { item = Flat id; is_at = flat_is_at id fits; holds = tt; id = of; housed = f.housed }
+may_install (making.Pack host writer) id fits allowed room bytes f = absurd (no_packing host id f.item bytes f.is_at f.holds)
+
+pub temporary_apart : (makes : Making) (id : ℕ) (file : Name) → AreTwo access_path (beside (temporary_of makes id) file)
+temporary_apart making.Flat id file folder same = cc
+temporary_apart (making.Pack host writer) id file folder same = cc

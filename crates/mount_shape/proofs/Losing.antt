@@ -1,42 +1,21 @@
 -- A tree keeps its shape where power was lost.
-use Rattle.std.proofs.Common.{◌≡◌, ℕ, List, [], ◌∷◌, Some, None, refl, ap, sym, ◌∙◌, ◌⊎◌, inl, inr, subst}
-use Rattle.std.specs.Prelude.{slice_get}
-use Rattle.container_layout.specs.declared.items.Item.{Item}
-use Rattle.container_layout.specs.declared.items.Item.TheVariants.{Access, OpenHost, Meta, Trunc, Flat, TmpFlat, Index, Log, Packed, TmpPacked}
+use Rattle.std.proofs.Common.{◌≡◌, ℕ, [], Some, refl, ap, sym, ◌∙◌, ◌⊎◌, inl, inr, subst}
 use Rattle.plfs_types.specs.Names.{IsLogicalName}
 use Rattle.plfs_types.specs.declared.names.Path.{Path}
 use Rattle.store_api.specs.declared.tree.Room.{Room}
 use Rattle.store_api.specs.declared.tree.Tree.{Tree}
 use Rattle.store_api.specs.Room.{has_folder}
 use Rattle.store_laws.specs.Files.{file_at}
-use Rattle.store_laws.specs.Differ.{is_listed, NamesDiffer, FoldersDiffer, RoomsDiffer}
-use Rattle.store_laws.specs.Prefix.{IsPrefix}
+use Rattle.store_laws.specs.Differ.{is_listed, NamesDiffer, RoomsDiffer}
 use Rattle.store_laws.specs.Losing.{HasLost, HaveLost}
 use Rattle.store_laws.proofs.Facts.{file_back, room_back, has_folder_same}
 use Rattle.mount_model.specs.Paths.{Name, metadata, truncs, flats, access_path, marks_folder}
-use Rattle.mount_shape.specs.Marks.{IsMarkFile, IsMarksRoom, HasMark, IsOfMark}
-use Rattle.mount_shape.specs.Container.{MayHold, IsItemFile, IsContainer}
+use Rattle.mount_shape.specs.Marks.{IsMarksRoom, HasMark, IsOfMark}
+use Rattle.mount_shape.specs.Container.{IsContainer}
 use Rattle.mount_shape.specs.Shape.{IsShapedTree}
-use Rattle.mount_shape.proofs.Containers.{writers_wider}
+use Rattle.mount_shape.proofs.Items.{empty_front, may_lose}
+use Rattle.mount_shape.proofs.Containers.{ids_wider}
 use Rattle.mount_shape.proofs.Trees.{of_mark_kept}
-
-empty_front : (front bytes : List ℕ) → IsPrefix front bytes → bytes ≡ [] → front ≡ []
-empty_front [] bytes p e = refl
-empty_front (x ∷ front) [] p e = absurd p
-empty_front (x ∷ front) (y ∷ bytes) p e = absurd (cc)
-
--- what an item may hold, it may lose
-may_lose : (item : Item) (front bytes : List ℕ) → IsPrefix front bytes → MayHold item bytes → MayHold item front
-may_lose Access front bytes p h = empty_front front bytes p h
-may_lose (OpenHost host writer) front bytes p h = empty_front front bytes p h
-may_lose (Meta last count stamp host writer) front bytes p h = empty_front front bytes p h
-may_lose (Trunc stamp size) front bytes p h = empty_front front bytes p h
-may_lose (Flat id) front bytes p h = absurd h
-may_lose (TmpFlat id) front bytes p h = absurd h
-may_lose (Index host writer) front bytes p h = tt
-may_lose (Log host writer) front bytes p h = tt
-may_lose (Packed host writer) front bytes p h = absurd h
-may_lose (TmpPacked host id) front bytes p h = absurd h
 
 still_empty : (room new : Room) (path : Path) → HasLost room new → file_at room path ≡ Some [] → file_at new path ≡ Some []
 still_empty room new path h e = let l = h.files path [] e in l.there ∙ ap (λ f. Some f) (empty_front l.front [] l.begins refl)
@@ -58,7 +37,7 @@ lost_container few many room new more h c = record {
   files = λ path front there.
       let was = file_back room new path front h there in
       let f = c.files path was.0 was.1 in
-      record { item = f.item; is_at = f.is_at; holds = may_lose f.item front was.0 was.2 f.holds; writer = writers_wider few many f.item more f.writer; housed = folder_same room new path.folder h ∙ f.housed };
+      record { item = f.item; is_at = f.is_at; holds = may_lose f.item front was.0 was.2 f.holds; id = ids_wider few many f.item more f.id; housed = folder_same room new path.folder h ∙ f.housed };
 }
 
 lost_marks : (room new : Room) → HasLost room new → IsMarksRoom room → IsMarksRoom new

@@ -5,7 +5,8 @@ use Rattle.store_api.specs.declared.tree.Tree.{Tree}
 use Rattle.store_laws.specs.Files.{file_at}
 use Rattle.store_laws.specs.There.{IsFree}
 use Rattle.store_laws.specs.Changes.{with_room}
-use Rattle.store_laws.proofs.Facts.{other_room, each_room, earlier_room, each_with_added, rooms_differ_kept, rooms_differ_added}
+use Rattle.store_laws.specs.Differ.{RoomsDiffer}
+use Rattle.store_laws.proofs.Facts.{other_room, each_room, earlier_room, each_with_added, rooms_differ_kept, rooms_differ_renamed, rooms_differ_added}
 use Rattle.mount_model.specs.Paths.{marks_name, mark_path}
 use Rattle.mount_model.specs.State.{State, id_of, last_id}
 use Rattle.mount_shape.specs.Marks.{IsMarksRoom, HasMark, IsOfMark}
@@ -95,16 +96,16 @@ module _ (last last' marks mount n : ℕ) (tree : Tree) (room new : Room) (grows
     mark = has.mark;
   }
 
-  -- the tree keeps its shape, where the room has its name and is a container again
-  pub shape_changed : new.name ≡ room.name → (HasMark (with_room tree n new) mount → IsContainer (IsDrawnBy last' (with_room tree n new)) room → IsContainer (IsDrawnBy last' (with_room tree n new)) new)
+  -- the tree keeps its shape, where the rooms' names differ and the room is a container again
+  shape_turned : RoomsDiffer (with_room tree n new) → (((id : ℕ) → IsDrawnBy last' tree id → IsDrawnBy last' (with_room tree n new) id) → IsContainer (IsDrawnBy last' (with_room tree n new)) room → IsContainer (IsDrawnBy last' (with_room tree n new)) new)
       → IsShapedFor last' marks mount (with_room tree n new)
-  shape_changed named turns =
+  shape_turned differ turns =
       let wider = drawn_kept last last' tree (with_room tree n new) grows has_mark_changed in
       let was = container_wider (IsDrawnBy last tree) (IsDrawnBy last' (with_room tree n new)) room wider (container_at last marks mount n tree room s apart there) in
-      let is : IsContainer (IsDrawnBy last' (with_room tree n new)) new = turns (has_mark_changed mount (own_mark last marks mount tree s)) was in
+      let is : IsContainer (IsDrawnBy last' (with_room tree n new)) new = turns (drawn_kept last' last' tree (with_room tree n new) (omega arith) has_mark_changed) was in
       record {
         shaped = record {
-          rooms_differ = rooms_differ_kept tree n room new there named s.shaped.rooms_differ;
+          rooms_differ = differ;
           rooms = λ k r at. elim (each_room tree n k room new r there at) as (λ _. IsMarksRoom r ⊎ IsContainer (IsDrawnBy last' (with_room tree n new)) r) [
             | inl here ↦ inr (subst (IsContainer (IsDrawnBy last' (with_room tree n new))) (sym here.1) is)
             | inr other ↦ room_kept (IsDrawnBy last tree) (IsDrawnBy last' (with_room tree n new)) r wider (s.shaped.rooms k r other.1)
@@ -115,6 +116,15 @@ module _ (last last' marks mount n : ℕ) (tree : Tree) (room new : Room) (grows
         is_marks = s.is_marks;
         mark = s.mark;
       }
+
+  -- the room has its name
+  pub shape_changed : new.name ≡ room.name → (((id : ℕ) → IsDrawnBy last' tree id → IsDrawnBy last' (with_room tree n new) id) → IsContainer (IsDrawnBy last' (with_room tree n new)) room → IsContainer (IsDrawnBy last' (with_room tree n new)) new)
+      → IsShapedFor last' marks mount (with_room tree n new)
+  shape_changed named turns = shape_turned (rooms_differ_kept tree n room new there named s.shaped.rooms_differ) turns
+
+  -- the room has a name that none had
+  pub shape_renamed : IsFree tree new.name → (IsContainer (IsDrawnBy last' (with_room tree n new)) room → IsContainer (IsDrawnBy last' (with_room tree n new)) new) → IsShapedFor last' marks mount (with_room tree n new)
+  shape_renamed free turns = shape_turned (rooms_differ_renamed tree n room new there free s.shaped.rooms_differ) (λ more was. turns was)
 
 -- ---- a room that was added
 

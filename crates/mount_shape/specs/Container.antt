@@ -17,31 +17,34 @@ IsContainerFolder folder =
     (folder ≡ []) ⊎ (folder ≡ openhosts) ⊎ (folder ≡ metadata) ⊎ (folder ≡ truncs) ⊎ (folder ≡ flats)
     ⊎ ((host : ℕ) × (host < 32) × (folder ≡ hostdir_of host))
 
--- an item may hold these bytes: droppings hold any, all others none; there are no flattened or packed indices yet
+-- an item may hold these bytes: droppings and flattened indices hold any, all others none; there are no packed indices yet
 abbrev pub MayHold : Item → List ℕ → Type 0
 MayHold (Index host writer) bytes = Unit {0}
 MayHold (Log host writer) bytes = Unit {0}
-MayHold (Flat id) bytes = ⊥
-MayHold (TmpFlat id) bytes = ⊥
+MayHold (Flat id) bytes = Unit {0}
+MayHold (TmpFlat id) bytes = Unit {0}
 MayHold (Packed host writer) bytes = ⊥
 MayHold (TmpPacked host id) bytes = ⊥
 MayHold item bytes = bytes ≡ []
 
--- the writer of the item, where it has one, has an id of which this holds
-abbrev pub IsWritersOf : (ℕ → Type 0) → Item → Type 0
-IsWritersOf allowed (OpenHost host writer) = allowed writer
-IsWritersOf allowed (Meta last bytes stamp host writer) = allowed writer
-IsWritersOf allowed (Index host writer) = allowed writer
-IsWritersOf allowed (Log host writer) = allowed writer
-IsWritersOf allowed (Packed host writer) = allowed writer
-IsWritersOf allowed item = Unit {0}
+-- the id in the item's name, where there is one, is one of which this holds
+abbrev pub IsOfId : (ℕ → Type 0) → Item → Type 0
+IsOfId allowed (OpenHost host writer) = allowed writer
+IsOfId allowed (Meta last bytes stamp host writer) = allowed writer
+IsOfId allowed (Index host writer) = allowed writer
+IsOfId allowed (Log host writer) = allowed writer
+IsOfId allowed (Packed host writer) = allowed writer
+IsOfId allowed (Flat id) = allowed id
+IsOfId allowed (TmpFlat id) = allowed id
+IsOfId allowed (TmpPacked host id) = allowed id
+IsOfId allowed item = Unit {0}
 
 -- the file is that of an item, in a folder that is there
 pub record IsItemFile (allowed : ℕ → Type 0) (room : Room) (path : Path) (bytes : List ℕ) : Type 0 where
   pub item : Item
   pub is_at : IsAt path item
   pub holds : MayHold item bytes
-  pub writer : IsWritersOf allowed item
+  pub id : IsOfId allowed item
   pub housed : has_folder room path.folder ≡ true
 
 -- the room has what every container has, and nothing that none may have

@@ -1,3 +1,4 @@
 pub mod Marks
 pub mod Container
 pub mod Shape
+pub mod Named

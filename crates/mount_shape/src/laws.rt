@@ -6,13 +6,14 @@ ghost use Rattle.store_api.specs.Loss.{Loses};
 ghost use Rattle.mount_model.specs.declared.call.Ask.{Ask};
 ghost use Rattle.mount_model.specs.declared.reply.Reply.{Reply};
 ghost use Rattle.mount_model.specs.State.{State};
-ghost use Rattle.mount_model.specs.Step.{IsStep};
+ghost use Rattle.mount_model.specs.Step.{IsOwed, IsStep};
 ghost use Rattle.mount_model.specs.Regular.{IsRegular};
 ghost use Rattle.mount_model.specs.declared.trouble.MountTrouble.{MountTrouble};
 ghost use Rattle.mount_model.specs.Failing.{FailsToMount};
 ghost use Rattle.mount_model.specs.Mounting.{IsMounted};
 ghost use Rattle.mount_shape.specs.Marks.{IsOfMark};
 ghost use Rattle.mount_shape.specs.Shape.{IsShapedTree, IsShaped};
+ghost use Rattle.mount_shape.specs.Named.{NamesDrawnWriter};
 
 /// A tree with no rooms has the right shape.
 pub fn an_empty_tree_is_shaped()
@@ -31,9 +32,10 @@ pub fn a_failed_mounting_leaves_a_shaped_tree()
         → (after : Tree) × (left.tree ≡ Some after) × IsShapedTree (IsOfMark after) after }
 {}
 
-/// Each step of the mount keeps the shape of what its store tells, whatever fault the store answers.
+/// Each step of the mount whose caller owes no more, and names no writer but one whose id was drawn, keeps the shape of what
+/// its store tells, whatever fault the store answers.
 pub fn shape_lasts()
-    ensures { (old new : State) (caller : ℕ) (ask : Ask) (reply : Reply) → IsRegular old → IsStep old caller ask reply new → IsShaped old → IsShaped new }
+    ensures { (old new : State) (caller : ℕ) (ask : Ask) (reply : Reply) → IsOwed ask → NamesDrawnWriter old ask.call → IsRegular old → IsStep old caller ask reply new → IsShaped old → IsShaped new }
 {}
 
 /// The tree that a mount leaves has the right shape for the next one.

@@ -28,7 +28,7 @@ use Rattle.mount_model.proofs.Facts.{at_only}
 use Rattle.mount_sound.specs.Ledger.{Written, entries_in, Ledger}
 use Rattle.mount_sound.specs.Kept.{Begins, IsAtStage, IsKept}
 use Rattle.mount_sound.specs.Sound.{AreSound}
-use Rattle.mount_sound.proofs.Frames.{Fits}
+use Rattle.mount_sound.proofs.Frames.{Fits, as_long}
 use Rattle.mount_sound.proofs.Items.{SameButItem, same_but_item, is_index, is_log, is_open}
 use Rattle.mount_sound.proofs.Live.{Own, own_kept, had_meta_but, has_meta_but, had_trunc_but}
 use Rattle.mount_sound.proofs.Making.{AreRight, IsAccounted, makes_accounted}
@@ -42,15 +42,15 @@ build_cases s folder file row table (Ok (Old n)) = inr (inl (n, refl))
 build_cases s folder file row table told = inr (inr refl)
 
 -- the three things that an act to build may come to
-pub built : (last : ℕ) (issued : Ledger) (table : Table) (tree : Tree) (row : Row) (s : Stage) (folder file : Name) (told : Told) (after : Tree) → Working last issued table.writers tree row → table.holders ≡ [] → table.flattenings ≡ []
+pub built : (last : ℕ) (issued : Ledger) (table : Table) (tree : Tree) (row : Row) (s : Stage) (folder file : Name) (told : Told) (after : Tree) → Working last issued table.writers tree row
     → (told ≡ made → AreSound last issued (with_row (at_stage s row) table.writers) after)
     → ((n : ℕ) → told ≡ Ok (Old n) → AreSound last issued (with_row (at_stage s row) table.writers) after)
     → AreSound last issued table.writers after
     → AreRight last issued (build_outcome s folder file row table told).table after
-built last issued table tree row s folder file told after w holders flattenings done was other = elim (build_cases s folder file row table told) as (λ _. AreRight last issued (build_outcome s folder file row table told).table after) [
-  | inl is ↦ subst (λ t. AreRight last issued (build_outcome s folder file row table t).table after) (sym is) (record { sound = done is; no_holders = holders; no_flattenings = flattenings })
-  | inr (inl (n, is)) ↦ subst (λ t. AreRight last issued (build_outcome s folder file row table t).table after) (sym is) (record { sound = was n is; no_holders = holders; no_flattenings = flattenings })
-  | inr (inr same) ↦ subst (λ t. AreRight last issued t after) (sym same) (record { sound = other; no_holders = holders; no_flattenings = flattenings })
+built last issued table tree row s folder file told after w done was other = elim (build_cases s folder file row table told) as (λ _. AreRight last issued (build_outcome s folder file row table told).table after) [
+  | inl is ↦ subst (λ t. AreRight last issued (build_outcome s folder file row table t).table after) (sym is) (done is)
+  | inr (inl (n, is)) ↦ subst (λ t. AreRight last issued (build_outcome s folder file row table t).table after) (sym is) (was n is)
+  | inr (inr same) ↦ subst (λ t. AreRight last issued t after) (sym same) (other)
 ]
 
 -- ---- the index dropping
@@ -82,6 +82,7 @@ indexed_holds room new row s issued fits at far near k a o b none now = record {
     in_order = k.in_order;
     numbers = record { stored = k.numbers.stored; last = k.numbers.last; end = k.numbers.end; landed = k.numbers.landed; pending = k.numbers.pending; log_mark = k.numbers.log_mark; index_mark = k.numbers.index_mark };
     index = empty_index (entries_in issued) row.landed (file_at new (index_path row.host row.id)) (no_index (entries_in issued) row.landed (file_at room (index_path row.host row.id)) k.index none) now;
+    log_long = as_long room new row.host row.id row.log_mark (b.others (Log row.host row.id) (is_log row.host row.id fits.host fits.id) (λ e. cc)) k.log_long;
     log_kept = omega (arith, k.log_kept, b.kepts (Log row.host row.id) (is_log row.host row.id fits.host fits.id) (λ e. cc));
     index_kept = omega (arith, k.numbers.index_mark, no_index (entries_in issued) row.landed (file_at room (index_path row.host row.id)) k.index none);
     alive = λ live. indexed_stage room new row s (entries_in issued) fits at far near a b now;
@@ -131,11 +132,11 @@ index_was last issued rows tree row at w h =
     turned_stage last issued rows (with_row (at_stage stage.Indexed row) rows) tree row stage.Indexed h.room w h.has_room (omega arith) (turned_put rows (at_stage stage.Indexed row))
     (stage_with h.room row stage.Indexed (entries_in (issued row.room row.id)) (omega arith) a (λ far. omega arith) (λ far. a.housed (omega arith)) (λ far. (h.bytes, h.there)) (λ far. absurd (omega arith)))
 
-index_told : (last : ℕ) (issued : Ledger) (table : Table) (tree : Tree) (row : Row) → rank row.stage ≡ 2 → table.holders ≡ [] → table.flattenings ≡ [] → Working last issued table.writers tree row → (told : Told) (after : Tree) → Tells (index_step row) tree told after
+index_told : (last : ℕ) (issued : Ledger) (table : Table) (tree : Tree) (row : Row) → rank row.stage ≡ 2 → Working last issued table.writers tree row → (told : Told) (after : Tree) → Tells (index_step row) tree told after
     → AreRight last issued (build_outcome stage.Indexed (hostdir_of row.host) (index_path row.host row.id).file row table told).table after
-index_told last issued table tree row at holders flattenings w told after t =
+index_told last issued table tree row at w told after t =
     let c = create_told row.room (index_path row.host row.id) tree told after t in
-    built last issued table tree row stage.Indexed (hostdir_of row.host) (index_path row.host row.id).file told after w holders flattenings
+    built last issued table tree row stage.Indexed (hostdir_of row.host) (index_path row.host row.id).file told after w
     (λ is. index_made last issued table.writers (with_row (at_stage stage.Indexed row) table.writers) tree after row stage.Indexed at (omega arith) (omega arith) w (turned_put table.writers (at_stage stage.Indexed row)) (c.done is))
     (λ n is.
     let s = c.stays (Old n) is (λ e. cc) in
@@ -152,4 +153,4 @@ index_keeps issued old caller writer reply new r f a =
     (λ row stands at makes.
     let is : rank row.stage ≡ 2 = at_only stage.Housed row.stage at in
     makes_accounted (index_step row) (build_outcome stage.Indexed (hostdir_of row.host) (index_path row.host row.id).file row old.table) (λ x. issued) old reply new a.tree a.told
-    (index_told (last_id old) issued old.table a.tree row is a.right.no_holders a.right.no_flattenings (working issued old writer row r a stands (omega arith))) makes)
+    (index_told (last_id old) issued old.table a.tree row is (working issued old writer row r a stands (omega arith))) makes)

@@ -32,7 +32,7 @@ use Rattle.mount_sound.specs.Ledger.{Written, entries_in, content, Ledger}
 use Rattle.mount_sound.specs.Dropping.{IsToldOf}
 use Rattle.mount_sound.specs.Kept.{Begins, IsAtStage, IsKept}
 use Rattle.mount_sound.specs.Sound.{AreSound}
-use Rattle.mount_sound.proofs.Frames.{Fits}
+use Rattle.mount_sound.proofs.Frames.{Fits, as_long}
 use Rattle.mount_sound.proofs.Items.{SameButItem, same_but_item, is_index, is_log, is_open, had}
 use Rattle.mount_sound.proofs.Live.{Own, one_host_kept, log_kept, had_trunc_but}
 use Rattle.mount_sound.proofs.Making.{AreRight, IsAccounted, makes_accounted}
@@ -72,17 +72,18 @@ pub record IsClosing (row : Row) : Type 0 where
 other_last : (l l' c c' t t' h h' w w' : ℕ) → Meta l c t h w ≡ Meta l' c' t' h' w' → (l ≡ l') × (c ≡ c') × (t ≡ t')
 other_last l l' c c' t t' h h' w w' e = (cc, cc, cc)
 
--- it tells what the writer issued
-meta_tells : (row : Row) (es : List Entry) (k : IsToldOf row.end row.stored row.last es) (room new : Room) → SameButItem (its_meta row) room new → ((l c t : ℕ) (inside : List ℕ) → HasItem room (Meta l c t row.host row.id) inside → IsToldOf l c t es) → (l c t : ℕ) (inside : List ℕ) → HasItem new (Meta l c t row.host row.id) inside → IsToldOf l c t es
-meta_tells row es k room new b told l c t inside h =
-    let before : (Meta l c t row.host row.id ≡ its_meta row → ⊥) → IsToldOf l c t es = λ other. told l c t inside (had room new (Meta l c t row.host row.id) inside (λ is. b.others (Meta l c t row.host row.id) is other) h) in
-    elim (cases_eq l row.end) as (λ _. IsToldOf l c t es) [
-      | inr d ↦ before (λ e. d (other_last l row.end c row.stored t row.last row.host row.host row.id row.id e).0)
-      | inl same ↦ elim (cases_eq c row.stored) as (λ _. IsToldOf l c t es) [
-        | inr d ↦ before (λ e. d (other_last l row.end c row.stored t row.last row.host row.host row.id row.id e).1)
-        | inl bytes ↦ elim (cases_eq t row.last) as (λ _. IsToldOf l c t es) [
-          | inr d ↦ before (λ e. d (other_last l row.end c row.stored t row.last row.host row.host row.id row.id e).2)
-          | inl stamp ↦ record { end = same ∙ k.end; sum = bytes ∙ k.sum; latest = stamp ∙ k.latest }
+-- a metadata dropping that was made tells of these entries, and so do the others
+pub meta_tells : (last bytes stamp host writer : ℕ) (es : List Entry) → IsToldOf last bytes stamp es → (room new : Room) → SameButItem (Meta last bytes stamp host writer) room new
+    → ((l c t : ℕ) (inside : List ℕ) → HasItem room (Meta l c t host writer) inside → IsToldOf l c t es) → (l c t : ℕ) (inside : List ℕ) → HasItem new (Meta l c t host writer) inside → IsToldOf l c t es
+meta_tells last bytes stamp host writer es k room new b told l c t inside h =
+    let before : (Meta l c t host writer ≡ Meta last bytes stamp host writer → ⊥) → IsToldOf l c t es = λ other. told l c t inside (had room new (Meta l c t host writer) inside (λ is. b.others (Meta l c t host writer) is other) h) in
+    elim (cases_eq l last) as (λ _. IsToldOf l c t es) [
+      | inr d ↦ before (λ e. d (other_last l last c bytes t stamp host host writer writer e).0)
+      | inl same ↦ elim (cases_eq c bytes) as (λ _. IsToldOf l c t es) [
+        | inr d ↦ before (λ e. d (other_last l last c bytes t stamp host host writer writer e).1)
+        | inl as_many ↦ elim (cases_eq t stamp) as (λ _. IsToldOf l c t es) [
+          | inr d ↦ before (λ e. d (other_last l last c bytes t stamp host host writer writer e).2)
+          | inl latest ↦ record { end = same ∙ k.end; sum = as_many ∙ k.sum; latest = latest ∙ k.latest }
         ]
       ]
     ]
@@ -106,6 +107,7 @@ closing_holds room row has issued is k a o there = record {
     in_order = k.in_order;
     numbers = record { stored = k.numbers.stored; last = k.numbers.last; end = k.numbers.end; landed = k.numbers.landed; pending = k.numbers.pending; log_mark = k.numbers.log_mark; index_mark = k.numbers.index_mark };
     index = k.index;
+    log_long = k.log_long;
     log_kept = k.log_kept;
     index_kept = k.index_kept;
     alive = λ live. closing_stage room row has (entries_in issued) is a there;
@@ -121,6 +123,7 @@ meta_holds room new row has issued fits is k a o b m = record {
     in_order = k.in_order;
     numbers = record { stored = k.numbers.stored; last = k.numbers.last; end = k.numbers.end; landed = k.numbers.landed; pending = k.numbers.pending; log_mark = k.numbers.log_mark; index_mark = k.numbers.index_mark };
     index = subst (λ f. MatchOption f (row.landed ≡ 0) (Begins (entries_in issued) row.landed)) (sym (b.others (Index row.host row.id) (is_index row.host row.id fits.host fits.id) (λ e. cc))) k.index;
+    log_long = as_long room new row.host row.id row.log_mark (b.others (Log row.host row.id) (is_log row.host row.id fits.host fits.id) (λ e. cc)) k.log_long;
     log_kept = omega (arith, k.log_kept, b.kepts (Log row.host row.id) (is_log row.host row.id fits.host fits.id) (λ e. cc));
     index_kept = omega (arith, k.index_kept, b.kepts (Index row.host row.id) (is_index row.host row.id fits.host fits.id) (λ e. cc));
     alive = λ live. record {
@@ -138,7 +141,7 @@ meta_holds room new row has issued fits is k a o b m = record {
   own = record {
     one_host = one_host_kept (its_meta row) row.host row.id room new refl b o.one_host;
     log = log_kept (its_meta row) row.host row.id room new (content issued) fits.host fits.id (λ e. cc) b o.log;
-    told = meta_tells row (entries_in issued) (record { end = k.numbers.end; sum = k.numbers.stored; latest = k.numbers.last }) room new b o.told;
+    told = meta_tells row.end row.stored row.last row.host row.id (entries_in issued) (record { end = k.numbers.end; sum = k.numbers.stored; latest = k.numbers.last }) room new b o.told;
   };
 }
 
@@ -177,26 +180,22 @@ meta_cases row table told = inr (inr (inr refl))
 want : (row : Row) (tree : Tree) (told : Told) (after : Tree) → told ≡ Err trouble.NoMemory → Tells (put_meta_step row) tree told after → after ≡ tree
 want row tree told after is t = subst (λ x. Tells (put_meta_step row) tree x after) is t
 
-meta_told : (last : ℕ) (issued : Ledger) (table : Table) (tree : Tree) (row : Row) → IsClosing row → IsCounted row → table.holders ≡ [] → table.flattenings ≡ [] → Working last issued table.writers tree row → (told : Told) (after : Tree) → Tells (put_meta_step row) tree told after → AreRight last issued (put_meta_outcome row table told).table after
-meta_told last issued table tree row is counted holders flattenings w told after t =
+meta_told : (last : ℕ) (issued : Ledger) (table : Table) (tree : Tree) (row : Row) → IsClosing row → IsCounted row → Working last issued table.writers tree row → (told : Told) (after : Tree) → Tells (put_meta_step row) tree told after → AreRight last issued (put_meta_outcome row table told).table after
+meta_told last issued table tree row is counted w told after t =
     let c = create_told row.room (meta_path row.end row.stored row.last row.host row.id) tree told after t in
     elim (meta_cases row table told) as (λ _. AreRight last issued (put_meta_outcome row table told).table after) [
       | inl done ↦ subst (λ x. AreRight last issued (put_meta_outcome row table x).table after) (sym done)
-          (record { sound = meta_made last issued table.writers (with_row (closed row) table.writers) tree after row true is counted w (turned_put table.writers (closed row)) (c.done done); no_holders = holders; no_flattenings = flattenings })
+          (meta_made last issued table.writers (with_row (closed row) table.writers) tree after row true is counted w (turned_put table.writers (closed row)) (c.done done))
       | inr (inl (n, was)) ↦
           let s = c.stays (Old n) was (λ e. cc) in
           subst (λ x. AreRight last issued (put_meta_outcome row table x).table after) (sym was)
-          (record { sound = subst (AreSound last issued (with_row (closed row) table.writers)) (sym s.0) (meta_was last issued table.writers tree row is counted w s.1.1); no_holders = holders; no_flattenings = flattenings })
+          (subst (AreSound last issued (with_row (closed row) table.writers)) (sym s.0) (meta_was last issued table.writers tree row is counted w s.1.1))
       | inr (inr (inl none)) ↦ subst (λ x. AreRight last issued (put_meta_outcome row table x).table after) (sym none)
-          (record { sound = subst (AreSound last issued table.writers) (sym (want row tree told after none t)) w.sound; no_holders = holders; no_flattenings = flattenings })
-      | inr (inr (inr same)) ↦ subst (λ x. AreRight last issued x after) (sym same) (record {
-        sound = elim c.either as (λ _. AreSound last issued (with_row (closing_row row) table.writers) after) [
-          | inl new ↦ meta_made last issued table.writers (with_row (closing_row row) table.writers) tree after row row.has_meta is counted w (turned_put table.writers (closing_row row)) new
-          | inr stays ↦ subst (AreSound last issued (with_row (closing_row row) table.writers)) (sym stays) (closes last issued table.writers tree row is w)
-        ];
-        no_holders = holders;
-        no_flattenings = flattenings;
-      })
+          (subst (AreSound last issued table.writers) (sym (want row tree told after none t)) w.sound)
+      | inr (inr (inr same)) ↦ subst (λ x. AreRight last issued x after) (sym same) (elim c.either as (λ _. AreSound last issued (with_row (closing_row row) table.writers) after) [
+        | inl new ↦ meta_made last issued table.writers (with_row (closing_row row) table.writers) tree after row row.has_meta is counted w (turned_put table.writers (closing_row row)) new
+        | inr stays ↦ subst (AreSound last issued (with_row (closing_row row) table.writers)) (sym stays) (closes last issued table.writers tree row is w)
+      ])
     ]
 
 -- ---- the checks
@@ -236,4 +235,4 @@ meta_keeps issued old caller writer reply new r f a =
     (λ none makes.
     let is : IsClosing row = record { far = far.0; live = far.1; flushed = (passed row none).0; log_synced = (passed row none).1; index_synced = (passed row none).2 } in
     makes_accounted (put_meta_step row) (put_meta_outcome row old.table) (λ x. issued) old reply new a.tree a.told
-    (meta_told (last_id old) issued old.table a.tree row is (row_of_all IsCounted writer old.table.writers row r.counted stands) a.right.no_holders a.right.no_flattenings w) makes))
+    (meta_told (last_id old) issued old.table a.tree row is (row_of_all IsCounted writer old.table.writers row r.counted stands) w) makes))

@@ -13,7 +13,6 @@ use Rattle.mount_model.specs.Table.{row_of, at_stage}
 use Rattle.mount_model.specs.State.{State, Table, id_of, last_id}
 use Rattle.mount_model.specs.Stopping.{row_ended, without_caller}
 use Rattle.mount_model.specs.Stopped.{StopsShort}
-use Rattle.mount_model.proofs.Facts.{none_without}
 use Rattle.mount_sound.specs.Ledger.{Written, Ledger, entries_in}
 use Rattle.mount_sound.specs.Issued.{issued_after}
 use Rattle.mount_sound.specs.Kept.{IsKept}
@@ -29,6 +28,7 @@ ended_kept room caller row issued k = elim (nat_eq row.owner caller) as (λ b. I
     in_order = k.in_order;
     numbers = numbers_at row stage.Dead (entries_in issued) k.numbers;
     index = k.index;
+    log_long = k.log_long;
     log_kept = k.log_kept;
     index_kept = k.index_kept;
     alive = λ live. absurd (cc);
@@ -75,11 +75,6 @@ ended_sound last issued caller rows tree s = record {
   roomless = s.roomless;
 }
 
-ended_right : (last : ℕ) (issued : Ledger) (caller : ℕ) (table : Table) (tree : Tree) → AreRight last issued table tree → AreRight last issued (without_caller caller table) tree
-ended_right last issued caller table tree r =
-    let none = none_without caller table (record { holders = r.no_holders; flattenings = r.no_flattenings }) in
-    record { sound = ended_sound last issued caller table.writers tree r.sound; no_holders = none.holders; no_flattenings = none.flattenings }
-
 -- What a call that was cut short left stays accounted for at its caller's end.
 pub end_accounted : (issued : Ledger) (caller : ℕ) (cut new : State) → StopsShort cut new → (new.table ≡ cut.table) ⊎ (new.table ≡ without_caller caller cut.table) → IsAccounted issued cut → IsAccounted issued new
 end_accounted issued caller cut new like table a = record {
@@ -89,7 +84,7 @@ end_accounted issued caller cut new like table a = record {
       (subst (λ n. AreRight (id_of cut.mount n) issued new.table a.tree) (sym like.serial)
       (elim table as (λ _. AreRight (last_id cut) issued new.table a.tree) [
         | inl same ↦ subst (λ (t : Table). AreRight (last_id cut) issued t a.tree) (sym same) a.right
-        | inr without ↦ subst (λ (t : Table). AreRight (last_id cut) issued t a.tree) (sym without) (ended_right (last_id cut) issued caller cut.table a.tree a.right)
+        | inr without ↦ subst (λ (t : Table). AreRight (last_id cut) issued t a.tree) (sym without) (ended_sound (last_id cut) issued caller cut.table.writers a.tree a.right)
       ]));
 }
 

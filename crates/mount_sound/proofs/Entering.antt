@@ -14,14 +14,14 @@ use Rattle.store_laws.specs.Tells.{Tells, made}
 use Rattle.store_laws.proofs.Facts.{create_told}
 use Rattle.mount_model.specs.declared.row.Row.{Row}
 use Rattle.mount_model.specs.declared.reply.Reply.{Reply}
-use Rattle.mount_model.specs.Entering.{enter_check, next_id, entered, enter_step, enter_outcome, EntersAs, Enters}
+use Rattle.mount_model.specs.Entering.{draw_check, next_id, entered, enter_step, enter_outcome, EntersAs, Enters}
 use Rattle.mount_model.specs.Making.{Told}
 use Rattle.mount_model.specs.Paths.{open_path, index_path}
 use Rattle.mount_model.specs.Regular.{IsRegular}
 use Rattle.mount_model.specs.State.{State, Table, last_id, drawn}
 use Rattle.mount_model.specs.Table.{row_of}
 use Rattle.mount_model.proofs.Facts.{may_enter, row_of_id, row_of_other-push}
-use Rattle.mount_shape.specs.Container.{IsWritersOf, IsContainer}
+use Rattle.mount_shape.specs.Container.{IsOfId, IsContainer}
 use Rattle.mount_shape.specs.Shape.{IsDrawnBy, IsShaped}
 use Rattle.mount_shape.proofs.Facts.{item_held, id_fits}
 use Rattle.mount_sound.specs.Items.{HasItemOf}
@@ -42,7 +42,7 @@ use Rattle.mount_sound.proofs.Tables.{added_row}
 pub record IsNew (room : Room) (id : ℕ) : Type 0 where
   pub none : (item : Item) → IsItem item → owner item ≡ Some id → file_at room (path_of item) ≡ None
 
-allowed_owner : (allowed : ℕ → Type 0) (item : Item) (id : ℕ) → owner item ≡ Some id → IsWritersOf allowed item → allowed id
+allowed_owner : (allowed : ℕ → Type 0) (item : Item) (id : ℕ) → owner item ≡ Some id → IsOfId allowed item → allowed id
 allowed_owner allowed Access id o w = absurd (cc)
 allowed_owner allowed (OpenHost host writer) id o w = let same : writer ≡ id = cc in subst allowed same w
 allowed_owner allowed (Meta last bytes stamp host writer) id o w = let same : writer ≡ id = cc in subst allowed same w
@@ -60,7 +60,7 @@ absent (Some bytes) never = absurd (never bytes refl)
 
 pub new_here : (allowed : ℕ → Type 0) (room : Room) (id : ℕ) → (allowed id → ⊥) → IsContainer allowed room → IsNew room id
 new_here allowed room id never c = record {
-  none = λ item is o. absent (file_at room (path_of item)) (λ bytes e. never (allowed_owner allowed item id o (item_held allowed room item bytes c is e).writer));
+  none = λ item is o. absent (file_at room (path_of item)) (λ bytes e. never (allowed_owner allowed item id o (item_held allowed room item bytes c is e).id));
 }
 
 -- a container has no item of the next id
@@ -106,6 +106,7 @@ new_kept old caller number host most room new h i n b now = record {
   in_order = tt;
   numbers = record { stored = refl; last = refl; end = refl; landed = omega arith; pending = refl; log_mark = omega arith; index_mark = omega arith };
   index = no_file_landed (file_at new (index_path host (next_id old))) 0 (Begins [] 0) (no_index host (next_id old) room new h i n b) refl;
+  log_long = omega arith;
   log_kept = omega arith;
   index_kept = omega arith;
   alive = λ live. record {
@@ -158,36 +159,24 @@ enter_told old issued caller number host most tree r shape is apart h i a told a
     let c = create_told number (open_path host (next_id old)) tree told after t in
     let fresh : (x : Row) → row_of (next_id old) old.table.writers ≡ Some x → ⊥ = λ x e. omega (arith, drawn_by old r (next_id old) x e, row_of_id (next_id old) old.table.writers x e) in
     elim (enter_rows row old.table told) as (λ _. AreRight (next_id old) issued (enter_outcome row old.table told).table after) [
-      | inl done ↦ subst (λ x. AreRight (next_id old) issued (enter_outcome row old.table x).table after) (sym done) (record {
-        sound = entry_made old issued caller number host most (old.table.writers ++ row ∷ []) tree after r shape is apart h i a.sound (row_of_other-push old.table.writers row) (λ x e. added_row old.table.writers row x fresh e) (c.done done);
-        no_holders = a.no_holders;
-        no_flattenings = a.no_flattenings;
-      })
-      | inr same ↦ subst (λ x. AreRight (next_id old) issued x after) (sym same) (record {
-        sound = elim c.either as (λ _. AreSound (next_id old) issued old.table.writers after) [
-          | inl file ↦ entry_made old issued caller number host most old.table.writers tree after r shape is apart h i a.sound (λ q other. refl) (λ x e. absurd (fresh x e)) file
-          | inr stays ↦ subst (AreSound (next_id old) issued old.table.writers) (sym stays) (grown (last_id old) (next_id old) issued old.table.writers tree (omega arith) a.sound)
-        ];
-        no_holders = a.no_holders;
-        no_flattenings = a.no_flattenings;
-      })
+      | inl done ↦ subst (λ x. AreRight (next_id old) issued (enter_outcome row old.table x).table after) (sym done) (entry_made old issued caller number host most (old.table.writers ++ row ∷ []) tree after r shape is apart h i a (row_of_other-push old.table.writers row) (λ x e. added_row old.table.writers row x fresh e) (c.done done))
+      | inr same ↦ subst (λ x. AreRight (next_id old) issued x after) (sym same) (elim c.either as (λ _. AreSound (next_id old) issued old.table.writers after) [
+        | inl file ↦ entry_made old issued caller number host most old.table.writers tree after r shape is apart h i a (λ q other. refl) (λ x e. absurd (fresh x e)) file
+        | inr stays ↦ subst (AreSound (next_id old) issued old.table.writers) (sym stays) (grown (last_id old) (next_id old) issued old.table.writers tree (omega arith) a)
+      ])
     ]
 
 drawn_accounted : (issued : Ledger) (old : State) → IsAccounted issued old → IsAccounted issued (drawn old)
 drawn_accounted issued old a = record {
   tree = a.tree;
   told = a.told;
-  right = record {
-    sound = grown (last_id old) (next_id old) issued old.table.writers a.tree (omega arith) a.right.sound;
-    no_holders = a.right.no_holders;
-    no_flattenings = a.right.no_flattenings;
-  };
+  right = (grown (last_id old) (next_id old) issued old.table.writers a.tree (omega arith) a.right);
 }
 
 -- Entering keeps soundness.
 pub enter_keeps : (issued : Ledger) (old : State) (caller room host most : ℕ) (reply : Reply) (new : State) → IsRegular old → IsShaped old → Enters caller room host most old reply new → IsAccounted issued old → IsAccounted issued new
 enter_keeps issued old caller room host most reply new r shape f a =
-    unless_refused issued (enter_check old room) old reply new (EntersAs caller room host most old reply new) f a
+    unless_refused issued (draw_check old room) old reply new (EntersAs caller room host most old reply new) f a
     (λ none does.
     let c = may_enter old room none in
     let fits : next_id old < 2 ^ 64 = id_fits old.mount (old.serial + 1) r.mount_fits (omega (arith, c.1)) in

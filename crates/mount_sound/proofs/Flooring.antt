@@ -5,7 +5,7 @@ use Rattle.std.specs.List.{AllByRecursion}
 use Rattle.std.proofs.lemmas.List.Elements.{recursion_from_All}
 use Rattle.plfs_types.specs.declared.entries.Entry.{Entry}
 use Rattle.container_layout.specs.declared.items.Item.TheVariants.{Trunc}
-use Rattle.container_layout.specs.Paths.{path_of, IsIn}
+use Rattle.container_layout.specs.Paths.{path_of}
 use Rattle.container_layout.proofs.Facts.{same_items}
 use Rattle.store_api.specs.declared.step.Answer.TheVariants.{Names}
 use Rattle.store_api.specs.declared.tree.Room.{Room}
@@ -72,6 +72,7 @@ floored_holds room row floor names issued at k a o are f = record {
     in_order = order_of_none row.id floor (entries_in issued) (a.unopened (omega arith));
     numbers = record { stored = k.numbers.stored; last = k.numbers.last; end = k.numbers.end; landed = k.numbers.landed; pending = k.numbers.pending; log_mark = k.numbers.log_mark; index_mark = k.numbers.index_mark };
     index = k.index;
+    log_long = k.log_long;
     log_kept = k.log_kept;
     index_kept = k.index_kept;
     alive = λ live. record {
@@ -103,19 +104,19 @@ floor_cases row table told reply after f = inr f.1
 lists : (tree after : Tree) (n : ℕ) (folder : Name) (names : List Name) → Tells (list_folder n folder) tree (Ok (Names names)) after → ListsFolder tree n folder names
 lists tree after n folder names t = subst (ListTells tree n folder) (ap (λ (x : Effect). x.answer) t) (list_tells tree n folder).says_so
 
-floor_right : (last : ℕ) (issued : Ledger) (table new : Table) (tree after : Tree) (row : Row) (told : Told) (reply : Reply) → rank row.stage ≡ 0 → table.holders ≡ [] → table.flattenings ≡ [] → Working last issued table.writers tree row → Tells (list_folder row.room truncs) tree told after → FloorOutcome row table told reply new → AreRight last issued new tree
-floor_right last issued table new tree after row told reply at holders flattenings w t f = elim (floor_cases row table told reply new f) as (λ _. AreRight last issued new tree) [
+floor_right : (last : ℕ) (issued : Ledger) (table new : Table) (tree after : Tree) (row : Row) (told : Told) (reply : Reply) → rank row.stage ≡ 0 → Working last issued table.writers tree row → Tells (list_folder row.room truncs) tree told after → FloorOutcome row table told reply new → AreRight last issued new tree
+floor_right last issued table new tree after row told reply at w t f = elim (floor_cases row table told reply new f) as (λ _. AreRight last issued new tree) [
   | inl (names, floor, is, found, e) ↦
       let l : ListsFolder tree row.room truncs names = lists tree after row.room truncs names (subst (λ x. Tells (list_folder row.room truncs) tree x after) is t) in
-      subst (λ x. AreRight last issued x tree) (sym e) (record { sound = floor_found last issued table.writers tree row floor names at w l found; no_holders = holders; no_flattenings = flattenings })
-  | inr same ↦ subst (λ x. AreRight last issued x tree) (sym same) (record { sound = w.sound; no_holders = holders; no_flattenings = flattenings })
+      subst (λ x. AreRight last issued x tree) (sym e) (floor_found last issued table.writers tree row floor names at w l found)
+  | inr same ↦ subst (λ x. AreRight last issued x tree) (sym same) (w.sound)
 ]
 
 floors_row : (issued : Ledger) (old : State) (row : Row) (reply : Reply) (new : State) (a : IsAccounted issued old) → rank row.stage ≡ 0 → Working (last_id old) issued old.table.writers a.tree row → FloorsRow row old reply new → IsAccounted issued new
 floors_row issued old row reply new a at w f =
     let t = acts_told (list_folder row.room truncs) old.store new.store a.tree f.told a.told f.made in
     let same : t.0 ≡ a.tree = look_told (list_folder row.room truncs) a.tree f.told t.0 tt t.2 in
-    let right : AreRight (last_id old) issued new.table a.tree = floor_right (last_id old) issued old.table new.table a.tree t.0 row f.told reply at a.right.no_holders a.right.no_flattenings w t.2 f.outcome in
+    let right : AreRight (last_id old) issued new.table a.tree = floor_right (last_id old) issued old.table new.table a.tree t.0 row f.told reply at w t.2 f.outcome in
     let after : IsAccounted issued (record old { store = new.store; table = new.table }) = record { tree = t.0; told = t.1; right = subst (AreRight (last_id old) issued new.table) (sym same) right } in
     subst (IsAccounted issued) (sym f.after) after
 

@@ -29,7 +29,7 @@ use Rattle.mount_sound.specs.Ledger.{Written, entries_in, Ledger}
 use Rattle.mount_sound.specs.Kept.{Begins, IsAtStage, IsKept}
 use Rattle.mount_sound.specs.Sound.{AreSound}
 use Rattle.mount_sound.proofs.Building.{not_closing}
-use Rattle.mount_sound.proofs.Frames.{Fits}
+use Rattle.mount_sound.proofs.Frames.{Fits, as_long}
 use Rattle.mount_sound.proofs.Items.{SameButItem, same_but_item, is_index, is_log, is_open}
 use Rattle.mount_sound.proofs.Live.{Own, own_kept, had_meta_but, has_meta_but, had_trunc_but}
 use Rattle.mount_sound.proofs.Making.{AreRight, IsAccounted, makes_accounted, accounted_as}
@@ -80,6 +80,7 @@ landing_holds room new row landed entries bytes issued fits at k a o b now withi
         in_order = k.in_order;
         numbers = record { stored = k.numbers.stored; last = k.numbers.last; end = k.numbers.end; landed = within; pending = pending; log_mark = k.numbers.log_mark; index_mark = omega (arith, k.numbers.index_mark, more) };
         index = subst (λ o. MatchOption o (landed ≡ 0) (Begins (entries_in issued) landed)) (sym now) begins;
+        log_long = as_long room new row.host row.id row.log_mark (b.others (Log row.host row.id) (is_log row.host row.id fits.host fits.id) (λ e. cc)) k.log_long;
         log_kept = omega (arith, k.log_kept, b.kepts (Log row.host row.id) (is_log row.host row.id fits.host fits.id) (λ e. cc));
         index_kept = kept;
         alive = λ live. at_stage;
@@ -123,23 +124,19 @@ flush_part last issued rows tree after row n at w c =
     index_written last issued rows rows tree after row row.landed row.pending.entries (take n (spelling_all row.pending.entries)) at w (turned_same rows row.id row w.stands) (omega arith) k.numbers.landed k.numbers.pending
     (λ old b. subst (λ p. Begins es row.landed (overwritten old (40 * row.landed) (take n (spelling_all p)))) (sym k.numbers.pending) (begins_more es row.landed old n b)) c
 
-flush_told : (last : ℕ) (issued : Ledger) (table : Table) (tree : Tree) (row : Row) → rank row.stage ≡ 4 → table.holders ≡ [] → table.flattenings ≡ [] → Working last issued table.writers tree row → (told : Told) (after : Tree) → Tells (flush_step row) tree told after → AreRight last issued (flush_outcome row table told).table after
-flush_told last issued table tree row at holders flattenings w told after t = elim (write_told row.room (index_path row.host row.id) (40 * row.landed) (spelling_all row.pending.entries) tree told after t) as (λ _. AreRight last issued (flush_outcome row table told).table after) [
-  | inl done ↦ subst (λ x. AreRight last issued (flush_outcome row table x).table after) (sym done.0) (record { sound = flush_made last issued table.writers tree after row at w done.1; no_holders = holders; no_flattenings = flattenings })
-  | inr stays ↦ subst (λ x. AreRight last issued x after) (sym (flush_rows row table told stays.0)) (record {
-    sound = elim stays.1 as (λ _. AreSound last issued table.writers after) [
-      | inl same ↦ subst (AreSound last issued table.writers) (sym same) w.sound
-      | inr part ↦ flush_part last issued table.writers tree after row part.0 at w part.2
-    ];
-    no_holders = holders;
-    no_flattenings = flattenings;
-  })
+flush_told : (last : ℕ) (issued : Ledger) (table : Table) (tree : Tree) (row : Row) → rank row.stage ≡ 4 → Working last issued table.writers tree row → (told : Told) (after : Tree) → Tells (flush_step row) tree told after → AreRight last issued (flush_outcome row table told).table after
+flush_told last issued table tree row at w told after t = elim (write_told row.room (index_path row.host row.id) (40 * row.landed) (spelling_all row.pending.entries) tree told after t) as (λ _. AreRight last issued (flush_outcome row table told).table after) [
+  | inl done ↦ subst (λ x. AreRight last issued (flush_outcome row table x).table after) (sym done.0) (flush_made last issued table.writers tree after row at w done.1)
+  | inr stays ↦ subst (λ x. AreRight last issued x after) (sym (flush_rows row table told stays.0)) (elim stays.1 as (λ _. AreSound last issued table.writers after) [
+    | inl same ↦ subst (AreSound last issued table.writers) (sym same) w.sound
+    | inr part ↦ flush_part last issued table.writers tree after row part.0 at w part.2
+  ])
 ]
 
 flush_row : (issued : Ledger) (old : State) (row : Row) (entries : List Entry) (reply : Reply) (new : State) → (a : IsAccounted issued old) → rank row.stage ≡ 4 → Working (last_id old) issued old.table.writers a.tree row → FlushesRow row entries old reply new → IsAccounted issued new
 flush_row issued old row [] reply new a at w f = accounted_as issued old new f.1 a
 flush_row issued old row (x ∷ entries) reply new a at w f =
-    makes_accounted (flush_step row) (flush_outcome row old.table) (λ r. issued) old reply new a.tree a.told (flush_told (last_id old) issued old.table a.tree row at a.right.no_holders a.right.no_flattenings w) f
+    makes_accounted (flush_step row) (flush_outcome row old.table) (λ r. issued) old reply new a.tree a.told (flush_told (last_id old) issued old.table a.tree row at w) f
 
 -- A flush keeps soundness.
 pub flush_keeps : (issued : Ledger) (old : State) (caller writer : ℕ) (reply : Reply) (new : State) → IsRegular old → Flushes caller writer old reply new → IsAccounted issued old → IsAccounted issued new

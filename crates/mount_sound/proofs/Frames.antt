@@ -1,15 +1,16 @@
 -- A call that changes one writer's items leaves what the room holds of the others.
-use Rattle.std.proofs.Common.{◌≡◌, ◌<◌, ◌^◌, ℕ, List, length, take, refl, ap, sym, ◌∙◌, subst, arith}
+use Rattle.std.proofs.Common.{◌≡◌, ◌≤◌, ◌<◌, ◌^◌, ℕ, List, length, take, true, refl, ap, sym, ◌∙◌, subst, arith}
 use Rattle.std.specs.Prelude.{MatchOption}
 use Rattle.plfs_types.specs.declared.entries.Entry.{Entry}
 use Rattle.container_layout.specs.declared.items.Item.TheVariants.{OpenHost, Meta, Trunc, Index, Log}
 use Rattle.container_layout.specs.Items.{IsItem}
-use Rattle.container_layout.specs.Paths.{path_of, hostdir_of}
+use Rattle.container_layout.specs.Paths.{path_of}
 use Rattle.store_api.specs.declared.tree.Room.{Room}
 use Rattle.store_laws.specs.Files.{file_at, kept_at}
 use Rattle.store_laws.specs.Prefix.{IsPrefix}
 use Rattle.mount_model.specs.declared.row.Row.{Row}
 use Rattle.mount_model.specs.Paths.{open_path, index_path, log_path}
+use Rattle.mount_model.specs.Table.{is_live}
 use Rattle.mount_sound.specs.Ledger.{Written, entries_in, content}
 use Rattle.mount_sound.specs.Dropping.{bytes_of, log_bytes, IsDropping, IsKeptWhole, IsWriter}
 use Rattle.mount_sound.specs.Kept.{Begins, IsAtStage, IsKept}
@@ -24,6 +25,9 @@ pub record Fits (row : Row) : Type 0 where
 pub log_frame : (room new : Room) (host writer : ℕ) (bytes : List ℕ) → file_at new (log_path host writer) ≡ file_at room (log_path host writer) → IsPrefix bytes (log_bytes room host writer) → IsPrefix bytes (log_bytes new host writer)
 log_frame room new host writer bytes e p = subst (IsPrefix bytes) (ap bytes_of (sym e)) p
 
+pub as_long : (room new : Room) (host writer count : ℕ) → file_at new (log_path host writer) ≡ file_at room (log_path host writer) → count ≤ length (log_bytes room host writer) → count ≤ length (log_bytes new host writer)
+as_long room new host writer count e l = omega (arith, l, ap (λ f. length (bytes_of f)) e)
+
 -- an index dropping beside a log as long
 pub dropping_frame : (room new : Room) (host writer : ℕ) (issued : List Written) (landed : ℕ) → file_at new (index_path host writer) ≡ file_at room (index_path host writer) → file_at new (log_path host writer) ≡ file_at room (log_path host writer)
     → MatchOption (file_at room (index_path host writer)) (landed ≡ 0) (IsDropping writer issued landed (length (log_bytes room host writer))) → MatchOption (file_at new (index_path host writer)) (landed ≡ 0) (IsDropping writer issued landed (length (log_bytes new host writer)))
@@ -31,7 +35,7 @@ dropping_frame room new host writer issued landed index log m =
     subst (λ o. MatchOption (file_at new (index_path host writer)) (landed ≡ 0) (IsDropping writer issued landed (length (bytes_of o)))) (sym log)
     (subst (λ o. MatchOption o (landed ≡ 0) (IsDropping writer issued landed (length (log_bytes room host writer)))) (sym index) m)
 
-pub settled_frame : (room new : Room) (host writer : ℕ) (entries : List Entry) → file_at new (index_path host writer) ≡ file_at room (index_path host writer) → kept_at new (index_path host writer) ≡ kept_at room (index_path host writer) → kept_at new (log_path host writer) ≡ kept_at room (log_path host writer)
+pub settled_frame : (room new : Room) (host writer : ℕ) (entries : List Entry) → file_at new (index_path host writer) ≡ file_at room (index_path host writer) → kept_at room (index_path host writer) ≤ kept_at new (index_path host writer) → kept_at room (log_path host writer) ≤ kept_at new (log_path host writer)
     → IsKeptWhole room host writer entries → IsKeptWhole new host writer entries
 settled_frame room new host writer entries index index_kept log_kept s = record {
   index = ap bytes_of index ∙ s.index;
@@ -63,7 +67,7 @@ stage_frame row room new issued fits s a = record {
   opened = s.owned (OpenHost row.host row.id) (is_open row.host row.id fits.host fits.id) refl ∙ a.opened;
   unopened = a.unopened;
   floored = λ far stamp size inside h. a.floored far stamp size inside (had room new (Trunc stamp size) inside (λ is. s.truncates stamp size is) h);
-  housed = λ far. s.folders (hostdir_of row.host) (a.housed far);
+  housed = λ far. s.folders row.host (a.housed far);
   indexed = λ far. let i = a.indexed far in (i.0, s.owned (Index row.host row.id) (is_index row.host row.id fits.host fits.id) refl ∙ i.1);
   logged = λ far. let l = a.logged far in (l.0, s.owned (Log row.host row.id) (is_log row.host row.id fits.host fits.id) refl ∙ l.1);
   closing = λ m. a.closing (had_meta room new row.host row.id s m);
@@ -75,9 +79,29 @@ kept_frame row room new issued fits s k = record {
   in_order = k.in_order;
   numbers = k.numbers;
   index = subst (λ o. MatchOption o (row.landed ≡ 0) (Begins (entries_in issued) row.landed)) (sym (s.owned (Index row.host row.id) (is_index row.host row.id fits.host fits.id) refl)) k.index;
+  log_long = as_long room new row.host row.id row.log_mark (s.owned (Log row.host row.id) (is_log row.host row.id fits.host fits.id) refl) k.log_long;
   log_kept = omega (arith, k.log_kept, s.kepts (Log row.host row.id) (is_log row.host row.id fits.host fits.id) refl);
   index_kept = omega (arith, k.index_kept, s.kepts (Index row.host row.id) (is_index row.host row.id fits.host fits.id) refl);
   alive = λ live. stage_frame row room new (entries_in issued) fits s (k.alive live);
+}
+
+-- the writer's droppings are as they were, and no less of them is kept
+pub record SameDroppings (room new : Room) (row : Row) : Type 0 where
+  pub index : file_at new (index_path row.host row.id) ≡ file_at room (index_path row.host row.id)
+  pub index_kept : kept_at room (index_path row.host row.id) ≤ kept_at new (index_path row.host row.id)
+  pub log : file_at new (log_path row.host row.id) ≡ file_at room (log_path row.host row.id)
+  pub log_kept : kept_at room (log_path row.host row.id) ≤ kept_at new (log_path row.host row.id)
+
+-- all that counts of a writer that isn't live
+pub dead_frame : (row : Row) (room new : Room) (issued : List Written) → (is_live row.stage ≡ true → ⊥) → SameDroppings room new row → IsKept room row issued → IsKept new row issued
+dead_frame row room new issued dead same k = record {
+  in_order = k.in_order;
+  numbers = k.numbers;
+  index = subst (λ o. MatchOption o (row.landed ≡ 0) (Begins (entries_in issued) row.landed)) (sym same.index) k.index;
+  log_long = as_long room new row.host row.id row.log_mark same.log k.log_long;
+  log_kept = omega (arith, k.log_kept, same.log_kept);
+  index_kept = omega (arith, k.index_kept, same.index_kept);
+  alive = λ live. absurd (dead live);
 }
 
 pub truncates_frame : (room new : Room) → ((stamp size : ℕ) → IsItem (Trunc stamp size) → file_at new (path_of (Trunc stamp size)) ≡ file_at room (path_of (Trunc stamp size))) → TruncatesDiffer room → TruncatesDiffer new

@@ -1,9 +1,9 @@
 -- Items of a room: two of them have two paths, and a change of one leaves the others.
-use Rattle.std.proofs.Common.{◌≡◌, ◌<◌, ◌^◌, ℕ, List, true, Option, Some, None, refl, ap, sym, ◌∙◌, inl, inr}
+use Rattle.std.proofs.Common.{◌≡◌, ◌≤◌, ◌<◌, ◌^◌, ℕ, List, true, Option, Some, None, refl, ap, sym, ◌∙◌, inl, inr, arith}
 use Rattle.container_layout.specs.declared.items.Item.{Item}
 use Rattle.container_layout.specs.declared.items.Item.TheVariants.{Access, OpenHost, Meta, Trunc, Flat, TmpFlat, Index, Log, Packed, TmpPacked}
 use Rattle.container_layout.specs.Items.{IsItem}
-use Rattle.container_layout.specs.Paths.{path_of}
+use Rattle.container_layout.specs.Paths.{path_of, hostdir_of}
 use Rattle.container_layout.proofs.Facts.{same_items}
 use Rattle.store_api.specs.declared.tree.Room.{Room}
 use Rattle.store_api.specs.Room.{has_folder}
@@ -65,15 +65,15 @@ same_but_item changed room new is s = record {
   folders = λ folder there. has_folder_same room new folder s.folders ∙ there;
 }
 
--- the room has the same of this writer, the same truncates, and no fewer folders
+-- the room has the same of this writer and keeps no less of it, the same truncates, and no fewer folders of droppings
 pub record SameFor (writer : ℕ) (room new : Room) : Type 0 where
   pub owned : (item : Item) → IsItem item → owner item ≡ Some writer → file_at new (path_of item) ≡ file_at room (path_of item)
-  pub kepts : (item : Item) → IsItem item → owner item ≡ Some writer → kept_at new (path_of item) ≡ kept_at room (path_of item)
+  pub kepts : (item : Item) → IsItem item → owner item ≡ Some writer → kept_at room (path_of item) ≤ kept_at new (path_of item)
   pub truncates : (stamp size : ℕ) → IsItem (Trunc stamp size) → file_at new (path_of (Trunc stamp size)) ≡ file_at room (path_of (Trunc stamp size))
-  pub folders : (folder : Name) → has_folder room folder ≡ true → has_folder new folder ≡ true
+  pub folders : (host : ℕ) → has_folder room (hostdir_of host) ≡ true → has_folder new (hostdir_of host) ≡ true
 
 pub same_refl : (writer : ℕ) (room : Room) → SameFor writer room room
-same_refl writer room = record { owned = λ item is o. refl; kepts = λ item is o. refl; truncates = λ stamp size is. refl; folders = λ folder there. there }
+same_refl writer room = record { owned = λ item is o. refl; kepts = λ item is o. omega arith; truncates = λ stamp size is. refl; folders = λ host there. there }
 
 pub other_owner : (item changed : Item) (a b : ℕ) → owner item ≡ Some a → owner changed ≡ Some b → (a ≡ b → ⊥) → item ≡ changed → ⊥
 other_owner item changed a b of_a of_b other same = let owners : owner item ≡ owner changed = ap owner same in other (cc)
@@ -88,9 +88,9 @@ other_host item changed a b of_a of_b other same = let hosts : host_of item ≡ 
 pub same_for : (changed : Item) (writer q : ℕ) (room new : Room) → owner changed ≡ Some writer → (q ≡ writer → ⊥) → SameButItem changed room new → SameFor q room new
 same_for changed writer q room new of_writer other s = record {
   owned = λ item is o. s.others item is (other_owner item changed q writer o of_writer other);
-  kepts = λ item is o. s.kepts item is (other_owner item changed q writer o of_writer other);
+  kepts = λ item is o. omega (arith, s.kepts item is (other_owner item changed q writer o of_writer other));
   truncates = λ stamp size is. s.others (Trunc stamp size) is (no_owner (Trunc stamp size) changed writer refl of_writer);
-  folders = s.folders;
+  folders = λ host there. s.folders (hostdir_of host) there;
 }
 
 -- a change of a writer's item leaves the truncates
@@ -98,10 +98,10 @@ pub same_truncates : (changed : Item) (writer : ℕ) (room new : Room) → owner
 same_truncates changed writer room new of_writer s stamp size is = s.others (Trunc stamp size) is (no_owner (Trunc stamp size) changed writer refl of_writer)
 
 -- no file changes where a folder is made
-pub same_for_files : (writer : ℕ) (room new : Room) → new.files ≡ room.files → ((folder : Name) → has_folder room folder ≡ true → has_folder new folder ≡ true) → SameFor writer room new
+pub same_for_files : (writer : ℕ) (room new : Room) → new.files ≡ room.files → ((host : ℕ) → has_folder room (hostdir_of host) ≡ true → has_folder new (hostdir_of host) ≡ true) → SameFor writer room new
 same_for_files writer room new same folders = record {
   owned = λ item is o. file_at_same room new (path_of item) same;
-  kepts = λ item is o. kept_at_same room new (path_of item) same;
+  kepts = λ item is o. omega (arith, kept_at_same room new (path_of item) same);
   truncates = λ stamp size is. file_at_same room new (path_of (Trunc stamp size)) same;
   folders = folders;
 }

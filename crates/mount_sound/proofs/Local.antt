@@ -40,11 +40,18 @@ pub record Changes (number id : ℕ) (room new : Room) (issued issued' : Ledger)
   pub writer : id < 2 ^ 64 → IsWriter new id (issued' number id)
   pub valid : AreWritesOf id (issued' number id)
 
-some_room : (a b : Room) (o : Option Room) → o ≡ Some a → o ≡ Some b → a ≡ b
+pub some_room : (a b : Room) (o : Option Room) → o ≡ Some a → o ≡ Some b → a ≡ b
 some_room a b o p q = cc
 
-no_room : (a : Room) (o : Option Room) → o ≡ Some a → o ≡ None → ⊥
+pub no_room : (a : Room) (o : Option Room) → o ≡ Some a → o ≡ None → ⊥
 no_room a o p q = cc
+
+-- each room is still there
+pub in_new : (tree : Tree) (number : ℕ) (room new : Room) → slice_get tree.rooms number ≡ Some room → (m : ℕ) → (x : Room) × (slice_get tree.rooms m ≡ Some x) → (x : Room) × (slice_get (slice_set tree.rooms number new) m ≡ Some x)
+in_new tree number room new there m p = elim (cases_eq m number) as (λ _. (x : Room) × (slice_get (slice_set tree.rooms number new) m ≡ Some x)) [
+  | inl same ↦ (new, ap (λ n. slice_get (slice_set tree.rooms number new) n) same ∙ slice_get-slice_set tree.rooms number room new there)
+  | inr other ↦ (p.0, slice_get_other-slice_set tree.rooms number m new other ∙ p.1)
+]
 
 module _ (number id : ℕ) (room new : Room) (issued issued' : Ledger) (rows rows' : List Row) (tree : Tree) (c : Changes number id room new issued issued' rows rows' tree) where
   here : IsSoundRoom (issued number) rows number room → IsSoundRoom (issued' number) rows' number new
@@ -90,14 +97,8 @@ module _ (number id : ℕ) (room new : Room) (issued issued' : Ledger) (rows row
     | inr other ↦ subst (AreWritesOf q) (sym (c.writes m q (λ a b. other a))) (writes m q)
   ]
 
-  in_new : (m : ℕ) → (x : Room) × (slice_get tree.rooms m ≡ Some x) → (x : Room) × (slice_get (slice_set tree.rooms number new) m ≡ Some x)
-  in_new m p = elim (cases_eq m number) as (λ _. (x : Room) × (slice_get (slice_set tree.rooms number new) m ≡ Some x)) [
-    | inl same ↦ (new, ap (λ n. slice_get (slice_set tree.rooms number new) n) same ∙ slice_get-slice_set tree.rooms number room new c.there)
-    | inr other ↦ (p.0, slice_get_other-slice_set tree.rooms number m new other ∙ p.1)
-  ]
-
   local_placed : ((q : ℕ) (r : Row) → row_of q rows ≡ Some r → (x : Room) × (slice_get tree.rooms r.room ≡ Some x)) → (q : ℕ) (r : Row) → row_of q rows' ≡ Some r → (x : Room) × (slice_get (slice_set tree.rooms number new) r.room ≡ Some x)
-  local_placed placed q r e = in_new r.room (elim (cases_eq q id) as (λ _. (x : Room) × (slice_get tree.rooms r.room ≡ Some x)) [
+  local_placed placed q r e = in_new tree number room new c.there r.room (elim (cases_eq q id) as (λ _. (x : Room) × (slice_get tree.rooms r.room ≡ Some x)) [
     | inl mine ↦ (room, ap (λ n. slice_get tree.rooms n) (c.own r (subst (λ w. row_of w rows' ≡ Some r) mine e)).0 ∙ c.there)
     | inr other ↦ placed q r (sym (c.others q other) ∙ e)
   ])

@@ -1,5 +1,5 @@
 -- A call that makes one act keeps soundness, if its outcome does at each thing that the act may tell.
-use Rattle.std.proofs.Common.{◌≡◌, ◌≤◌, ◌<◌, ◌^◌, ℕ, [], Option, Some, sym, subst, arith}
+use Rattle.std.proofs.Common.{◌≡◌, ◌≤◌, ◌<◌, ◌^◌, ℕ, Option, Some, sym, subst, arith}
 use Rattle.store_api.specs.declared.tree.Tree.{Tree}
 use Rattle.store_api.specs.Step.{Step}
 use Rattle.store_laws.specs.Tells.{Tells}
@@ -18,31 +18,36 @@ use Rattle.mount_sound.specs.Ledger.{Ledger}
 use Rattle.mount_sound.specs.Sound.{AreSound, IsSoundFor}
 use Rattle.mount_sound.proofs.Local.{AllFit}
 
--- the table and the tree are right for what was issued
-pub record AreRight (last : ℕ) (issued : Ledger) (table : Table) (tree : Tree) : Type 0 where
-  pub sound : AreSound last issued table.writers tree
-  pub no_holders : table.holders ≡ []
-  pub no_flattenings : table.flattenings ≡ []
+-- the table's writers and the tree are right for what was issued
+abbrev pub AreRight : ℕ → Ledger → Table → Tree → Type 0
+AreRight last issued table tree = AreSound last issued table.writers tree
 
--- what soundness says of a state beside its shape
+-- what soundness says of writers beside the table's rules and the tree's shape
 pub record IsAccounted (issued : Ledger) (state : State) : Type 0 where
   pub tree : Tree
   pub told : state.store.tree ≡ Some tree
   pub right : AreRight (last_id state) issued state.table tree
 
-abbrev pub accounted : (issued : Ledger) (state : State) → IsSoundFor issued state → IsAccounted issued state
-accounted issued state s = record { tree = s.shape.tree; told = s.shape.told; right = record { sound = s.sound; no_holders = s.no_holders; no_flattenings = s.no_flattenings } }
+-- what soundness says of writers: the rest of it rests on this
+pub record HasSoundWriters (issued : Ledger) (state : State) : Type 0 where
+  pub regular : IsRegular state
+  pub shape : IsShaped state
+  pub sound : AreSound (last_id state) issued state.table.writers shape.tree
+
+abbrev pub its_writers : (issued : Ledger) (state : State) → IsSoundFor issued state → HasSoundWriters issued state
+its_writers issued state s = record { regular = s.regular; shape = s.shape; sound = s.sound }
+
+abbrev pub accounted : (issued : Ledger) (state : State) → HasSoundWriters issued state → IsAccounted issued state
+accounted issued state s = record { tree = s.shape.tree; told = s.shape.told; right = s.sound }
 
 pub one_tree : (a b : Tree) (o : Option Tree) → o ≡ Some a → o ≡ Some b → a ≡ b
 one_tree a b o p q = cc
 
-pub sound_for : (issued : Ledger) (state : State) → IsRegular state → IsShaped state → IsAccounted issued state → IsSoundFor issued state
-sound_for issued state regular shape a = record {
+pub writers_for : (issued : Ledger) (state : State) → IsRegular state → IsShaped state → IsAccounted issued state → HasSoundWriters issued state
+writers_for issued state regular shape a = record {
   regular = regular;
   shape = shape;
-  sound = subst (λ t. AreSound (last_id state) issued state.table.writers t) (one_tree a.tree shape.tree state.store.tree a.told shape.told) a.right.sound;
-  no_holders = a.right.no_holders;
-  no_flattenings = a.right.no_flattenings;
+  sound = subst (λ t. AreSound (last_id state) issued state.table.writers t) (one_tree a.tree shape.tree state.store.tree a.told shape.told) a.right;
 }
 
 pub accounted_as : (issued : Ledger) (old new : State) → new ≡ old → IsAccounted issued old → IsAccounted issued new

@@ -5,16 +5,19 @@ use Rattle.std.proofs.lemmas.Bool.{cases_lt, cases_eq}
 use Rattle.plfs_types.specs.declared.names.Path.{Path}
 use Rattle.container_layout.specs.declared.items.Item.{Item}
 use Rattle.container_layout.specs.declared.items.Item.TheVariants.{Access, OpenHost, Meta, Trunc, Flat, TmpFlat, Index, Log, Packed, TmpPacked}
-use Rattle.container_layout.specs.Paths.{path_of}
+use Rattle.container_layout.specs.Paths.{path_of, hostdir_of}
 use Rattle.container_layout.proofs.Facts.{elsewhere}
 use Rattle.store_api.specs.Acts.{Stored, Acts}
 use Rattle.store_api.specs.declared.step.Answer.TheVariants.{Made, Names}
 use Rattle.store_api.specs.declared.tree.Room.{Room}
 use Rattle.store_api.specs.declared.tree.Tree.{Tree}
+use Rattle.store_api.specs.Step.{Step}
 use Rattle.store_laws.specs.Files.{file_at, AreTwo, SameButFile}
 use Rattle.store_laws.specs.Prefix.{IsPrefix}
 use Rattle.store_laws.specs.Changes.{with_room, Created}
-use Rattle.store_laws.proofs.Facts.{look_told, changed_room, other_room, earlier_room, prefix_length, has_folder_same, acts_told, make_room_told, create_told}
+use Rattle.store_laws.specs.Naming.{NamesKept, KeepsRoom}
+use Rattle.store_laws.specs.Tells.{Tells}
+use Rattle.store_laws.proofs.Facts.{look_told, changed_room, other_room, earlier_room, prefix_length, has_folder_same, acts_told, keeps_rooms, make_room_told, create_told}
 use Rattle.mount_model.specs.declared.row.Row.{Row}
 use Rattle.mount_model.specs.declared.trouble.MountTrouble.{MountTrouble}
 use Rattle.mount_model.specs.Failing.{FailsToMount, no_room, no_names, no_next, no_mark}
@@ -29,9 +32,13 @@ use Rattle.mount_shape.proofs.Facts.{mounted_shape, failed_shape}
 use Rattle.mount_sound.specs.Entries.{AreEntriesOf}
 use Rattle.mount_sound.specs.Ledger.{Written, entries_in, content, AreFull, Ledger}
 use Rattle.mount_sound.specs.Dropping.{bytes_of, IsWriter}
+use Rattle.mount_sound.specs.Flats.{AreRightFlats, AreBeingMade}
+use Rattle.mount_sound.specs.Held.{AreHeld}
 use Rattle.mount_sound.specs.Items.{HasItem}
 use Rattle.mount_sound.specs.Sound.{AreSound, IsSoundFor, IsSoundTree}
+use Rattle.mount_sound.proofs.Aside.{IsAside, goes_aside, flats_on, named_kept, one_room, other_folder}
 use Rattle.mount_sound.proofs.Entering.{IsNew, new_here, absent}
+use Rattle.mount_sound.proofs.Flats.{KeepsAllEntries, same_entries}
 use Rattle.mount_sound.proofs.Frames.{writer_frame}
 use Rattle.mount_sound.proofs.Items.{SameFor, is_log}
 use Rattle.mount_sound.proofs.Local.{local}
@@ -41,7 +48,7 @@ use Rattle.mount_sound.proofs.Trees.{sound_tree}
 
 -- ---- marks are no items
 
-mark_folder_apart : (item : Item) → (path_of item).folder ≡ marks_folder → ⊥
+pub mark_folder_apart : (item : Item) → (path_of item).folder ≡ marks_folder → ⊥
 mark_folder_apart Access e = elsewhere (ap (λ (n : Name). get_or n 0 0) e) refl
 mark_folder_apart (OpenHost host writer) e = elsewhere (ap (λ (n : Name). get_or n 0 0) e) refl
 mark_folder_apart (Meta last bytes stamp host writer) e = elsewhere (ap (λ (n : Name). get_or n 1 0) e) refl
@@ -60,9 +67,36 @@ mark_apart item mount = λ folder file. mark_folder_apart item folder
 same_but_mark : (mount q : ℕ) (room new : Room) → SameButFile (mark_path mount) room new → SameFor q room new
 same_but_mark mount q room new s = record {
   owned = λ item is o. s.files (path_of item) (mark_apart item mount);
-  kepts = λ item is o. s.kepts (path_of item) (mark_apart item mount);
+  kepts = λ item is o. omega (arith, s.kepts (path_of item) (mark_apart item mount));
   truncates = λ stamp size is. s.files (path_of (Trunc stamp size)) (mark_apart (Trunc stamp size) mount);
-  folders = λ folder there. has_folder_same room new folder s.folders ∙ there;
+  folders = λ host there. has_folder_same room new (hostdir_of host) s.folders ∙ there;
+}
+
+-- ---- an act that names no item leaves flattened indices right
+
+record IsForeign (step : Step) : Type 0 where
+  aside : IsAside step
+  items : (n : ℕ) (item : Item) → NamesKept step n (path_of item) → ⊥
+
+foreign_entries : (step : Step) (n : ℕ) (room new : Room) → IsForeign step → KeepsRoom step n room new → KeepsAllEntries room new
+foreign_entries step n room new f k = same_entries room new (λ item writer o is. k.files (path_of item) (λ named. f.items n item (named_kept step n (path_of item) named))) (λ item writer o is. k.kepts (path_of item) (f.items n item))
+
+foreign_flats : (step : Step) (tree : Tree) (told : Told) (after : Tree) → IsForeign step → Tells step tree told after → AreRightFlats tree → AreRightFlats after
+foreign_flats step tree told after f t flats =
+    flats_on tree after (goes_aside tree after (inr (record { step = step; told = told; holds = f.aside.files; tells = t })))
+    (λ n room new e now. let k = keeps_rooms step tree told after t n room e in subst (KeepsAllEntries room) (one_room k.0 new (slice_get after.rooms n) k.1 now) (foreign_entries step n room k.0 f k.2))
+    flats
+
+marks_foreign : IsForeign marks_step
+marks_foreign = record { aside = record { files = λ n path named at. named; folders = λ n named. named }; items = λ n item named. named }
+
+list_foreign : (room : ℕ) → IsForeign (list_step room)
+list_foreign room = record { aside = record { files = λ n path named at. named; folders = λ n named. named }; items = λ n item named. named }
+
+mark_foreign : (room mount : ℕ) → IsForeign (mark_step room mount)
+mark_foreign room mount = record {
+  aside = record { files = λ n path named. other_folder _ _ path refl named.1; folders = λ n named. named };
+  items = λ n item named. mark_folder_apart item named.1.0;
 }
 
 no_row : (row : Row) → None ≡ Some row → ⊥
@@ -88,12 +122,12 @@ marked last issued tree after marks mount s c =
 
 -- ---- the acts of mounting
 
--- the store tells a tree that is sound for these writes
+-- the store tells a tree that is sound for these writes, and whose flattened indices are right
 abbrev IsToldSound : ℕ → Ledger → Stored → Type 0
-IsToldSound last issued stored = (tree : Tree) × (stored.tree ≡ Some tree) × AreSound last issued [] tree
+IsToldSound last issued stored = (tree : Tree) × (stored.tree ≡ Some tree) × AreSound last issued [] tree × AreRightFlats tree
 
-roomed : (last : ℕ) (issued : Ledger) (opened new : Stored) (tree : Tree) (told : Told) → opened.tree ≡ Some tree → AreSound last issued [] tree → Acts marks_step opened new told → IsToldSound last issued new
-roomed last issued opened new tree told is s made =
+roomed : (last : ℕ) (issued : Ledger) (opened new : Stored) (tree : Tree) (told : Told) → opened.tree ≡ Some tree → AreSound last issued [] tree → AreRightFlats tree → Acts marks_step opened new told → IsToldSound last issued new
+roomed last issued opened new tree told is s flats made =
     let t = acts_told marks_step opened new tree told is made in
     let m = make_room_told marks_name (marks_folder ∷ []) [] tree told t.0 t.2 in (
       t.0,
@@ -102,12 +136,13 @@ roomed last issued opened new tree told is s made =
         | inl r ↦ subst (AreSound last issued []) (sym r.gives) (more last issued [] tree r.new (made_bare tree marks_name (marks_folder ∷ []) [] t.0 r) s)
         | inr same ↦ subst (AreSound last issued []) (sym same) s
       ],
+      foreign_flats marks_step tree told t.0 marks_foreign t.2 flats,
     )
 
 looked : (last : ℕ) (issued : Ledger) (room : ℕ) (opened new : Stored) (told : Told) → IsToldSound last issued opened → Acts (list_step room) opened new told → IsToldSound last issued new
 looked last issued room opened new told s made =
     let l = acts_told (list_step room) opened new s.0 told s.1 made in
-    (l.0, l.1, subst (AreSound last issued []) (sym (look_told (list_step room) s.0 told l.0 tt l.2)) s.2)
+    (l.0, l.1, subst (AreSound last issued []) (sym (look_told (list_step room) s.0 told l.0 tt l.2)) s.2, foreign_flats (list_step room) s.0 told l.0 (list_foreign room) l.2 s.3)
 
 put : (last : ℕ) (issued : Ledger) (room mount : ℕ) (opened new : Stored) (told : Told) → IsToldSound last issued opened → Acts (mark_step room mount) opened new told → IsToldSound last issued new
 put last issued room mount opened new told s made =
@@ -118,6 +153,7 @@ put last issued room mount opened new told s made =
         | inl c ↦ marked last issued s.0 t.0 room mount s.2 c
         | inr same ↦ subst (AreSound last issued []) (sym same) s.2
       ],
+      foreign_flats (mark_step room mount) s.0 told t.0 (mark_foreign room mount) t.2 s.3,
     )
 
 -- a sound tree is sound for its writes, with whatever ids of 64 bits
@@ -133,27 +169,27 @@ tree_sound tree s = record {
 all_acts : (serial : ℕ) (times : Option (List ℕ)) (opened : Stored) (new : State) (tree : Tree) → IsMounted serial times opened new → opened.tree ≡ Some tree → (s : IsSoundTree tree) → IsToldSound (2 ^ 64 - 1) s.issued new.store
 all_acts serial times opened new tree m told s =
     let d = m.draws in
-    let r = roomed (2 ^ 64 - 1) s.issued opened d.roomed tree d.tells.told told (tree_sound tree s) d.tells.made in
+    let r = roomed (2 ^ 64 - 1) s.issued opened d.roomed tree d.tells.told told (tree_sound tree s) s.flats d.tells.made in
     let l = looked (2 ^ 64 - 1) s.issued new.marks d.roomed d.listed (Ok (Names d.names)) r d.lists in
     put (2 ^ 64 - 1) s.issued new.marks new.mount d.listed new.store (Ok Made) l d.marked
 
-failed_acts : (issued : Ledger) (opened left : Stored) (trouble : MountTrouble) (tree : Tree) → FailsToMount opened trouble left → opened.tree ≡ Some tree → AreSound (2 ^ 64 - 1) issued [] tree → IsToldSound (2 ^ 64 - 1) issued left
-failed_acts issued opened left trouble tree (no_room f) told s = roomed (2 ^ 64 - 1) issued opened left tree f.told told s f.made
-failed_acts issued opened left trouble tree (no_names first room tells f) told s =
-    looked (2 ^ 64 - 1) issued room first left f.told (roomed (2 ^ 64 - 1) issued opened first tree tells.told told s tells.made) f.made
-failed_acts issued opened left trouble tree (no_next first room names tells lists none) told s =
-    looked (2 ^ 64 - 1) issued room first left (Ok (Names names)) (roomed (2 ^ 64 - 1) issued opened first tree tells.told told s tells.made) lists
-failed_acts issued opened left trouble tree (no_mark first second room names mount tells lists next f) told s =
-    let l = looked (2 ^ 64 - 1) issued room first second (Ok (Names names)) (roomed (2 ^ 64 - 1) issued opened first tree tells.told told s tells.made) lists in
+failed_acts : (issued : Ledger) (opened left : Stored) (trouble : MountTrouble) (tree : Tree) → FailsToMount opened trouble left → opened.tree ≡ Some tree → AreSound (2 ^ 64 - 1) issued [] tree → AreRightFlats tree → IsToldSound (2 ^ 64 - 1) issued left
+failed_acts issued opened left trouble tree (no_room f) told s flats = roomed (2 ^ 64 - 1) issued opened left tree f.told told s flats f.made
+failed_acts issued opened left trouble tree (no_names first room tells f) told s flats =
+    looked (2 ^ 64 - 1) issued room first left f.told (roomed (2 ^ 64 - 1) issued opened first tree tells.told told s flats tells.made) f.made
+failed_acts issued opened left trouble tree (no_next first room names tells lists none) told s flats =
+    looked (2 ^ 64 - 1) issued room first left (Ok (Names names)) (roomed (2 ^ 64 - 1) issued opened first tree tells.told told s flats tells.made) lists
+failed_acts issued opened left trouble tree (no_mark first second room names mount tells lists next f) told s flats =
+    let l = looked (2 ^ 64 - 1) issued room first second (Ok (Names names)) (roomed (2 ^ 64 - 1) issued opened first tree tells.told told s flats tells.made) lists in
     put (2 ^ 64 - 1) issued room mount second left f.told l f.made
 
 -- What a mounting leaves that broke off is sound for the next one.
 pub failed_sound : (opened left : Stored) (trouble : MountTrouble) (tree : Tree) → FailsToMount opened trouble left → opened.tree ≡ Some tree → IsSoundTree tree → (after : Tree) × (left.tree ≡ Some after) × IsSoundTree after
 failed_sound opened left trouble tree f told s =
-    let acts = failed_acts s.issued opened left trouble tree f told (tree_sound tree s) in
+    let acts = failed_acts s.issued opened left trouble tree f told (tree_sound tree s) s.flats in
     let shape = failed_shape opened left trouble tree f told s.shaped in
     let shaped : IsShapedTree (IsOfMark acts.0) acts.0 = subst (λ t. IsShapedTree (IsOfMark t) t) (one_tree shape.0 acts.0 left.tree shape.1 acts.1) shape.2 in
-    (acts.0, acts.1, sound_tree s.issued [] acts.0 shaped acts.2.rooms acts.2.writes)
+    (acts.0, acts.1, sound_tree s.issued [] acts.0 shaped acts.2.rooms acts.2.writes acts.3)
 
 -- ---- nothing was issued under an id that is not drawn yet
 
@@ -194,6 +230,7 @@ mounted_sound serial times opened new tree m told s =
     let acts = all_acts serial times opened new tree m told s in
     let sound : AreSound (2 ^ 64 - 1) s.issued [] shape.tree = subst (AreSound (2 ^ 64 - 1) s.issued []) (one_tree acts.0 shape.tree new.store.tree acts.1 shape.told) acts.2 in
     record {
+      clean = (tree, ap (λ (x : Stored). x.tree) m.opened_is ∙ told, s);
       regular = mounted_regular serial times opened new m;
       shape = shape;
       sound = subst (λ rows. AreSound (last_id new) s.issued rows shape.tree) (sym m.no_writers) (record {
@@ -203,8 +240,9 @@ mounted_sound serial times opened new tree m told s =
         fresh = fresh new shape s.issued sound;
         roomless = sound.roomless;
       });
-      no_holders = m.no_holders;
-      no_flattenings = m.no_flattenings;
+      held = subst (λ holders. AreHeld holders shape.tree) (sym m.no_holders) (record { each = λ number h e. absurd (cc); alone = λ one other h k e f same. absurd (cc) });
+      flats = subst AreRightFlats (one_tree acts.0 shape.tree new.store.tree acts.1 shape.told) acts.3;
+      flattenings = subst (λ flattenings. AreBeingMade flattenings shape.tree) (sym m.no_flattenings) (λ id f e. absurd (cc));
     }
 
 -- ---- a room with droppings stays as it was
@@ -242,7 +280,7 @@ pub mounted_keeps : (serial : ℕ) (times : Option (List ℕ)) (opened : Stored)
 mounted_keeps serial times opened new tree now m told s now_is number room there host writer bytes h =
     let d = m.draws in
     let shape : IsShaped new = mounted_shape serial times opened new tree m told s.shaped in
-    let r = roomed (2 ^ 64 - 1) s.issued opened d.roomed tree d.tells.told told (tree_sound tree s) d.tells.made in
+    let r = roomed (2 ^ 64 - 1) s.issued opened d.roomed tree d.tells.told told (tree_sound tree s) s.flats d.tells.made in
     let first : slice_get r.0.rooms number ≡ Some room = roomed_keeps opened d.roomed tree r.0 d.tells.told told d.tells.made r.1 number room there in
     let l = acts_told (list_step new.marks) d.roomed d.listed r.0 (Ok (Names d.names)) r.1 d.lists in
     let same : l.0 ≡ r.0 = look_told (list_step new.marks) r.0 (Ok (Names d.names)) l.0 tt l.2 in

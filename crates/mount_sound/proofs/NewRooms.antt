@@ -34,13 +34,13 @@ use Rattle.mount_sound.proofs.Making.{AreRight, IsAccounted, makes_accounted}
 pub record IsBare (room : Room) : Type 0 where
   pub none : (item : Item) → is_top (path_of item).folder ≡ false → file_at room (path_of item) ≡ None
 
-no_item : (room : Room) (item : Item) (bytes : List ℕ) → IsBare room → is_top (path_of item).folder ≡ false → HasItem room item bytes → ⊥
+pub no_item : (room : Room) (item : Item) (bytes : List ℕ) → IsBare room → is_top (path_of item).folder ≡ false → HasItem room item bytes → ⊥
 no_item room item bytes bare below h = let e = bare.none item below in let f = h.there in cc
 
 positive : (n : ℕ) → nat_eq (suc n) 0 ≡ false
 positive n = grind (arith, nat_tests)
 
-hostdir_below : (host : ℕ) → is_top (hostdir_of host) ≡ false
+pub hostdir_below : (host : ℕ) → is_top (hostdir_of host) ≡ false
 hostdir_below host = positive _
 
 no_items : (room : Room) (host writer : ℕ) → IsBare room → HasItemOf room host writer → ⊥
@@ -121,12 +121,8 @@ container_keeps issued old name reply new f a =
     makes_accounted (make_room name new_folders new_files) (make_outcome old.table) (λ x. issued) old reply new a.tree a.told
     (λ told after t.
     let c = make_room_told name new_folders new_files a.tree told after t in
-    subst (λ x. AreRight (last_id old) issued x after) (sym (make_rows old.table told)) (record {
-      sound = elim c.either as (λ _. AreSound (last_id old) issued old.table.writers after) [
-        | inl m ↦ subst (AreSound (last_id old) issued old.table.writers) (sym m.gives) (more (last_id old) issued old.table.writers a.tree m.new (made_bare a.tree name new_folders new_files after m) a.right.sound)
-        | inr stays ↦ subst (AreSound (last_id old) issued old.table.writers) (sym stays) a.right.sound
-      ];
-      no_holders = a.right.no_holders;
-      no_flattenings = a.right.no_flattenings;
-    }))
+    subst (λ x. AreRight (last_id old) issued x after) (sym (make_rows old.table told)) (elim c.either as (λ _. AreSound (last_id old) issued old.table.writers after) [
+      | inl m ↦ subst (AreSound (last_id old) issued old.table.writers) (sym m.gives) (more (last_id old) issued old.table.writers a.tree m.new (made_bare a.tree name new_folders new_files after m) a.right)
+      | inr stays ↦ subst (AreSound (last_id old) issued old.table.writers) (sym stays) a.right
+    ]))
     f.makes

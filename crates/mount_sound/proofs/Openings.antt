@@ -62,6 +62,7 @@ logged_holds room new row s issued fits at far near k a o b now = record {
     in_order = k.in_order;
     numbers = record { stored = k.numbers.stored; last = k.numbers.last; end = k.numbers.end; landed = k.numbers.landed; pending = k.numbers.pending; log_mark = k.numbers.log_mark; index_mark = k.numbers.index_mark };
     index = subst (λ o. MatchOption o (row.landed ≡ 0) (Begins (entries_in issued) row.landed)) (sym (b.others (Index row.host row.id) (is_index row.host row.id fits.host fits.id) (λ e. cc))) k.index;
+    log_long = omega (arith, k.numbers.log_mark, k.numbers.stored, ap logged (a.unopened (omega arith)));
     log_kept = omega (arith, k.numbers.log_mark, k.numbers.stored, ap logged (a.unopened (omega arith)));
     index_kept = omega (arith, k.index_kept, b.kepts (Index row.host row.id) (is_index row.host row.id fits.host fits.id) (λ e. cc));
     alive = λ live. logged_stage room new row s (entries_in issued) fits at far near a b now;
@@ -88,11 +89,11 @@ log_was last issued rows tree row at w h =
     turned_stage last issued rows (with_row (at_stage stage.Open row) rows) tree row stage.Open h.room w h.has_room (omega arith) (turned_put rows (at_stage stage.Open row))
     (stage_with h.room row stage.Open (entries_in (issued row.room row.id)) (omega arith) a (λ far. omega arith) (λ far. a.housed (omega arith)) (λ far. a.indexed (omega arith)) (λ far. (h.bytes, h.there)))
 
-log_told : (last : ℕ) (issued : Ledger) (table : Table) (tree : Tree) (row : Row) → rank row.stage ≡ 3 → table.holders ≡ [] → table.flattenings ≡ [] → Working last issued table.writers tree row → (told : Told) (after : Tree) → Tells (log_step row) tree told after
+log_told : (last : ℕ) (issued : Ledger) (table : Table) (tree : Tree) (row : Row) → rank row.stage ≡ 3 → Working last issued table.writers tree row → (told : Told) (after : Tree) → Tells (log_step row) tree told after
     → AreRight last issued (build_outcome stage.Open (hostdir_of row.host) (log_path row.host row.id).file row table told).table after
-log_told last issued table tree row at holders flattenings w told after t =
+log_told last issued table tree row at w told after t =
     let c = create_told row.room (log_path row.host row.id) tree told after t in
-    built last issued table tree row stage.Open (hostdir_of row.host) (log_path row.host row.id).file told after w holders flattenings
+    built last issued table tree row stage.Open (hostdir_of row.host) (log_path row.host row.id).file told after w
     (λ is. log_made last issued table.writers (with_row (at_stage stage.Open row) table.writers) tree after row stage.Open at (omega arith) (omega arith) w (turned_put table.writers (at_stage stage.Open row)) (c.done is))
     (λ n is.
     let s = c.stays (Old n) is (λ e. cc) in
@@ -109,7 +110,7 @@ log_keeps issued old caller writer reply new r f a =
     (λ row stands at makes.
     let is : rank row.stage ≡ 3 = at_only stage.Indexed row.stage at in
     makes_accounted (log_step row) (build_outcome stage.Open (hostdir_of row.host) (log_path row.host row.id).file row old.table) (λ x. issued) old reply new a.tree a.told
-    (log_told (last_id old) issued old.table a.tree row is a.right.no_holders a.right.no_flattenings (working issued old writer row r a stands (omega arith))) makes)
+    (log_told (last_id old) issued old.table a.tree row is (working issued old writer row r a stands (omega arith))) makes)
 
 -- ---- the folder
 
@@ -120,7 +121,7 @@ grows room new folder other none others there =
 folder_made : (last : ℕ) (issued : Ledger) (rows rows' : List Row) (tree after : Tree) (row : Row) (s : Stage) → rank row.stage ≡ 1 → 1 ≤ rank s → rank s < 3 → Working last issued rows tree row → Turned rows rows' row.id (at_stage s row) → FolderMade tree row.room (hostdir_of row.host) after → AreSound last issued rows' after
 folder_made last issued rows rows' tree after row s at far near w turned c =
     let fits = its_fit last issued rows tree row w c.room c.has_room in
-    let same : (q : ℕ) → SameFor q c.room c.new = λ q. same_for_files q c.room c.new c.others.files (λ f there. grows c.room c.new (hostdir_of row.host) f c.none c.others.folders there) in
+    let same : (q : ℕ) → SameFor q c.room c.new = λ q. same_for_files q c.room c.new c.others.files (λ host there. grows c.room c.new (hostdir_of row.host) (hostdir_of host) c.none c.others.folders there) in
     let k : IsKept c.new row (issued row.room row.id) = kept_frame row c.room c.new (issued row.room row.id) fits (same row.id) (its_kept last issued rows tree row w c.room c.has_room) in
     let a : IsAtStage c.new row (entries_in (issued row.room row.id)) = k.alive w.live in
     subst (AreSound last issued rows') (sym c.gives)
@@ -137,11 +138,11 @@ folder_was last issued rows tree row at w h =
     turned_stage last issued rows (with_row (at_stage stage.Housed row) rows) tree row stage.Housed h.room w h.has_room (omega arith) (turned_put rows (at_stage stage.Housed row))
     (stage_with h.room row stage.Housed (entries_in (issued row.room row.id)) (omega arith) a (λ far. omega arith) (λ far. h.there) (λ far. absurd (omega arith)) (λ far. absurd (omega arith)))
 
-folder_told : (last : ℕ) (issued : Ledger) (table : Table) (tree : Tree) (row : Row) → rank row.stage ≡ 1 → table.holders ≡ [] → table.flattenings ≡ [] → Working last issued table.writers tree row → (told : Told) (after : Tree) → Tells (hostdir_step row) tree told after
+folder_told : (last : ℕ) (issued : Ledger) (table : Table) (tree : Tree) (row : Row) → rank row.stage ≡ 1 → Working last issued table.writers tree row → (told : Told) (after : Tree) → Tells (hostdir_step row) tree told after
     → AreRight last issued (build_outcome stage.Housed (hostdir_of row.host) [] row table told).table after
-folder_told last issued table tree row at holders flattenings w told after t =
+folder_told last issued table tree row at w told after t =
     let c = make_folder_told row.room (hostdir_of row.host) tree told after t in
-    built last issued table tree row stage.Housed (hostdir_of row.host) [] told after w holders flattenings
+    built last issued table tree row stage.Housed (hostdir_of row.host) [] told after w
     (λ is. folder_made last issued table.writers (with_row (at_stage stage.Housed row) table.writers) tree after row stage.Housed at (omega arith) (omega arith) w (turned_put table.writers (at_stage stage.Housed row)) (c.done is))
     (λ n is.
     let s = c.stays (Old n) is (λ e. cc) in
@@ -158,4 +159,4 @@ hostdir_keeps issued old caller writer reply new r f a =
     (λ row stands at makes.
     let is : rank row.stage ≡ 1 = at_only stage.Floored row.stage at in
     makes_accounted (hostdir_step row) (build_outcome stage.Housed (hostdir_of row.host) [] row old.table) (λ x. issued) old reply new a.tree a.told
-    (folder_told (last_id old) issued old.table a.tree row is a.right.no_holders a.right.no_flattenings (working issued old writer row r a stands (omega arith))) makes)
+    (folder_told (last_id old) issued old.table a.tree row is (working issued old writer row r a stands (omega arith))) makes)

@@ -44,7 +44,7 @@ pub working : (issued : Ledger) (old : State) (writer : ℕ) (row : Row) → IsR
 working issued old writer row r a stands live =
     let is : row.id ≡ writer = row_of_id writer old.table.writers row stands in
     record {
-      sound = a.right.sound;
+      sound = a.right;
       fit = all_fit old r;
       drawn = drawn_by old r writer row stands;
       stands = subst (λ w. row_of w old.table.writers ≡ Some row) (sym is) stands;
@@ -61,6 +61,7 @@ kept_staged room row stage issued k a = record {
   in_order = k.in_order;
   numbers = numbers_at row stage (entries_in issued) k.numbers;
   index = k.index;
+  log_long = k.log_long;
   log_kept = k.log_kept;
   index_kept = k.index_kept;
   alive = λ live. a;

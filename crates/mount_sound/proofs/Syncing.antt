@@ -1,5 +1,5 @@
 -- Syncing a dropping keeps soundness.
-use Rattle.std.proofs.Common.{◌≡◌, ◌≤◌, ◌*◌, ℕ, List, [], length, Option, Some, refl, sym, ◌∙◌, ◌⊎◌, inl, inr, subst, arith}
+use Rattle.std.proofs.Common.{◌≡◌, ◌≤◌, ◌*◌, ℕ, List, length, Option, Some, refl, ap, sym, ◌∙◌, ◌⊎◌, inl, inr, subst, arith}
 use Rattle.std.specs.Prelude.{MatchOption, Ok, Err}
 use Rattle.plfs_types.specs.declared.entries.Entry.{Entry}
 use Rattle.container_layout.specs.declared.items.Item.TheVariants.{OpenHost, Index, Log}
@@ -23,11 +23,11 @@ use Rattle.mount_model.specs.State.{State, Table, last_id}
 use Rattle.mount_model.specs.Table.{with_row, rank, only}
 use Rattle.mount_model.proofs.Facts.{at_only}
 use Rattle.mount_sound.specs.Ledger.{Written, entries_in, content, Ledger}
-use Rattle.mount_sound.specs.Dropping.{bytes_of}
+use Rattle.mount_sound.specs.Dropping.{bytes_of, log_bytes}
 use Rattle.mount_sound.specs.Kept.{Begins, IsAtStage, IsKept}
 use Rattle.mount_sound.specs.Sound.{AreSound}
 use Rattle.mount_sound.proofs.Building.{not_closing}
-use Rattle.mount_sound.proofs.Frames.{Fits}
+use Rattle.mount_sound.proofs.Frames.{Fits, as_long}
 use Rattle.mount_sound.proofs.Items.{SameButItem, same_but_item, is_index, is_log, is_open}
 use Rattle.mount_sound.proofs.Live.{Own, one_host_kept, had_meta_but, has_meta_but, had_trunc_but}
 use Rattle.mount_sound.proofs.Making.{AreRight, IsAccounted, makes_accounted}
@@ -39,7 +39,7 @@ use Rattle.mount_sound.proofs.WriteEntries.{length-content}
 abbrev marked : Row → ℕ → ℕ → Row
 marked row log index = record row { log_mark = log; index_mark = index }
 
-told_made : (told : Told) → (told ≡ made) ⊎ (told ≡ made → ⊥)
+pub told_made : (told : Told) → (told ≡ made) ⊎ (told ≡ made → ⊥)
 told_made (Ok Made) = inl refl
 told_made (Ok answer) = inr (λ e. cc)
 told_made (Err trouble) = inr (λ e. cc)
@@ -65,12 +65,13 @@ log_stage room new row log index es fits at a b same = record {
 }
 
 log_holds : (room new : Room) (row : Row) (log : ℕ) (issued : List Written) → Fits row → rank row.stage ≡ 4 → IsKept room row issued → IsAtStage room row (entries_in issued) → Own room row issued → SameButItem (Log row.host row.id) room new
-    → file_at new (log_path row.host row.id) ≡ file_at room (log_path row.host row.id) → log ≤ row.stored → row.stored ≤ kept_at new (log_path row.host row.id) → Holds new (marked row log row.index_mark) issued
-log_holds room new row log issued fits at k a o b same within kept = record {
+    → file_at new (log_path row.host row.id) ≡ file_at room (log_path row.host row.id) → log ≤ row.stored → row.stored ≤ length (log_bytes new row.host row.id) → row.stored ≤ kept_at new (log_path row.host row.id) → Holds new (marked row log row.index_mark) issued
+log_holds room new row log issued fits at k a o b same within long kept = record {
   kept = record {
     in_order = k.in_order;
     numbers = record { stored = k.numbers.stored; last = k.numbers.last; end = k.numbers.end; landed = k.numbers.landed; pending = k.numbers.pending; log_mark = within; index_mark = k.numbers.index_mark };
     index = subst (λ f. MatchOption f (row.landed ≡ 0) (Begins (entries_in issued) row.landed)) (sym (b.others (Index row.host row.id) (is_index row.host row.id fits.host fits.id) (λ e. cc))) k.index;
+    log_long = omega (arith, within, long);
     log_kept = omega (arith, within, kept);
     index_kept = omega (arith, k.index_kept, b.kepts (Index row.host row.id) (is_index row.host row.id fits.host fits.id) (λ e. cc));
     alive = λ live. log_stage room new row log row.index_mark (entries_in issued) fits at a b same;
@@ -91,30 +92,26 @@ log_was_synced last issued rows rows' tree after row log at w turned within c =
     let o = its_own last issued rows tree row w c.room c.has_room in
     let b : SameButItem (Log row.host row.id) c.room c.new = same_but_item (Log row.host row.id) c.room c.new (is_log row.host row.id fits.host fits.id) c.others in
     let begins : IsPrefix (content (issued row.room row.id)) c.old = subst (λ f. IsPrefix (content (issued row.room row.id)) (bytes_of f)) c.there o.log in
-    let long = prefix_length (content (issued row.room row.id)) c.old begins in
+    let has : row.stored ≤ length c.old = omega (arith, prefix_length (content (issued row.room row.id)) c.old begins, length-content (issued row.room row.id) (w.sound.writes row.room row.id).full, k.numbers.stored) in
     subst (AreSound last issued rows') (sym c.gives)
     (works_on last issued rows rows' tree row (marked row log row.index_mark) c.room c.new w c.has_room refl refl refl turned (spares (Log row.host row.id) row.id c.room c.new refl b)
     (log_holds c.room c.new row log (issued row.room row.id) fits at k (its_stage last issued rows tree row w c.room c.has_room) o b (c.now ∙ sym c.there) within
-    (omega (arith, c.kept, long, length-content (issued row.room row.id) (w.sound.writes row.room row.id).full, k.numbers.stored))))
+    (omega (arith, ap (λ f. length (bytes_of f)) c.now, has)) (omega (arith, c.kept, has))))
 
 log_rows : (row : Row) (table : Table) (told : Told) → (told ≡ made → ⊥) → (sync_log_outcome row table told).table ≡ table
 log_rows row table (Ok Made) other = absurd (other refl)
 log_rows row table told other = refl
 
-log_told : (last : ℕ) (issued : Ledger) (table : Table) (tree : Tree) (row : Row) → rank row.stage ≡ 4 → table.holders ≡ [] → table.flattenings ≡ [] → Working last issued table.writers tree row → (told : Told) (after : Tree) → Tells (sync_log_step row) tree told after → AreRight last issued (sync_log_outcome row table told).table after
-log_told last issued table tree row at holders flattenings w told after t =
+log_told : (last : ℕ) (issued : Ledger) (table : Table) (tree : Tree) (row : Row) → rank row.stage ≡ 4 → Working last issued table.writers tree row → (told : Told) (after : Tree) → Tells (sync_log_step row) tree told after → AreRight last issued (sync_log_outcome row table told).table after
+log_told last issued table tree row at w told after t =
     let c = sync_told row.room (log_path row.host row.id) tree told after t in
     elim (told_made told) as (λ _. AreRight last issued (sync_log_outcome row table told).table after) [
       | inl done ↦ subst (λ x. AreRight last issued (sync_log_outcome row table x).table after) (sym done)
-          (record { sound = log_was_synced last issued table.writers (with_row (log_synced row) table.writers) tree after row row.stored at w (turned_put table.writers (log_synced row)) (omega arith) (c.done done); no_holders = holders; no_flattenings = flattenings })
-      | inr other ↦ subst (λ x. AreRight last issued x after) (sym (log_rows row table told other)) (record {
-        sound = elim c.either as (λ _. AreSound last issued table.writers after) [
-          | inl synced ↦ log_was_synced last issued table.writers table.writers tree after row row.log_mark at w (turned_same table.writers row.id row w.stands) (its_log_mark last issued table.writers tree row w) synced
-          | inr same ↦ subst (AreSound last issued table.writers) (sym same) w.sound
-        ];
-        no_holders = holders;
-        no_flattenings = flattenings;
-      })
+          (log_was_synced last issued table.writers (with_row (log_synced row) table.writers) tree after row row.stored at w (turned_put table.writers (log_synced row)) (omega arith) (c.done done))
+      | inr other ↦ subst (λ x. AreRight last issued x after) (sym (log_rows row table told other)) (elim c.either as (λ _. AreSound last issued table.writers after) [
+        | inl synced ↦ log_was_synced last issued table.writers table.writers tree after row row.log_mark at w (turned_same table.writers row.id row w.stands) (its_log_mark last issued table.writers tree row w) synced
+        | inr same ↦ subst (AreSound last issued table.writers) (sym same) w.sound
+      ])
     ]
 
 -- Syncing a log keeps soundness.
@@ -124,7 +121,7 @@ sync_log_keeps issued old caller writer reply new r f a =
     (λ row stands at makes.
     let is : rank row.stage ≡ 4 = at_only stage.Open row.stage at in
     makes_accounted (sync_log_step row) (sync_log_outcome row old.table) (λ x. issued) old reply new a.tree a.told
-    (log_told (last_id old) issued old.table a.tree row is a.right.no_holders a.right.no_flattenings (working issued old writer row r a stands (omega arith))) makes)
+    (log_told (last_id old) issued old.table a.tree row is (working issued old writer row r a stands (omega arith))) makes)
 
 -- ---- the index dropping
 
@@ -147,6 +144,7 @@ index_holds room new row index issued fits at k a o b same within kept = record 
     in_order = k.in_order;
     numbers = record { stored = k.numbers.stored; last = k.numbers.last; end = k.numbers.end; landed = k.numbers.landed; pending = k.numbers.pending; log_mark = k.numbers.log_mark; index_mark = within };
     index = subst (λ f. MatchOption f (row.landed ≡ 0) (Begins (entries_in issued) row.landed)) (sym same) k.index;
+    log_long = as_long room new row.host row.id row.log_mark (b.others (Log row.host row.id) (is_log row.host row.id fits.host fits.id) (λ e. cc)) k.log_long;
     log_kept = omega (arith, k.log_kept, b.kepts (Log row.host row.id) (is_log row.host row.id fits.host fits.id) (λ e. cc));
     index_kept = omega (arith, within, kept);
     alive = λ live. index_stage room new row row.log_mark index (entries_in issued) fits at a b same;
@@ -178,20 +176,16 @@ index_rows : (row : Row) (table : Table) (told : Told) → (told ≡ made → �
 index_rows row table (Ok Made) other = absurd (other refl)
 index_rows row table told other = refl
 
-index_told : (last : ℕ) (issued : Ledger) (table : Table) (tree : Tree) (row : Row) → rank row.stage ≡ 4 → table.holders ≡ [] → table.flattenings ≡ [] → Working last issued table.writers tree row → (told : Told) (after : Tree) → Tells (sync_index_step row) tree told after → AreRight last issued (sync_index_outcome row table told).table after
-index_told last issued table tree row at holders flattenings w told after t =
+index_told : (last : ℕ) (issued : Ledger) (table : Table) (tree : Tree) (row : Row) → rank row.stage ≡ 4 → Working last issued table.writers tree row → (told : Told) (after : Tree) → Tells (sync_index_step row) tree told after → AreRight last issued (sync_index_outcome row table told).table after
+index_told last issued table tree row at w told after t =
     let c = sync_told row.room (index_path row.host row.id) tree told after t in
     elim (told_made told) as (λ _. AreRight last issued (sync_index_outcome row table told).table after) [
       | inl done ↦ subst (λ x. AreRight last issued (sync_index_outcome row table x).table after) (sym done)
-          (record { sound = index_was_synced last issued table.writers (with_row (index_synced row) table.writers) tree after row row.landed at w (turned_put table.writers (index_synced row)) (omega arith) (c.done done); no_holders = holders; no_flattenings = flattenings })
-      | inr other ↦ subst (λ x. AreRight last issued x after) (sym (index_rows row table told other)) (record {
-        sound = elim c.either as (λ _. AreSound last issued table.writers after) [
-          | inl synced ↦ index_was_synced last issued table.writers table.writers tree after row row.index_mark at w (turned_same table.writers row.id row w.stands) (its_index_mark last issued table.writers tree row w) synced
-          | inr same ↦ subst (AreSound last issued table.writers) (sym same) w.sound
-        ];
-        no_holders = holders;
-        no_flattenings = flattenings;
-      })
+          (index_was_synced last issued table.writers (with_row (index_synced row) table.writers) tree after row row.landed at w (turned_put table.writers (index_synced row)) (omega arith) (c.done done))
+      | inr other ↦ subst (λ x. AreRight last issued x after) (sym (index_rows row table told other)) (elim c.either as (λ _. AreSound last issued table.writers after) [
+        | inl synced ↦ index_was_synced last issued table.writers table.writers tree after row row.index_mark at w (turned_same table.writers row.id row w.stands) (its_index_mark last issued table.writers tree row w) synced
+        | inr same ↦ subst (AreSound last issued table.writers) (sym same) w.sound
+      ])
     ]
 
 -- Syncing an index dropping keeps soundness.
@@ -201,4 +195,4 @@ sync_index_keeps issued old caller writer reply new r f a =
     (λ row stands at makes.
     let is : rank row.stage ≡ 4 = at_only stage.Open row.stage at in
     makes_accounted (sync_index_step row) (sync_index_outcome row old.table) (λ x. issued) old reply new a.tree a.told
-    (index_told (last_id old) issued old.table a.tree row is a.right.no_holders a.right.no_flattenings (working issued old writer row r a stands (omega arith))) makes)
+    (index_told (last_id old) issued old.table a.tree row is (working issued old writer row r a stands (omega arith))) makes)

@@ -8,6 +8,7 @@ use Rattle.mount_model.specs.State.{State}
 use Rattle.mount_shape.specs.Marks.{IsOfMark}
 use Rattle.mount_shape.specs.Shape.{IsShapedTree}
 use Rattle.mount_shape.proofs.Facts.{left_shaped, empty_shaped}
+use Rattle.mount_sound.specs.Flats.{AreRightFlats}
 use Rattle.mount_sound.specs.Ledger.{AreWritesOf, Ledger}
 use Rattle.mount_sound.specs.Sound.{AreSoundRooms, IsSoundFor, IsSoundTree}
 use Rattle.mount_sound.proofs.Landing.{no_writes, landed_ledger, whole, landed_fitting, landed_roomless, landed_valid}
@@ -25,11 +26,12 @@ empty_sound tree none = record {
   all_landed = λ number room there writer fits. absurd (no_room tree number room none there);
   fitting = λ number writer past. refl;
   roomless = λ number writer e. refl;
+  flats = λ number room there. absurd (no_room tree number room none there);
 }
 
 -- A tree of the right shape whose rooms are sound for what was issued is sound: what hasn't landed is lost.
-pub sound_tree : (issued : Ledger) (rows : List Row) (tree : Tree) → IsShapedTree (IsOfMark tree) tree → AreSoundRooms issued rows tree → ((number writer : ℕ) → AreWritesOf writer (issued number writer)) → IsSoundTree tree
-sound_tree issued rows tree shaped rooms writes = record {
+pub sound_tree : (issued : Ledger) (rows : List Row) (tree : Tree) → IsShapedTree (IsOfMark tree) tree → AreSoundRooms issued rows tree → ((number writer : ℕ) → AreWritesOf writer (issued number writer)) → AreRightFlats tree → IsSoundTree tree
+sound_tree issued rows tree shaped rooms writes flats = record {
   shaped = shaped;
   issued = landed_ledger issued rows tree rooms;
   rooms = λ number room there. record {
@@ -41,8 +43,9 @@ sound_tree issued rows tree shaped rooms writes = record {
   all_landed = λ number room there writer fits. (whole issued rows tree rooms number room there writer fits).1;
   fitting = landed_fitting issued rows tree rooms;
   roomless = landed_roomless issued rows tree rooms;
+  flats = flats;
 }
 
 -- The tree that a mount leaves is sound for the next one.
 pub left_sound : (issued : Ledger) (state : State) (s : IsSoundFor issued state) → IsSoundTree s.shape.tree
-left_sound issued state s = sound_tree issued state.table.writers s.shape.tree (left_shaped state s.shape) s.sound.rooms s.sound.writes
+left_sound issued state s = sound_tree issued state.table.writers s.shape.tree (left_shaped state s.shape) s.sound.rooms s.sound.writes s.flats

@@ -11,7 +11,7 @@ use Rattle.container_layout.specs.Paths.{hostdir_of}
 use Rattle.store_api.specs.declared.tree.Room.{Room}
 use Rattle.store_laws.specs.Files.{file_at, kept_at}
 use Rattle.store_laws.specs.Prefix.{IsPrefix}
-use Rattle.store_laws.proofs.Facts.{prefix-append, prefix-over, prefix_front}
+use Rattle.store_laws.proofs.Facts.{prefix-append, prefix-over, prefix_front, prefix_length}
 use Rattle.mount_model.specs.declared.row.Row.{Row}
 use Rattle.mount_model.specs.Paths.{index_path, log_path}
 use Rattle.mount_model.specs.Table.{rank}
@@ -22,7 +22,7 @@ use Rattle.mount_sound.specs.Ledger.{Written, entries_in, content, AreFull, AreW
 use Rattle.mount_sound.specs.Issued.{written_by}
 use Rattle.mount_sound.specs.Items.{HasItem}
 use Rattle.mount_sound.specs.Dropping.{bytes_of, log_bytes}
-use Rattle.mount_sound.specs.Kept.{Begins, IsAtStage, IsKept}
+use Rattle.mount_sound.specs.Kept.{AreItsNumbers, Begins, IsAtStage, IsKept}
 use Rattle.mount_sound.proofs.Building.{not_closing}
 use Rattle.mount_sound.proofs.Frames.{Fits}
 use Rattle.mount_sound.proofs.Items.{SameButItem, is_index, is_open}
@@ -61,6 +61,19 @@ full_push (v ∷ issued) w f e = (f.0, full_push issued w f.1 e)
 log_written : (row : Row) (issued : List Written) (old bytes : List ℕ) → row.stored ≡ logged (entries_in issued) → AreFull issued → IsPrefix (content issued) old → IsPrefix (content issued ++ bytes) (overwritten old row.stored bytes)
 log_written row issued old bytes stored full p = prefix-over (content issued) old bytes row.stored p (omega (arith, stored, length-content issued full))
 
+log_there : (room : Room) (row : Row) (issued : List Written) (old : List ℕ) → IsPrefix (content issued) (log_bytes room row.host row.id) → file_at room (log_path row.host row.id) ≡ Some old → IsPrefix (content issued) old
+log_there room row issued old p e = subst (λ o. IsPrefix (content issued) (bytes_of o)) e p
+
+-- so the log begins with what was issued before
+still_begins : (room new : Room) (row : Row) (issued : List Written) (old bytes : List ℕ) → row.stored ≡ logged (entries_in issued) → AreFull issued → IsPrefix (content issued) (log_bytes room row.host row.id) → file_at room (log_path row.host row.id) ≡ Some old → file_at new (log_path row.host row.id) ≡ Some (overwritten old row.stored bytes)
+    → IsPrefix (content issued) (log_bytes new row.host row.id)
+still_begins room new row issued old bytes stored full p there now =
+    subst (λ f. IsPrefix (content issued) (bytes_of f)) (sym now) (prefix_front (content issued) bytes (overwritten old row.stored bytes) (log_written row issued old bytes stored full (log_there room row issued old p there)))
+
+-- and is as long as its mark
+mark_within : (row : Row) (issued : List Written) (log : List ℕ) → AreItsNumbers row (entries_in issued) → AreFull issued → IsPrefix (content issued) log → row.log_mark ≤ length log
+mark_within row issued log n full p = omega (arith, n.log_mark, n.stored, length-content issued full, prefix_length (content issued) log p)
+
 -- the stage of a writer whose log was written, with more in its buffer
 logging_stage : (room new : Room) (row : Row) (bytes : List ℕ) (es : List Entry) → Fits row → rank row.stage ≡ 4 → IsAtStage room row es → SameButItem (Log row.host row.id) room new → file_at new (log_path row.host row.id) ≡ Some bytes
     → (last stored end : ℕ) (pending es' : List Entry) → IsAtStage new (record row { last = last; stored = stored; end = end; pending = record row.pending { entries = pending } }) es'
@@ -78,9 +91,6 @@ logging_stage room new row bytes es fits at a b now last stored end pending es' 
 index_same : (room new : Room) (row : Row) (es : List Entry) → Fits row → SameButItem (Log row.host row.id) room new → MatchOption (file_at room (index_path row.host row.id)) (row.landed ≡ 0) (Begins es row.landed) → MatchOption (file_at new (index_path row.host row.id)) (row.landed ≡ 0) (Begins es row.landed)
 index_same room new row es fits b m = subst (λ o. MatchOption o (row.landed ≡ 0) (Begins es row.landed)) (sym (b.others (Index row.host row.id) (is_index row.host row.id fits.host fits.id) (λ e. cc))) m
 
-log_there : (room : Room) (row : Row) (issued : List Written) (old : List ℕ) → IsPrefix (content issued) (log_bytes room row.host row.id) → file_at room (log_path row.host row.id) ≡ Some old → IsPrefix (content issued) old
-log_there room row issued old p e = subst (λ o. IsPrefix (content issued) (bytes_of o)) e p
-
 -- an open writer has no metadata dropping
 no_meta : (room new : Room) (row : Row) (es : List Entry) (last bytes stamp : ℕ) (inside : List ℕ) → rank row.stage ≡ 4 → IsAtStage room row es → SameButItem (Log row.host row.id) room new → HasItem new (Meta last bytes stamp row.host row.id) inside → ⊥
 no_meta room new row es last bytes stamp inside at a b h =
@@ -89,22 +99,24 @@ no_meta room new row es last bytes stamp inside at a b h =
 -- a part of the bytes was logged, and the row stays
 pub log_part_holds : (room new : Room) (row : Row) (issued : List Written) (old bytes : List ℕ) → Fits row → rank row.stage ≡ 4 → IsKept room row issued → IsAtStage room row (entries_in issued) → Own room row issued → AreFull issued → SameButItem (Log row.host row.id) room new
     → file_at room (log_path row.host row.id) ≡ Some old → file_at new (log_path row.host row.id) ≡ Some (overwritten old row.stored bytes) → row.log_mark ≤ kept_at new (log_path row.host row.id) → Holds new row issued
-log_part_holds room new row issued old bytes fits at k a o full b there now kept = record {
-  kept = record {
-    in_order = k.in_order;
-    numbers = k.numbers;
-    index = index_same room new row (entries_in issued) fits b k.index;
-    log_kept = kept;
-    index_kept = omega (arith, k.index_kept, b.kepts (Index row.host row.id) (is_index row.host row.id fits.host fits.id) (λ e. cc));
-    alive = λ live. logging_stage room new row (overwritten old row.stored bytes) (entries_in issued) fits at a b now row.last row.stored row.end row.pending.entries (entries_in issued);
-  };
-  live = live_stage row.stage (omega arith);
-  own = record {
-    one_host = one_host_kept (Log row.host row.id) row.host row.id room new refl b o.one_host;
-    log = subst (λ f. IsPrefix (content issued) (bytes_of f)) (sym now) (prefix_front (content issued) bytes (overwritten old row.stored bytes) (log_written row issued old bytes k.numbers.stored full (log_there room row issued old o.log there)));
-    told = λ last count stamp inside h. absurd (no_meta room new row (entries_in issued) last count stamp inside at a b h);
-  };
-}
+log_part_holds room new row issued old bytes fits at k a o full b there now kept =
+    let begins = still_begins room new row issued old bytes k.numbers.stored full o.log there now in record {
+      kept = record {
+        in_order = k.in_order;
+        numbers = k.numbers;
+        index = index_same room new row (entries_in issued) fits b k.index;
+        log_long = mark_within row issued (log_bytes new row.host row.id) k.numbers full begins;
+        log_kept = kept;
+        index_kept = omega (arith, k.index_kept, b.kepts (Index row.host row.id) (is_index row.host row.id fits.host fits.id) (λ e. cc));
+        alive = λ live. logging_stage room new row (overwritten old row.stored bytes) (entries_in issued) fits at a b now row.last row.stored row.end row.pending.entries (entries_in issued);
+      };
+      live = live_stage row.stage (omega arith);
+      own = record {
+        one_host = one_host_kept (Log row.host row.id) row.host row.id room new refl b o.one_host;
+        log = begins;
+        told = λ last count stamp inside h. absurd (no_meta room new row (entries_in issued) last count stamp inside at a b h);
+      };
+    }
 
 may_follow : (stamp : ℕ) (row : Row) (es : List Entry) (at len : ℕ) → row.stored ≡ logged es → row.last ≡ last_stamp 0 es → row.last < stamp → row.floor < stamp → stamp < 2 ^ 63 → MayWrite row at len → 1 ≤ len → MayFollow row.id (last_stamp row.floor es) (0 + logged es) (entry_of stamp row at len)
 may_follow stamp row es at len stored last past above fits f some = record {
@@ -142,6 +154,7 @@ log_whole_holds stamp room new row issued old at bytes fits is k a o full b s f 
         };
         index = subst (λ l. MatchOption (file_at new (index_path row.host row.id)) (row.landed ≡ 0) (Begins l row.landed)) push
             (begins_push es row.landed e (file_at new (index_path row.host row.id)) (index_same room new row es fits b k.index));
+        log_long = mark_within row issued (log_bytes new row.host row.id) k.numbers full (still_begins room new row issued old bytes k.numbers.stored full o.log there now);
         log_kept = kept;
         index_kept = omega (arith, k.index_kept, b.kepts (Index row.host row.id) (is_index row.host row.id fits.host fits.id) (λ e. cc));
         alive = λ live. logging_stage room new row (overwritten old row.stored bytes) es fits is a b now stamp (row.stored + length bytes) (max row.end (at + length bytes)) (row.pending.entries ++ e ∷ []) (entries_in (issued ++ written_by row stamp at bytes ∷ []));

@@ -82,21 +82,17 @@ not_noted issued stamp row at bytes table (Err Fault) other = (refl, refl)
 not_noted issued stamp row at bytes table (Err NoMemory) other = (refl, refl)
 not_noted issued stamp row at bytes table told other = (refl, refl)
 
-write_outcomes : (last stamp : ℕ) (issued : Ledger) (table : Table) (tree : Tree) (row : Row) (at : ℕ) (bytes : List ℕ) → rank row.stage ≡ 4 → table.holders ≡ [] → table.flattenings ≡ [] → Working last issued table.writers tree row → IsStamp row.last row.floor stamp → MayWrite row at (length bytes) → 1 ≤ length bytes
+write_outcomes : (last stamp : ℕ) (issued : Ledger) (table : Table) (tree : Tree) (row : Row) (at : ℕ) (bytes : List ℕ) → rank row.stage ≡ 4 → Working last issued table.writers tree row → IsStamp row.last row.floor stamp → MayWrite row at (length bytes) → 1 ≤ length bytes
     → (told : Told) (after : Tree) → Tells (write_step row bytes) tree told after → AreRight last (noted issued (Some row) at bytes (write_outcome stamp row at (length bytes) table told).reply) (write_outcome stamp row at (length bytes) table told).table after
-write_outcomes last stamp issued table tree row at bytes is holders flattenings w s f some told after t = elim (write_told row.room (log_path row.host row.id) row.stored bytes tree told after t) as (λ _. AreRight last (noted issued (Some row) at bytes (write_outcome stamp row at (length bytes) table told).reply) (write_outcome stamp row at (length bytes) table told).table after) [
+write_outcomes last stamp issued table tree row at bytes is w s f some told after t = elim (write_told row.room (log_path row.host row.id) row.stored bytes tree told after t) as (λ _. AreRight last (noted issued (Some row) at bytes (write_outcome stamp row at (length bytes) table told).reply) (write_outcome stamp row at (length bytes) table told).table after) [
   | inl done ↦ subst (λ x. AreRight last (noted issued (Some row) at bytes (write_outcome stamp row at (length bytes) table x).reply) (write_outcome stamp row at (length bytes) table x).table after) (sym done.0)
-      (record { sound = log_whole last stamp issued table.writers tree after row at bytes is w s f some done.1; no_holders = holders; no_flattenings = flattenings })
+      (log_whole last stamp issued table.writers tree after row at bytes is w s f some done.1)
   | inr stays ↦
       let n = not_noted issued stamp row at bytes table told stays.0 in
-      let right : AreRight last issued table after = record {
-        sound = elim stays.1 as (λ _. AreSound last issued table.writers after) [
-          | inl same ↦ subst (AreSound last issued table.writers) (sym same) w.sound
-          | inr part ↦ log_part last issued table.writers tree after row (take part.0 bytes) is w part.2
-        ];
-        no_holders = holders;
-        no_flattenings = flattenings;
-      } in
+      let right : AreRight last issued table after = (elim stays.1 as (λ _. AreSound last issued table.writers after) [
+        | inl same ↦ subst (AreSound last issued table.writers) (sym same) w.sound
+        | inr part ↦ log_part last issued table.writers tree after row (take part.0 bytes) is w part.2
+      ]) in
       subst (λ l. AreRight last l (write_outcome stamp row at (length bytes) table told).table after) (sym n.0) (subst (λ x. AreRight last issued x after) (sym n.1) right)
 ]
 
@@ -105,7 +101,7 @@ write_row issued old row at bytes reply new a is w f = elim (match_cases (write_
   | inl (none, writes) ↦
       let m = may_write row at (length bytes) none in
       makes_accounted (write_step row bytes) (write_outcome (stamp_at writes.time row) row at (length bytes) old.table) (λ r. noted issued (Some row) at bytes r) (timed writes.times old) reply new a.tree a.told
-      (write_outcomes (last_id old) (stamp_at writes.time row) issued old.table a.tree row at bytes is a.right.no_holders a.right.no_flattenings w (next_is_stamp writes.time row.last row.floor m.last m.floor) m writes.some) writes.makes
+      (write_outcomes (last_id old) (stamp_at writes.time row) issued old.table a.tree row at bytes is w (next_is_stamp writes.time row.last row.floor m.last m.floor) m writes.some) writes.makes
   | inr (why, some, refused) ↦ subst (λ r. IsAccounted (noted issued (Some row) at bytes r) new) (sym refused.0) (refused_accounted issued why old reply new refused a)
 ]
 

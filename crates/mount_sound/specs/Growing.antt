@@ -1,16 +1,32 @@
--- What only grows from step to step.
-use Rattle.std.specs.Prelude.{◌≡◌, ◌≤◌, ℕ, List, ◌++◌, length, Some, slice_get}
-use Rattle.plfs_types.specs.declared.names.Path.{Path}
+-- What stays, and what only grows from step to step.
+use Rattle.std.specs.Prelude.{◌≡◌, ◌≤◌, ℕ, ◌*◌, List, ◌++◌, length, Some, slice_get}
+use Rattle.plfs_types.specs.declared.limits.TheConstants.{ENTRY_SIZE}
+use Rattle.container_layout.specs.declared.items.Item.{Item}
+use Rattle.container_layout.specs.declared.items.Item.TheVariants.{OpenHost, TmpFlat, TmpPacked, Index, Log}
 use Rattle.store_api.specs.declared.tree.Room.{Room}
 use Rattle.store_api.specs.declared.tree.Tree.{Tree}
-use Rattle.store_laws.specs.Files.{file_at}
-use Rattle.mount_model.specs.Paths.{openhosts}
 use Rattle.mount_sound.specs.Ledger.{Written, Ledger}
+use Rattle.mount_sound.specs.Items.{HasItem}
+use Rattle.mount_sound.specs.There.{landed_in}
 
--- each file but an entry of an open writer stays, and none of them gets shorter
-abbrev pub FilesGrow : Tree → Tree → Type 0
-FilesGrow tree after = (n : ℕ) (room : Room) (path : Path) (bytes : List ℕ) → slice_get tree.rooms n ≡ Some room → (path.folder ≡ openhosts → ⊥) → file_at room path ≡ Some bytes
-    → (new : Room) × (longer : List ℕ) × (slice_get after.rooms n ≡ Some new) × (file_at new path ≡ Some longer) × (length bytes ≤ length longer)
+-- an item that stays once it stands: any but an entry of an open writer, and an index that is being written
+abbrev pub Stays : Item → Type 0
+Stays (OpenHost host writer) = ⊥
+Stays (TmpFlat id) = ⊥
+Stays (TmpPacked host id) = ⊥
+Stays item = Unit {0}
+
+-- how long the item's file is later at least: a log doesn't get shorter, and an index dropping loses no entry that has
+-- landed in it
+abbrev pub least_length : Room → Item → List ℕ → ℕ
+least_length room (Log host writer) bytes = length bytes
+least_length room (Index host writer) bytes = ENTRY_SIZE * landed_in room host writer
+least_length room item bytes = 0
+
+-- each item that stays is there later, and its file is so long
+abbrev pub ItemsStay : Tree → Tree → Type 0
+ItemsStay tree after = (n : ℕ) (room : Room) (item : Item) (bytes : List ℕ) → slice_get tree.rooms n ≡ Some room → Stays item → HasItem room item bytes
+    → (new : Room) × (later : List ℕ) × (slice_get after.rooms n ≡ Some new) × HasItem new item later × (least_length room item bytes ≤ length later)
 
 -- the later writes are the earlier ones and more
 abbrev pub IsMore : List Written → List Written → Type 0

@@ -16,6 +16,7 @@ use Rattle.mount_model.specs.Table.{rank, is_live}
 use Rattle.mount_sound.specs.Entries.{AreEntriesOf, logged, last_stamp, greatest_end}
 use Rattle.mount_sound.specs.Ledger.{Written, entries_in}
 use Rattle.mount_sound.specs.Items.{HasItem, HasMeta}
+use Rattle.mount_sound.specs.Dropping.{log_bytes}
 
 -- an index dropping begins the writer's entries, and has at least so many of them
 pub record Begins (issued : List Entry) (landed : ℕ) (bytes : List ℕ) : Type 0 where
@@ -51,6 +52,7 @@ pub record IsKept (room : Room) (row : Row) (issued : List Written) : Type 0 whe
   pub numbers : AreItsNumbers row (entries_in issued)
   pub index : MatchOption (file_at room (index_path row.host row.id)) (row.landed ≡ 0) (Begins (entries_in issued) row.landed)
   -- no loss of power takes what was synced
+  pub log_long : row.log_mark ≤ length (log_bytes room row.host row.id)
   pub log_kept : row.log_mark ≤ kept_at room (log_path row.host row.id)
   pub index_kept : ENTRY_SIZE * row.index_mark ≤ kept_at room (index_path row.host row.id)
   pub alive : is_live row.stage ≡ true → IsAtStage room row (entries_in issued)

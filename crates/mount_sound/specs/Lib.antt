@@ -4,8 +4,15 @@ pub mod Items
 pub mod Dropping
 pub mod Fitting
 pub mod Kept
+pub mod There
+pub mod Keeping
+pub mod Held
+pub mod Flats
 pub mod Sound
+pub mod Owed
+pub mod Installed
+pub mod Excluding
+pub mod Recovered
 pub mod Issued
 pub mod Growing
 pub mod Landed
-pub mod There

@@ -13,6 +13,8 @@ use Rattle.mount_sound.specs.Ledger.{Written, AreWritesOf, Ledger}
 use Rattle.mount_sound.specs.Items.{HasItem}
 use Rattle.mount_sound.specs.Dropping.{IsWriter}
 use Rattle.mount_sound.specs.Kept.{IsKept}
+use Rattle.mount_sound.specs.Held.{AreHeld}
+use Rattle.mount_sound.specs.Flats.{AreRightFlats, AreBeingMade}
 
 -- no two truncates of the room have one stamp
 abbrev pub TruncatesDiffer : Room → Type 0
@@ -36,18 +38,8 @@ pub record AreSound (last : ℕ) (issued : Ledger) (rows : List Row) (tree : Tre
   pub fresh : (number writer : ℕ) → last < writer → issued number writer ≡ []
   pub roomless : (number writer : ℕ) → slice_get tree.rooms number ≡ None → issued number writer ≡ []
 
--- The mount's store tells a tree of the right shape, and it is sound for what was issued. Nobody holds a room, or flattens, yet.
-pub record IsSoundFor (issued : Ledger) (state : State) : Type 0 where
-  pub regular : IsRegular state
-  pub shape : IsShaped state
-  pub sound : AreSound (last_id state) issued state.table.writers shape.tree
-  pub no_holders : state.table.holders ≡ []
-  pub no_flattenings : state.table.flattenings ≡ []
-
-abbrev pub IsSound : State → Type 0
-IsSound state = (issued : Ledger) × IsSoundFor issued state
-
--- A tree is sound where its droppings alone account for what it holds: all that their writers issued has landed.
+-- A tree is sound where its droppings alone account for what it holds: all that their writers issued has landed; and
+-- where its flattened indices are right.
 pub record IsSoundTree (tree : Tree) : Type 0 where
   pub shaped : IsShapedTree (IsOfMark tree) tree
   pub issued : Ledger
@@ -57,10 +49,25 @@ pub record IsSoundTree (tree : Tree) : Type 0 where
   -- ids have 64 bits
   pub fitting : (number writer : ℕ) → 2 ^ 64 ≤ writer → issued number writer ≡ []
   pub roomless : (number writer : ℕ) → slice_get tree.rooms number ≡ None → issued number writer ≡ []
+  pub flats : AreRightFlats tree
 
 -- the store told its tree as mounting began, and that was sound
 abbrev pub IsClean : State → Type 0
 IsClean state = (tree : Tree) × (state.opened.tree ≡ Some tree) × IsSoundTree tree
+
+-- The store told a sound tree as mounting began. It tells a tree of the right shape now, which is sound for what was
+-- issued; who holds a room keeps writers out of it, and flattened indices are right, made and in the making.
+pub record IsSoundFor (issued : Ledger) (state : State) : Type 0 where
+  pub clean : IsClean state
+  pub regular : IsRegular state
+  pub shape : IsShaped state
+  pub sound : AreSound (last_id state) issued state.table.writers shape.tree
+  pub held : AreHeld state.table.holders shape.tree
+  pub flats : AreRightFlats shape.tree
+  pub flattenings : AreBeingMade state.table.flattenings shape.tree
+
+abbrev pub IsSound : State → Type 0
+IsSound state = (issued : Ledger) × IsSoundFor issued state
 
 -- the table is regular, and where the state is clean, it is sound
 pub record IsFine (state : State) : Type 0 where

@@ -7,18 +7,19 @@ ghost use Rattle.store_api.specs.Acts.{Stored};
 ghost use Rattle.mount_model.specs.declared.call.Ask.{Ask};
 ghost use Rattle.mount_model.specs.declared.reply.Reply.{Reply};
 ghost use Rattle.mount_model.specs.State.{State};
-ghost use Rattle.mount_model.specs.Step.{IsStep, IsOwed};
+ghost use Rattle.mount_model.specs.Step.{IsStep};
 ghost use Rattle.mount_model.specs.declared.trouble.MountTrouble.{MountTrouble};
 ghost use Rattle.mount_model.specs.Failing.{FailsToMount};
 ghost use Rattle.mount_model.specs.Mounting.{IsMounted};
-ghost use Rattle.mount_model.specs.History.{Event, IsLawful, state_after, told_tree_after};
+ghost use Rattle.mount_model.specs.History.{Event, IsLegal, state_after, told_tree_after};
 ghost use Rattle.mount_sound.specs.Ledger.{Ledger, entries_in};
 ghost use Rattle.mount_sound.specs.Items.{HasItem};
 ghost use Rattle.mount_sound.specs.Sound.{IsSoundFor, IsSoundTree, IsFine};
 ghost use Rattle.mount_sound.specs.Landed.{HasLanded, whole};
 ghost use Rattle.mount_sound.specs.There.{landed_entries, landed_in};
-ghost use Rattle.mount_sound.specs.Growing.{FilesGrow, IssuesMore};
+ghost use Rattle.mount_sound.specs.Growing.{IssuesMore, ItemsStay};
 ghost use Rattle.mount_sound.specs.Issued.{issued, issued_after};
+ghost use Rattle.mount_sound.specs.Owed.{May, AreAllowed, IsLawful};
 
 /// A tree with no rooms is sound.
 pub fn an_empty_tree_is_sound()
@@ -36,12 +37,18 @@ pub fn a_failed_mounting_leaves_a_sound_tree()
         → (after : Tree) × (left.tree ≡ Some after) × IsSoundTree after }
 {}
 
-/// A step of the mount whose caller owed no more than it met keeps soundness, for what was issued by then.
-pub fn steps_keep_soundness()
-    ensures { (before : Ledger) (old new : State) (caller : ℕ) (ask : Ask) (reply : Reply) → IsOwed ask → IsStep old caller ask reply new → IsSoundFor before old → IsSoundFor (issued_after before old ask.call reply) new }
+/// A history is lawful where it is legal and no caller owes more than it met.
+pub fn lawful_is_legal_and_allowed()
+    ensures to { (start : State) (events : List Event) → IsLawful start events → IsLegal start events × AreAllowed start events }
+    ensures from { (start : State) (events : List Event) → IsLegal start events → AreAllowed start events → IsLawful start events }
 {}
 
-/// Soundness lasts along each legal history, for what was issued in it.
+/// A step of the mount whose caller owed no more than it met keeps soundness, for what was issued by then.
+pub fn steps_keep_soundness()
+    ensures { (before : Ledger) (old new : State) (caller : ℕ) (ask : Ask) (reply : Reply) → May old caller ask → IsStep old caller ask reply new → IsSoundFor before old → IsSoundFor (issued_after before old ask.call reply) new }
+{}
+
+/// Soundness lasts along each lawful history, for what was issued in it.
 pub fn soundness_lasts()
     ensures { (before : Ledger) (start : State) (events : List Event) → IsLawful start events → IsSoundFor before start → IsSoundFor (issued before start events) (state_after start events) }
 {}
@@ -58,7 +65,7 @@ pub fn mounting_is_fine()
 
 /// A step of the mount whose caller owed no more than it met keeps a fine state fine.
 pub fn fineness_lasts()
-    ensures { (old new : State) (caller : ℕ) (ask : Ask) (reply : Reply) → IsOwed ask → IsStep old caller ask reply new → IsFine old → IsFine new }
+    ensures { (old new : State) (caller : ℕ) (ask : Ask) (reply : Reply) → May old caller ask → IsStep old caller ask reply new → IsFine old → IsFine new }
 {}
 
 /// The whole entries of each index dropping of a sound mount are the first that its writer issued, and its log begins
@@ -74,7 +81,7 @@ pub fn what_is_told_has_landed()
         → landed_entries room host writer ≡ take (min (whole bytes) (length (issued number writer))) (entries_in (issued number writer)) }
 {}
 
-/// Along a history of a sound mount the entries that have landed in an index dropping stay, and more come or none.
+/// Along a lawful history of a sound mount the entries that have landed in an index dropping stay, and more come or none.
 pub fn landed_never_falls()
     ensures { (before : Ledger) (start : State) (events : List Event) → IsLawful start events → IsSoundFor before start
         → (tree after : Tree) → start.store.tree ≡ Some tree → told_tree_after start events ≡ Some after
@@ -83,9 +90,11 @@ pub fn landed_never_falls()
         → (landed_in room host writer ≤ landed_in new host writer) × (take (landed_in room host writer) (landed_entries new host writer) ≡ landed_entries room host writer) }
 {}
 
-/// Along a legal history each file but an entry of an open writer stays, and none of them gets shorter.
-pub fn files_only_grow()
-    ensures { (start : State) (events : List Event) (tree : Tree) → IsLawful start events → start.store.tree ≡ Some tree → (after : Tree) × (told_tree_after start events ≡ Some after) × FilesGrow tree after }
+/// Along a lawful history of a sound mount each item but an entry of an open writer, and an index that is being written,
+/// stays; no log gets shorter, and no index dropping loses an entry that has landed in it.
+pub fn what_stands_stays()
+    ensures { (before : Ledger) (start : State) (events : List Event) → IsLawful start events → IsSoundFor before start
+        → (tree after : Tree) → start.store.tree ≡ Some tree → told_tree_after start events ≡ Some after → ItemsStay tree after }
 {}
 
 /// Along a history more is issued, or nothing.

@@ -5,11 +5,17 @@
 //! has no code beyond its laws.
 #![tactic(auto)]
 
+mod exclusion;
+mod installed;
 mod laws;
+mod recovery;
 
+pub use exclusion::{a_truncate_comes_after_all, holders_keep_writers_out};
+pub use installed::{flattened_indices_stay, what_is_installed_is_right};
 pub use laws::{
     a_failed_mounting_leaves_a_sound_tree, a_left_tree_is_sound, an_empty_tree_is_sound,
-    files_only_grow, fineness_lasts, issues_only_grow, landed_never_falls, mounting_is_fine,
-    mounting_is_sound, soundness_lasts, steps_keep_soundness, what_is_told_has_landed,
-    what_landed_was_issued,
+    fineness_lasts, issues_only_grow, landed_never_falls, lawful_is_legal_and_allowed,
+    mounting_is_fine, mounting_is_sound, soundness_lasts, steps_keep_soundness,
+    what_is_told_has_landed, what_landed_was_issued, what_stands_stays,
 };
+pub use recovery::{only_the_dead_are_recovered, what_recovery_leaves};

@@ -15,13 +15,18 @@ use Rattle.store_laws.specs.There.{LacksFolder, HoldsFile, LacksFile, EndsBefore
 use Rattle.store_laws.proofs.Facts.{acts_told}
 use Rattle.mount_model.specs.declared.reply.Reply.{Reply}
 use Rattle.mount_model.specs.declared.reply.Refusal.{Refusal}
-use Rattle.mount_model.specs.declared.reply.Refusal.TheVariants.{NotOpen}
+use Rattle.mount_model.specs.declared.reply.Refusal.TheVariants.{NotHolder, NotOpen}
 use Rattle.mount_model.specs.declared.row.Row.{Row}
 use Rattle.mount_model.specs.declared.row.Stage.{Stage}
+use Rattle.mount_model.specs.declared.row.Holder.{Holder}
+use Rattle.mount_model.specs.declared.row.Flattening.{Flattening}
+use Rattle.mount_model.specs.declared.row.FlatStage.{FlatStage}
+use Rattle.mount_model.specs.Flattening.{OnFlattening}
+use Rattle.mount_model.specs.Holding.{OnHolder}
 use Rattle.mount_model.specs.Making.{Told, CallOutcome, otherwise, MakesAct, Refuses, OnWriter, UnlessRefused}
 use Rattle.mount_model.specs.State.{State}
-use Rattle.mount_model.specs.Table.{writer_of}
-use Rattle.mount_model.proofs.Facts.{match_cases, IsHeld, is_held}
+use Rattle.mount_model.specs.Table.{flattening_of, holder_of, writer_of}
+use Rattle.mount_model.proofs.Facts.{IsHeld, IsUnderway, is_held, is_underway, match_cases}
 use Rattle.mount_undamaged.specs.Damage.{ShowsNoDamage}
 
 -- ---- what is there is not lacking
@@ -97,6 +102,18 @@ pub writer_shows : (caller : ℕ) (stages : Stage → Bool) (id : ℕ) (old : St
 writer_shows caller stages id old reply new does on shows = elim (match_cases (writer_of caller stages id old.table.writers) (Refuses NotOpen old reply new) does on) as (λ _. ShowsNoDamage reply) [
   | inl (none, refused) ↦ refused_shows NotOpen old reply new refused
   | inr (row, is, made) ↦ shows row (is_held caller stages id old.table.writers row is) made
+]
+
+pub holder_shows : (caller number : ℕ) (old : State) (reply : Reply) (new : State) (does : Holder → Type 0) → OnHolder caller number old reply new does → ((h : Holder) → holder_of caller number old.table.holders ≡ Some h → does h → ShowsNoDamage reply) → ShowsNoDamage reply
+holder_shows caller number old reply new does on shows = elim (match_cases (holder_of caller number old.table.holders) (Refuses NotHolder old reply new) does on) as (λ _. ShowsNoDamage reply) [
+  | inl (none, refused) ↦ refused_shows NotHolder old reply new refused
+  | inr (h, is, made) ↦ shows h is made
+]
+
+pub flattening_shows : (caller : ℕ) (stage : FlatStage) (id : ℕ) (old : State) (reply : Reply) (new : State) (does : Flattening → Type 0) → OnFlattening caller stage id old reply new does → ((f : Flattening) → IsUnderway caller stage id old.table.flattenings f → does f → ShowsNoDamage reply) → ShowsNoDamage reply
+flattening_shows caller stage id old reply new does on shows = elim (match_cases (flattening_of caller stage id old.table.flattenings) (Refuses NotOpen old reply new) does on) as (λ _. ShowsNoDamage reply) [
+  | inl (none, refused) ↦ refused_shows NotOpen old reply new refused
+  | inr (f, is, made) ↦ shows f (is_underway caller stage id old.table.flattenings f is) made
 ]
 
 pub check_shows : (check : Option Refusal) (old : State) (reply : Reply) (new : State) (does : Type 0) → UnlessRefused check old reply new does → (check ≡ None → does → ShowsNoDamage reply) → ShowsNoDamage reply

@@ -1,4 +1,8 @@
 mod Acting
+mod Containers
 mod Looking
 mod Writers
+mod Holding
+mod Flattening
+mod Recovering
 mod Steps

@@ -1,6 +1,6 @@
 -- Calls on writers show no damage in a sound mount.
-use Rattle.std.proofs.Common.{◌≡◌, ◌≢◌, ◌≤◌, ◌<◌, ◌*◌, ◌+◌, ◌^◌, ℕ, List, [], ◌∷◌, length, Option, Some, None, Bool, true, false, refl, ap, sym, ◌∙◌, inl, inr, subst, arith}
-use Rattle.std.specs.Prelude.{slice_get, MatchOption, Ok, Err, is_some, ◌||◌}
+use Rattle.std.proofs.Common.{◌≡◌, ◌≢◌, ◌≤◌, ◌<◌, ◌*◌, ◌+◌, ◌^◌, ℕ, List, [], ◌∷◌, length, Option, Some, Bool, true, refl, ap, sym, ◌∙◌, inl, inr, subst, arith}
+use Rattle.std.specs.Prelude.{slice_get, MatchOption, Ok, Err}
 use Rattle.std.specs.List.{Any}
 use Rattle.std.proofs.lemmas.List.Folds.{list_any-from_Any}
 use Rattle.plfs_types.specs.declared.entries.Entry.{Entry}
@@ -28,7 +28,7 @@ use Rattle.mount_model.specs.declared.row.Row.{Row}
 use Rattle.mount_model.specs.declared.row.Stage.{Stage}
 use Rattle.mount_model.specs.declared.row.Stage.TheVariants as stage
 use Rattle.mount_model.specs.Building.{build_outcome, hostdir_step, MakesHostdir, index_step, MakesIndex, log_step, MakesLog}
-use Rattle.mount_model.specs.Entering.{enter_check, next_id, entered, enter_step, enter_outcome, EntersAs, Enters}
+use Rattle.mount_model.specs.Entering.{draw_check, next_id, entered, enter_step, enter_outcome, EntersAs, Enters}
 use Rattle.mount_model.specs.Listed.{IsLeastOther, HasStamp}
 use Rattle.mount_model.specs.Flooring.{FloorOutcome, FloorsRow, Floors}
 use Rattle.mount_model.proofs.Facts.{no_item, IsHeld, at_only, may_enter, row_of_all}
@@ -47,7 +47,8 @@ use Rattle.mount_sound.specs.Kept.{Begins, IsAtStage, IsKept}
 use Rattle.mount_sound.specs.Ledger.{entries_in, content, Ledger}
 use Rattle.mount_sound.specs.Dropping.{bytes_of}
 use Rattle.mount_sound.specs.Sound.{IsSoundFor}
-use Rattle.mount_sound.proofs.Facts.{open_or_closing, new_id, is_open, Own, accounted, working, stage_live, Working, its_fit, its_kept, its_stage, its_own, length-content}
+use Rattle.mount_sound.proofs.Facts.{open_or_closing, new_id, is_open, Own, accounted, its_writers, working, stage_live, Working, its_fit, its_kept, its_stage, its_own, length-content}
+use Rattle.mount_undamaged.proofs.Containers.{names_item}
 use Rattle.mount_undamaged.proofs.Acting.{one_room, folder_there, file_there, no_file_there, long_enough, folder_other, create_other, IsThere, file_other, write_other, makes_show, writer_shows, check_shows}
 
 -- ---- the room of a writer
@@ -65,7 +66,7 @@ pub record Place (issued : Ledger) (tree : Tree) (allowed : ℕ → Type 0) (row
 
 place : (issued : Ledger) (old : State) (s : IsSoundFor issued old) (caller : ℕ) (stages : Stage → Bool) (writer : ℕ) (row : Row) → IsHeld caller stages writer old.table.writers row → rank row.stage < 6 → Place issued s.shape.tree (IsDrawnBy (last_id old) s.shape.tree) row
 place issued old s caller stages writer row held live =
-    let w : Working (last_id old) issued old.table.writers s.shape.tree row = working issued old writer row s.regular (accounted issued old s) held.found live in
+    let w : Working (last_id old) issued old.table.writers s.shape.tree row = working issued old writer row s.regular (accounted issued old (its_writers issued old s)) held.found live in
     let p = w.sound.placed row.id row w.stands in
     let apart : row.room ≢ old.marks = row_of_all (λ (x : Row). x.room ≢ old.marks) writer old.table.writers row s.regular.apart held.found in
     let fits = its_fit (last_id old) issued old.table.writers s.shape.tree row w p.0 p.1 in
@@ -98,7 +99,7 @@ enter_reply tree n path row table (Ok answer) why new = create_other tree n path
 
 pub enter_shows : (issued : Ledger) (old : State) (s : IsSoundFor issued old) (caller room host most : ℕ) (reply : Reply) (new : State) → Enters caller room host most old reply new → ShowsNoDamage reply
 enter_shows issued old s caller room host most reply new f =
-    check_shows (enter_check old room) old reply new (EntersAs caller room host most old reply new) f
+    check_shows (draw_check old room) old reply new (EntersAs caller room host most old reply new) f
     (λ none does.
     let c = may_enter old room none in
     let path : Path = open_path host (next_id old) in
@@ -110,10 +111,6 @@ enter_shows issued old s caller room host most reply new f =
 
 -- ---- the floor
 
-some_file : (o : Option (List ℕ)) (b : Bool) → b ≡ false → (is_some o || b) ≡ true → (bytes : List ℕ) × (o ≡ Some bytes)
-some_file None b no_other e = absurd (cc)
-some_file (Some bytes) b no_other e = (bytes, refl)
-
 listed : (name : Name) (names : List Name) → Any (λ (other : Name). other ≡ name) names → is_listed name names ≡ true
 listed name names a = list_any-from_Any (λ (other : Name). same_name other name) names (a.0, a.1, a.2, a.3, ap (λ (x : Name). same_name x name) a.4 ∙ name_refl name)
 
@@ -121,9 +118,8 @@ listed name names a = list_any-from_Any (λ (other : Name). same_name other name
 none_foreign : (allowed : ℕ → Type 0) (tree : Tree) (n : ℕ) (room : Room) (names : List Name) (name : Name) → slice_get tree.rooms n ≡ Some room → IsContainer allowed room → ListsFolder tree n truncs names → IsLeastOther HasStamp names name → ⊥
 none_foreign allowed tree n room names name there c l f =
     let same : l.room ≡ room = one_room l.room room (slice_get tree.rooms n) l.has_room there in
-    let entry = some_file (file_at l.room (record { folder = truncs; file = name })) _ refl (sym (l.entries.exactly name) ∙ listed name names f.there) in
-    let file = c.files (record { folder = truncs; file = name }) entry.0 (subst (λ r. file_at r (record { folder = truncs; file = name }) ≡ Some entry.0) same entry.1) in
-    no_item name f.foreign file.item file.is_at
+    let i = names_item allowed l.room truncs names name (subst (IsContainer allowed) (sym same) c) refl l.entries (listed name names f.there) in
+    no_item name f.foreign i.0 i.1
 
 floor_reply : (allowed : ℕ → Type 0) (tree : Tree) (row : Row) (room : Room) (table new : Table) (told : Told) (reply : Reply) → slice_get tree.rooms row.room ≡ Some room → IsContainer allowed room → ((answer : Answer) → told ≡ Ok answer → ListTells tree row.room truncs answer) → FloorOutcome row table told reply new → ShowsNoDamage reply
 floor_reply allowed tree row room table new (Ok (Names names)) reply there c says (inl f) = subst ShowsNoDamage (sym f.2) tt

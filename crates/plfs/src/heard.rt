@@ -1,4 +1,7 @@
 //! What is remembered of the standard streams, so that it can be said on standard error why a run ended.
+ghost use Rattle.std.specs.Prelude.{◌≡◌, [], false, None};
+ghost use Rattle.std.specs.Str.{IsUtf8};
+
 use std::alloc::Global;
 use std::cell::{Cell, RefCell};
 use std::io::{Read, Write};
@@ -34,7 +37,11 @@ pub struct Said {
 
 impl Said {
     /// Nothing was written.
-    pub fn new(alloc: Global) -> Said {
+    pub fn new(alloc: Global) -> Said
+        ensures line { result.line.items ≡ [] }
+        ensures ended { result.is_ended ≡ false }
+        ensures well { result.error ≡ None }
+    {
         Said {
             line: Vec::new(alloc),
             is_ended: false,
@@ -43,7 +50,10 @@ impl Said {
     }
 
     /// The last line without its line feed. It is empty where it is no text, or where memory was refused for it.
-    pub fn line(&self) -> &str {
+    pub fn line(&self) -> &str
+        ensures text { IsUtf8 self.now.line.items → result.now ≡ self.now.line.items }
+        ensures other { (¬ IsUtf8 self.now.line.items) → result.now ≡ [] }
+    {
         str::from_utf8(self.line.as_slice()).unwrap_or("")
     }
 

@@ -1,29 +1,33 @@
-//! The program `plfs`: the command of its words, over a real folder, the standard streams and the system's clock.
+//! The program `plfs`: the command of its words, over real folders, the standard streams and the system's clock.
 //! It owns no rule; all of them stand in the library `plfs_program`. Where a run ends with a status from 3 to 7, it
 //! says why on standard error, in one line.
 #![tactic(auto)]
 
+mod folders;
 mod heard;
 mod standard;
 
+use crate::folders::{MOST_FOLDERS, Stores, are_named, failed, folders_of, stores_of};
 use crate::heard::{Heard, Said, Saying};
 use crate::standard::{INPUT, OUTPUT, Standard};
 use edge_io::{NoGate, StdSink, StdSource, SystemClock};
 use plfs_program::{Ended, USAGE, plfs};
 use plfs_types::{NoMemory, Word};
+use spread_store::{Spread, SpreadTrouble};
 use std::alloc::Global;
 use std::cell::{Cell, RefCell};
-use std::env;
 use std::io::{self, Write};
 use std::process::ExitCode;
 use std::sync::Wait;
 use std::thread::Threads;
+use std::{env, str};
+use store_api::Store;
 use store_folder::{FolderStore, Place};
 
 /// What a run leaves: the store, the status, and what the standard streams told.
 #[derive(Drop)]
-struct Ran {
-    ended: Ended<FolderStore<HostRuntime>>,
+struct Ran<S: Drop> {
+    ended: Ended<S>,
     input: Option<io::Error>,
     said: Said,
 }
@@ -47,21 +51,60 @@ fn main(rt: HostRuntime) -> ExitCode {
     let Some((root, command)) = words.split_first() else {
         return usage(&rt);
     };
+    let Ok(folders) = folders_of(rt.alloc(), root) else {
+        return starved(&rt);
+    };
+    if folders.len() > 1 {
+        return serve_several(&rt, rt, root, &folders, command, &standard);
+    }
     let Ok(store) = FolderStore::open(rt, rt.alloc(), root) else {
         return starved(&rt);
     };
     let ran = run(&rt, &rt, command, store);
-    tell(&rt, root, &ran, &standard);
-    ExitCode::from(ran.ended.status)
+    let status = ran.ended.status;
+    tell(
+        &rt,
+        status,
+        root.as_str(),
+        ran.ended.store.as_ref(),
+        ran.input,
+        &ran.said,
+        &standard,
+    );
+    ExitCode::from(status)
+}
+
+// Runs the command over several folders as one store.
+fn serve_several<H: Threads + Wait>(
+    handle: &H,
+    rt: HostRuntime,
+    root: &Word,
+    folders: &[&str],
+    command: &[Word],
+    standard: &Standard,
+) -> ExitCode {
+    if folders.is_empty() || folders.len() > MOST_FOLDERS || !are_named(folders) {
+        return usage(&rt);
+    }
+    let Ok(stores) = stores_of(rt, folders) else {
+        return starved(&rt);
+    };
+    match Spread::open(rt.alloc(), stores) {
+        Ok(spread) => {
+            let ran = run(handle, &rt, command, spread);
+            tell_several(&rt, root, folders, ran, standard)
+        }
+        Err((stores, trouble)) => tell_unopened(&rt, root, folders, &stores, trouble, standard),
+    }
 }
 
 // Runs the command over the store, the standard streams and the system's clock.
-fn run<H: Threads + Wait>(
+fn run<H: Threads + Wait, S: Store + Drop>(
     handle: &H,
     rt: &HostRuntime,
     command: &[Word],
-    store: FolderStore<HostRuntime>,
-) -> Ran {
+    store: S,
+) -> Ran<S> {
     let input = Cell::new(None);
     let said = RefCell::new(Said::new(rt.alloc()));
     let mut source = StdSource::new(Heard {
@@ -91,22 +134,59 @@ fn run<H: Threads + Wait>(
     }
 }
 
-// Says on standard error why the run ended so, where its status is one of 3 to 7.
-fn tell(rt: &HostRuntime, root: &Word, ran: &Ran, standard: &Standard) {
-    let root = root.as_str();
-    match ran.ended.status {
+// Says on standard error why the run ended so, where its status is one of 3 to 7: of this folder, and its store.
+fn tell(
+    rt: &HostRuntime,
+    status: u8,
+    root: &str,
+    store: Option<&FolderStore<HostRuntime>>,
+    input: Option<io::Error>,
+    said: &Said,
+    standard: &Standard,
+) {
+    match status {
         3 => say_starved(rt),
-        4 => tell_fault(rt, root, ran),
-        5 => tell_stream(rt, "input: read", standard.has(INPUT), ran.input),
-        6 => tell_stream(rt, "output: write", standard.has(OUTPUT), ran.said.error),
-        7 => tell_damage(rt, root, ran),
+        4 => tell_fault(rt, root, store),
+        5 => tell_stream(rt, "input: read", standard.has(INPUT), input),
+        6 => tell_stream(rt, "output: write", standard.has(OUTPUT), said.error),
+        7 => tell_damage(rt, root, store, said),
         _ => {}
     }
 }
 
+// Says why a run over several folders ended so, of the folder where it did.
+fn tell_several(
+    rt: &HostRuntime,
+    root: &Word,
+    folders: &[&str],
+    ran: Ran<Spread<FolderStore<HostRuntime>>>,
+    standard: &Standard,
+) -> ExitCode {
+    let Ran { ended, input, said } = ran;
+    let Ended { store, status } = ended;
+    match store {
+        None => tell(rt, status, root.as_str(), None, input, &said, standard),
+        Some(spread) => {
+            let last = spread.last();
+            let stores = spread.close();
+            let place = if status == 4 {
+                failed(&stores, last)
+            } else {
+                last
+            };
+            let store = stores.as_slice().get(place);
+            match folders.get(place) {
+                Some(folder) => tell(rt, status, folder, store, input, &said, standard),
+                None => tell(rt, status, root.as_str(), store, input, &said, standard),
+            }
+        }
+    }
+    ExitCode::from(status)
+}
+
 // Says where the store failed, and why.
-fn tell_fault(rt: &HostRuntime, root: &str, ran: &Ran) {
-    let cause = match &ran.ended.store {
+fn tell_fault(rt: &HostRuntime, root: &str, store: Option<&FolderStore<HostRuntime>>) {
+    let cause = match store {
         Some(store) => store.cause(),
         None => None,
     };
@@ -114,6 +194,48 @@ fn tell_fault(rt: &HostRuntime, root: &str, ran: &Ran) {
         Some(cause) => eprintln!(rt; "plfs: {root}{cause}"),
         None => eprintln!(rt; "plfs: {root}: the store failed"),
     };
+}
+
+// Prints the line of several folders that can't be opened as one, and says why they can't.
+fn tell_unopened(
+    rt: &HostRuntime,
+    root: &Word,
+    folders: &[&str],
+    stores: &Stores,
+    trouble: SpreadTrouble,
+    standard: &Standard,
+) -> ExitCode {
+    match trouble {
+        SpreadTrouble::NoMemory => starved(rt),
+        SpreadTrouble::Fault => match println!(rt; "0 fault") {
+            Ok(()) => {
+                let place = failed(stores, 0);
+                let store = stores.as_slice().get(place);
+                match folders.get(place) {
+                    Some(folder) => tell_fault(rt, folder, store),
+                    None => tell_fault(rt, root.as_str(), store),
+                }
+                ExitCode::from(4)
+            }
+            Err(error) => unprinted(rt, error, standard),
+        },
+        SpreadTrouble::Doubled { name } => {
+            let root = root.as_str();
+            let name = str::from_utf8(name.bytes()).unwrap_or("");
+            match println!(rt; "0 damaged {name} 0") {
+                Ok(()) => {
+                    let _ = eprintln!(rt; "plfs: {root}: {name} stands in two of these folders");
+                    ExitCode::from(7)
+                }
+                Err(error) => unprinted(rt, error, standard),
+            }
+        }
+    }
+}
+
+fn unprinted(rt: &HostRuntime, error: io::Error, standard: &Standard) -> ExitCode {
+    tell_stream(rt, "output: write", standard.has(OUTPUT), Some(error));
+    ExitCode::from(6)
 }
 
 // Says why a standard stream failed. One that was closed at the start is named so, whatever the system said of the
@@ -127,12 +249,17 @@ fn tell_stream(rt: &HostRuntime, stream: &str, is_closed: bool, error: Option<io
 }
 
 // Says what is damaged. The line that was printed last tells the item and its place, and the store the room.
-fn tell_damage(rt: &HostRuntime, root: &str, ran: &Ran) {
-    let place = match &ran.ended.store {
+fn tell_damage(
+    rt: &HostRuntime,
+    root: &str,
+    store: Option<&FolderStore<HostRuntime>>,
+    said: &Said,
+) {
+    let place = match store {
         Some(store) => Place::of_room(store.place().room),
         None => Place::root(),
     };
-    let what = match ran.said.line().split_once(' ') {
+    let what = match said.line().split_once(' ') {
         Some((_, what)) => what,
         None => "damaged",
     };

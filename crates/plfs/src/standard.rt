@@ -1,5 +1,7 @@
 //! The descriptors of the standard streams, also where the program was started without them.
-ghost use Rattle.std.specs.Prelude.{◌<ℤ◌, pos, IfOk};
+ghost use Rattle.std.specs.Prelude.{◌≡◌, ◌<ℤ◌, pos, IfOk};
+ghost use Rattle.std.specs.Ordering.{int_eq};
+ghost use Rattle.std.specs.List.{list_any};
 ghost use Rattle.std.specs.Fd.{file_raw_fd};
 
 use std::fs::File;
@@ -45,7 +47,9 @@ impl Standard {
     }
 
     /// Whether the program was started without this descriptor.
-    pub fn has(&self, descriptor: i32) -> bool {
+    pub fn has(&self, descriptor: i32) -> bool
+        ensures { result ≡ list_any (λ file. int_eq (file_raw_fd file) descriptor) self.now.taken.items }
+    {
         self.taken.iter().any(|file| file.as_raw_fd() == descriptor)
     }
 }

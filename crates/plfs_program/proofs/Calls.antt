@@ -6,33 +6,35 @@ use Rattle.store_api.specs.Acts.{Stored}
 use Rattle.mount_model.specs.declared.call.Ask.{Ask}
 use Rattle.mount_model.specs.declared.reply.Reply.{Reply}
 use Rattle.mount_model.specs.State.{State}
-use Rattle.mount_model.specs.Step.{IsOwed, IsStep}
-use Rattle.mount_model.specs.History.{Event, IsLawful, state_after}
+use Rattle.mount_model.specs.Step.{IsStep}
+use Rattle.mount_model.specs.History.{Event, state_after}
 use Rattle.mount_model.specs.Mounting.{IsMounted}
 use Rattle.mount_sound.specs.Sound.{IsSoundFor, IsSoundTree}
 use Rattle.mount_sound.specs.Issued.{issued}
+use Rattle.mount_sound.specs.Owed.{May, IsLawful}
 use Rattle.mount_sound.proofs.Facts.{mounted_sound, history_keeps, left_sound}
 use Rattle.plfs_program.specs.Calling.{GoesOn, IsRun}
 
 pub no_call : (state : State) → GoesOn state state
 no_call state = record { events = []; legal = tt; ends = refl }
 
-legal_push : (start : State) (events : List Event) (event : Event) → IsLawful start events → IsOwed event.ask → IsStep (state_after start events) event.caller event.ask event.reply event.after → IsLawful start (events ++ event ∷ [])
-legal_push start [] event legal owed step = (owed, step, tt)
-legal_push start (first ∷ events) event legal owed step = (legal.0, legal.1, legal_push first.after events event legal.2 owed step)
+legal_push : (start : State) (events : List Event) (event : Event) → IsLawful start events → May (state_after start events) event.caller event.ask → IsStep (state_after start events) event.caller event.ask event.reply event.after → IsLawful start (events ++ event ∷ [])
+legal_push start [] event legal may step = (may, step, tt)
+legal_push start (first ∷ events) event legal may step = (legal.0, legal.1, legal_push first.after events event legal.2 may step)
 
 ends_push : (start : State) (events : List Event) (event : Event) → state_after start (events ++ event ∷ []) ≡ event.after
 ends_push start [] event = refl
 ends_push start (first ∷ events) event = ends_push first.after events event
 
 -- one call more
-pub one_more : (start old new : State) (caller : ℕ) (ask : Ask) (reply : Reply) → IsOwed ask → IsStep old caller ask reply new → GoesOn start old → GoesOn start new
-one_more start old new caller ask reply owed step so_far =
+pub one_more : (start old new : State) (caller : ℕ) (ask : Ask) (reply : Reply) → May old caller ask → IsStep old caller ask reply new → GoesOn start old → GoesOn start new
+one_more start old new caller ask reply may step so_far =
     let event : Event = record { caller = caller; ask = ask; reply = reply; after = new } in
     let P : State → Type 0 = λ s. IsStep s caller ask reply new in
+    let M : State → Type 0 = λ s. May s caller ask in
     record {
       events = so_far.events ++ event ∷ [];
-      legal = legal_push start so_far.events event so_far.legal owed (subst P (sym so_far.ends) step);
+      legal = legal_push start so_far.events event so_far.legal (subst M (sym so_far.ends) may) (subst P (sym so_far.ends) step);
       ends = ends_push start so_far.events event;
     }
 

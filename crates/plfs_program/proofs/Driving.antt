@@ -4,8 +4,8 @@ use Rattle.mount_model.specs.declared.call.Call.{Call}
 use Rattle.mount_model.specs.declared.reply.Reply.{Reply}
 use Rattle.mount_model.specs.declared.reply.Reply.TheVariants.{Fault, NoMemory}
 use Rattle.mount_model.specs.Replies.{FitsCall}
-use Rattle.story.specs.Program.{Program, done, ask}
-use Rattle.flow.specs.Standing.{Standing, ready, asked, next_of, Rest, over, rest_of, replied, Awaits, IsFresh}
+use Rattle.story.specs.Program.{AsksOnly, Program, done, ask}
+use Rattle.flow.specs.Standing.{Standing, ready, asked, next_of, Rest, over, rest_of, replied, Awaits, HasOnly, IsFresh}
 use Rattle.plfs_program.specs.Ending.{EndsIn, EndsStanding}
 
 some_call : (a b : Call) → Some a ≡ Some b → a ≡ b
@@ -44,6 +44,25 @@ fresh_as s p is = subst IsFresh (sym is) tt
 -- a machine that took a reply has no question out
 pub taken_fresh : {R : Type 0} (s s1 : Standing Call Reply R) (reply : Reply) → s1 ≡ ready (replied (rest_of s) reply) → IsFresh s1
 taken_fresh s s1 reply is = fresh_as s1 (replied (rest_of s) reply) is
+
+-- the question that is given is one of those that the machine asks
+pub next_of_only : {R : Type 0} (these : Call → Type 0) (s : Standing Call Reply R) (call : Option Call) (q : Call) → call ≡ next_of s → call ≡ Some q → HasOnly these s → these q
+next_of_only these (ready (done r)) call q next some only = absurd (cc)
+next_of_only these (ready (ask asks k)) call q next some only = subst these (some_call asks q (sym next ∙ some)) only.0
+next_of_only these (asked k) call q next some only = absurd (cc)
+
+only_replied : {R : Type 0} (these : Call → Type 0) (s : Standing Call Reply R) (reply : Reply) → HasOnly these s → HasOnly these (ready (replied (rest_of s) reply))
+only_replied these (ready (done r)) reply only = tt
+only_replied these (ready (ask q k)) reply only = only.1 reply
+only_replied these (asked k) reply only = only reply
+
+-- once it took a reply, what it still asks is of the same kind
+pub taken_only : {R : Type 0} (these : Call → Type 0) (s s1 s2 : Standing Call Reply R) (reply : Reply) → rest_of s1 ≡ rest_of s → s2 ≡ ready (replied (rest_of s1) reply) → HasOnly these s → HasOnly these s2
+taken_only these s s1 s2 reply rest is only = subst (HasOnly these) (sym (is ∙ ap (λ r. ready (replied r reply)) rest)) (only_replied these s reply only)
+
+-- a machine that begins with a program asks only what the program asks
+pub starts_only : {R : Type 0} (these : Call → Type 0) (s : Standing Call Reply R) (p : Program Call Reply R) → s ≡ ready p → AsksOnly these p → HasOnly these s
+starts_only these s p is only = subst (HasOnly these) (sym is) only
 
 -- one call of a machine that is driven: it was answered a fault, or goes on as well as before
 pub driven : {R : Type 0} (fine : R → Bool) (s s1 s2 : Standing Call Reply R) (call : Option Call) (q : Call) (reply : Reply) (before after : Bool) → IsFresh s → call ≡ next_of s → call ≡ Some q → rest_of s1 ≡ rest_of s

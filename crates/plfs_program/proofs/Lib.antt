@@ -11,3 +11,4 @@ mod LineLemmas
 mod LogLemmas
 mod OutputLemmas
 mod Played
+mod Unowed

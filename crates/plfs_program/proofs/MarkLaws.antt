@@ -12,7 +12,6 @@ use Rattle.std.proofs.lemmas.Fmt.{digits_value-decimal}
 use Rattle.std.proofs.lemmas.List.Elements.{All-contains}
 use Rattle.std.proofs.lemmas.Str.Parse.{IsNumeralModel, numerals_by_value, tells_digits}
 use Rattle.store_api.specs.Step.{Name}
-use Rattle.mount_model.specs.Paths.{mark_name}
 use Rattle.mount_model.specs.Listed.{HasNone, IsGreatest, IsLeastOther, IsMarkOf}
 use Rattle.plfs_program.specs.Mounting.{AreSpent, AreDamagedAt, HaveNext}
 

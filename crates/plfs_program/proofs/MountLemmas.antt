@@ -1,5 +1,5 @@
 -- What a mounting finds over a told tree.
-use Rattle.std.proofs.Common.{ℕ, zero, suc, ◌≡◌, ◌-◌, ◌<◌, ◌^◌, ◌⊎◌, Bool, true, false, ◌&&◌, ◌||◌, cond, if◌then◌else◌, nat_lt, List, [], ◌∷◌, ◌++◌, length, slice_get, slice_set, Option, Some, None, IfSome, IfOk, Result, Ok, Err, refl, sym, ap, subst, ◌∙◌, inl, inr, arith}
+use Rattle.std.proofs.Common.{ℕ, zero, suc, ◌≡◌, ◌-◌, ◌<◌, ◌^◌, Bool, true, false, ◌&&◌, ◌||◌, cond, if◌then◌else◌, nat_lt, List, [], ◌∷◌, ◌++◌, length, slice_get, slice_set, Option, Some, None, IfOk, Result, Ok, Err, refl, sym, ap, subst, ◌∙◌, inl, inr, arith}
 use Rattle.std.specs.List.{position, position_or_len, find, AllByRecursion}
 use Rattle.std.specs.Option.{option_and_then}
 use Rattle.std.specs.Fmt.{decimal}
@@ -13,7 +13,7 @@ use Rattle.store_api.specs.declared.tree.File.{File}
 use Rattle.store_api.specs.declared.tree.Room.{Room}
 use Rattle.store_api.specs.declared.tree.Tree.{Tree}
 use Rattle.store_api.specs.declared.step.Answer.{Answer}
-use Rattle.store_api.specs.declared.step.Answer.TheVariants.{Made, Old, Number, Names, NoFolder}
+use Rattle.store_api.specs.declared.step.Answer.TheVariants.{Made, Names, NoFolder}
 use Rattle.store_api.specs.declared.store.Trouble.TheVariants as told_trouble
 use Rattle.store_api.specs.Acts.{Stored, Goes, Acts}
 use Rattle.store_api.specs.Effect.{Effect, effect, number_of, new_room, room_made, or_no_room, room_after}
@@ -33,7 +33,7 @@ use Rattle.mount_model.specs.declared.trouble.MountTrouble.{MountTrouble}
 use Rattle.mount_model.specs.declared.trouble.MountTrouble.TheVariants as trouble
 use Rattle.mount_model.specs.Failing.{names_told, made_told, trouble_of, LeavesNone, FailsToMount, no_room, no_names, no_next, no_mark}
 use Rattle.plfs_program.specs.Calling.{IsRun}
-use Rattle.plfs_program.specs.Mounting.{listed_in, listed_or_none, listed_in_room, listed_marks, AreSpent, AreDamagedAt, AreWhy, HaveNext, unmounted_of, IsUnmounted}
+use Rattle.plfs_program.specs.Mounting.{listed_in, listed_or_none, listed_in_room, listed_marks, AreWhy, HaveNext, unmounted_of, IsUnmounted}
 use Rattle.script_lang.specs.declared.line.Outcome.TheVariants as of
 use Rattle.script_lang.specs.declared.line.Why.TheVariants.{MountsSpent}
 use Rattle.plfs_program.specs.Lines.{AreLinesOf, unmounted, mounted, AreInTurn}

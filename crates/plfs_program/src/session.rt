@@ -5,7 +5,8 @@ ghost use Rattle.mount_model.specs.declared.reply.Reply.TheVariants.{Fault as Fa
 ghost use Rattle.mount_model.specs.Step.{OwedBy};
 ghost use Rattle.mount_model.specs.Replies.{FitsCall, HasItsCause};
 ghost use Rattle.mount_model.specs.State.{State};
-ghost use Rattle.flow.specs.Standing.{IsFresh};
+ghost use Rattle.mount_sound.specs.Owed.{OwesNothing};
+ghost use Rattle.flow.specs.Standing.{HasOnly, IsFresh};
 ghost use Rattle.plfs_program.specs.Calling.{GoesOn};
 ghost use Rattle.plfs_program.specs.Ending.{EndsStanding};
 
@@ -33,9 +34,10 @@ pub(crate) struct Session<S: Store + Drop, C: Clock + Drop> {
     ghost cause: { faulted ≡ true → next_count start.value.opened.faults ≤ mount.store.faults },
 }
 
-// Makes the one actor's call.
+// Makes the one actor's call, for which nothing is owed of the mount's state.
 fn apply<S: Store + Drop, C: Clock + Drop>(mount: &mut Mount<S, C>, call: Call) -> Reply
-    requires { OwedBy call }
+    requires numbers { OwedBy call }
+    requires unowed { OwesNothing call }
     ensures fits { FitsCall call result }
     ensures goes_on { (start : State) → GoesOn start mount.old → GoesOn start mount.new }
     ensures faults { HasItsCause mount.old mount.new result }
@@ -65,9 +67,10 @@ impl<S: Store + Drop, C: Clock + Drop> Session<S, C> {
         }
     }
 
-    /// Makes one call. At `Fault` the store has failed.
+    /// Makes one call, for which nothing is owed of the mount's state. At `Fault` the store has failed.
     pub(crate) fn ask(&mut self, call: Call) -> Reply
-        requires { OwedBy call }
+        requires numbers { OwedBy call }
+        requires unowed { OwesNothing call }
         ensures fits { FitsCall call result }
         ensures start { self.new.start.value ≡ self.old.start.value }
         ensures cause { result ≡ Faulted → self.new.faulted ≡ true }
@@ -90,9 +93,10 @@ impl<S: Store + Drop, C: Clock + Drop> Session<S, C> {
         }
     }
 
-    /// Makes the calls of the machine to its end.
+    /// Makes the calls of the machine to its end. Nothing is owed of the mount's state for any of them.
     pub(crate) fn drive<F: Flow + Drop>(&mut self, flow: F) -> Result<F::Out, NoMemory>
-        requires { IsFresh (F.standing flow) }
+        requires fresh { IsFresh (F.standing flow) }
+        requires unowed { HasOnly OwesNothing (F.standing flow) }
         ensures start { self.new.start.value ≡ self.old.start.value }
         ensures kept { self.old.faulted ≡ true → self.new.faulted ≡ true }
         ensures ends { IfOk result (λ out. (fine : F.Out → Bool) → EndsStanding fine (F.standing flow) → (self.new.faulted ≡ true) ⊎ (fine out ≡ true)) }

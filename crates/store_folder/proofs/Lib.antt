@@ -1,1 +1,8 @@
 mod Listed
+pub mod ForEach
+pub mod Finding
+pub mod Still
+pub mod Clearing
+pub mod Acting
+pub mod SameFile
+pub mod Entering

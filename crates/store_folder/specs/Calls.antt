@@ -6,20 +6,20 @@ use Rattle.store_folder.specs.declared.calls.Removal.{Removal}
 
 -- a call: its arguments and how it ended, at a read with the bytes that it gave
 pub data Call (F : Type 0) : Type 0 where
-  looked : List ℕ → Result Kind Failure → Call F
-  listed : List ℕ → Result (List (List ℕ)) Failure → Call F
-  opened : List ℕ → Result (Option F) Failure → Call F
-  created : List ℕ → Result (Option F) Failure → Call F
-  measured : F → Result ℕ Failure → Call F
-  read : F → ℕ → ℕ → Result (List ℕ) Failure → Call F
-  wrote : F → ℕ → List ℕ → Result (Unit {0}) Failure → Call F
-  resized : F → ℕ → Result (Unit {0}) Failure → Call F
-  synced : F → Result (Unit {0}) Failure → Call F
-  folder_made : List ℕ → Result Bool Failure → Call F
-  folder_synced : List ℕ → Result (Unit {0}) Failure → Call F
-  file_removed : List ℕ → Result Bool Failure → Call F
-  folder_removed : List ℕ → Result Removal Failure → Call F
-  renamed : List ℕ → List ℕ → Result (Unit {0}) Failure → Call F
+  looked_at : List ℕ → Result Kind Failure → Call F
+  listed_folder : List ℕ → Result (List (List ℕ)) Failure → Call F
+  opened_file : List ℕ → Result (Option F) Failure → Call F
+  created_file : List ℕ → Result (Option F) Failure → Call F
+  measured_file : F → Result ℕ Failure → Call F
+  read_bytes : F → ℕ → ℕ → Result (List ℕ) Failure → Call F
+  wrote_bytes : F → ℕ → List ℕ → Result (Unit {0}) Failure → Call F
+  resized_file : F → ℕ → Result (Unit {0}) Failure → Call F
+  synced_file : F → Result (Unit {0}) Failure → Call F
+  made_folder : List ℕ → Result Bool Failure → Call F
+  synced_folder : List ℕ → Result (Unit {0}) Failure → Call F
+  removed_file : List ℕ → Result Bool Failure → Call F
+  removed_folder : List ℕ → Result Removal Failure → Call F
+  renamed_item : List ℕ → List ℕ → Result (Unit {0}) Failure → Call F
 
 -- the calls made so far, where they are told
 abbrev pub Log : Type 0 → Type 0
@@ -27,20 +27,20 @@ Log F = Option (List (Call F))
 
 -- whether a call failed
 abbrev pub has_failed : {F : Type 0} → Call F → Bool
-has_failed (looked path end) = is_err end
-has_failed (listed path end) = is_err end
-has_failed (opened path end) = is_err end
-has_failed (created path end) = is_err end
-has_failed (measured file end) = is_err end
-has_failed (read file at len end) = is_err end
-has_failed (wrote file at bytes end) = is_err end
-has_failed (resized file len end) = is_err end
-has_failed (synced file end) = is_err end
-has_failed (folder_made path end) = is_err end
-has_failed (folder_synced path end) = is_err end
-has_failed (file_removed path end) = is_err end
-has_failed (folder_removed path end) = is_err end
-has_failed (renamed from to end) = is_err end
+has_failed (looked_at path end) = is_err end
+has_failed (listed_folder path end) = is_err end
+has_failed (opened_file path end) = is_err end
+has_failed (created_file path end) = is_err end
+has_failed (measured_file file end) = is_err end
+has_failed (read_bytes file at len end) = is_err end
+has_failed (wrote_bytes file at bytes end) = is_err end
+has_failed (resized_file file len end) = is_err end
+has_failed (synced_file file end) = is_err end
+has_failed (made_folder path end) = is_err end
+has_failed (synced_folder path end) = is_err end
+has_failed (removed_file path end) = is_err end
+has_failed (removed_folder path end) = is_err end
+has_failed (renamed_item from to end) = is_err end
 
 -- how many calls of a told log failed
 unfoldable pub failed_calls : {F : Type 0} → Log F → ℕ

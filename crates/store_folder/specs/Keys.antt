@@ -8,5 +8,5 @@ abbrev pub same_file : FileKey → FileKey → Bool
 same_file a b = nat_eq a.room b.room && (pointwise nat_eq a.folder b.folder && pointwise nat_eq a.file b.file)
 
 -- the key of another file in the same folder
-abbrev pub beside : FileKey → List ℕ → FileKey
-beside key file = record { room = key.room; folder = key.folder; file = file }
+abbrev pub with_name : FileKey → List ℕ → FileKey
+with_name key file = record { room = key.room; folder = key.folder; file = file }

@@ -1,5 +1,5 @@
 -- What stands at a path, by the type that the system gives it.
-use Rattle.std.specs.Prelude.{◌≡◌, ℕ}
+use Rattle.std.specs.Prelude.{◌≡◌, ℕ, Bool, true, false}
 use Rattle.std.specs.Fs.{IsFile, IsDir}
 use Rattle.std.specs.declared.fs.attrs.FileType.{FileType}
 use Rattle.store_folder.specs.declared.reason.Kind.{Kind}
@@ -11,3 +11,10 @@ IsKindOf type length Absent = ⊥
 IsKindOf type length (File len) = IsFile type × (len ≡ length)
 IsKindOf type length Folder = IsDir type
 IsKindOf type length Other = (¬ (IsFile type)) × (¬ (IsDir type))
+
+-- whether a plain folder is there
+abbrev pub is_folder : Kind → Bool
+is_folder Absent = false
+is_folder (File len) = false
+is_folder Folder = true
+is_folder Other = false

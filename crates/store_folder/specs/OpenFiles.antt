@@ -6,12 +6,12 @@ use Rattle.store_api.specs.Step.{Step, length_of, read_at, write_at, cut, sync}
 use Rattle.store_folder.specs.declared.failure.Failure.{Failure}
 use Rattle.store_folder.specs.declared.failure.Failure.TheVariants.{Failed, NoMemory}
 use Rattle.store_folder.specs.declared.held.Held.{Held}
-use Rattle.store_folder.specs.Calls.{Log, Makes, measured, read, wrote, resized, synced}
+use Rattle.store_folder.specs.Calls.{Log, Makes, measured_file, read_bytes, wrote_bytes, resized_file, synced_file}
 
 -- a file is held with the length that one call gave
-abbrev pub Holds : {F : Type 0} → F → Log F → Log F → Result (Held F) Failure → Type 0
-Holds file log later (Ok held) = (held.file ≡ file) × Makes (measured file (Ok held.len) ∷ []) log later
-Holds file log later (Err failure) = (failure ≡ Failed) × Makes (measured file (Err failure) ∷ []) log later
+abbrev pub IsHeld : {F : Type 0} → F → Log F → Log F → Result (Held F) Failure → Type 0
+IsHeld file log later (Ok held) = (held.file ≡ file) × Makes (measured_file file (Ok held.len) ∷ []) log later
+IsHeld file log later (Err failure) = (failure ≡ Failed) × Makes (measured_file file (Err failure) ∷ []) log later
 
 -- how many bytes a read gives: as many as are asked for, and none past the end
 abbrev pub given_at : {F : Type 0} → Held F → ℕ → ℕ → ℕ
@@ -23,36 +23,36 @@ module _ {F : Type 0} (held : Held F) (log later : Log F) where
   TellsLength result = (result ≡ Ok (Number held.len)) × (later ≡ log)
 
   -- A read answers the bytes that its one call gave. None is asked for where none is left, or where memory lacks.
-  pub record HasRead (at len : ℕ) (bytes : List ℕ) : Type 0 where
+  pub record ReadsBytes (at len : ℕ) (bytes : List ℕ) : Type 0 where
     pub count : length bytes ≡ given_at held at len
     pub none : given_at held at len ≡ 0 → later ≡ log
-    pub call : 1 ≤ given_at held at len → Makes (read held.file at (given_at held at len) (Ok bytes) ∷ []) log later
+    pub call : 1 ≤ given_at held at len → Makes (read_bytes held.file at (given_at held at len) (Ok bytes) ∷ []) log later
 
   abbrev pub ReadsOpen : ℕ → ℕ → Result Answer Failure → Type 0
-  ReadsOpen at len (Ok (Bytes bytes)) = HasRead at len bytes
+  ReadsOpen at len (Ok (Bytes bytes)) = ReadsBytes at len bytes
   ReadsOpen at len (Ok other) = ⊥
   ReadsOpen at len (Err NoMemory) = later ≡ log
-  ReadsOpen at len (Err Failed) = (1 ≤ given_at held at len) × Makes (read held.file at (given_at held at len) (Err Failed) ∷ []) log later
+  ReadsOpen at len (Err Failed) = (1 ≤ given_at held at len) × Makes (read_bytes held.file at (given_at held at len) (Err Failed) ∷ []) log later
 
   -- A write is one call with just these bytes at just this place, and none where the place is past the end.
   abbrev pub WritesOpen : ℕ → List ℕ → Result Answer Failure → Type 0
   WritesOpen at bytes (Ok Beyond) = (held.len < at) × (later ≡ log)
-  WritesOpen at bytes (Ok Made) = (at ≤ held.len) × Makes (wrote held.file at bytes (Ok tt) ∷ []) log later
+  WritesOpen at bytes (Ok Made) = (at ≤ held.len) × Makes (wrote_bytes held.file at bytes (Ok tt) ∷ []) log later
   WritesOpen at bytes (Ok other) = ⊥
-  WritesOpen at bytes (Err failure) = (failure ≡ Failed) × (at ≤ held.len) × Makes (wrote held.file at bytes (Err failure) ∷ []) log later
+  WritesOpen at bytes (Err failure) = (failure ≡ Failed) × (at ≤ held.len) × Makes (wrote_bytes held.file at bytes (Err failure) ∷ []) log later
 
   -- A cut is one call with just this length, and none where the file is shorter.
   abbrev pub CutsOpen : ℕ → Result Answer Failure → Type 0
   CutsOpen len (Ok Beyond) = (held.len < len) × (later ≡ log)
-  CutsOpen len (Ok Made) = (len ≤ held.len) × Makes (resized held.file len (Ok tt) ∷ []) log later
+  CutsOpen len (Ok Made) = (len ≤ held.len) × Makes (resized_file held.file len (Ok tt) ∷ []) log later
   CutsOpen len (Ok other) = ⊥
-  CutsOpen len (Err failure) = (failure ≡ Failed) × (len ≤ held.len) × Makes (resized held.file len (Err failure) ∷ []) log later
+  CutsOpen len (Err failure) = (failure ≡ Failed) × (len ≤ held.len) × Makes (resized_file held.file len (Err failure) ∷ []) log later
 
   -- a sync is one call
   abbrev pub SyncsOpen : Result Answer Failure → Type 0
-  SyncsOpen (Ok Made) = Makes (synced held.file (Ok tt) ∷ []) log later
+  SyncsOpen (Ok Made) = Makes (synced_file held.file (Ok tt) ∷ []) log later
   SyncsOpen (Ok other) = ⊥
-  SyncsOpen (Err failure) = (failure ≡ Failed) × Makes (synced held.file (Err failure) ∷ []) log later
+  SyncsOpen (Err failure) = (failure ≡ Failed) × Makes (synced_file held.file (Err failure) ∷ []) log later
 
   -- one line for each step on an open file
   abbrev pub ActsOpen : Step → Result Answer Failure → Type 0
@@ -64,9 +64,9 @@ module _ {F : Type 0} (held : Held F) (log later : Log F) where
   ActsOpen other result = (result ≡ Err Failed) × (later ≡ log)
 
 -- the file after a write that was answered so: it is longer where the bytes end past its end
-abbrev pub written : {F : Type 0} → Held F → ℕ → List ℕ → Answer → Held F
-written held at bytes Made = record { file = held.file; len = max held.len (min (at + length bytes) (2 ^ 64 - 1)) }
-written held at bytes other = held
+abbrev pub grown : {F : Type 0} → Held F → ℕ → List ℕ → Answer → Held F
+grown held at bytes Made = record { file = held.file; len = max held.len (min (at + length bytes) (2 ^ 64 - 1)) }
+grown held at bytes other = held
 
 -- the file after a cut that was answered so
 abbrev pub cut_to : {F : Type 0} → Held F → ℕ → Answer → Held F
@@ -75,6 +75,6 @@ cut_to held len other = held
 
 -- the file after a step that was answered so
 abbrev pub held_after : {F : Type 0} → Held F → Step → Answer → Held F
-held_after held (write_at room folder file at bytes) answer = written held at bytes answer
+held_after held (write_at room folder file at bytes) answer = grown held at bytes answer
 held_after held (cut room folder file len) answer = cut_to held len answer
 held_after held other answer = held

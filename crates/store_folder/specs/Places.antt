@@ -1,5 +1,5 @@
 -- Which open file a step is made on.
-use Rattle.std.specs.Prelude.{◌<◌, length, Option, Some, None, IfSome, Result}
+use Rattle.std.specs.Prelude.{◌≡◌, ◌<◌, ℕ, List, length, Option, Some, None, Result, Ok, Err}
 use Rattle.std.specs.Map.{lookup}
 use Rattle.store_api.specs.declared.step.Answer.{Answer}
 use Rattle.store_api.specs.Step.{Step, length_of, read_at, write_at, cut, sync}
@@ -7,9 +7,13 @@ use Rattle.store_folder.specs.declared.failure.Failure.{Failure}
 use Rattle.store_folder.specs.declared.cache.FileKey.{FileKey}
 use Rattle.store_folder.specs.declared.cache.OpenFiles.{OpenFiles}
 use Rattle.store_folder.specs.declared.disk.Disk.{Disk}
+use Rattle.store_folder.specs.declared.files.Found.{Found}
+use Rattle.store_folder.specs.declared.files.Found.TheVariants.{There}
 use Rattle.store_folder.specs.declared.held.Held.{Held}
 use Rattle.store_folder.specs.Keys.{same_file}
 use Rattle.store_folder.specs.Calls.{Log}
+use Rattle.store_folder.specs.Files.{FindsNoFile, FailsToOpen, OpensFile}
+use Rattle.store_folder.specs.Paths.{room_path, folder_path}
 use Rattle.store_folder.specs.OpenFiles.{ActsOpen}
 
 -- the file under this key, where it is open
@@ -25,7 +29,26 @@ file_of (cut room folder file len) = Some (record { room = room; folder = folder
 file_of (sync room folder file) = Some (record { room = room; folder = folder; file = file })
 file_of other = None
 
--- a step on a file of a room that is there, where the file is open, makes just its own calls on that file
-abbrev pub ActsWhereOpen : {C F : Type 0} → Disk C F → FileKey → Log F → Log F → Step → Result Answer Failure → Type 0
-ActsWhereOpen disk key log later step result =
-    key.room < length disk.rooms.items → IfSome (held_at disk.open key) (λ held. ActsOpen held log later step result)
+module _ {F : Type 0} where
+  -- a file that is open is taken as it is, with no call, and another is opened by its path
+  abbrev pub FindsFile : Option (Held F) → Log F → Log F → List ℕ → List ℕ → List ℕ → Found F → Type 0
+  FindsFile (Some held) log later room folder file found = (found ≡ There held) × (later ≡ log)
+  FindsFile None log later room folder file found = OpensFile log later room folder file found
+
+  -- A step on a file that isn't open: it is opened by its path, and the step's calls are made on it. Or it isn't
+  -- there, or can't be opened, and no call is made on any file.
+  pub data ActsClosed (log later : Log F) (room folder file : List ℕ) (step : Step) (result : Result Answer Failure) : Type 0 where
+    once_opened : (held : Held F) (between : Log F) → OpensFile log between room folder file (There held) → ActsOpen held between later step result → ActsClosed log later room folder file step result
+    not_there : (answer : Answer) → result ≡ Ok answer → FindsNoFile log later room folder file answer → ActsClosed log later room folder file step result
+    unopened : (failure : Failure) → result ≡ Err failure → FailsToOpen log later room folder file → ActsClosed log later room folder file step result
+
+  -- a step on a file, which is open or not
+  abbrev pub ActsAt : Option (Held F) → Log F → Log F → List ℕ → List ℕ → List ℕ → Step → Result Answer Failure → Type 0
+  ActsAt (Some held) log later room folder file step result = ActsOpen held log later step result
+  ActsAt None log later room folder file step result = ActsClosed log later room folder file step result
+
+-- a step on the file of this key, in a room that is there
+abbrev pub ActsOnFile : {C F : Type 0} → Disk C F → FileKey → Log F → Log F → Step → Result Answer Failure → Type 0
+ActsOnFile disk key log later step result =
+    let room = room_path disk key.room in
+    key.room < length disk.rooms.items → ActsAt (held_at disk.open key) log later room (folder_path room key.folder) key.file step result

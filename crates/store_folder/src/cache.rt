@@ -1,6 +1,8 @@
 //! The files that are open: those that were used last, each with its length.
-ghost use Rattle.std.specs.Prelude.{◌≡◌};
-ghost use Rattle.std.specs.Map.{remove_entry};
+ghost use Rattle.std.specs.Prelude.{◌≡◌, ◌⊎◌, [], length, None, IfOk, IfErr, if◌then◌else◌};
+ghost use Rattle.std.specs.List.{IsDistinct};
+ghost use Rattle.std.specs.Map.{keys_of, remove_entry};
+ghost use Rattle.lru.specs.LruCache.{lru_cache, put_entries};
 ghost use Rattle.store_folder.specs.Keys.{same_file};
 ghost use Rattle.store_folder.specs.Places.{held_at};
 
@@ -70,24 +72,45 @@ pub struct OpenFiles<F> {
 
 impl<F: Drop> OpenFiles<F> {
     /// No open file.
-    pub fn new(alloc: Global) -> Result<Self, Failure> {
+    pub fn new(alloc: Global) -> Result<Self, Failure>
+        ensures empty { IfOk result (λ none. none.files ≡ lru_cache [] MOST_OPEN) }
+        ensures memory { IfErr result (λ failure. failure ≡ Failure.NoMemory) }
+    {
         let most = NonZeroUsize::new(MOST_OPEN).unwrap_or(NonZeroUsize::MIN);
         Ok(OpenFiles {
             files: LruCache::sparse(alloc, most)?,
         })
     }
 
-    /// Takes the file out, if it is open.
+    // How many files are open. No two of them have one key.
+    fn count(&self) -> usize
+        ensures count { result ≡ length self.now.files.entries }
+        ensures distinct { IsDistinct same_file (keys_of self.now.files.entries) }
+    {
+        self.files.len()
+    }
+
+    /// Takes the file out, if it is open. The others stay open.
     pub fn take(&mut self, key: &FileKey) -> Option<Held<F>>
         ensures held { result ≡ held_at self.old key.now }
         ensures rest { self.new.files.entries ≡ remove_entry (same_file key.now) self.old.files.entries }
+        ensures others { (other : FileKey) → held_at self.new other ≡ (if same_file key.now other then None else held_at self.old other) }
+        ensures gone { held_at self.new key.now ≡ None }
     {
+        if self.count() == 0 {
+            return None;
+        }
         self.files.pop(key)
     }
 
     /// Keeps the file open, and closes the one that was not used for longest where there are too many.
     /// Where memory is refused the file is closed.
-    pub fn keep(&mut self, key: FileKey, held: Held<F>) {
-        let _ = self.files.put(key, held);
+    pub fn keep(&mut self, key: FileKey, held: Held<F>)
+        ensures kept { (self.new.files ≡ lru_cache (put_entries same_file self.old.files key held) self.old.files.cap) ⊎ (self.new.files ≡ self.old.files) }
+    {
+        match self.files.put(key, held) {
+            Ok(_) => {}
+            Err(_) => {}
+        }
     }
 }

@@ -1,6 +1,6 @@
 //! The calls of the system, as far as a store makes them.
 ghost use Rattle.std.specs.Prelude.{◌≡◌, ◌∷◌, [], length, IfOk, IfErr};
-ghost use Rattle.store_folder.specs.Calls.{Log, Makes, looked, listed, opened, created, measured, read, wrote, resized, synced, folder_made, folder_synced, file_removed, folder_removed, renamed, giving, failed_calls};
+ghost use Rattle.store_folder.specs.Calls.{Log, Makes, looked_at, listed_folder, opened_file, created_file, measured_file, read_bytes, wrote_bytes, resized_file, synced_file, made_folder, synced_folder, removed_file, removed_folder, renamed_item, giving, failed_calls};
 
 use crate::failure::Failure;
 use crate::reason::Kind;
@@ -26,84 +26,84 @@ pub trait Calls {
 
     /// What stands at a path. It follows no link.
     fn look(&mut self, path: &str) -> Result<Kind, Failure>
-        ensures call { Makes (looked path.now result ∷ []) (log self.old) (log self.new) }
+        ensures call { Makes (looked_at path.now result ∷ []) (log self.old) (log self.new) }
         ensures failed { IfErr result (λ failure. failure ≡ Failure.Failed) }
         ensures well { IfOk result (λ _. failed_calls (log self.new) ≡ failed_calls (log self.old)) };
 
     /// The names in a folder, in no order. It fails where one is no text in UTF-8 or longer than 96 bytes.
     fn list(&mut self, alloc: Global, path: &str) -> Result<NameList, Failure>
-        ensures call { Makes (listed path.now result ∷ []) (log self.old) (log self.new) }
+        ensures call { Makes (listed_folder path.now result ∷ []) (log self.old) (log self.new) }
         ensures well { IfOk result (λ _. failed_calls (log self.new) ≡ failed_calls (log self.old)) };
 
     /// Opens a plain file for reading and writing, and follows no link. None where nothing is at the path.
     fn open(&mut self, path: &str) -> Result<Option<Self::File>, Failure>
-        ensures call { Makes (opened path.now result ∷ []) (log self.old) (log self.new) }
+        ensures call { Makes (opened_file path.now result ∷ []) (log self.old) (log self.new) }
         ensures failed { IfErr result (λ failure. failure ≡ Failure.Failed) }
         ensures well { IfOk result (λ _. failed_calls (log self.new) ≡ failed_calls (log self.old)) };
 
     /// Makes an empty file, and opens it for reading and writing. None where something is at the path.
     fn create(&mut self, path: &str) -> Result<Option<Self::File>, Failure>
-        ensures call { Makes (created path.now result ∷ []) (log self.old) (log self.new) }
+        ensures call { Makes (created_file path.now result ∷ []) (log self.old) (log self.new) }
         ensures failed { IfErr result (λ failure. failure ≡ Failure.Failed) }
         ensures well { IfOk result (λ _. failed_calls (log self.new) ≡ failed_calls (log self.old)) };
 
     /// The length of a file, in bytes.
     fn length(&mut self, file: &Self::File) -> Result<u64, Failure>
-        ensures call { Makes (measured file.now result ∷ []) (log self.old) (log self.new) }
+        ensures call { Makes (measured_file file.now result ∷ []) (log self.old) (log self.new) }
         ensures failed { IfErr result (λ failure. failure ≡ Failure.Failed) }
         ensures well { IfOk result (λ _. failed_calls (log self.new) ≡ failed_calls (log self.old)) };
 
     /// Fills `into` with the bytes from `at` on.
     fn read_exact_at(&mut self, file: &Self::File, into: &mut [u8], at: u64) -> Result<(), Failure>
-        ensures call { Makes (read file.now at (length into.old) (giving into.new result) ∷ []) (log self.old) (log self.new) }
+        ensures call { Makes (read_bytes file.now at (length into.old) (giving into.new result) ∷ []) (log self.old) (log self.new) }
         ensures failed { IfErr result (λ failure. failure ≡ Failure.Failed) }
         ensures well { IfOk result (λ _. failed_calls (log self.new) ≡ failed_calls (log self.old)) };
 
     /// Writes the bytes from `at` on, in one call of the system where that takes them all.
     fn write_all_at(&mut self, file: &Self::File, bytes: &[u8], at: u64) -> Result<(), Failure>
-        ensures call { Makes (wrote file.now at bytes.now result ∷ []) (log self.old) (log self.new) }
+        ensures call { Makes (wrote_bytes file.now at bytes.now result ∷ []) (log self.old) (log self.new) }
         ensures failed { IfErr result (λ failure. failure ≡ Failure.Failed) }
         ensures well { IfOk result (λ _. failed_calls (log self.new) ≡ failed_calls (log self.old)) };
 
     /// Gives a file this length.
     fn set_length(&mut self, file: &Self::File, len: u64) -> Result<(), Failure>
-        ensures call { Makes (resized file.now len result ∷ []) (log self.old) (log self.new) }
+        ensures call { Makes (resized_file file.now len result ∷ []) (log self.old) (log self.new) }
         ensures failed { IfErr result (λ failure. failure ≡ Failure.Failed) }
         ensures well { IfOk result (λ _. failed_calls (log self.new) ≡ failed_calls (log self.old)) };
 
     /// Syncs a file's bytes and its length.
     fn sync(&mut self, file: &Self::File) -> Result<(), Failure>
-        ensures call { Makes (synced file.now result ∷ []) (log self.old) (log self.new) }
+        ensures call { Makes (synced_file file.now result ∷ []) (log self.old) (log self.new) }
         ensures failed { IfErr result (λ failure. failure ≡ Failure.Failed) }
         ensures well { IfOk result (λ _. failed_calls (log self.new) ≡ failed_calls (log self.old)) };
 
     /// Makes a folder. False where something is at the path.
     fn make_folder(&mut self, path: &str) -> Result<bool, Failure>
-        ensures call { Makes (folder_made path.now result ∷ []) (log self.old) (log self.new) }
+        ensures call { Makes (made_folder path.now result ∷ []) (log self.old) (log self.new) }
         ensures failed { IfErr result (λ failure. failure ≡ Failure.Failed) }
         ensures well { IfOk result (λ _. failed_calls (log self.new) ≡ failed_calls (log self.old)) };
 
     /// Syncs the names in a folder.
     fn sync_folder(&mut self, path: &str) -> Result<(), Failure>
-        ensures call { Makes (folder_synced path.now result ∷ []) (log self.old) (log self.new) }
+        ensures call { Makes (synced_folder path.now result ∷ []) (log self.old) (log self.new) }
         ensures failed { IfErr result (λ failure. failure ≡ Failure.Failed) }
         ensures well { IfOk result (λ _. failed_calls (log self.new) ≡ failed_calls (log self.old)) };
 
     /// Removes a file. False where nothing is at the path.
     fn remove_file(&mut self, path: &str) -> Result<bool, Failure>
-        ensures call { Makes (file_removed path.now result ∷ []) (log self.old) (log self.new) }
+        ensures call { Makes (removed_file path.now result ∷ []) (log self.old) (log self.new) }
         ensures failed { IfErr result (λ failure. failure ≡ Failure.Failed) }
         ensures well { IfOk result (λ _. failed_calls (log self.new) ≡ failed_calls (log self.old)) };
 
     /// Removes an empty folder.
     fn remove_folder(&mut self, path: &str) -> Result<Removal, Failure>
-        ensures call { Makes (folder_removed path.now result ∷ []) (log self.old) (log self.new) }
+        ensures call { Makes (removed_folder path.now result ∷ []) (log self.old) (log self.new) }
         ensures failed { IfErr result (λ failure. failure ≡ Failure.Failed) }
         ensures well { IfOk result (λ _. failed_calls (log self.new) ≡ failed_calls (log self.old)) };
 
     /// Gives what is at `from` the path `to`, and replaces a file that is there.
     fn rename(&mut self, from: &str, to: &str) -> Result<(), Failure>
-        ensures call { Makes (renamed from.now to.now result ∷ []) (log self.old) (log self.new) }
+        ensures call { Makes (renamed_item from.now to.now result ∷ []) (log self.old) (log self.new) }
         ensures failed { IfErr result (λ failure. failure ≡ Failure.Failed) }
         ensures well { IfOk result (λ _. failed_calls (log self.new) ≡ failed_calls (log self.old)) };
 }

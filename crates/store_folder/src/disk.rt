@@ -1,8 +1,10 @@
 //! What a store keeps of its folder, and each step's way to the system.
-ghost use Rattle.std.specs.Prelude.{◌≡◌, true, IfOk, IfSome};
+ghost use Rattle.std.specs.Prelude.{◌≡◌, [], true, false, IfOk, IfErr, IfSome, string_bytes};
 ghost use Rattle.store_api.specs.Step.{step_of};
 ghost use Rattle.store_folder.specs.Calls.{failed_calls};
-ghost use Rattle.store_folder.specs.Places.{file_of, ActsWhereOpen};
+ghost use Rattle.store_folder.specs.Places.{file_of, ActsOnFile};
+ghost use Rattle.store_folder.specs.StepPlaces.{room_name, place_of};
+ghost use Rattle.store_folder.specs.Steps.{Numbers, Performs};
 
 use crate::cache::{FileKey, OpenFiles};
 use crate::calls::Calls;
@@ -26,7 +28,13 @@ pub struct Disk<C, F> {
 
 impl<C: Calls<File = F> + Drop, F: Drop> Disk<C, F> {
     /// The folder of this path. It touches nothing.
-    pub fn new(calls: C, alloc: Global, root: &Word) -> Result<Self, Failure> {
+    pub fn new(calls: C, alloc: Global, root: &Word) -> Result<Self, Failure>
+        ensures calls { IfOk result (λ disk. disk.calls ≡ calls) }
+        ensures root { IfOk result (λ disk. string_bytes disk.root ≡ root.now) }
+        ensures rooms { IfOk result (λ disk. (disk.rooms.items ≡ []) × (disk.is_numbered ≡ false)) }
+        ensures closed { IfOk result (λ disk. disk.open.files.entries ≡ []) }
+        ensures memory { IfErr result (λ failure. failure ≡ Failure.NoMemory) }
+    {
         Ok(Disk {
             calls,
             alloc,
@@ -39,10 +47,20 @@ impl<C: Calls<File = F> + Drop, F: Drop> Disk<C, F> {
 
     /// Makes one step, and numbers the rooms before the first.
     pub fn make(&mut self, step: &Step<'_>) -> Result<Answer, Failure>
-        ensures open_file { self.old.is_numbered ≡ true → IfSome (file_of (step_of step.now)) (λ key. ActsWhereOpen self.old key (C.log self.old.calls) (C.log self.new.calls) (step_of step.now) result) }
+        ensures performs { IfOk result (λ answer. (numbered : Disk C F) × Numbers self.old numbered (C.log self.old.calls) (C.log numbered.calls) × Performs numbered self.new (C.log numbered.calls) (C.log self.new.calls) (step_of step.now) answer) }
+        ensures on_file { self.old.is_numbered ≡ true → IfSome (file_of (step_of step.now)) (λ key. ActsOnFile self.old key (C.log self.old.calls) (C.log self.new.calls) (step_of step.now) result) }
         ensures well { IfOk result (λ _. failed_calls (C.log self.new.calls) ≡ failed_calls (C.log self.old.calls)) }
     {
         self.number_rooms()?;
+        self.perform(step)
+    }
+
+    // Makes one step among numbered rooms.
+    fn perform(&mut self, step: &Step<'_>) -> Result<Answer, Failure>
+        ensures performs { IfOk result (Performs self.old self.new (C.log self.old.calls) (C.log self.new.calls) (step_of step.now)) }
+        ensures on_file { IfSome (file_of (step_of step.now)) (λ key. ActsOnFile self.old key (C.log self.old.calls) (C.log self.new.calls) (step_of step.now) result) }
+        ensures well { IfOk result (λ _. failed_calls (C.log self.new.calls) ≡ failed_calls (C.log self.old.calls)) }
+    {
         match *step {
             Step::Rooms => self.room_names(),
             Step::FindRoom { name } => Ok(self.find_room(&name)),
@@ -55,16 +73,6 @@ impl<C: Calls<File = F> + Drop, F: Drop> Disk<C, F> {
             Step::MakeFolder { room, folder } => self.make_folder(room, &folder),
             Step::RemoveFolder { room, folder } => self.remove_folder(room, &folder),
             Step::List { room, folder } => self.list(room, &folder),
-            _ => self.make_at_file(step),
-        }
-    }
-
-    // Makes a step that names a file.
-    fn make_at_file(&mut self, step: &Step<'_>) -> Result<Answer, Failure>
-        ensures open_file { IfSome (file_of (step_of step.now)) (λ key. ActsWhereOpen self.old key (C.log self.old.calls) (C.log self.new.calls) (step_of step.now) result) }
-        ensures well { IfOk result (λ _. failed_calls (C.log self.new.calls) ≡ failed_calls (C.log self.old.calls)) }
-    {
-        match *step {
             Step::Create { room, folder, file } => self.create(&FileKey { room, folder, file }),
             Step::Remove { room, folder, file } => self.remove(&FileKey { room, folder, file }),
             Step::Replace {
@@ -103,14 +111,15 @@ impl<C: Calls<File = F> + Drop, F: Drop> Disk<C, F> {
                 &FileKey { room, folder, file },
                 step,
             ),
-            _ => Err(Failure::Failed),
         }
     }
 }
 
 impl<C, F> Disk<C, F> {
     // The name of a room, where it has one.
-    fn room_name(&self, room: u64) -> Name {
+    fn room_name(&self, room: u64) -> Name
+        ensures { result ≡ room_name self.now room }
+    {
         self.rooms
             .get(room as usize)
             .copied()
@@ -118,7 +127,9 @@ impl<C, F> Disk<C, F> {
     }
 
     /// Where a step is made, below ROOT. Before the rooms were numbered that is ROOT itself.
-    pub fn place_of(&self, step: &Step<'_>) -> Place {
+    pub fn place_of(&self, step: &Step<'_>) -> Place
+        ensures { result ≡ place_of self.now (step_of step.now) }
+    {
         if !self.is_numbered {
             return Place::root();
         }

@@ -1,11 +1,13 @@
 //! The steps of files.
-ghost use Rattle.std.specs.Prelude.{◌≡◌, ◌≤◌, ◌<◌, length, Ok, IfOk, IfSome, OnErr};
+ghost use Rattle.std.specs.Prelude.{◌≡◌, ◌≤◌, ◌<◌, ◌∷◌, [], ℕ, length, None, Ok, IfOk, IfSome, OnOk, OnErr};
 ghost use Rattle.store_api.specs.Step.{step_of};
 ghost use Rattle.std.specs.Map.{remove_entry};
-ghost use Rattle.store_folder.specs.Changes.{room_path, folder_path, Enters, MakesFile, RemovesFile, ReplacesFile, OpensFile};
-ghost use Rattle.store_folder.specs.Calls.{failed_calls};
-ghost use Rattle.store_folder.specs.Keys.{same_file, beside};
-ghost use Rattle.store_folder.specs.Places.{held_at, ActsWhereOpen};
+ghost use Rattle.store_folder.specs.Calls.{Makes, looked_at, failed_calls};
+ghost use Rattle.store_folder.specs.Files.{CreatesFile, RemovesFile, ReplacesFile, FailsToOpen, OpensFile};
+ghost use Rattle.store_folder.specs.Keys.{same_file, with_name};
+ghost use Rattle.store_folder.specs.Paths.{room_path, folder_path};
+ghost use Rattle.store_folder.specs.Places.{held_at, FindsFile, ActsAt, ActsOnFile};
+ghost use Rattle.store_folder.specs.Rooms.{IsStill, HasRooms, InRoom};
 
 use crate::cache::FileKey;
 use crate::calls::Calls;
@@ -27,9 +29,10 @@ pub enum Found<F> {
 impl<C: Calls<File = F>, F: Drop> Disk<C, F> {
     /// Adds an empty file, and syncs its name. The file stays open.
     pub fn create(&mut self, key: &FileKey) -> Result<Answer, Failure>
-        ensures no_room { length self.old.rooms.items ≤ key.now.room → result ≡ Ok Answer.NoRoom }
-        ensures made { let room = room_path self.old key.now.room in result ≡ Ok Answer.Made → MakesFile (C.log self.old.calls) (C.log self.new.calls) room (folder_path room key.now.folder) key.now.file }
+        ensures creates { IfOk result (λ answer. InRoom self.old key.now.room answer (C.log self.old.calls) (C.log self.new.calls) (λ room. CreatesFile (C.log self.old.calls) (C.log self.new.calls) room (folder_path room key.now.folder) key.now.file answer)) }
+        ensures rooms { HasRooms self.old self.new }
         ensures closed { OnErr result (self.new.open.files.entries ≡ remove_entry (same_file key.now) self.old.open.files.entries) }
+        ensures gone { OnErr result (held_at self.new.open key.now ≡ None) }
         ensures well { IfOk result (λ _. failed_calls (C.log self.new.calls) ≡ failed_calls (C.log self.old.calls)) }
     {
         self.open.take(key);
@@ -46,27 +49,31 @@ impl<C: Calls<File = F>, F: Drop> Disk<C, F> {
                 self.open.keep(*key, Held::empty(file));
                 Ok(Answer::Made)
             }
-            None => self.old_file(path.as_str()),
+            None => {
+                self.old_file(path.as_str())?;
+                Ok(Answer::Old { room: 0 })
+            }
         }
     }
 
-    // What is answered where something has the path of a new file.
-    pub(crate) fn old_file(&mut self, path: &str) -> Result<Answer, Failure>
-        ensures answer { IfOk result (λ answer. answer ≡ Answer.Old 0) }
-        ensures open { self.new.open ≡ self.old.open }
+    // Fails where what has the path of a new file is no plain file.
+    pub(crate) fn old_file(&mut self, path: &str) -> Result<(), Failure>
+        ensures looked { OnOk result ((len : ℕ) × Makes (looked_at path.now (Ok (Kind.File len)) ∷ []) (C.log self.old.calls) (C.log self.new.calls)) }
+        ensures still { IsStill self.old self.new }
         ensures well { IfOk result (λ _. failed_calls (C.log self.new.calls) ≡ failed_calls (C.log self.old.calls)) }
     {
         match self.calls.look(path)? {
-            Kind::File { .. } => Ok(Answer::Old { room: 0 }),
+            Kind::File { .. } => Ok(()),
             Kind::Absent | Kind::Folder | Kind::Other => Err(Failure::Failed),
         }
     }
 
     /// Removes a file, and syncs that its name is gone.
     pub fn remove(&mut self, key: &FileKey) -> Result<Answer, Failure>
-        ensures no_room { length self.old.rooms.items ≤ key.now.room → result ≡ Ok Answer.NoRoom }
-        ensures made { let room = room_path self.old key.now.room in result ≡ Ok Answer.Made → RemovesFile (C.log self.old.calls) (C.log self.new.calls) room (folder_path room key.now.folder) key.now.file }
+        ensures removes { IfOk result (λ answer. InRoom self.old key.now.room answer (C.log self.old.calls) (C.log self.new.calls) (λ room. RemovesFile (C.log self.old.calls) (C.log self.new.calls) room (folder_path room key.now.folder) key.now.file answer)) }
+        ensures rooms { HasRooms self.old self.new }
         ensures closed { self.new.open.files.entries ≡ remove_entry (same_file key.now) self.old.open.files.entries }
+        ensures gone { held_at self.new.open key.now ≡ None }
         ensures well { IfOk result (λ _. failed_calls (C.log self.new.calls) ≡ failed_calls (C.log self.old.calls)) }
     {
         self.open.take(key);
@@ -88,9 +95,10 @@ impl<C: Calls<File = F>, F: Drop> Disk<C, F> {
     /// Gives the file `from` the name `to`, whose old file is gone, and syncs the names. A file that has the name
     /// already is left as it is.
     pub fn replace(&mut self, from: &FileKey, to: &Name) -> Result<Answer, Failure>
-        ensures no_room { length self.old.rooms.items ≤ from.now.room → result ≡ Ok Answer.NoRoom }
-        ensures made { let room = room_path self.old from.now.room in result ≡ Ok Answer.Made → ReplacesFile (C.log self.old.calls) (C.log self.new.calls) room (folder_path room from.now.folder) from.now.file to.now }
-        ensures closed { self.new.open.files.entries ≡ remove_entry (same_file (beside from.now to.now)) (remove_entry (same_file from.now) self.old.open.files.entries) }
+        ensures replaces { IfOk result (λ answer. InRoom self.old from.now.room answer (C.log self.old.calls) (C.log self.new.calls) (λ room. ReplacesFile (C.log self.old.calls) (C.log self.new.calls) room (folder_path room from.now.folder) from.now.file to.now answer)) }
+        ensures rooms { HasRooms self.old self.new }
+        ensures closed { self.new.open.files.entries ≡ remove_entry (same_file (with_name from.now to.now)) (remove_entry (same_file from.now) self.old.open.files.entries) }
+        ensures gone { (held_at self.new.open from.now ≡ None) × (held_at self.new.open (with_name from.now to.now) ≡ None) }
         ensures well { IfOk result (λ _. failed_calls (C.log self.new.calls) ≡ failed_calls (C.log self.old.calls)) }
     {
         self.open.take(from);
@@ -122,10 +130,13 @@ impl<C: Calls<File = F>, F: Drop> Disk<C, F> {
 
     // The file, from among the open ones where it is.
     fn find(&mut self, key: &FileKey) -> Result<Found<F>, Failure>
-        ensures no_room { length self.old.rooms.items ≤ key.now.room → result ≡ Ok (Found.Not Answer.NoRoom) }
-        ensures open_file { key.now.room < length self.old.rooms.items → IfSome (held_at self.old.open key.now) (λ held. result ≡ Ok (Found.There held)) }
-        ensures no_call { key.now.room < length self.old.rooms.items → IfSome (held_at self.old.open key.now) (λ _. C.log self.new.calls ≡ C.log self.old.calls) }
+        ensures no_room { length self.old.rooms.items ≤ key.now.room → (result ≡ Ok (Found.Not Answer.NoRoom)) × (C.log self.new.calls ≡ C.log self.old.calls) }
+        ensures finds { let room = room_path self.old key.now.room in key.now.room < length self.old.rooms.items → IfOk result (FindsFile (held_at self.old.open key.now) (C.log self.old.calls) (C.log self.new.calls) room (folder_path room key.now.folder) key.now.file) }
+        ensures open_file { key.now.room < length self.old.rooms.items → IfSome (held_at self.old.open key.now) (λ held. (result ≡ Ok (Found.There held)) × (C.log self.new.calls ≡ C.log self.old.calls)) }
+        ensures rooms { HasRooms self.old self.new }
         ensures closed { self.new.open.files.entries ≡ remove_entry (same_file key.now) self.old.open.files.entries }
+        ensures gone { held_at self.new.open key.now ≡ None }
+        ensures fails { let room = room_path self.old key.now.room in OnErr result (FailsToOpen (C.log self.old.calls) (C.log self.new.calls) room (folder_path room key.now.folder) key.now.file) }
         ensures well { IfOk result (λ _. failed_calls (C.log self.new.calls) ≡ failed_calls (C.log self.old.calls)) }
     {
         let open = self.open.take(key);
@@ -140,8 +151,9 @@ impl<C: Calls<File = F>, F: Drop> Disk<C, F> {
 
     // Opens the file by its path.
     fn open_file(&mut self, key: &FileKey) -> Result<Found<F>, Failure>
-        ensures opens { let room = room_path self.old key.now.room in IfOk result (OpensFile (C.log self.old.calls) (C.log self.new.calls) room (folder_path room key.now.folder) key.now.file) }
-        ensures open { self.new.open ≡ self.old.open }
+        ensures opens { let room = room_path self.old key.now.room in key.now.room < length self.old.rooms.items → IfOk result (OpensFile (C.log self.old.calls) (C.log self.new.calls) room (folder_path room key.now.folder) key.now.file) }
+        ensures still { IsStill self.old self.new }
+        ensures fails { let room = room_path self.old key.now.room in OnErr result (FailsToOpen (C.log self.old.calls) (C.log self.new.calls) room (folder_path room key.now.folder) key.now.file) }
         ensures well { IfOk result (λ _. failed_calls (C.log self.new.calls) ≡ failed_calls (C.log self.old.calls)) }
     {
         let Some(spot) = self.spot(key.room, &key.folder)? else {
@@ -159,12 +171,18 @@ impl<C: Calls<File = F>, F: Drop> Disk<C, F> {
 
     /// Makes a step on an open file. After a failure the file is closed, so that its length is asked again.
     pub fn act_at(&mut self, key: &FileKey, step: &Step<'_>) -> Result<Answer, Failure>
-        ensures no_room { length self.old.rooms.items ≤ key.now.room → result ≡ Ok Answer.NoRoom }
-        ensures open_file { ActsWhereOpen self.old key.now (C.log self.old.calls) (C.log self.new.calls) (step_of step.now) result }
+        ensures acts { IfOk result (λ answer. InRoom self.old key.now.room answer (C.log self.old.calls) (C.log self.new.calls) (λ room. ActsAt (held_at self.old.open key.now) (C.log self.old.calls) (C.log self.new.calls) room (folder_path room key.now.folder) key.now.file (step_of step.now) (Ok answer))) }
+        ensures on_file { ActsOnFile self.old key.now (C.log self.old.calls) (C.log self.new.calls) (step_of step.now) result }
+        ensures rooms { HasRooms self.old self.new }
         ensures closed { OnErr result (self.new.open.files.entries ≡ remove_entry (same_file key.now) self.old.open.files.entries) }
+        ensures gone { OnErr result (held_at self.new.open key.now ≡ None) }
         ensures well { IfOk result (λ _. failed_calls (C.log self.new.calls) ≡ failed_calls (C.log self.old.calls)) }
     {
-        match self.find(key)? {
+        let found = match self.find(key) {
+            Ok(found) => found,
+            Err(failure) => return Err(failure),
+        };
+        match found {
             Found::Not(answer) => Ok(answer),
             Found::There(mut held) => {
                 let answer = held.act(&mut self.calls, self.alloc, step)?;

@@ -1,10 +1,10 @@
 //! The steps of folders.
-ghost use Rattle.std.specs.Prelude.{◌≡◌, ◌==◌, ◌≤◌, ◌<◌, ◌∷◌, [], List, ℕ, length, true, None, Ok, IsSome, IfSome, IfOk, IsPermutation, IsSorted, string_bytes};
-ghost use Rattle.std.specs.Cmp.Lexicographic.{slice_cmp};
-ghost use Rattle.std.specs.Ordering.{nat_cmp};
-ghost use Rattle.store_folder.specs.Calls.{Makes, looked, listed, failed_calls};
-ghost use Rattle.store_folder.specs.Changes.{room_path, folder_path, Enters, MakesFolder, RemovesFolder};
-ghost use Rattle.store_folder.specs.Listings.{IsListing};
+ghost use Rattle.std.specs.Prelude.{◌≡◌, ◌==◌, ◌≤◌, ◌<◌, ◌∷◌, [], List, ℕ, length, true, false, None, Ok, Err, IsSome, IfSome, Result, IfOk, IfErr, OnOk, OnErr, string_bytes};
+ghost use Rattle.store_folder.specs.Calls.{Makes, looked_at, listed_folder, failed_calls};
+ghost use Rattle.store_folder.specs.Folders.{IsNoFolder, IsNoEntry, EntersFolder, FindsNoFolder, FailsToEnter, MakesFolder, RemovesTop, RemovesItem, RemovesFolder, TellsFolder};
+ghost use Rattle.store_folder.specs.Listings.{IsSortedListing, IsLeast};
+ghost use Rattle.store_folder.specs.Paths.{room_path, folder_path};
+ghost use Rattle.store_folder.specs.Rooms.{IsStill, InRoom};
 
 use crate::calls::{Calls, Removal};
 use crate::disk::Disk;
@@ -55,21 +55,25 @@ impl<C: Calls<File = F>, F: Drop> Disk<C, F> {
 
     // Whether a folder is there. It fails where a link or the like is.
     fn is_folder(&mut self, path: &str) -> Result<bool, Failure>
-        ensures there { result ≡ Ok true → Makes (looked path.now (Ok Kind.Folder) ∷ []) (C.log self.old.calls) (C.log self.new.calls) }
-        ensures open { self.new.open ≡ self.old.open }
+        ensures there { result ≡ Ok true → Makes (looked_at path.now (Ok Kind.Folder) ∷ []) (C.log self.old.calls) (C.log self.new.calls) }
+        ensures fails { OnErr result ((end : Result Kind Failure) × IsNoEntry end × Makes (looked_at path.now end ∷ []) (C.log self.old.calls) (C.log self.new.calls)) }
+        ensures lacking { result ≡ Ok false → (kind : Kind) × IsNoFolder kind × Makes (looked_at path.now (Ok kind) ∷ []) (C.log self.old.calls) (C.log self.new.calls) }
+        ensures still { IsStill self.old self.new }
         ensures well { IfOk result (λ _. failed_calls (C.log self.new.calls) ≡ failed_calls (C.log self.old.calls)) }
     {
         match self.calls.look(path)? {
             Kind::Folder => Ok(true),
-            Kind::Absent | Kind::File { .. } => Ok(false),
+            Kind::Absent => Ok(false),
+            Kind::File { .. } => Ok(false),
             Kind::Other => Err(Failure::Failed),
         }
     }
 
     // Fails where the room isn't there.
     fn enter_room(&mut self, spot: &Spot) -> Result<(), Failure>
-        ensures there { result ≡ Ok tt → Makes (looked (string_bytes spot.now.room) (Ok Kind.Folder) ∷ []) (C.log self.old.calls) (C.log self.new.calls) }
-        ensures open { self.new.open ≡ self.old.open }
+        ensures there { OnOk result (Makes (looked_at (string_bytes spot.now.room) (Ok Kind.Folder) ∷ []) (C.log self.old.calls) (C.log self.new.calls)) }
+        ensures fails { OnErr result ((end : Result Kind Failure) × IsNoEntry end × Makes (looked_at (string_bytes spot.now.room) end ∷ []) (C.log self.old.calls) (C.log self.new.calls)) }
+        ensures still { IsStill self.old self.new }
         ensures well { IfOk result (λ _. failed_calls (C.log self.new.calls) ≡ failed_calls (C.log self.old.calls)) }
     {
         if self.is_folder(spot.room.as_str())? {
@@ -81,8 +85,10 @@ impl<C: Calls<File = F>, F: Drop> Disk<C, F> {
 
     /// Whether the folder is there, in a room that is: what comes after goes through no link.
     pub fn enter(&mut self, spot: &Spot) -> Result<bool, Failure>
-        ensures there { result ≡ Ok true → Enters (C.log self.old.calls) (C.log self.new.calls) (string_bytes spot.now.room) (string_bytes spot.now.folder) }
-        ensures open { self.new.open ≡ self.old.open }
+        ensures there { result ≡ Ok true → EntersFolder (C.log self.old.calls) (C.log self.new.calls) (string_bytes spot.now.room) (string_bytes spot.now.folder) }
+        ensures lacking { result ≡ Ok false → FindsNoFolder (C.log self.old.calls) (C.log self.new.calls) (string_bytes spot.now.room) (string_bytes spot.now.folder) }
+        ensures fails { OnErr result (FailsToEnter (C.log self.old.calls) (C.log self.new.calls) (string_bytes spot.now.room) (string_bytes spot.now.folder)) }
+        ensures still { IsStill self.old self.new }
         ensures well { IfOk result (λ _. failed_calls (C.log self.new.calls) ≡ failed_calls (C.log self.old.calls)) }
     {
         self.enter_room(spot)?;
@@ -91,8 +97,8 @@ impl<C: Calls<File = F>, F: Drop> Disk<C, F> {
 
     /// Adds a folder, and syncs its name. The top is always there.
     pub fn make_folder(&mut self, room: u64, folder: &Name) -> Result<Answer, Failure>
-        ensures no_room { length self.old.rooms.items ≤ room → result ≡ Ok Answer.NoRoom }
-        ensures made { let path = room_path self.old room in result ≡ Ok Answer.Made → MakesFolder (C.log self.old.calls) (C.log self.new.calls) path (folder_path path folder.now) }
+        ensures makes { IfOk result (λ answer. InRoom self.old room answer (C.log self.old.calls) (C.log self.new.calls) (λ path. MakesFolder (C.log self.old.calls) (C.log self.new.calls) path (folder_path path folder.now) answer)) }
+        ensures still { IsStill self.old self.new }
         ensures well { IfOk result (λ _. failed_calls (C.log self.new.calls) ≡ failed_calls (C.log self.old.calls)) }
     {
         let Some(spot) = self.spot(room, folder)? else {
@@ -101,17 +107,9 @@ impl<C: Calls<File = F>, F: Drop> Disk<C, F> {
         self.enter_room(&spot)?;
         if self.calls.make_folder(spot.folder.as_str())? {
             self.calls.sync_folder(spot.room.as_str())?;
-            Ok(Answer::Made)
-        } else {
-            self.old_folder(spot.folder.as_str())
+            return Ok(Answer::Made);
         }
-    }
-
-    fn old_folder(&mut self, path: &str) -> Result<Answer, Failure>
-        ensures answer { IfOk result (λ answer. answer ≡ Answer.Old 0) }
-        ensures well { IfOk result (λ _. failed_calls (C.log self.new.calls) ≡ failed_calls (C.log self.old.calls)) }
-    {
-        if self.is_folder(path)? {
+        if self.is_folder(spot.folder.as_str())? {
             Ok(Answer::Old { room: 0 })
         } else {
             Err(Failure::Failed)
@@ -120,44 +118,72 @@ impl<C: Calls<File = F>, F: Drop> Disk<C, F> {
 
     /// Removes an empty folder, and syncs that its name is gone. The top stays where it is.
     pub fn remove_folder(&mut self, room: u64, folder: &Name) -> Result<Answer, Failure>
-        ensures no_room { length self.old.rooms.items ≤ room → result ≡ Ok Answer.NoRoom }
-        ensures made { let path = room_path self.old room in result ≡ Ok Answer.Made → RemovesFolder (C.log self.old.calls) (C.log self.new.calls) path folder.now }
+        ensures removes { IfOk result (λ answer. InRoom self.old room answer (C.log self.old.calls) (C.log self.new.calls) (λ path. RemovesFolder (C.log self.old.calls) (C.log self.new.calls) path folder.now answer)) }
+        ensures still { IsStill self.old self.new }
         ensures well { IfOk result (λ _. failed_calls (C.log self.new.calls) ≡ failed_calls (C.log self.old.calls)) }
     {
         let Some(spot) = self.spot(room, folder)? else {
             return Ok(Answer::NoRoom);
         };
-        self.enter_room(&spot)?;
-        if spot.is_top {
-            return self.least_name(&spot, Ok(Answer::Made));
+        let answer = if spot.is_top {
+            self.remove_top(&spot)
+        } else {
+            self.remove_item(&spot)
+        };
+        answer
+    }
+
+    // The top is never removed: what is in it is told.
+    fn remove_top(&mut self, spot: &Spot) -> Result<Answer, Failure>
+        ensures removes { IfOk result (RemovesTop (C.log self.old.calls) (C.log self.new.calls) (string_bytes spot.now.room)) }
+        ensures still { IsStill self.old self.new }
+        ensures well { IfOk result (λ _. failed_calls (C.log self.new.calls) ≡ failed_calls (C.log self.old.calls)) }
+    {
+        self.enter_room(spot)?;
+        match self.least_name(spot.room.as_str())? {
+            Some(least) => Ok(Answer::NotEmpty { least }),
+            None => Ok(Answer::Made),
         }
+    }
+
+    fn remove_item(&mut self, spot: &Spot) -> Result<Answer, Failure>
+        ensures removes { IfOk result (RemovesItem (C.log self.old.calls) (C.log self.new.calls) (string_bytes spot.now.room) (string_bytes spot.now.folder)) }
+        ensures still { IsStill self.old self.new }
+        ensures well { IfOk result (λ _. failed_calls (C.log self.new.calls) ≡ failed_calls (C.log self.old.calls)) }
+    {
+        self.enter_room(spot)?;
         match self.calls.remove_folder(spot.folder.as_str())? {
             Removal::Removed => {
                 self.calls.sync_folder(spot.room.as_str())?;
                 Ok(Answer::Made)
             }
             Removal::Absent => Ok(Answer::NoFolder),
-            Removal::NotEmpty => self.least_name(&spot, Err(Failure::Failed)),
+            Removal::NotEmpty => match self.least_name(spot.folder.as_str())? {
+                Some(least) => Ok(Answer::NotEmpty { least }),
+                None => Err(Failure::Failed),
+            },
         }
     }
 
-    // The least name of a folder, or what is said of an empty one.
-    fn least_name(&mut self, spot: &Spot, empty: Result<Answer, Failure>) -> Result<Answer, Failure>
-        ensures empty { result ≡ Ok Answer.Made → empty ≡ Ok Answer.Made }
-        ensures listed { result ≡ Ok Answer.Made → Makes (listed (string_bytes spot.now.folder) (Ok []) ∷ []) (C.log self.old.calls) (C.log self.new.calls) }
+    // The least name in a folder, or None where it is empty.
+    fn least_name(&mut self, path: &str) -> Result<Option<Name>, Failure>
+        ensures empty { result ≡ Ok None → Makes (listed_folder path.now (Ok []) ∷ []) (C.log self.old.calls) (C.log self.new.calls) }
+        ensures least { IfOk result (λ least. IfSome least (λ least. (names : List (List ℕ)) × Makes (listed_folder path.now (Ok names) ∷ []) (C.log self.old.calls) (C.log self.new.calls) × IsLeast names least)) }
+        ensures still { IsStill self.old self.new }
         ensures well { IfOk result (λ _. failed_calls (C.log self.new.calls) ≡ failed_calls (C.log self.old.calls)) }
     {
-        let names = self.names_in(spot.folder.as_str())?;
-        match names.first() {
-            Some(least) => Ok(Answer::NotEmpty { least: *least }),
-            None => empty,
-        }
+        let names = self.names_in(path)?;
+        let Some(least) = names.first() else {
+            return Ok(None);
+        };
+        Ok(Some(*least))
     }
 
     /// The names in a folder, in byte order.
     pub fn names_in(&mut self, path: &str) -> Result<Vec<Name>, Failure>
-        ensures sorted { IfOk result (λ names. IsSorted (slice_cmp nat_cmp) names.items) }
-        ensures told { IfOk result (λ names. (listing : List (List ℕ)) × Makes (listed path.now (Ok listing) ∷ []) (C.log self.old.calls) (C.log self.new.calls) × IsPermutation listing names.items) }
+        ensures told { IfOk result (λ names. (listing : List (List ℕ)) × Makes (listed_folder path.now (Ok listing) ∷ []) (C.log self.old.calls) (C.log self.new.calls) × IsSortedListing listing names.items) }
+        ensures fails { IfErr result (λ failure. Makes (listed_folder path.now (Err failure) ∷ []) (C.log self.old.calls) (C.log self.new.calls)) }
+        ensures still { IsStill self.old self.new }
         ensures well { IfOk result (λ _. failed_calls (C.log self.new.calls) ≡ failed_calls (C.log self.old.calls)) }
     {
         let mut names = self.calls.list(self.alloc, path)?.into_vec();
@@ -167,8 +193,8 @@ impl<C: Calls<File = F>, F: Drop> Disk<C, F> {
 
     /// Names what is in a folder, in byte order.
     pub fn list(&mut self, room: u64, folder: &Name) -> Result<Answer, Failure>
-        ensures no_room { length self.old.rooms.items ≤ room → result ≡ Ok Answer.NoRoom }
-        ensures sorted { IfOk result IsListing }
+        ensures lists { IfOk result (λ answer. InRoom self.old room answer (C.log self.old.calls) (C.log self.new.calls) (λ path. TellsFolder (C.log self.old.calls) (C.log self.new.calls) path (folder_path path folder.now) answer)) }
+        ensures still { IsStill self.old self.new }
         ensures well { IfOk result (λ _. failed_calls (C.log self.new.calls) ≡ failed_calls (C.log self.old.calls)) }
     {
         let Some(spot) = self.spot(room, folder)? else {

@@ -2,7 +2,7 @@
 ghost use Rattle.std.specs.Prelude.{◌≡◌, IfOk};
 ghost use Rattle.store_api.specs.Step.{step_of};
 ghost use Rattle.store_folder.specs.Calls.{failed_calls};
-ghost use Rattle.store_folder.specs.OpenFiles.{Holds, ReadsOpen, WritesOpen, CutsOpen, SyncsOpen, ActsOpen, written, cut_to, held_after};
+ghost use Rattle.store_folder.specs.OpenFiles.{IsHeld, ReadsOpen, WritesOpen, CutsOpen, SyncsOpen, ActsOpen, grown, cut_to, held_after};
 
 use crate::calls::Calls;
 use crate::failure::Failure;
@@ -20,7 +20,7 @@ pub struct Held<F> {
 impl<F: Drop> Held<F> {
     /// An open file, whose length is asked of the system.
     pub fn new<C: Calls<File = F>>(calls: &mut C, file: F) -> Result<Held<F>, Failure>
-        ensures holds { Holds file (C.log calls.old) (C.log calls.new) result }
+        ensures holds { IsHeld file (C.log calls.old) (C.log calls.new) result }
         ensures well { IfOk result (λ _. failed_calls (C.log calls.new) ≡ failed_calls (C.log calls.old)) }
     {
         let len = calls.length(&file)?;
@@ -84,7 +84,7 @@ impl<F: Drop> Held<F> {
         bytes: &[u8],
     ) -> Result<Answer, Failure>
         ensures acts { WritesOpen self.old (C.log calls.old) (C.log calls.new) at bytes.now result }
-        ensures after { IfOk result (λ answer. self.new ≡ written self.old at bytes.now answer) }
+        ensures after { IfOk result (λ answer. self.new ≡ grown self.old at bytes.now answer) }
         ensures well { IfOk result (λ _. failed_calls (C.log calls.new) ≡ failed_calls (C.log calls.old)) }
     {
         if at > self.len {

@@ -1,4 +1,7 @@
 //! Why a step failed, and where.
+ghost use Rattle.std.specs.Prelude.{◌≡◌, []};
+ghost use Rattle.store_folder.specs.Kinds.{is_folder};
+
 use plfs_types::Name;
 use std::fmt::{Display, Formatter};
 use std::{fmt, io, str};
@@ -50,6 +53,15 @@ pub enum Kind {
     Other,
 }
 
+impl Kind {
+    /// Whether a plain folder is there.
+    pub fn is_folder(self) -> bool
+        ensures { result ≡ is_folder self }
+    {
+        matches!(self, Kind::Folder)
+    }
+}
+
 impl Display for Kind {
     fn fmt<W: fmt::Write>(&self, f: &mut Formatter<W>) -> fmt::Result {
         match self {
@@ -93,7 +105,9 @@ pub struct Place {
 
 impl Place {
     /// ROOT itself.
-    pub fn root() -> Place {
+    pub fn root() -> Place
+        ensures { result ≡ record { room = []; folder = []; file = [] } }
+    {
         Place {
             room: Name::empty(),
             folder: Name::empty(),
@@ -102,7 +116,9 @@ impl Place {
     }
 
     /// The room.
-    pub fn of_room(room: Name) -> Place {
+    pub fn of_room(room: Name) -> Place
+        ensures { result ≡ record { room = room; folder = []; file = [] } }
+    {
         Place {
             room,
             folder: Name::empty(),
@@ -123,11 +139,17 @@ fn text_of(name: &Name) -> &str {
     str::from_utf8(name.bytes()).unwrap_or("?")
 }
 
+// A name with control characters is written with escapes, so that a cause stays one line.
 fn write_part<W: fmt::Write>(name: &Name, f: &mut Formatter<W>) -> fmt::Result {
     if name.bytes().is_empty() {
         return Ok(());
     }
-    write!(f, "/{}", text_of(name))
+    let text = text_of(name);
+    if text.chars().any(|c| c.is_control()) {
+        write!(f, "/{}", text.escape_debug())
+    } else {
+        write!(f, "/{text}")
+    }
 }
 
 impl Display for Place {

@@ -1,15 +1,16 @@
-//! The steps of whole rooms.
-ghost use Rattle.std.specs.Prelude.{◌≡◌, ◌≤◌, ◌<◌, length, position, true, Some, None, Ok, IsSome, IfSome, IfOk, slice_set, string_bytes};
-ghost use Rattle.store_folder.specs.Changes.{item_of, room_path, RenamesRoom};
+//! The rooms: which items of ROOT they are, and the steps that name, find and rename them.
+ghost use Rattle.std.specs.Prelude.{◌≡◌, ◌≤◌, ◌<◌, ◌++◌, ◌⊎◌, length, position, true, false, None, Ok, Err, IsSome, IfSome, IfOk, IfErr, OnErr, OnOk, slice_set, string_bytes};
+ghost use Rattle.store_folder.specs.Paths.{room_path};
+ghost use Rattle.store_folder.specs.Rooms.{if_room, LooksForRoom, FindsRooms, ListsRooms, IsStill, InRoom, MovesRoom, RenamesRoom};
+ghost use Rattle.store_folder.specs.Listings.{TellsNames};
 ghost use Rattle.store_folder.specs.Calls.{failed_calls};
 ghost use Rattle.store_api.specs.Names.{same_name};
 ghost use Rattle.store_api.specs.Effect.{number_or_absent};
 
-use crate::calls::{Calls, Removal};
+use crate::calls::Calls;
 use crate::disk::Disk;
 use crate::failure::Failure;
 use crate::paths::{is_room_name, join, part};
-use crate::reason::Kind;
 use plfs_types::{Name, NameList};
 use store_api::Answer;
 
@@ -20,11 +21,25 @@ fn place_of(rooms: &[Name], name: &Name) -> Option<usize>
     rooms.iter().position(|room| *room == *name)
 }
 
+// Adds the name where it is a room's.
+fn push_room(rooms: &mut Vec<Name>, is_room: bool, name: &Name) -> Result<(), Failure>
+    ensures pushed { OnOk result (rooms.new.items ≡ rooms.old.items ++ if_room is_room name.now) }
+{
+    if is_room {
+        rooms.push(*name)?;
+    }
+    Ok(())
+}
+
 impl<C: Calls<File = F>, F: Drop> Disk<C, F> {
     /// Numbers the rooms of ROOT in byte order of their names, unless that was done.
     pub fn number_rooms(&mut self) -> Result<(), Failure>
-        ensures done { self.old.is_numbered ≡ true → result ≡ Ok tt }
-        ensures same { self.old.is_numbered ≡ true → self.new ≡ self.old }
+        ensures done { self.old.is_numbered ≡ true → (result ≡ Ok tt) × (self.new ≡ self.old) }
+        ensures numbered { OnOk result (self.new.is_numbered ≡ true) }
+        ensures listed { self.old.is_numbered ≡ false → OnOk result (ListsRooms (string_bytes self.old.root) self.new.rooms.items (C.log self.old.calls) (C.log self.new.calls)) }
+        ensures root { self.new.root ≡ self.old.root }
+        ensures open { self.new.open ≡ self.old.open }
+        ensures failed { OnErr result (IsStill self.old self.new) }
         ensures well { IfOk result (λ _. failed_calls (C.log self.new.calls) ≡ failed_calls (C.log self.old.calls)) }
     {
         if self.is_numbered {
@@ -37,38 +52,56 @@ impl<C: Calls<File = F>, F: Drop> Disk<C, F> {
 
     // The names of the rooms in byte order. ROOT itself may be reached by a link, and no room is.
     fn list_rooms(&mut self) -> Result<Vec<Name>, Failure>
+        ensures listed { IfOk result (λ rooms. ListsRooms (string_bytes self.old.root) rooms.items (C.log self.old.calls) (C.log self.new.calls)) }
+        ensures still { IsStill self.old self.new }
         ensures well { IfOk result (λ _. failed_calls (C.log self.new.calls) ≡ failed_calls (C.log self.old.calls)) }
     {
         let names = self.calls.list(self.alloc, self.root.as_str())?;
-        let mut rooms = Vec::new(self.alloc);
-        for name in names.as_slice() {
-            if self.is_room(name)? {
-                rooms.push(*name)?;
-            }
-        }
+        let mut rooms = self.rooms_among(names.as_slice())?;
         rooms.sort_unstable();
+        Ok(rooms)
+    }
+
+    // Which of these names of items of ROOT are rooms'.
+    fn rooms_among(&mut self, names: &[Name]) -> Result<Vec<Name>, Failure>
+        ensures found { IfOk result (λ rooms. FindsRooms (string_bytes self.old.root) names.now rooms.items (C.log self.old.calls) (C.log self.new.calls)) }
+        ensures still { IsStill self.old self.new }
+        ensures well { IfOk result (λ _. failed_calls (C.log self.new.calls) ≡ failed_calls (C.log self.old.calls)) }
+    {
+        let mut rooms = Vec::new(self.alloc);
+        for name in names {
+            let is_room = self.is_room(name)?;
+            push_room(&mut rooms, is_room, name)?;
+        }
         Ok(rooms)
     }
 
     // Whether this item of ROOT is a room: a folder whose name a room can have.
     fn is_room(&mut self, name: &Name) -> Result<bool, Failure>
+        ensures looked { IfOk result (λ is_room. LooksForRoom (string_bytes self.old.root) name.now is_room (C.log self.old.calls) (C.log self.new.calls)) }
+        ensures still { IsStill self.old self.new }
         ensures well { IfOk result (λ _. failed_calls (C.log self.new.calls) ≡ failed_calls (C.log self.old.calls)) }
     {
         if !is_room_name(name.bytes()) {
             return Ok(false);
         }
         let path = join(self.alloc, self.root.as_str(), part(name)?)?;
-        Ok(matches!(self.calls.look(path.as_str())?, Kind::Folder))
+        let kind = self.calls.look(path.as_str())?;
+        Ok(kind.is_folder())
     }
 
     /// Names all rooms in byte order.
-    pub fn room_names(&self) -> Result<Answer, Failure> {
+    pub fn room_names(&self) -> Result<Answer, Failure>
+        ensures named { IfOk result (TellsNames self.now.rooms.items) }
+        ensures memory { IfErr result (λ failure. failure ≡ Failure.NoMemory) }
+    {
         let mut names = Vec::from_slice(self.alloc, self.rooms.as_slice())?;
         names.sort_unstable();
         Ok(Answer::Names(NameList::from_vec(names)))
     }
 
-    fn number_of(&self, name: &Name) -> Option<u64>
+    /// The number of the room with this name, where there is one.
+    pub fn number_of(&self, name: &Name) -> Option<u64>
         ensures { result ≡ position (λ room. same_name room name.now) self.now.rooms.items }
     {
         match place_of(self.rooms.as_slice(), name) {
@@ -87,146 +120,13 @@ impl<C: Calls<File = F>, F: Drop> Disk<C, F> {
         }
     }
 
-    /// Adds a room with these folders and empty top files: they are built and synced in a folder that is no room,
-    /// and then that folder gets the room's name.
-    pub fn make_room(
-        &mut self,
-        name: &Name,
-        folders: &[Name],
-        files: &[Name],
-    ) -> Result<Answer, Failure>
-        ensures old { IfSome (position (λ room. same_name room name.now) self.old.rooms.items) (λ room. result ≡ Ok (Answer.Old room)) }
-        ensures well { IfOk result (λ _. failed_calls (C.log self.new.calls) ≡ failed_calls (C.log self.old.calls)) }
-    {
-        if let Some(room) = self.number_of(name) {
-            return Ok(Answer::Old { room });
-        }
-        if !is_room_name(name.bytes()) {
-            return Err(Failure::Failed);
-        }
-        let path = join(self.alloc, self.root.as_str(), part(name)?)?;
-        let value = self.rooms.len() as u64;
-        self.rooms.push(*name)?;
-        if let Err(failure) = self.place_room(path.as_str(), folders, files) {
-            self.rooms.pop();
-            return Err(failure);
-        }
-        // The room is there from now on, also where the system fails to sync ROOT.
-        self.calls.sync_folder(self.root.as_str())?;
-        Ok(Answer::Number { value })
-    }
-
-    // Builds a room at this path.
-    fn place_room(&mut self, path: &str, folders: &[Name], files: &[Name]) -> Result<(), Failure>
-        ensures well { IfOk result (λ _. failed_calls (C.log self.new.calls) ≡ failed_calls (C.log self.old.calls)) }
-    {
-        check_parts(folders)?;
-        check_parts(files)?;
-        let new = self.new_folder()?;
-        let built = self.fill_room(new.as_str(), path, folders, files);
-        if built.is_err() {
-            let _ = self.clear(new.as_str());
-        }
-        built
-    }
-
-    // A new folder of ROOT, `.new.<k>` with the least k that is free or can be cleared.
-    fn new_folder(&mut self) -> Result<String, Failure>
-        ensures well { IfOk result (λ _. failed_calls (C.log self.new.calls) ≡ failed_calls (C.log self.old.calls)) }
-    {
-        for k in 0..u64::MAX {
-            let path = format!(in self.alloc; "{}/.new.{k}", self.root.as_str())?;
-            if self.make_new(path.as_str())? {
-                return Ok(path);
-            }
-        }
-        Err(Failure::Failed)
-    }
-
-    // Whether the folder was made, or made again once it was cleared.
-    fn make_new(&mut self, path: &str) -> Result<bool, Failure>
-        ensures well { IfOk result (λ _. failed_calls (C.log self.new.calls) ≡ failed_calls (C.log self.old.calls)) }
-    {
-        if self.calls.make_folder(path)? {
-            return Ok(true);
-        }
-        Ok(self.clear(path)? && self.calls.make_folder(path)?)
-    }
-
-    // Removes what the making of a room left where it was broken off: a folder that holds nothing but empty folders
-    // and empty files. False where anything else is there, and of that all stays.
-    fn clear(&mut self, path: &str) -> Result<bool, Failure>
-        ensures well { IfOk result (λ _. failed_calls (C.log self.new.calls) ≡ failed_calls (C.log self.old.calls)) }
-    {
-        if !matches!(self.calls.look(path)?, Kind::Folder) {
-            return Ok(false);
-        }
-        let names = self.calls.list(self.alloc, path)?;
-        for name in names.as_slice() {
-            self.clear_item(path, name)?;
-        }
-        Ok(matches!(self.calls.remove_folder(path)?, Removal::Removed))
-    }
-
-    fn clear_item(&mut self, folder: &str, name: &Name) -> Result<(), Failure>
-        ensures well { IfOk result (λ _. failed_calls (C.log self.new.calls) ≡ failed_calls (C.log self.old.calls)) }
-    {
-        let path = join(self.alloc, folder, part(name)?)?;
-        match self.calls.look(path.as_str())? {
-            Kind::Folder => {
-                self.calls.remove_folder(path.as_str())?;
-            }
-            Kind::File { len: 0 } => {
-                self.calls.remove_file(path.as_str())?;
-            }
-            _ => {}
-        }
-        Ok(())
-    }
-
-    fn fill_room(
-        &mut self,
-        new: &str,
-        path: &str,
-        folders: &[Name],
-        files: &[Name],
-    ) -> Result<(), Failure>
-        ensures well { IfOk result (λ _. failed_calls (C.log self.new.calls) ≡ failed_calls (C.log self.old.calls)) }
-    {
-        for folder in folders {
-            self.fill_folder(new, folder)?;
-        }
-        for file in files {
-            self.fill_file(new, file)?;
-        }
-        self.calls.sync_folder(new)?;
-        self.calls.rename(new, path)
-    }
-
-    fn fill_folder(&mut self, new: &str, folder: &Name) -> Result<(), Failure>
-        ensures well { IfOk result (λ _. failed_calls (C.log self.new.calls) ≡ failed_calls (C.log self.old.calls)) }
-    {
-        let path = join(self.alloc, new, part(folder)?)?;
-        self.calls.make_folder(path.as_str())?;
-        self.calls.sync_folder(path.as_str())
-    }
-
-    // A name that the list has twice is one file.
-    fn fill_file(&mut self, new: &str, file: &Name) -> Result<(), Failure>
-        ensures well { IfOk result (λ _. failed_calls (C.log self.new.calls) ≡ failed_calls (C.log self.old.calls)) }
-    {
-        let path = join(self.alloc, new, part(file)?)?;
-        match self.calls.create(path.as_str())? {
-            Some(file) => self.calls.sync(&file),
-            None => self.old_file(path.as_str()).map(|_| ()),
-        }
-    }
-
     /// Gives a room a name that no room has. Its open files stay open.
     pub fn rename_room(&mut self, room: u64, to: &Name) -> Result<Answer, Failure>
-        ensures no_room { length self.old.rooms.items ≤ room → result ≡ Ok Answer.NoRoom }
-        ensures made { result ≡ Ok Answer.Made → RenamesRoom (C.log self.old.calls) (C.log self.new.calls) (string_bytes self.old.root) (room_path self.old room) (item_of (string_bytes self.old.root) to.now) }
-        ensures called { result ≡ Ok Answer.Made → self.new.rooms.items ≡ slice_set self.old.rooms.items room to.now }
+        ensures renames { IfOk result (λ answer. InRoom self.old room answer (C.log self.old.calls) (C.log self.new.calls) (RenamesRoom self.old self.new to.now (C.log self.old.calls) (C.log self.new.calls) room answer)) }
+        ensures failed { OnErr result ((self.new.rooms.items ≡ self.old.rooms.items) ⊎ ((self.new.rooms.items ≡ slice_set self.old.rooms.items room to.now) × MovesRoom (string_bytes self.old.root) (room_path self.old room) to.now (Err Failure.Failed) (C.log self.old.calls) (C.log self.new.calls))) }
+        ensures root { self.new.root ≡ self.old.root }
+        ensures numbered { self.new.is_numbered ≡ self.old.is_numbered }
+        ensures open { self.new.open ≡ self.old.open }
         ensures well { IfOk result (λ _. failed_calls (C.log self.new.calls) ≡ failed_calls (C.log self.old.calls)) }
     {
         let Some(old) = self.room_path(room)? else {
@@ -250,6 +150,8 @@ impl<C: Calls<File = F>, F: Drop> Disk<C, F> {
         ensures called { room < length self.old.rooms.items → self.new.rooms.items ≡ slice_set self.old.rooms.items room to.now }
         ensures calls { self.new.calls ≡ self.old.calls }
         ensures root { self.new.root ≡ self.old.root }
+        ensures numbered { self.new.is_numbered ≡ self.old.is_numbered }
+        ensures open { self.new.open ≡ self.old.open }
     {
         let place = room as usize;
         if place < self.rooms.len() {
@@ -268,12 +170,4 @@ impl<C: Calls<File = F>, F: Drop> Disk<C, F> {
             None => Ok(None),
         }
     }
-}
-
-// Fails where one of the names can't stand in a path.
-fn check_parts(names: &[Name]) -> Result<(), Failure> {
-    for name in names {
-        part(name)?;
-    }
-    Ok(())
 }

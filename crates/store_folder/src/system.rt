@@ -2,6 +2,7 @@
 ghost use Rattle.std.specs.Prelude.{◌≡◌, None, IfErr, IfOk};
 ghost use Rattle.std.specs.Fs.{file_type, metadata_len};
 ghost use Rattle.store_folder.specs.Kinds.{IsKindOf};
+ghost use Rattle.store_folder.specs.Noted.{noted};
 
 use crate::calls::{Calls, Removal};
 use crate::failure::Failure;
@@ -45,22 +46,31 @@ fn are_one_file(a: &Metadata, b: &Metadata) -> bool {
 
 impl<R> SystemCalls<R> {
     /// The system by this runtime.
-    pub fn new(rt: R) -> Self {
+    pub fn new(rt: R) -> Self
+        ensures { result ≡ record { rt = rt; last = None } }
+    {
         SystemCalls { rt, last: None }
     }
 
     /// Forgets what the last call told.
-    pub fn forget(&mut self) {
+    pub fn forget(&mut self)
+        ensures runtime { self.new.rt ≡ self.old.rt }
+        ensures forgotten { self.new.last ≡ None }
+    {
         self.last = None;
     }
 
     /// Why the last call failed or what the last look found, since it was told to forget.
-    pub fn last(&self) -> Option<Reason> {
+    pub fn last(&self) -> Option<Reason>
+        ensures { result ≡ self.now.last }
+    {
         self.last
     }
 
     // Keeps what a call told, unless one failed before: that is why the step fails.
-    fn note(&mut self, reason: Reason) {
+    fn note(&mut self, reason: Reason)
+        ensures noted { self.new.last ≡ noted self.old.last reason }
+    {
         if !matches!(self.last, Some(Reason::System { .. })) {
             self.last = Some(reason);
         }
@@ -68,7 +78,8 @@ impl<R> SystemCalls<R> {
 
     // Keeps why a call failed.
     fn fail(&mut self, asked: Asked, error: io::Error) -> Failure
-        ensures { result ≡ Failure.Failed }
+        ensures failed { result ≡ Failure.Failed }
+        ensures noted { self.new.last ≡ noted self.old.last (Reason.System asked error) }
     {
         self.note(Reason::System { asked, error });
         Failure::Failed

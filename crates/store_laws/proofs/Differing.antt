@@ -77,7 +77,7 @@ names_more (name ∷ names) new d e =
     let rest : is_listed new names ≡ false = none_removed (λ other. same_name other new) (name ∷ names) zero e in
     (none_more (λ other. same_name other name) names new d.0 turn, names_more names new d.1 rest)
 
-none_kept : (p q : Name → Bool) (names : List Name) → list_any p names ≡ false → list_any p (filter q names) ≡ false
+pub none_kept : (p q : Name → Bool) (names : List Name) → list_any p names ≡ false → list_any p (filter q names) ≡ false
 none_kept p q [] e = refl
 none_kept p q (name ∷ names) e =
     let at : p name ≡ false = none_at p (name ∷ names) zero name e refl in

@@ -38,3 +38,22 @@ fn a_fault_tells_its_place_below_root_and_the_systems_reason(rt: HostRuntime) ->
     fs::remove_dir_all(&rt, root)?;
     Ok(())
 }
+
+#[test]
+fn a_name_with_control_characters_is_told_with_escapes(rt: HostRuntime) -> Result<(), Fail> {
+    let root = "store_tests_control";
+    let _ = fs::remove_dir_all(&rt, root);
+    fs::create_dir(&rt, root)?;
+    fs::create_dir(&rt, "store_tests_control/f")?;
+    fs::create_dir(&rt, "store_tests_control/f/it's\n\u{1b}[2J")?;
+    let mut store = FolderStore::open(rt, rt.alloc(), &Word::copy(rt.alloc(), root)?)?;
+    let (room, folder, file) = (0, name(""), name("it's\n\u{1b}[2J"));
+    assert!(rt; store.act(&Step::Length { room, folder, file }).is_err());
+    let told = cause_of(rt, &store)?;
+    assert_eq!(rt;
+        told.as_str(),
+        "/f/it\\'s\\n\\u{1b}[2J: a folder stands there"
+    );
+    fs::remove_dir_all(&rt, root)?;
+    Ok(())
+}

@@ -1,17 +1,17 @@
 -- What a close leaves.
-use Rattle.std.proofs.Common.{◌≡◌, ℕ, List, [], ◌∷◌, ◌++◌, Option, Some, None, refl, sym, ap, ◌∙◌, inl, inr, subst, true, false, Bool}
+use Rattle.std.proofs.Common.{◌≡◌, ℕ, List, [], ◌∷◌, ◌++◌, Option, Some, None, refl, sym, ap, ◌∙◌, subst, true, false, Bool}
 use Rattle.std.specs.Prelude.{Result, Ok, Err}
 use Rattle.flow.specs.declared.trouble.Stuck.{Stuck}
 use Rattle.flow.specs.declared.trouble.Stuck.TheVariants as stuck
-use Rattle.story.specs.Program.{Program, done, ask, followed_by}
-use Rattle.mount_model.specs.declared.call.Call.{Call}
+use Rattle.story.specs.Program.{done}
 use Rattle.mount_model.specs.declared.call.Call.TheVariants as call
 use Rattle.mount_model.specs.declared.reply.Reply.{Reply}
 use Rattle.mount_model.specs.declared.reply.Reply.TheVariants as reply
 use Rattle.mount_model.specs.declared.row.Row.{Row}
 use Rattle.mount_model.specs.State.{State}
-use Rattle.mount_model.specs.History.{Event, IsLawful, state_after}
+use Rattle.mount_model.specs.History.{Event, state_after}
 use Rattle.mount_model.specs.Step.{Answers}
+use Rattle.mount_sound.specs.Owed.{IsLawful}
 use Rattle.writer_flow.specs.declared.handle.WriterHandle.{WriterHandle}
 use Rattle.writer_flow.specs.declared.handle.WriterOut.{WriterOut}
 use Rattle.writer_flow.specs.Handle.{closing_of}

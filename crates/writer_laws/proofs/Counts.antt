@@ -4,7 +4,8 @@ use Rattle.std.specs.Prelude.{Ok}
 use Rattle.mount_model.specs.declared.row.Row.{Row}
 use Rattle.mount_model.specs.Table.{row_of}
 use Rattle.mount_model.specs.State.{State}
-use Rattle.mount_model.specs.History.{Event, IsLawful, state_after}
+use Rattle.mount_model.specs.History.{Event, state_after}
+use Rattle.mount_sound.specs.Owed.{IsLawful}
 use Rattle.writer_flow.specs.declared.handle.WriterHandle.{WriterHandle}
 use Rattle.writer_flow.specs.declared.handle.WriterOut.{WriterOut}
 use Rattle.writer_flow.specs.Syncing.{sync_program}

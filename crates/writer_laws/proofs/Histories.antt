@@ -2,7 +2,8 @@
 use Rattle.std.proofs.Common.{ℕ, ◌+◌, List, [], ◌∷◌, arith}
 use Rattle.mount_model.specs.declared.row.Row.{Row}
 use Rattle.mount_model.specs.State.{State}
-use Rattle.mount_model.specs.History.{Event, IsLawful, state_after}
+use Rattle.mount_model.specs.History.{Event, state_after}
+use Rattle.mount_sound.specs.Owed.{IsLawful}
 use Rattle.writer_laws.specs.Counting.{writes_told, entry_count, StaysIn}
 use Rattle.writer_laws.specs.Knowing.{HasRow, HasCount}
 use Rattle.writer_laws.proofs.Stops.{any_kept}

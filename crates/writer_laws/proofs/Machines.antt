@@ -11,8 +11,9 @@ use Rattle.mount_model.specs.declared.reply.Reply.{Reply}
 use Rattle.mount_model.specs.declared.reply.Reply.TheVariants as reply
 use Rattle.mount_model.specs.declared.row.Row.{Row}
 use Rattle.mount_model.specs.State.{State}
-use Rattle.mount_model.specs.History.{Event, IsLawful, state_after}
+use Rattle.mount_model.specs.History.{Event, state_after}
 use Rattle.mount_model.specs.Step.{Answers, IsStep}
+use Rattle.mount_sound.specs.Owed.{IsLawful}
 use Rattle.writer_flow.specs.declared.handle.WriterHandle.{WriterHandle}
 use Rattle.writer_flow.specs.declared.handle.WriterOut.{WriterOut}
 use Rattle.writer_flow.specs.Handle.{flushed_of, one_more_of, synced_of}
@@ -22,7 +23,6 @@ use Rattle.writer_flow.specs.Syncing.{if_synced, syncs_index, flushes_and_syncs,
 use Rattle.flow.specs.Running.{Runs}
 use Rattle.writer_laws.specs.Counting.{entry_count}
 use Rattle.writer_laws.specs.Knowing.{HasRow, Knows, KeepsHandle, IsSynced}
-use Rattle.writer_laws.specs.Waiting.{IsOn}
 use Rattle.writer_laws.proofs.Stops.{whole_answers, spared_row}
 use Rattle.flow.proofs.Facts.{runs_next, runs_done}
 use Rattle.writer_laws.proofs.Own.{sync_log_own, sync_index_own, flush_own, FlushedOwn, write_own, WroteOwn}

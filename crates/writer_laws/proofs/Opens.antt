@@ -15,10 +15,11 @@ use Rattle.mount_model.specs.declared.reply.Refusal.{Refusal}
 use Rattle.mount_model.specs.declared.row.Row.{Row}
 use Rattle.mount_model.specs.Table.{row_of}
 use Rattle.mount_model.specs.State.{State, Table}
-use Rattle.mount_model.specs.History.{Event, IsLawful, state_after}
-use Rattle.mount_model.specs.Entering.{next_id, entered, enter_check, enter_outcome, EntersAs}
+use Rattle.mount_model.specs.History.{Event, state_after}
+use Rattle.mount_model.specs.Entering.{next_id, entered, draw_check, enter_outcome, EntersAs}
 use Rattle.mount_model.specs.Regular.{IsDrawn, IsRegular}
 use Rattle.mount_model.specs.Step.{Answers}
+use Rattle.mount_sound.specs.Owed.{IsLawful}
 use Rattle.writer_flow.specs.declared.handle.WriterHandle.{WriterHandle}
 use Rattle.writer_flow.specs.Handle.{opened_of}
 use Rattle.writer_flow.specs.Ending.{trouble}
@@ -60,7 +61,7 @@ pub record EnteredOwn (me w : ℕ) (new : State) : Type 0 where
   pub none : entry_count row ≡ 0
 
 pub enter_own : (me room host most w : ℕ) (old : State) (rep : Reply) (new : State) → IsRegular old → Answers old me (call.Enter room host most) rep new → rep ≡ reply.Entered w → EnteredOwn me w new
-enter_own me room host most w old rep new regular a said = elim (unless_refused (enter_check old room) old rep new (EntersAs me room host most old rep new) a) as (λ _. EnteredOwn me w new) [
+enter_own me room host most w old rep new regular a said = elim (unless_refused (draw_check old room) old rep new (EntersAs me room host most old rep new) a) as (λ _. EnteredOwn me w new) [
   | inl (why, refused) ↦ let f = refused.0 in absurd (not_refused why w rep f said)
   | inr f ↦
       let mine : Row = entered old me room host most in

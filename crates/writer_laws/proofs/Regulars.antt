@@ -2,8 +2,9 @@
 use Rattle.std.proofs.Common.{List, [], ◌∷◌}
 use Rattle.mount_model.specs.State.{State}
 use Rattle.mount_model.specs.Regular.{IsRegular}
-use Rattle.mount_model.specs.History.{Event, IsLawful}
+use Rattle.mount_model.specs.History.{Event}
 use Rattle.mount_model.proofs.Facts.{step_regular}
+use Rattle.mount_sound.specs.Owed.{IsLawful}
 
 -- the table is regular before and after each of these events
 abbrev pub AreRegular : State → List Event → Type 0
@@ -13,4 +14,4 @@ AreRegular start (event ∷ events) = IsRegular start × AreRegular event.after 
 pub are_regular : (start : State) (events : List Event) → IsRegular start → IsLawful start events → AreRegular start events
 are_regular start [] regular legal = regular
 are_regular start (event ∷ events) regular legal =
-    (regular, are_regular event.after events (step_regular start event.after event.caller event.ask event.reply legal.0 legal.1 regular) legal.2)
+    (regular, are_regular event.after events (step_regular start event.after event.caller event.ask event.reply legal.0.numbers legal.1 regular) legal.2)

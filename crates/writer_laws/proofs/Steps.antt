@@ -3,7 +3,7 @@ use Rattle.std.proofs.Common.{◌≡◌, ◌≢◌, ℕ, ◌+◌, List, [], ◌�
 use Rattle.std.specs.Prelude.{if◌then◌else◌, Ok, Err}
 use Rattle.std.proofs.lemmas.Bool.{cases_eq}
 use Rattle.std.proofs.lemmas.Bool.Decides.{nat_tests}
-use Rattle.store_api.specs.declared.step.Answer.TheVariants.{Made, Old, Absent, Names, Number}
+use Rattle.store_api.specs.declared.step.Answer.TheVariants.{Made, Old, Names}
 use Rattle.store_api.specs.declared.store.Trouble.TheVariants.{Fault, NoMemory}
 use Rattle.store_api.specs.Step.{Step}
 use Rattle.container_layout.specs.Paths.{hostdir_of}
@@ -19,16 +19,15 @@ use Rattle.mount_model.specs.declared.row.Stage.TheVariants as stage
 use Rattle.mount_model.specs.Paths.{Name, index_path, log_path}
 use Rattle.mount_model.specs.Table.{row_of, with_row, without_row, writer_of, only, may_close, is_live, at_stage}
 use Rattle.mount_model.specs.State.{State, Table, put, take_out}
-use Rattle.mount_model.specs.Making.{Told, CallOutcome, Refuses, MakesAct, OnWriter, UnlessRefused, room_check}
-use Rattle.mount_model.specs.Finding.{find_outcome, make_outcome}
-use Rattle.mount_model.specs.Looking.{look_step, look_outcome}
-use Rattle.mount_model.specs.Entering.{entered, enter_outcome, enter_check, EntersAs}
+use Rattle.mount_model.specs.Making.{Told, CallOutcome, Refuses, MakesAct, OnWriter, UnlessRefused}
+use Rattle.mount_model.specs.Entering.{entered, enter_outcome, draw_check, EntersAs}
 use Rattle.mount_model.specs.Flooring.{floored, FloorOutcome, FloorsRow}
 use Rattle.mount_model.specs.Building.{build_outcome, hostdir_step, index_step, log_step}
 use Rattle.mount_model.specs.Writing.{write_check, write_outcome, entry_of, stamp_at, wrote as with_write, WritesAt}
 use Rattle.mount_model.specs.Flushing.{log_synced, index_synced, flushed, flush_step, flush_outcome, FlushesRow, sync_log_step, sync_log_outcome, sync_index_step, sync_index_outcome}
 use Rattle.mount_model.specs.Leaving.{closing, closed, put_meta_check, put_meta_step, put_meta_outcome, exit_check, exit_step, exit_outcome}
 use Rattle.mount_model.specs.Step.{Answers}
+use Rattle.mount_model.proofs.Facts.{writers_spared}
 use Rattle.plfs_types.specs.declared.entries.Entry.{Entry}
 use Rattle.writer_laws.specs.Counting.{wrote_count, wrote_by, entry_count, StaysInAt}
 use Rattle.writer_laws.specs.Knowing.{HasRow}
@@ -43,14 +42,18 @@ pub record Kept (me w : ℕ) (row : Row) (caller told : ℕ) (on : Type 0) (new 
   pub total : entry_count after ≡ entry_count row + told
   pub spared : (caller ≡ me → on → ⊥) → after ≡ row
 
--- the table is as it was
-pub kept_same : {on : Type 0} (me w : ℕ) (row : Row) (caller told : ℕ) (old new : State) → HasRow me w row old → new.table ≡ old.table → told ≡ 0 → Kept me w row caller told on new
-kept_same me w row caller told old new h e t = record {
+-- the table's writers are as they were
+kept_writers : {on : Type 0} (me w : ℕ) (row : Row) (caller told : ℕ) (old new : State) → HasRow me w row old → new.table.writers ≡ old.table.writers → told ≡ 0 → Kept me w row caller told on new
+kept_writers me w row caller told old new h e t = record {
   after = row;
-  has = record { there = subst (λ (s : Table). row_of w s.writers ≡ Some row) (sym e) h.there; owned = h.owned };
+  has = record { there = subst (λ rows. row_of w rows ≡ Some row) (sym e) h.there; owned = h.owned };
   total = omega arith;
   spared = λ apart. refl;
 }
+
+-- the table is as it was
+pub kept_same : {on : Type 0} (me w : ℕ) (row : Row) (caller told : ℕ) (old new : State) → HasRow me w row old → new.table ≡ old.table → told ≡ 0 → Kept me w row caller told on new
+kept_same me w row caller told old new h e t = kept_writers me w row caller told old new h (ap (λ (s : Table). s.writers) e) t
 
 -- a row was put in place of the caller's writer's
 pub kept_put : (me w : ℕ) (row : Row) (caller told : ℕ) (old new : State) (stages : Stage → Bool) (id : ℕ) (r x : Row) → HasRow me w row old → writer_of caller stages id old.table.writers ≡ Some r → x.id ≡ r.id → x.owner ≡ r.owner → new.table ≡ put x old.table
@@ -98,16 +101,6 @@ pub made_table : (step : Step) (outcome : Told → CallOutcome) (old : State) (r
 made_table step outcome old reply new m = ap (λ (s : State). s.table) m.after
 
 -- ---- the tables that acts leave
-
-find_table : (table : Table) (told : Told) → (find_outcome table told).table ≡ table
-find_table table (Ok (Number room)) = refl
-find_table table (Ok Absent) = refl
-find_table table told = refl
-
-make_table : (table : Table) (told : Told) → (make_outcome table told).table ≡ table
-make_table table (Ok (Number room)) = refl
-make_table table (Ok (Old room)) = refl
-make_table table told = refl
 
 pub enter_table : (row : Row) (table : Table) (told : Told) → (((enter_outcome row table told).reply ≡ reply.Entered row.id) × ((enter_outcome row table told).table.writers ≡ table.writers ++ row ∷ [])) ⊎ (((n : ℕ) → (enter_outcome row table told).reply ≡ reply.Entered n → ⊥) × ((enter_outcome row table told).table ≡ table))
 enter_table row table (Ok Made) = inl (refl, refl)
@@ -276,15 +269,7 @@ enters_kept me w row caller room host most old rep new h f =
 
 -- Whoever calls what, the caller's writer stays, with one entry more exactly where a write of it was answered Wrote.
 pub step_kept : (me w : ℕ) (row : Row) (old : State) (caller : ℕ) (c : Call) (rep : Reply) (new : State) → HasRow me w row old → Answers old caller c rep new → StaysInAt w c rep → Kept me w row caller (wrote_by w c rep) (IsOn w c) new
-step_kept me w row old caller call.Greet rep new h a s = kept_same me w row caller 0 old new h (table_of old new a.1) refl
-step_kept me w row old caller (call.Find name) rep new h a s = kept_same me w row caller 0 old new h (ap (λ (x : State). x.table) a.makes.after ∙ find_table old.table a.makes.told) refl
-step_kept me w row old caller (call.MakeContainer name) rep new h a s = kept_same me w row caller 0 old new h (ap (λ (x : State). x.table) a.makes.after ∙ make_table old.table a.makes.told) refl
-step_kept me w row old caller call.Rooms rep new h a s = kept_same me w row caller 0 old new h (ap (λ (x : State). x.table) a.after) refl
-step_kept me w row old caller (call.Look room look) rep new h a s = elim (unless_refused (room_check old room) old rep new (MakesAct (look_step room look) (look_outcome look old) old rep new) a) as (λ _. Kept me w row caller 0 ⊥ new) [
-  | inl (why, refused) ↦ kept_same me w row caller 0 old new h (table_of old new refused.1) refl
-  | inr m ↦ kept_same me w row caller 0 old new h (ap (λ (x : State). x.table) m.after) refl
-]
-step_kept me w row old caller (call.Enter room host most) rep new h a s = elim (unless_refused (enter_check old room) old rep new (EntersAs caller room host most old rep new) a) as (λ _. Kept me w row caller 0 ⊥ new) [
+step_kept me w row old caller (call.Enter room host most) rep new h a s = elim (unless_refused (draw_check old room) old rep new (EntersAs caller room host most old rep new) a) as (λ _. Kept me w row caller 0 ⊥ new) [
   | inl (why, refused) ↦ kept_same me w row caller 0 old new h (table_of old new refused.1) refl
   | inr f ↦ enters_kept me w row caller room host most old rep new h f
 ]
@@ -334,3 +319,4 @@ step_kept me w row old caller (call.Exit id) rep new h a s = elim (on_writer cal
     | inr m ↦ exits_row_kept me w row caller id old rep new r (exit_step r) h e m s
   ]
 ]
+step_kept me w row old caller c rep new h a s = kept_writers me w row caller 0 old new h (writers_spared old caller c rep new tt a) refl

@@ -1,27 +1,24 @@
 -- A call that is broken off takes no writer out of the table, and issues nothing.
-use Rattle.std.proofs.Common.{◌≡◌, ℕ, ◌+◌, List, [], ◌∷◌, map, true, false, nat_eq, Option, Some, None, refl, sym, ap, ◌∙◌, ◌⊎◌, inl, inr, subst, arith, Ok, Err, if◌then◌else◌}
+use Rattle.std.proofs.Common.{◌≡◌, ℕ, ◌+◌, List, [], ◌∷◌, map, true, false, nat_eq, Some, None, refl, sym, ap, ◌∙◌, ◌⊎◌, inl, inr, subst, arith, Ok, Err, if◌then◌else◌}
 use Rattle.std.proofs.lemmas.Bool.Decides.{nat_tests}
 use Rattle.store_api.specs.declared.store.Trouble.TheVariants as trouble
-use Rattle.store_api.specs.Acts.{Stored}
 use Rattle.mount_model.specs.declared.call.Ask.{Ask}
 use Rattle.mount_model.specs.declared.call.Call.{Call}
 use Rattle.mount_model.specs.declared.call.Call.TheVariants as call
 use Rattle.mount_model.specs.declared.reply.Reply.{Reply}
 use Rattle.mount_model.specs.declared.reply.Reply.TheVariants.{Stopped, NoMemory}
-use Rattle.mount_model.specs.declared.reply.Refusal.{Refusal}
 use Rattle.mount_model.specs.declared.row.Row.{Row}
 use Rattle.mount_model.specs.declared.row.Stage.TheVariants as stage
 use Rattle.mount_model.specs.Table.{row_of, at_stage}
 use Rattle.mount_model.specs.State.{State, Table}
 use Rattle.mount_model.specs.Making.{Told}
-use Rattle.mount_model.specs.Entering.{enter_check}
-use Rattle.mount_model.specs.Stopping.{row_ended, without_caller, drawn_unless, begun, IsEndedBy, Stops}
+use Rattle.mount_model.specs.Stopping.{row_ended, without_caller, IsEndedBy, Stops}
 use Rattle.mount_model.specs.Step.{Answers, IsStep}
-use Rattle.mount_model.proofs.Facts.{step_cases, stop_replies}
+use Rattle.mount_model.proofs.Facts.{begun_table, step_cases, stop_replies}
 use Rattle.writer_laws.specs.Counting.{wrote_count, wrote_by, entry_count, StaysInAt}
 use Rattle.writer_laws.specs.Knowing.{HasRow}
-use Rattle.writer_laws.specs.Waiting.{IsOn, LeavesAlone}
-use Rattle.writer_laws.proofs.Steps.{Kept, kept_same, step_kept}
+use Rattle.writer_laws.specs.Waiting.{LeavesAlone}
+use Rattle.writer_laws.proofs.Steps.{step_kept}
 use Rattle.writer_laws.proofs.Own.{stays_spared}
 
 -- ---- a call that is not broken off
@@ -32,14 +29,6 @@ whole_answers old caller ask reply new whole step = step_cases old caller ask re
     (λ k some x. let both : None ≡ Some k = sym whole ∙ some in absurd (cc))
 
 -- ---- the table that a stop leaves
-
-begun_table : (old : State) (c : Call) → (begun old c).table ≡ old.table
-begun_table old (call.Enter room host most) = of_check (enter_check old room)
-  where
-    of_check : (check : Option Refusal) → (drawn_unless check old).table ≡ old.table
-    of_check None = refl
-    of_check (Some why) = refl
-begun_table old c = refl
 
 ended_table : (told : Told) (reply : Reply) (at : State) (caller : ℕ) (new : State) → IsEndedBy told reply at caller new → (new.table ≡ at.table) ⊎ (new.table ≡ without_caller caller at.table)
 ended_table (Err trouble.NoMemory) reply at caller new e = inl (ap (λ (s : State). s.table) e.1)

@@ -1,5 +1,5 @@
 -- The entries that a sync told survive.
-use Rattle.std.proofs.Common.{◌≡◌, ℕ, ◌≤◌, List, length, take, Option, Some, refl, ap, sym, ◌∙◌, inl, inr, subst, arith}
+use Rattle.std.proofs.Common.{◌≡◌, ℕ, ◌≤◌, List, take, Option, Some, refl, ap, sym, ◌∙◌, inl, inr, arith}
 use Rattle.std.specs.Prelude.{Ok, slice_get}
 use Rattle.std.proofs.lemmas.Bool.{cases_lt}
 use Rattle.store_api.specs.declared.tree.Room.{Room}
@@ -8,7 +8,7 @@ use Rattle.store_api.specs.Loss.{Loses}
 use Rattle.mount_model.specs.declared.row.Row.{Row}
 use Rattle.mount_model.specs.Table.{row_of}
 use Rattle.mount_model.specs.State.{State}
-use Rattle.mount_model.specs.History.{Event, IsLawful, state_after, told_tree_after}
+use Rattle.mount_model.specs.History.{Event, state_after, told_tree_after}
 use Rattle.mount_sound.specs.Entries.{logged}
 use Rattle.mount_sound.specs.Ledger.{Ledger, entries_in}
 use Rattle.mount_sound.specs.Issued.{issued}
@@ -17,13 +17,14 @@ use Rattle.mount_sound.specs.Sound.{IsSoundFor}
 use Rattle.mount_sound.specs.There.{landed_in}
 use Rattle.mount_sound.proofs.Facts.{logged_take, history_keeps}
 use Rattle.mount_losses.proofs.Facts.{least_safe_of, has_index, marked_kept, kept_survive, lost_told}
-use Rattle.mount_losses.specs.Keeping.{safe_of, kept_in}
+use Rattle.mount_sound.specs.Keeping.{safe_of, kept_in}
+use Rattle.mount_sound.specs.Owed.{IsLawful}
 use Rattle.writer_flow.specs.declared.handle.WriterHandle.{WriterHandle}
 use Rattle.writer_flow.specs.declared.handle.WriterOut.{WriterOut}
 use Rattle.writer_flow.specs.Syncing.{sync_program}
 use Rattle.flow.specs.Running.{Runs}
 use Rattle.writer_laws.specs.Counting.{entry_count}
-use Rattle.writer_laws.specs.Knowing.{HasRow, Knows, IsSynced}
+use Rattle.writer_laws.specs.Knowing.{Knows, IsSynced}
 use Rattle.writer_laws.specs.Surviving.{Survives}
 use Rattle.writer_laws.proofs.Machines.{sync_ends}
 

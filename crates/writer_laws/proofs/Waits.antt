@@ -3,7 +3,8 @@ use Rattle.std.proofs.Common.{◌≡◌, ℕ, List, [], ◌∷◌}
 use Rattle.std.proofs.lemmas.List.Elements.{All-head, All-tail}
 use Rattle.mount_model.specs.declared.row.Row.{Row}
 use Rattle.mount_model.specs.State.{State}
-use Rattle.mount_model.specs.History.{Event, IsLawful, state_after}
+use Rattle.mount_model.specs.History.{Event, state_after}
+use Rattle.mount_sound.specs.Owed.{IsLawful}
 use Rattle.writer_flow.specs.declared.handle.WriterHandle.{WriterHandle}
 use Rattle.writer_laws.specs.Knowing.{Knows}
 use Rattle.writer_laws.specs.Waiting.{LeavesAlone, LetsBe}

@@ -2,7 +2,7 @@
 ghost use Rattle.std.specs.Prelude.{◌≡◌, ℕ, List, Result, Ok, Some, true};
 ghost use Rattle.mount_model.specs.declared.row.Row.{Row};
 ghost use Rattle.mount_model.specs.State.{State};
-ghost use Rattle.mount_model.specs.History.{Event, IsLawful, state_after, told_tree_after};
+ghost use Rattle.mount_model.specs.History.{Event, state_after, told_tree_after};
 ghost use Rattle.writer_flow.specs.declared.handle.WriterHandle.{WriterHandle};
 ghost use Rattle.writer_flow.specs.declared.handle.WriterOut.{WriterOut};
 ghost use Rattle.flow.specs.declared.trouble.Stuck.{Stuck};
@@ -20,6 +20,7 @@ ghost use Rattle.store_api.specs.declared.tree.Tree.{Tree};
 ghost use Rattle.store_api.specs.Loss.{Loses};
 ghost use Rattle.mount_sound.specs.Ledger.{Ledger};
 ghost use Rattle.mount_sound.specs.Issued.{issued};
+ghost use Rattle.mount_sound.specs.Owed.{IsLawful};
 ghost use Rattle.mount_sound.specs.Sound.{IsSoundFor};
 
 /// A law: where a handle tells how many entries are in its writer's buffer, the handle that a write, a sync or a close

@@ -1,5 +1,5 @@
-use Rattle.gathering.proofs.Shares.{shares_admissible}
+use Rattle.gathering.proofs.Shares.{workers_gathered}
 use Rattle.gathering.proofs.readers.workers_gather.Goals as goal
 
 pub returns : goal.returns
-returns c = shares_admissible
+returns c = workers_gathered

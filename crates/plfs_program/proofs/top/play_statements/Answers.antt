@@ -1,7 +1,6 @@
 use Rattle.std.proofs.Common.{Some, refl, ap}
 use Rattle.std.specs.Option.{option_map}
-use Rattle.plfs_program.specs.Course.{ends_of, Ends, IsStoreLeft, IsPlayedAs, exhausted}
-use Rattle.plfs_program.specs.Lines.{AreLinesOf}
+use Rattle.plfs_program.specs.Course.{ends_of, Ends, IsPlayedAs, exhausted}
 use Rattle.plfs_program.proofs.CourseLemmas.{reported, left_so}
 use Rattle.plfs_program.proofs.top.play_statements.Goals as goal
 

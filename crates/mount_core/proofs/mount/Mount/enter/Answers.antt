@@ -1,4 +1,4 @@
-use Rattle.mount_core.proofs.Admits.{turned_away}
+use Rattle.mount_core.proofs.Admitted.{turned_away}
 use Rattle.mount_core.proofs.mount.Mount.enter.Goals as goal
 
 pub returns-in-Err : goal.returns-in-Err

@@ -1,7 +1,7 @@
 use Rattle.std.proofs.Common.{◌<◌, ◌^◌, length, rules, sym, subst}
 use Rattle.mount_model.specs.State.{State}
-use Rattle.mount_core.specs.Writable.{MayTake}
-use Rattle.mount_core.specs.Standing.{AtPlace}
+use Rattle.mount_table.specs.Writable.{MayTake}
+use Rattle.mount_table.specs.Standing.{AtPlace}
 use Rattle.mount_core.proofs.Timed.{written}
 use Rattle.mount_core.proofs.mount.Mount.write_now.Goals as goal
 

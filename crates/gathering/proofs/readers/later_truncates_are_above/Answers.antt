@@ -1,0 +1,5 @@
+use Rattle.gathering.proofs.LaterTruncates.{later_truncates}
+use Rattle.gathering.proofs.readers.later_truncates_are_above.Goals as goal
+
+pub returns : goal.returns
+returns c = later_truncates

@@ -1,0 +1,42 @@
+-- Reads of the entries that are left.
+use Rattle.std.proofs.Common.{◌≡◌, Bool, ℕ, suc, ◌+◌, ◌-◌, ◌*◌, ◌/◌, ◌<◌, min, refl, ap, sym, ◌∙◌, inl, inr, arith}
+use Rattle.std.proofs.lemmas.Bool.{cases_lt}
+use Rattle.std.specs.Prelude.{Result}
+use Rattle.std.proofs.Math.Nat.{add-mul-div_right}
+use Rattle.std.proofs.lemmas.Nat.{div-mul-add}
+use Rattle.index_reader.specs.declared.listing.Dropping.{Dropping}
+use Rattle.index_reader.specs.declared.entries.Tail.{Tail}
+use Rattle.story.specs.Program.{followed_by}
+use Rattle.flow.specs.Standing.{ready, rest_of, replied}
+use Rattle.mount_model.specs.declared.reply.Reply.{Reply}
+use Rattle.index_reader.specs.declared.steps.TailRead.{TailRead}
+use Rattle.index_reader.specs.declared.steps.Step.{Step}
+use Rattle.index_reader.specs.declared.steps.Step.TheVariants.{Index, Log, Entries}
+use Rattle.index_reader.specs.declared.sharing.Share.{Share}
+use Rattle.index_reader.specs.Stages.{step_program, tail_left}
+use Rattle.flow.specs.declared.trouble.Stuck.{Stuck}
+use Rattle.index_reader.specs.Replies.{Tries}
+use Rattle.index_reader.specs.Tails.{reads_of, next_read, reads, reads_left, reads_on}
+
+one_read_less : (left : ℕ) → 0 < left → reads_of left ≡ suc (reads_of (left - next_read left))
+one_read_less left h = elim (cases_lt 4096 left) [
+  | inl more ↦ (let few : min left 4096 ≡ 4096 = omega arith in
+      let same : left + 4095 ≡ (left - min left 4096 + 4095) + 1 * 4096 = omega arith in
+      ap (λ n. n / 4096) same ∙ add-mul-div_right (left - min left 4096 + 4095) 1 {z = 4096} (omega arith) ∙ omega arith)
+  | inr last ↦ (let few : min left 4096 ≡ left = omega arith in
+      let same : left + 4095 ≡ 1 * 4096 + (left - 1) = omega arith in
+      let none : left - min left 4096 ≡ 0 = omega arith in
+      ap (λ n. n / 4096) same ∙ div-mul-add 1 4096 (left - 1) (omega arith) ∙ ap (λ n. suc ((n + 4095) / 4096)) (sym none))
+]
+
+pub reads_going_on : (room log whole left : ℕ) (ended : Bool) (d : Dropping) (tail : Tail) → 0 < left → reads_left room d log whole left ended tail ≡ reads_on room d log whole left ended tail
+reads_going_on room log whole left ended d tail h = ap (λ n. reads n room d log whole left ended tail) (one_read_less left h)
+
+-- what follows a dropping waits until the dropping is read
+step_later : (room : ℕ) (d : Dropping) (tail : Tail) (step : Step) (k : Result Tail Stuck → Tries Share) (reply : Reply) → followed_by (replied (rest_of (ready (step_program room d tail step))) reply) k ≡ replied (rest_of (ready (followed_by (step_program room d tail step) k))) reply
+step_later room d tail Index k reply = refl
+step_later room d tail (Log whole) k reply = refl
+step_later room d tail (Entries log whole left ended) k reply = refl
+
+pub taken_later : (room : ℕ) (t : TailRead) (k : Result Tail Stuck → Tries Share) (reply : Reply) (p : Tries Tail) (q : Tries Share) → p ≡ replied (rest_of (ready (tail_left room t))) reply → q ≡ followed_by p k → q ≡ replied (rest_of (ready (followed_by (tail_left room t) k))) reply
+taken_later room t k reply p q is then_is = then_is ∙ ap (λ r. followed_by r k) is ∙ step_later room t.dropping t.tail t.step k reply

@@ -1,0 +1,15 @@
+pub mod Queues
+pub mod Replies
+pub mod Found
+pub mod Covered
+pub mod Listing
+pub mod Runs
+pub mod Entries
+pub mod Tails
+pub mod Sharing
+pub mod Steps
+pub mod Stages
+pub mod Reading
+pub mod Truncs
+pub mod TruncStages
+pub mod ReadingStages

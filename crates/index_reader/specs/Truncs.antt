@@ -1,0 +1,65 @@
+-- The call that lists a container's truncates, and what its names tell.
+use Rattle.std.specs.Prelude.{ℕ, zero, suc, ◌+◌, ◌^◌, ◌&&◌, ◌==◌, nat_lt, Bool, true, false, if◌then◌else◌, List, [], ◌∷◌, ◌++◌, take, drop, Option, Some, None, Result, Ok, Err}
+use Rattle.plfs_types.specs.declared.entries.Trunc.{Trunc}
+use Rattle.plfs_types.specs.declared.names.Path.{Path}
+use Rattle.container_layout.specs.declared.items.Item.TheVariants as item
+use Rattle.container_layout.specs.Paths.{path_of}
+use Rattle.flow.specs.declared.trouble.Stuck.{Stuck}
+use Rattle.story.specs.Program.{done, ask}
+use Rattle.mount_model.specs.declared.call.Call.TheVariants.{Look}
+use Rattle.mount_model.specs.declared.call.Look.TheVariants.{List as ListFolder}
+use Rattle.mount_model.specs.Paths.{Name, truncs}
+use Rattle.index_reader.specs.Replies.{Tries, given, names_in, damage, trouble}
+
+abbrev pub or_else : {X : Type 0} → Option X → Option X → Option X
+or_else None other = other
+or_else (Some x) other = Some x
+
+-- the first that is found below a number
+abbrev pub find_below : {X : Type 0} → (ℕ → Option X) → ℕ → Option X
+find_below f zero = None
+find_below f (suc n) = or_else (find_below f n) (f n)
+
+abbrev pub same_bytes : List ℕ → List ℕ → Bool
+same_bytes [] [] = true
+same_bytes [] (y ∷ ys) = false
+same_bytes (x ∷ xs) [] = false
+same_bytes (x ∷ xs) (y ∷ ys) = (x == y) && same_bytes xs ys
+
+-- the truncate of this stamp and size, where the name is that of its dropping
+abbrev pub trunc_at : Name → ℕ → ℕ → Option Trunc
+trunc_at name stamp size = if nat_lt 0 stamp && same_bytes name (path_of (item.Trunc stamp size)).file then Some (record { stamp = stamp; size = size }) else None
+
+-- the truncate whose dropping has this name
+unfoldable pub trunc_in : Name → Option Trunc
+trunc_in name = find_below (λ stamp. find_below (trunc_at name stamp) (2 ^ 40 + 1)) (2 ^ 63)
+
+-- it has the earlier stamp, or at one stamp the smaller size
+abbrev pub is_before : Trunc → Trunc → Bool
+is_before t u = if t.stamp == u.stamp then nat_lt t.size u.size else nat_lt t.stamp u.stamp
+
+-- the place of a truncate among those in order
+abbrev pub place_of : Trunc → List Trunc → ℕ
+place_of t [] = 0
+place_of t (u ∷ us) = if is_before t u then 0 else 1 + place_of t us
+
+abbrev pub inserted : Trunc → List Trunc → List Trunc
+inserted t us = take (place_of t us) us ++ t ∷ drop (place_of t us) us
+
+abbrev pub truncs_path : Name → Path
+truncs_path name = record { folder = truncs; file = name }
+
+-- it goes on with a truncate, or the name is foreign
+abbrev pub if_trunc : Name → Option Trunc → (Trunc → Result (List Trunc) Stuck) → Result (List Trunc) Stuck
+if_trunc name None next = Err (damage (truncs_path name) 0)
+if_trunc name (Some t) next = next t
+
+-- the truncates that the names tell, in order, with those so far
+abbrev pub truncs_of : List Name → List Trunc → Result (List Trunc) Stuck
+truncs_of [] sofar = Ok sofar
+truncs_of (name ∷ names) sofar = if_trunc name (trunc_in name) (λ t. truncs_of names (inserted t sofar))
+
+abbrev pub trunc_program : ℕ → Tries (List Trunc)
+trunc_program room = ask
+    (Look room (ListFolder truncs))
+    (λ reply. given (names_in reply) (trouble (truncs_path []) reply) (λ names. done (truncs_of names [])))

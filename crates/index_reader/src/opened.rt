@@ -1,0 +1,93 @@
+//! An open reader.
+ghost use Rattle.std.specs.Prelude.{◌≡◌, ℕ, IfOk};
+ghost use Rattle.index_reader.specs.Listing.{AreByWriter};
+ghost use Rattle.plain_file.specs.Size.{size_from};
+ghost use Rattle.plain_file.specs.Sources.{source_at, kept_source};
+
+use crate::droppings::Droppings;
+use crate::listing::DroppingList;
+use crate::sharing::Share;
+use interval_merge::{clip, size};
+use plain_file::Pieces;
+use plfs_types::{CoverList, NoMemory, TruncList};
+use std::alloc::Global;
+
+/// What was gathered of a container without a flattened index.
+#[derive(Drop)]
+pub struct Gathered {
+    pub room: u64,
+    pub droppings: DroppingList,
+    pub share: Share,
+    pub truncs: TruncList,
+}
+
+/// What an open reader keeps: where the bytes of its file lie.
+#[derive(Drop)]
+pub struct OpenReader {
+    pub(crate) room: u64,
+    pub(crate) droppings: Droppings,
+    pub(crate) pieces: Pieces,
+    pub(crate) size: u64,
+    pub(crate) covers: CoverList,
+    pub(crate) truncs: TruncList,
+}
+
+impl OpenReader {
+    /// Opens what was gathered, with the droppings by ascending writer.
+    pub fn new(alloc: Global, gathered: Gathered) -> Result<OpenReader, NoMemory>
+        requires { AreByWriter gathered.droppings }
+        ensures room { IfOk result (λ reader. reader.room ≡ gathered.room) }
+        ensures droppings { IfOk result (λ reader. reader.droppings ≡ gathered.droppings) }
+        ensures covers { IfOk result (λ reader. reader.covers ≡ gathered.share.covers) }
+        ensures truncs { IfOk result (λ reader. reader.truncs ≡ gathered.truncs) }
+        ensures size { IfOk result (λ reader. reader.size ≡ size_from gathered.share.pieces gathered.truncs) }
+        // Its pieces are what the truncates leave.
+        ensures kept { IfOk result (λ reader. (x : ℕ) → source_at reader.pieces x ≡ kept_source gathered.truncs x (source_at gathered.share.pieces x)) }
+    {
+        let Gathered {
+            room,
+            droppings,
+            share,
+            truncs,
+        } = gathered;
+        let Share { covers, pieces } = share;
+        let clipped = clip(alloc, &pieces, truncs.as_slice())?;
+        let size = size(&pieces, truncs.as_slice());
+        Ok(OpenReader {
+            room,
+            droppings: Droppings::of(droppings),
+            pieces: clipped,
+            size,
+            covers,
+            truncs,
+        })
+    }
+
+    /// The size of the file.
+    pub fn size(&self) -> u64
+        ensures { result ≡ self.now.size }
+    {
+        self.size
+    }
+
+    /// The pieces of the file.
+    pub fn pieces(&self) -> &Pieces
+        ensures { result.now ≡ self.now.pieces }
+    {
+        &self.pieces
+    }
+
+    /// How many entries of each writer are in it.
+    pub fn covers(&self) -> &CoverList
+        ensures { result.now ≡ self.now.covers }
+    {
+        &self.covers
+    }
+
+    /// The truncates that are in it.
+    pub fn truncs(&self) -> &TruncList
+        ensures { result.now ≡ self.now.truncs }
+    {
+        &self.truncs
+    }
+}

@@ -1,0 +1,217 @@
+//! Reading what a flattened index doesn't cover of one writer's index dropping.
+ghost use Rattle.std.specs.Prelude.{All, ℕ, ◌≡◌, ◌≤◌, ◌<◌, ◌+◌, ◌*◌, ◌^◌, [], Some, IfOk, OnOk};
+ghost use Rattle.interval_merge.specs.Writer.{HasPiece};
+ghost use Rattle.flow.specs.Standing.{ready, next_of, rest_of, replied};
+ghost use Rattle.mount_model.specs.Paths.{index_path as path_of_index, log_path as path_of_log};
+ghost use Rattle.index_reader.specs.Tails.{next_read as read_next, tail_program, no_tail, looked, reads_left};
+ghost use Rattle.index_reader.specs.Stages.{tail_left, after_left, IsOfPieces, step_calls, after_calls};
+
+use crate::entries::{Tail, Went};
+use crate::listing::Dropping;
+use crate::replies::{bytes_in, damage, log_length_in, number_in, trouble};
+use crate::steps::{Step, TailRead};
+use container_layout::{Item, print};
+use flow::Stuck;
+use mount_model::{Call, Look, Reply};
+use plfs_types::{Cover, EntryList, NoMemory, Path};
+use std::alloc::Global;
+
+/// How many entries one Read asks for at most.
+const MAX_READ: u64 = 4096;
+
+/// What comes after a reply.
+#[derive(Drop)]
+pub(crate) enum After {
+    GoesOn(TailRead),
+    Is(Result<Tail, Stuck>),
+}
+
+pub(crate) fn index_path(dropping: Dropping) -> Path
+    ensures { result ≡ path_of_index dropping.host dropping.writer }
+{
+    print(&Item::Index {
+        host: dropping.host,
+        writer: dropping.writer,
+    })
+}
+
+pub(crate) fn log_path(host: u32, writer: u64) -> Path
+    ensures { result ≡ path_of_log host writer }
+{
+    print(&Item::Log { host, writer })
+}
+
+fn next_read(left: u64) -> u64
+    ensures { result ≡ read_next left }
+{
+    left.min(MAX_READ)
+}
+
+impl TailRead {
+    /// Nothing was asked yet.
+    pub(crate) fn new(alloc: Global, dropping: Dropping, cover: Cover) -> Self
+        ensures starts { (room : ℕ) → tail_left room result ≡ tail_program room dropping (no_tail cover) }
+        ensures calls { step_calls result.step ≡ 2 ^ 64 + 2 }
+    {
+        TailRead {
+            dropping,
+            tail: Tail {
+                cover,
+                entries: EntryList::new(alloc),
+            },
+            step: Step::Index,
+        }
+    }
+
+    /// The call that is to be made.
+    pub(crate) fn call(&self, room: u64) -> Call
+        ensures { Some result ≡ next_of (ready (tail_left room self.now)) }
+    {
+        let look = match self.step {
+            Step::Index => Look::Length {
+                path: index_path(self.dropping),
+            },
+            Step::Log { .. } => Look::Length {
+                path: log_path(self.dropping.host, self.dropping.writer),
+            },
+            Step::Entries { whole, left, .. } => Look::Read {
+                path: index_path(self.dropping),
+                at: 40 * (whole - left),
+                len: 40 * next_read(left),
+            },
+        };
+        Call::Look { room, look }
+    }
+
+    /// What comes after the reply to that call.
+    pub(crate) fn after(self, room: u64, reply: Reply) -> Result<After, NoMemory>
+        ensures goes_on { IfOk result (λ after. after_left room after ≡ replied (rest_of (ready (tail_left room self))) reply) }
+        ensures fewer { IfOk result (λ after. after_calls after < step_calls self.step) }
+        ensures pieces { IfOk result IsOfPieces }
+    {
+        match self.step {
+            Step::Index => Ok(self.after_index(reply)),
+            Step::Log { whole } => Ok(self.after_log(whole, reply)),
+            Step::Entries {
+                log,
+                whole,
+                left,
+                ended,
+            } => self.after_read(log, whole, left, ended, reply),
+        }
+    }
+
+    fn after_index(self, reply: Reply) -> After
+        requires { self.step ≡ Step.Index }
+        ensures goes_on { (room : ℕ) → after_left room result ≡ replied (rest_of (ready (tail_left room self))) reply }
+        ensures fewer { after_calls result < 2 ^ 64 + 2 }
+        ensures pieces { IsOfPieces result }
+    {
+        let path = index_path(self.dropping);
+        let Some(told) = number_in(&reply) else {
+            return After::Is(Err(trouble(&path, &reply)));
+        };
+        let whole = told / 40;
+        if whole < self.tail.cover.count {
+            return After::Is(Err(damage(&path, told)));
+        }
+        After::GoesOn(TailRead {
+            dropping: self.dropping,
+            tail: self.tail,
+            step: Step::Log { whole },
+        })
+    }
+
+    fn after_log(self, whole: u64, reply: Reply) -> After
+        requires { self.step ≡ Step.Log whole }
+        ensures goes_on { (room : ℕ) → after_left room result ≡ replied (rest_of (ready (tail_left room self))) reply }
+        ensures fewer { after_calls result < whole + 1 }
+        ensures pieces { IsOfPieces result }
+    {
+        let path = log_path(self.dropping.host, self.dropping.writer);
+        let Some(log) = log_length_in(&reply) else {
+            return After::Is(Err(trouble(&path, &reply)));
+        };
+        if log < self.tail.cover.bytes {
+            return After::Is(Err(damage(&path, log)));
+        }
+        let left = whole - self.tail.cover.count;
+        reading(self.dropping, self.tail, log, whole, left, false)
+    }
+
+    fn after_read(
+        self,
+        log: u64,
+        whole: u64,
+        left: u64,
+        ended: bool,
+        reply: Reply,
+    ) -> Result<After, NoMemory>
+        requires { self.step ≡ Step.Entries log whole left ended }
+        ensures goes_on { IfOk result (λ after. (room : ℕ) → after_left room after ≡ replied (rest_of (ready (tail_left room self))) reply) }
+        ensures fewer { IfOk result (λ after. after_calls after < left) }
+        ensures pieces { IfOk result IsOfPieces }
+    {
+        let path = index_path(self.dropping);
+        let why = trouble(&path, &reply);
+        let Some(bytes) = bytes_in(reply) else {
+            return Ok(After::Is(Err(why)));
+        };
+        let bytes = bytes.as_slice();
+        let asked = next_read(left);
+        let is_full = 40 * asked <= bytes.len() as u64;
+        let mut tail = self.tail;
+        let past = match look(&mut tail, log, asked, ended, bytes)? {
+            Went::Breaks => {
+                return Ok(After::Is(Err(damage(&path, 40 * tail.cover.count))));
+            }
+            Went::Ends => true,
+            Went::On => false,
+        };
+        if is_full {
+            Ok(reading(self.dropping, tail, log, whole, left - asked, past))
+        } else {
+            Ok(After::Is(Ok(tail)))
+        }
+    }
+}
+
+/// Looks at the entries of the bytes that a Read of so many gave, unless one before them ended past the log.
+fn look(tail: &mut Tail, log: u64, asked: u64, ended: bool, bytes: &[u8]) -> Result<Went, NoMemory>
+    requires count { tail.old.cover.count + asked < 2 ^ 64 }
+    requires pieces { All HasPiece tail.old.entries }
+    ensures looked { IfOk result (λ went. (went, tail.new) ≡ looked ended log asked bytes.now tail.old) }
+    ensures most { OnOk result (tail.new.cover.count ≤ tail.old.cover.count + asked) }
+    ensures pieces { OnOk result (All HasPiece tail.new.entries) }
+{
+    if ended {
+        return Ok(Went::Ends);
+    }
+    let count = (bytes.len() / 40).min(asked as usize);
+    tail.check(log, count, bytes)
+}
+
+/// So many entries are left.
+#[tactic(auto, using(crate::proofs::TailLemmas::reads_going_on))]
+fn reading(dropping: Dropping, tail: Tail, log: u64, whole: u64, left: u64, ended: bool) -> After
+    requires pieces { All HasPiece tail.entries }
+    requires within { tail.cover.count + left ≤ whole }
+    requires places { 40 * whole < 2 ^ 64 }
+    ensures goes_on { (room : ℕ) → after_left room result ≡ reads_left room dropping log whole left ended tail }
+    ensures fewer { after_calls result ≤ left }
+    ensures pieces { IsOfPieces result }
+{
+    if left == 0 {
+        return After::Is(Ok(tail));
+    }
+    After::GoesOn(TailRead {
+        dropping,
+        tail,
+        step: Step::Entries {
+            log,
+            whole,
+            left,
+            ended,
+        },
+    })
+}

@@ -1,0 +1,158 @@
+//! Listing a container's truncates.
+ghost use Rattle.std.specs.Prelude.{◌≡◌, ◌≤◌, ◌<◌, ◌+◌, ℕ, [], length, IfOk, OnOk};
+ghost use Rattle.flow.specs.Standing.{ready, next_of, rest_of, replied};
+ghost use Rattle.index_reader.specs.Truncs.{trunc_in as trunc_of, is_before as comes_before, place_of as place_for, inserted, truncs_of, trunc_program, truncs_path as path_of_truncs};
+ghost use Rattle.index_reader.specs.TruncStages.{list_left, list_calls, trunc_standing, trunc_left};
+
+use crate::replies::{damage, names_in, trouble};
+use container_layout::{Item, read, truncs};
+use flow::{Flow, Stuck};
+use mount_model::{Call, Look, Reply};
+use plfs_types::{Name, NoMemory, Path, Trunc, TruncList};
+use std::alloc::Global;
+
+/// Lists a container's truncates: by rising stamp, at one stamp by rising size. The first name that is no truncate's is
+/// damage, and so is a missing folder.
+#[derive(Drop)]
+pub struct TruncRead {
+    alloc: Global,
+    stage: Stage,
+}
+
+#[derive(Drop)]
+pub(crate) enum Stage {
+    Listing(u64),
+    Ended(Result<TruncList, Stuck>),
+}
+
+fn truncs_path(name: Name) -> Path
+    ensures { result ≡ path_of_truncs name }
+{
+    Path {
+        folder: truncs(),
+        file: name,
+    }
+}
+
+/// The truncate whose dropping has this name.
+fn trunc_in(name: Name) -> Option<Trunc>
+    ensures { result ≡ trunc_of name }
+{
+    match read(&truncs_path(name))? {
+        Item::Trunc { stamp, size } => Some(Trunc { stamp, size }),
+        _ => None,
+    }
+}
+
+fn is_before(t: &Trunc, u: &Trunc) -> bool
+    ensures { result ≡ comes_before t.now u.now }
+{
+    if t.stamp == u.stamp {
+        t.size < u.size
+    } else {
+        t.stamp < u.stamp
+    }
+}
+
+/// The place of a truncate among those in order.
+fn place_of(t: &Trunc, list: &[Trunc]) -> usize
+    ensures place { result ≡ place_for t.now list.now }
+    ensures within { result ≤ length list.now }
+{
+    for (i, u) in list.iter().enumerate() {
+        if is_before(t, u) {
+            return i;
+        }
+    }
+    list.len()
+}
+
+/// Puts a truncate in its place.
+fn insert(list: &mut Vec<Trunc>, t: Trunc) -> Result<(), NoMemory>
+    ensures { OnOk result (list.new.items ≡ inserted t list.old.items) }
+{
+    let place = place_of(&t, list);
+    list.insert(place, t)?;
+    Ok(())
+}
+
+/// The truncates that the names tell.
+fn truncs_in(alloc: Global, names: &[Name]) -> Result<Result<TruncList, Stuck>, NoMemory>
+    ensures { IfOk result (λ found. found ≡ truncs_of names.now []) }
+{
+    let mut list = Vec::new(alloc);
+    for name in names {
+        let Some(t) = trunc_in(*name) else {
+            return Ok(Err(damage(&truncs_path(*name), 0)));
+        };
+        insert(&mut list, t)?;
+    }
+    Ok(Ok(TruncList::from_vec(list)))
+}
+
+impl TruncRead {
+    /// Lists the truncates of this room.
+    pub fn new(alloc: Global, room: u64) -> Self
+        ensures { trunc_standing result ≡ ready (trunc_program room) }
+    {
+        TruncRead {
+            alloc,
+            stage: Stage::Listing(room),
+        }
+    }
+
+    /// The call that is to be made, where there is one.
+    fn call(&self) -> Option<Call>
+        ensures { result ≡ next_of (trunc_standing self.now) }
+    {
+        match &self.stage {
+            Stage::Listing(room) => Some(Call::Look {
+                room: *room,
+                look: Look::List { folder: truncs() },
+            }),
+            Stage::Ended(_) => None,
+        }
+    }
+}
+
+/// What comes of the listing.
+fn listed(alloc: Global, room: u64, reply: Reply) -> Result<Stage, NoMemory>
+    ensures goes_on { IfOk result (λ stage. list_left stage ≡ replied (rest_of (ready (list_left (Stage.Listing room)))) reply) }
+    ensures fewer { IfOk result (λ stage. list_calls stage < 1) }
+{
+    let why = trouble(&truncs_path(Name::empty()), &reply);
+    let Some(names) = names_in(reply) else {
+        return Ok(Stage::Ended(Err(why)));
+    };
+    let found = truncs_in(alloc, names.as_slice())?;
+    Ok(Stage::Ended(found))
+}
+
+impl Flow for TruncRead {
+    type Out = Result<TruncList, Stuck>;
+
+    ghost standing = { trunc_standing };
+
+    ghost left = { trunc_left };
+
+    fn next(&mut self) -> Result<Option<Call>, NoMemory> {
+        Ok(self.call())
+    }
+
+    fn take(&mut self, reply: Reply) -> Result<(), NoMemory> {
+        if let Reply::NoMemory = reply {
+            return Err(NoMemory);
+        }
+        if let Stage::Listing(room) = self.stage {
+            self.stage = listed(self.alloc, room, reply)?;
+        }
+        Ok(())
+    }
+
+    fn out(self) -> Result<TruncList, Stuck> {
+        match self.stage {
+            Stage::Ended(result) => result,
+            Stage::Listing(_) => unreachable!(),
+        }
+    }
+}

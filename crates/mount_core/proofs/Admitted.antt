@@ -1,0 +1,49 @@
+-- A call whose writer, holder or flattening did not come into the table, seen as a state's.
+use Rattle.std.proofs.Common.{◌≡◌, ℕ, ◌<◌, ◌^◌, List, Option, None, Err, refl, ap, sym, subst, inl, inr, ◌∙◌}
+use Rattle.std.specs.Prelude.{MatchOption}
+use Rattle.store_api.specs.declared.store.Trouble.TheVariants as trouble
+use Rattle.store_api.specs.Acts.{Stored}
+use Rattle.mount_model.specs.declared.reply.Refusal.{Refusal}
+use Rattle.mount_model.specs.declared.reply.Reply.{Reply}
+use Rattle.mount_model.specs.declared.reply.Reply.TheVariants.{NoMemory}
+use Rattle.mount_model.specs.Making.{Refuses, MakesAct}
+use Rattle.mount_model.specs.State.{State, Table, drawn}
+use Rattle.mount_model.specs.Entering.{draw_check, EntersAs, Enters}
+use Rattle.mount_model.specs.Holding.{HoldsRoom, HoldsContainer}
+use Rattle.mount_model.specs.Flattening.{begun_flat, start_step, start_outcome, StartsFlat}
+use Rattle.mount_table.specs.Roll.{Roll, state_of}
+use Rattle.mount_table.specs.Admitting.{IsTurnedAway}
+
+-- the reason is told, or memory was wanted once the serial was drawn
+by_reason : (store opened : Stored) (times : Option (List ℕ)) (room : ℕ) (old new : Roll) (reply : Reply) (does : Type 0) → IsTurnedAway room old reply new
+    → (draw_check (state_of store opened times old) room ≡ None → (reply ≡ NoMemory) → (state_of store opened times new ≡ drawn (state_of store opened times old)) → does)
+    → MatchOption (draw_check (state_of store opened times old) room) does (λ why. Refuses why (state_of store opened times old) reply (state_of store opened times new))
+by_reason store opened times room old new reply does (inl (why, check, is, same)) wants =
+    subst (λ (o : Option Refusal). MatchOption o does (λ because. Refuses because (state_of store opened times old) reply (state_of store opened times new))) (sym check)
+    (is, ap (λ (r : Roll). state_of store opened times r) same)
+by_reason store opened times room old new reply does (inr (none, is, left)) wants =
+    subst (λ (o : Option Refusal). MatchOption o does (λ because. Refuses because (state_of store opened times old) reply (state_of store opened times new))) (sym none)
+    (wants none is (ap (λ (r : Roll). state_of store opened times r) left))
+
+pub turned_away : (caller room host capacity : ℕ) (store opened : Stored) (times : Option (List ℕ)) (old new : Roll) (reply : Reply) → host < 2 ^ 32 → IsTurnedAway room old reply new → Enters caller room host capacity (state_of store opened times old) reply (state_of store opened times new)
+turned_away caller room host capacity store opened times old new reply fits t =
+    by_reason store opened times room old new reply (EntersAs caller room host capacity (state_of store opened times old) reply (state_of store opened times new)) t
+    (λ none is left. record { host_fits = fits; makes = record { told = Err trouble.NoMemory; made = refl; answered = is; after = left } })
+
+pub not_held : (caller room : ℕ) (store opened : Stored) (times : Option (List ℕ)) (old new : Roll) (reply : Reply) → IsTurnedAway room old reply new → HoldsContainer caller room (state_of store opened times old) reply (state_of store opened times new)
+not_held caller room store opened times old new reply t =
+    by_reason store opened times room old new reply (HoldsRoom caller room (state_of store opened times old) reply (state_of store opened times new)) t
+    (λ none is left.
+    let same : new.table ≡ old.table = ap (λ (s : State). s.table) left in
+    record {
+      told = Err trouble.NoMemory;
+      made = refl;
+      outcome = (is, same);
+      after = left ∙ ap (λ (t : Table). record (drawn (state_of store opened times old)) { table = t }) (sym same);
+    })
+
+pub not_started : (caller room : ℕ) (store opened : Stored) (times : Option (List ℕ)) (old new : Roll) (reply : Reply) → IsTurnedAway room old reply new → StartsFlat caller room (state_of store opened times old) reply (state_of store opened times new)
+not_started caller room store opened times old new reply t =
+    by_reason store opened times room old new reply
+    (MakesAct (start_step (begun_flat (state_of store opened times old) caller room)) (start_outcome (begun_flat (state_of store opened times old) caller room) old.table) (drawn (state_of store opened times old)) reply (state_of store opened times new)) t
+    (λ none is left. record { told = Err trouble.NoMemory; made = refl; answered = is; after = left })

@@ -1,6 +1,0 @@
-use Rattle.std.proofs.Common.{◌≡◌}
-use Rattle.mount_core.specs.Breaking.{ended_to}
-use Rattle.mount_core.proofs.stopping.end_rows.Given as goal
-
-abbrev pub invariant-loop-row : goal.invariant-loop-row
-invariant-loop-row l = l.row-items ≡ ended_to l.caller l.row-index l.fn.rows.items

@@ -1,8 +1,0 @@
-use Rattle.mount_model.proofs.Histories.{lawful_parts, lawful_of}
-use Rattle.mount_model.proofs.laws.lawful_is_legal_and_owed.Goals as goal
-
-pub returns-clause-to : goal.returns-clause-to
-returns-clause-to c = lawful_parts
-
-pub returns-clause-from : goal.returns-clause-from
-returns-clause-from c = lawful_of

@@ -1,0 +1,109 @@
+-- A flattened index stays right for a room where the entries that are kept there stay.
+use Rattle.std.proofs.Common.{◌≡◌, ◌≤◌, ◌/◌, ℕ, List, [], ◌∷◌, ◌++◌, take, Some, refl, ap, sym, ◌∙◌, arith}
+use Rattle.plfs_types.specs.declared.entries.Cover.{Cover}
+use Rattle.plfs_types.specs.declared.entries.Entry.{Entry}
+use Rattle.container_layout.specs.declared.items.Item.{Item}
+use Rattle.container_layout.specs.declared.items.Item.TheVariants.{Index, Log}
+use Rattle.container_layout.specs.Items.{IsItem}
+use Rattle.container_layout.specs.Paths.{path_of}
+use Rattle.store_api.specs.declared.tree.Room.{Room}
+use Rattle.store_laws.specs.Files.{file_at, kept_at}
+use Rattle.mount_model.specs.Paths.{index_path, log_path}
+use Rattle.mount_sound.specs.Dropping.{bytes_of, IsWriter}
+use Rattle.mount_sound.specs.Entries.{last_stamp, logged}
+use Rattle.mount_sound.specs.Fitting.{fitting}
+use Rattle.mount_sound.specs.Flats.{covered_entries, IsCovered, AreCovered, IsRightFlat}
+use Rattle.mount_sound.specs.Items.{HasItem}
+use Rattle.mount_sound.specs.Keeping.{kept_in}
+use Rattle.mount_sound.specs.Ledger.{Written, entries_in, AreWritesOf}
+use Rattle.mount_sound.specs.There.{entries_there, landed_entries}
+use Rattle.mount_sound.proofs.Fitting.{take_less}
+use Rattle.mount_sound.proofs.Items.{is_log, owner}
+use Rattle.mount_sound.proofs.Keeping.{AreKept, same_host, kept_landed, kept_most}
+use Rattle.mount_sound.proofs.There.{writer_told}
+
+-- the writer's entries that are kept stay the first that landed, and no fewer are kept
+pub record KeepsEntries (room new : Room) (host writer : ℕ) : Type 0 where
+  pub content : List ℕ
+  pub stands : HasItem new (Index host writer) content
+  pub no_fewer : kept_in room host writer ≤ kept_in new host writer
+  pub same : take (kept_in room host writer) (landed_entries new host writer) ≡ take (kept_in room host writer) (landed_entries room host writer)
+
+-- so it is of each index dropping
+abbrev pub KeepsAllEntries : Room → Room → Type 0
+KeepsAllEntries room new = (host writer : ℕ) (content : List ℕ) → HasItem room (Index host writer) content → KeepsEntries room new host writer
+
+-- ---- what is covered
+
+module _ (room new : Room) (keeps : KeepsAllEntries room new) where
+  its : (c : Cover) (is : IsCovered room c) → KeepsEntries room new is.host c.writer
+  its c is = keeps is.host c.writer is.content is.stands
+
+  same_covered : (c : Cover) (is : IsCovered room c) → covered_entries new is.host c ≡ covered_entries room is.host c
+  same_covered c is =
+      sym (take_less c.count (kept_in room is.host c.writer) (landed_entries new is.host c.writer) is.kept)
+      ∙ ap (λ es. take c.count es) (its c is).same
+      ∙ take_less c.count (kept_in room is.host c.writer) (landed_entries room is.host c.writer) is.kept
+
+  abbrev covered_on : (c : Cover) → IsCovered room c → IsCovered new c
+  covered_on c is = record {
+    host = is.host;
+    content = (its c is).content;
+    stands = (its c is).stands;
+    kept = omega (arith, is.kept, (its c is).no_fewer);
+    sum = is.sum ∙ ap logged (sym (same_covered c is));
+    latest = is.latest ∙ ap (last_stamp 0) (sym (same_covered c is));
+  }
+
+  all_covered_on : (covers : List Cover) (entries : List Entry) → AreCovered room covers entries → AreCovered new covers entries
+  all_covered_on [] entries a = a
+  all_covered_on (c ∷ covers) entries a = (covered_on c a.0, (a.1.0, a.1.1 ∙ ap (λ es. es ++ a.1.0) (sym (same_covered c a.0)), all_covered_on covers a.1.0 a.1.2))
+
+  -- A right flattened index stays right.
+  pub flats_frame : (bytes : List ℕ) → IsRightFlat room bytes → IsRightFlat new bytes
+  flats_frame bytes r = record {
+    flat = r.flat;
+    valid = r.valid;
+    spelled = r.spelled;
+    entries = r.entries;
+    covered = all_covered_on r.flat.covers r.entries r.covered;
+    pieces = r.pieces;
+  }
+
+-- ---- where entries are kept
+
+-- two rooms in which they are the first of the writer's writes
+pub kept_entries : (room new : Room) (host writer : ℕ) (few many : List Written) (w : IsWriter room writer few) → AreWritesOf writer few → (w' : IsWriter new writer many) → AreWritesOf writer many → (content : List ℕ) → HasItem room (Index host writer) content
+    → take (kept_in room host writer) (entries_in many) ≡ take (kept_in room host writer) (entries_in few) → AreKept new host writer many (kept_in room host writer) → KeepsEntries room new host writer
+kept_entries room new host writer few many w v w' v' content h first k =
+    let n : ℕ = kept_in room host writer in
+    let no_fewer : n ≤ kept_in new host writer = kept_most new host writer many w' v' k.bytes k.has n k.issued_were k.long k.index k.log in
+    let small = h.is_item.widths.1 in
+    let was : landed_entries room host writer ≡ take w.landed (entries_in few) = ap (λ x. landed_entries room x writer) (same_host room host writer few w v content h) ∙ writer_told room writer few w small v in
+    let is : landed_entries new host writer ≡ take w'.landed (entries_in many) = ap (λ x. landed_entries new x writer) (same_host new host writer many w' v' k.bytes k.has) ∙ writer_told new writer many w' small v' in
+    let before : n ≤ w.landed = kept_landed room host writer few w v content h in
+    let after : n ≤ w'.landed = omega (arith, no_fewer, kept_landed new host writer many w' v' k.bytes k.has) in
+    record {
+      content = k.bytes;
+      stands = k.has;
+      no_fewer = no_fewer;
+      same = ap (λ es. take n es) is ∙ take_less n w'.landed (entries_in many) after ∙ first ∙ sym (take_less n w.landed (entries_in few) before) ∙ ap (λ es. take n es) (sym was);
+    }
+
+-- the droppings are as they were
+pub same_entries : (room new : Room) → ((item : Item) (writer : ℕ) → owner item ≡ Some writer → IsItem item → file_at new (path_of item) ≡ file_at room (path_of item)) → ((item : Item) (writer : ℕ) → owner item ≡ Some writer → IsItem item → kept_at new (path_of item) ≡ kept_at room (path_of item)) → KeepsAllEntries room new
+same_entries room new files kepts host writer content h =
+    let log = is_log host writer h.is_item.widths.0 h.is_item.widths.1 in
+    let landed : landed_entries new host writer ≡ landed_entries room host writer =
+    ap (λ f. entries_there (bytes_of f) (bytes_of (file_at new (log_path host writer)))) (files (Index host writer) writer refl h.is_item)
+    ∙ ap (λ f. entries_there (bytes_of (file_at room (index_path host writer))) (bytes_of f)) (files (Log host writer) writer refl log) in
+    let kept : kept_in new host writer ≡ kept_in room host writer =
+    ap (λ n. fitting n 0 (take (kept_at new (index_path host writer) / 40) (landed_entries new host writer))) (kepts (Log host writer) writer refl log)
+    ∙ ap (λ n. fitting (kept_at room (log_path host writer)) 0 (take (n / 40) (landed_entries new host writer))) (kepts (Index host writer) writer refl h.is_item)
+    ∙ ap (λ es. fitting (kept_at room (log_path host writer)) 0 (take (kept_at room (index_path host writer) / 40) es)) landed in
+    record {
+      content = content;
+      stands = record { is_item = h.is_item; there = files (Index host writer) writer refl h.is_item ∙ h.there };
+      no_fewer = omega (arith, kept);
+      same = ap (λ es. take (kept_in room host writer) es) landed;
+    }

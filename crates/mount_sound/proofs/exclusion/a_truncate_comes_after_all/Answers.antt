@@ -1,0 +1,5 @@
+use Rattle.mount_sound.proofs.Excluding.{truncated_above}
+use Rattle.mount_sound.proofs.exclusion.a_truncate_comes_after_all.Goals as goal
+
+pub returns : goal.returns
+returns c = truncated_above

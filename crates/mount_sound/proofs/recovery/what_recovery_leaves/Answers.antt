@@ -1,0 +1,5 @@
+use Rattle.mount_sound.proofs.Recovering.{has_recovered}
+use Rattle.mount_sound.proofs.recovery.what_recovery_leaves.Goals as goal
+
+pub returns : goal.returns
+returns c = has_recovered

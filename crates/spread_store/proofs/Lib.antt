@@ -1,0 +1,16 @@
+pub mod Lists
+pub mod Asks
+pub mod Steps
+pub mod Held
+pub mod Going
+pub mod Within
+pub mod InOrder
+pub mod Searching
+pub mod Doubts
+pub mod Naming
+pub mod Renames
+pub mod Added
+pub mod Gathers
+pub mod Lesser
+pub mod Numbers
+pub mod Lost

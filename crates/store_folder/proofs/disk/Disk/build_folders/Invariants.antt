@@ -1,0 +1,14 @@
+use Rattle.std.proofs.Common.{◌≡◌}
+use Rattle.store_folder.specs.Calls.{failed_calls}
+use Rattle.store_folder.specs.NewRooms.{BuildsFolder}
+use Rattle.store_folder.specs.Rooms.{IsStill}
+use Rattle.store_folder.proofs.ForEach.{GoesOn}
+use Rattle.store_folder.proofs.disk.Disk.build_folders.Given as goal
+
+abbrev pub invariant-loop-folder : goal.invariant-loop-folder
+invariant-loop-folder g l =
+    record {
+      made : GoesOn (BuildsFolder l.new) l.folders l.folder-index (g.C.Calls.log l.fn.self.calls) (g.C.Calls.log l.self.calls);
+      still : IsStill l.fn.self l.self;
+      well : failed_calls (g.C.Calls.log l.self.calls) ≡ failed_calls (g.C.Calls.log l.fn.self.calls);
+    }

@@ -1,0 +1,16 @@
+use Rattle.std.specs.Prelude.{IfOk}
+use Rattle.store_folder.specs.Steps.{Numbers}
+use Rattle.std.proofs.Common.{Result, Ok, Err}
+use Rattle.store_folder.proofs.disk.Disk.make.Goals as goal
+
+-- what holds of each answer of one kind holds of this one
+with_answer : {A E : Type 0} (result : Result A E) (P Q : A → Type 0) → ((answer : A) → P answer → Q answer) → IfOk result P → IfOk result Q
+with_answer (Ok answer) P Q follows holds = follows answer holds
+with_answer (Err failure) P Q follows holds = tt
+
+pub returns-clause-performs : goal.returns-clause-performs
+returns-clause-performs g c =
+    let told = c.in_ok-number_rooms.ensures in
+    let numbers : Numbers c.args.self.now c.number_rooms.new.self (g.C.Calls.log c.args.self.now.calls) (g.C.Calls.log c.number_rooms.new.self.calls) =
+    record { numbered = told.numbered; before = λ is. (told.done is).1; first = told.listed; root = told.root; kept_open = told.open } in
+    with_answer c.perform.result _ _ (λ answer performs. (c.number_rooms.new.self, numbers, performs)) c.perform.ensures.performs

@@ -1,0 +1,11 @@
+-- Why a step failed, of all that its calls told.
+use Rattle.std.specs.Prelude.{Option, Some, None}
+use Rattle.store_folder.specs.declared.reason.Reason.{Reason}
+use Rattle.store_folder.specs.declared.reason.Reason.TheVariants.{System, Found, Unnameable}
+
+-- the first failure of the system, or what was told last where there is none
+abbrev pub noted : Option Reason → Reason → Option Reason
+noted (Some (System asked error)) reason = Some (System asked error)
+noted (Some (Found kind)) reason = Some reason
+noted (Some Unnameable) reason = Some reason
+noted None reason = Some reason
