@@ -1,5 +1,6 @@
 //! Tests of the stores: the store in memory with its planned faults, what its steps keep and a loss of power
-//! leaves, and the store over a folder of the system. They stand apart, so that no crate is proved twice for them.
+//! leaves, the store over a folder of the system, and several stores as one. They stand apart, so that no crate is
+//! proved twice for them.
 #![tactic(auto)]
 
 #[cfg(test)]
@@ -14,3 +15,7 @@ mod folder_links;
 mod losing;
 #[cfg(test)]
 mod memory;
+#[cfg(test)]
+mod opening;
+#[cfg(test)]
+mod several;
