@@ -1,10 +1,12 @@
 -- What another caller holds and flattens after a step it held and flattened before it.
-use Rattle.std.proofs.Common.{◌≡◌, ℕ, Some, ap, ◌∙◌, subst, inl, inr}
+use Rattle.std.proofs.Common.{◌≡◌, ℕ, [], ◌∷◌, ◌++◌, Some, ap, ◌∙◌, subst, inl, inr}
 use Rattle.mount_model.specs.declared.call.Ask.{Ask}
 use Rattle.mount_model.specs.declared.call.Call.{Call}
-use Rattle.mount_model.specs.declared.call.Call.TheVariants.{Hold, Release, StartFlat, PutFlat, SyncFlat, InstallFlat}
+use Rattle.mount_model.specs.declared.call.Call.TheVariants.{Hold, Release, StartFlat, PutFlat, SyncFlat, InstallFlat, StartPack}
 use Rattle.mount_model.specs.declared.reply.Reply.{Reply}
 use Rattle.mount_model.specs.declared.row.Flattening.{Flattening}
+use Rattle.mount_model.specs.declared.row.Making.{Making}
+use Rattle.mount_model.specs.declared.row.Making.TheVariants as making
 use Rattle.mount_model.specs.declared.row.FlatStage.TheVariants.{Put, Synced}
 use Rattle.mount_model.specs.declared.row.Holder.{Holder}
 use Rattle.mount_model.specs.Flattening.{begun_flat}
@@ -28,11 +30,15 @@ module _ (old : State) (caller : ℕ) (after : Table) (r : IsRegular old) where
   made_held (Release number) q h (mine, is, e) found other = (held_before-without_holder mine.number old.table.holders q h r.holders.ascending (subst (λ hs. holder_at q hs ≡ Some h) e found)).1
   made_held call q h e found other = absurd e
 
-  made_flattened : (call : Call) (q : ℕ) (f : Flattening) → FlatteningsMade old caller call after → flattening_at q after.flattenings ≡ Some f → (f.owner ≡ caller → ⊥) → flattening_at q old.table.flattenings ≡ Some f
-  made_flattened (StartFlat room) q f e found other = elim (found_before-push old.table.flattenings (begun_flat old caller room) q f (subst (λ fs. flattening_at q fs ≡ Some f) e found)) as (λ _. flattening_at q old.table.flattenings ≡ Some f) [
+  begun_before : (room : ℕ) (makes : Making) (q : ℕ) (f : Flattening) → after.flattenings ≡ old.table.flattenings ++ begun_flat old caller room makes ∷ [] → flattening_at q after.flattenings ≡ Some f → (f.owner ≡ caller → ⊥)
+      → flattening_at q old.table.flattenings ≡ Some f
+  begun_before room makes q f e found other = elim (found_before-push old.table.flattenings (begun_flat old caller room makes) q f (subst (λ fs. flattening_at q fs ≡ Some f) e found)) as (λ _. flattening_at q old.table.flattenings ≡ Some f) [
     | inl was ↦ was
     | inr is ↦ absurd (other (ap (λ (x : Flattening). x.owner) is.1))
   ]
+
+  made_flattened : (call : Call) (q : ℕ) (f : Flattening) → FlatteningsMade old caller call after → flattening_at q after.flattenings ≡ Some f → (f.owner ≡ caller → ⊥) → flattening_at q old.table.flattenings ≡ Some f
+  made_flattened (StartFlat room) q f e found other = begun_before room making.Flat q f e found other
   made_flattened (PutFlat flat bytes) q f (mine, is, e) found other =
       elim (found_before-with_flattening (record mine { stage = Put }) old.table.flattenings q f (subst (λ fs. flattening_at q fs ≡ Some f) e found)) as (λ _. flattening_at q old.table.flattenings ≡ Some f) [
         | inl was ↦ was.1
@@ -44,6 +50,7 @@ module _ (old : State) (caller : ℕ) (after : Table) (r : IsRegular old) where
         | inr its ↦ absurd (other (ap (λ (x : Flattening). x.owner) its.1 ∙ is.owned))
       ]
   made_flattened (InstallFlat flat) q f (mine, is, e) found other = (found_before-without_flattening mine.id old.table.flattenings q f r.flattenings.ascending (subst (λ fs. flattening_at q fs ≡ Some f) e found)).1
+  made_flattened (StartPack room host writer) q f e found other = begun_before room (making.Pack host writer) q f e found other
   made_flattened call q f e found other = absurd e
 
   turned_held : (call : Call) (q : ℕ) (h : Holder) → TurnsHolders old caller call after → holder_at q after.holders ≡ Some h → (h.owner ≡ caller → ⊥) → holder_at q old.table.holders ≡ Some h

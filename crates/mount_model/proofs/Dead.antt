@@ -10,10 +10,11 @@ use Rattle.mount_model.specs.declared.row.Stage.{Stage}
 use Rattle.mount_model.specs.declared.row.Stage.TheVariants as stage
 use Rattle.mount_model.specs.declared.row.Holder.{Holder}
 use Rattle.mount_model.specs.declared.row.Flattening.{Flattening}
+use Rattle.mount_model.specs.declared.row.Making.TheVariants as making
 use Rattle.mount_model.specs.declared.row.FlatStage.{FlatStage}
 use Rattle.mount_model.specs.declared.row.FlatStage.TheVariants.{Begun, Put, Synced}
 use Rattle.mount_model.specs.declared.call.Call.{Call}
-use Rattle.mount_model.specs.declared.call.Call.TheVariants.{Greet, Find, MakeContainer, Rooms, Look, Enter, Floor, MakeHostdir, MakeIndex, MakeLog, Write, Flush, SyncLog, SyncIndex, PutMeta, Exit, Hold, Mark, Move, Release, StartFlat, PutFlat, SyncFlat, InstallFlat, SyncDropping, Inspect, Mend, MendMeta, Bury, MendHold}
+use Rattle.mount_model.specs.declared.call.Call.TheVariants.{Greet, Find, MakeContainer, Rooms, Look, Enter, Floor, MakeHostdir, MakeIndex, MakeLog, Write, Flush, SyncLog, SyncIndex, PutMeta, Exit, Hold, Mark, Move, Release, StartFlat, PutFlat, SyncFlat, InstallFlat, StartPack, SyncDropping, Inspect, Mend, MendMeta, Bury, MendHold}
 use Rattle.mount_model.specs.declared.call.Ask.{Ask}
 use Rattle.mount_model.specs.declared.reply.Refusal.{Refusal}
 use Rattle.mount_model.specs.declared.reply.Reply.{Reply}
@@ -26,7 +27,7 @@ use Rattle.mount_model.specs.Flooring.{FloorOutcome, FloorsRow}
 use Rattle.mount_model.specs.Writing.{WritesAt, stamp_at}
 use Rattle.mount_model.specs.Flushing.{FlushesRow}
 use Rattle.mount_model.specs.Holding.{holding, HoldOutcome, HoldsRoom, OnHolder, TruncatesAt, RenamesRoom}
-use Rattle.mount_model.specs.Flattening.{OnFlattening, begun_flat}
+use Rattle.mount_model.specs.Flattening.{OnFlattening, begun_flat, StartsPackOf}
 use Rattle.mount_model.specs.Recovering.{SyncsIt, alive_check, MendsIt, MendsItsMeta, BuriesIt}
 use Rattle.mount_model.specs.Stopping.{row_ended, begun}
 use Rattle.mount_model.specs.Step.{Answers, IsStep}
@@ -166,10 +167,12 @@ module _ (writer : ℕ) (old : State) (dead : IsDeadIn writer old.table.writers)
       by_act _ _ (timed t.times old) (table.truncate_table Stays old.table same _ size) t.makes))
   answers_stay_dead caller (Move holder to) other a = by_holder caller holder _ a (λ h. λ (x : RenamesRoom h to old reply new). by_act _ _ old (table.rename_table Stays old.table same) x.makes)
   answers_stay_dead caller (Release holder) other a = by_holder caller holder _ a (λ h. by_act _ _ old (table.release_table Stays old.table same h (with_writers _ refl)))
-  answers_stay_dead caller (StartFlat room) other a = by_check _ _ a (by_act _ _ (drawn old) (table.start_table Stays old.table same (begun_flat old caller room) (with_writers _ refl)))
+  answers_stay_dead caller (StartFlat room) other a = by_check _ _ a (by_act _ _ (drawn old) (table.start_table Stays old.table same (begun_flat old caller room making.Flat) (with_writers _ refl)))
   answers_stay_dead caller (PutFlat flat bytes) other a = by_flattening caller Begun flat _ a (λ f. by_act _ _ old (table.put_flat_table Stays old.table same f (with_writers _ refl)))
   answers_stay_dead caller (SyncFlat flat) other a = by_flattening caller Put flat _ a (λ f. by_act _ _ old (table.sync_flat_table Stays old.table same f (with_writers _ refl)))
   answers_stay_dead caller (InstallFlat flat) other a = by_flattening caller Synced flat _ a (λ f. by_act _ _ old (table.install_table Stays old.table same f (with_writers _ refl)))
+  answers_stay_dead caller (StartPack room host w) other a = by_check _ _ a (λ (x : StartsPackOf caller room host w old reply new).
+      by_act _ _ (drawn old) (table.start_table Stays old.table same (begun_flat old caller room (making.Pack host w)) (with_writers _ refl)) x.makes)
   answers_stay_dead caller (SyncDropping room host w is_log) other a = by_check _ _ a (λ (x : SyncsIt room host w is_log old reply new). by_act _ _ old (table.done_table Stays old.table same _ _) x.makes)
   answers_stay_dead caller (Inspect w) other a = by_check (alive_check old w) ((reply ≡ Done) × (new ≡ old)) a (λ x. as_before x.1)
   answers_stay_dead caller (Mend room host w count) other a = by_check _ _ a (λ (x : MendsIt room host w count old reply new). by_act _ _ old (table.done_table Stays old.table same _ _) x.makes)

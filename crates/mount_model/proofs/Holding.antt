@@ -8,10 +8,11 @@ use Rattle.mount_model.specs.declared.row.Row.{Row}
 use Rattle.mount_model.specs.declared.row.Stage.{Stage}
 use Rattle.mount_model.specs.declared.row.Holder.{Holder}
 use Rattle.mount_model.specs.declared.row.Flattening.{Flattening}
+use Rattle.mount_model.specs.declared.row.Making.TheVariants as making
 use Rattle.mount_model.specs.declared.row.FlatStage.{FlatStage}
 use Rattle.mount_model.specs.declared.row.FlatStage.TheVariants.{Begun, Put, Synced}
 use Rattle.mount_model.specs.declared.call.Call.{Call}
-use Rattle.mount_model.specs.declared.call.Call.TheVariants.{Greet, Find, MakeContainer, Rooms, Look, Enter, Floor, MakeHostdir, MakeIndex, MakeLog, Write, Flush, SyncLog, SyncIndex, PutMeta, Exit, Hold, Mark, Move, Release, StartFlat, PutFlat, SyncFlat, InstallFlat, SyncDropping, Inspect, Mend, MendMeta, Bury, MendHold}
+use Rattle.mount_model.specs.declared.call.Call.TheVariants.{Greet, Find, MakeContainer, Rooms, Look, Enter, Floor, MakeHostdir, MakeIndex, MakeLog, Write, Flush, SyncLog, SyncIndex, PutMeta, Exit, Hold, Mark, Move, Release, StartFlat, PutFlat, SyncFlat, InstallFlat, StartPack, SyncDropping, Inspect, Mend, MendMeta, Bury, MendHold}
 use Rattle.mount_model.specs.declared.call.Ask.{Ask}
 use Rattle.mount_model.specs.declared.reply.Refusal.{Refusal}
 use Rattle.mount_model.specs.declared.reply.Reply.{Reply}
@@ -24,7 +25,7 @@ use Rattle.mount_model.specs.Flooring.{FloorOutcome}
 use Rattle.mount_model.specs.Writing.{WritesAt, stamp_at}
 use Rattle.mount_model.specs.Flushing.{FlushesRow}
 use Rattle.mount_model.specs.Holding.{holding, HoldOutcome, HoldsRoom, OnHolder, TruncatesAt, RenamesRoom, let_go}
-use Rattle.mount_model.specs.Flattening.{OnFlattening, begun_flat, put_flat_outcome, sync_flat_outcome, install_outcome}
+use Rattle.mount_model.specs.Flattening.{OnFlattening, begun_flat, StartsPackOf, put_flat_outcome, sync_flat_outcome, install_outcome}
 use Rattle.mount_model.specs.Recovering.{SyncsIt, alive_check, MendsIt, MendsItsMeta, BuriesIt}
 use Rattle.mount_model.specs.Stopping.{without_caller, begun, IsEndedBy}
 use Rattle.mount_model.specs.Step.{Answers, IsStep}
@@ -48,6 +49,7 @@ IsElsewhere (StartFlat room) = ⊥
 IsElsewhere (PutFlat flat bytes) = ⊥
 IsElsewhere (SyncFlat flat) = ⊥
 IsElsewhere (InstallFlat flat) = ⊥
+IsElsewhere (StartPack room host writer) = ⊥
 IsElsewhere call = Unit {0}
 
 same : (old : Table) → KeepsHolders old old
@@ -116,6 +118,7 @@ module _ (old : State) (reply : Reply) (new : State) where
   answers_keep caller (PutFlat flat bytes) elsewhere a = absurd elsewhere
   answers_keep caller (SyncFlat flat) elsewhere a = absurd elsewhere
   answers_keep caller (InstallFlat flat) elsewhere a = absurd elsewhere
+  answers_keep caller (StartPack room host writer) elsewhere a = absurd elsewhere
   answers_keep caller (SyncDropping room host writer is_log) elsewhere a = by_check _ _ a (λ (x : SyncsIt room host writer is_log old reply new). by_act _ _ old (table.done_table (KeepsHolders old.table) old.table (same old.table) _ _) x.makes)
   answers_keep caller (Inspect writer) elsewhere a = by_check (alive_check old writer) ((reply ≡ Done) × (new ≡ old)) a (λ x. as_before old new x.1)
   answers_keep caller (Mend room host writer count) elsewhere a = by_check _ _ a (λ (x : MendsIt room host writer count old reply new). by_act _ _ old (table.done_table (KeepsHolders old.table) old.table (same old.table) _ _) x.makes)
@@ -133,10 +136,11 @@ HoldersMade old caller call after = ⊥
 
 -- and of flattenings
 abbrev pub FlatteningsMade : State → ℕ → Call → Table → Type 0
-FlatteningsMade old caller (StartFlat room) after = after.flattenings ≡ old.table.flattenings ++ begun_flat old caller room ∷ []
+FlatteningsMade old caller (StartFlat room) after = after.flattenings ≡ old.table.flattenings ++ begun_flat old caller room making.Flat ∷ []
 FlatteningsMade old caller (PutFlat flat bytes) after = (f : Flattening) × IsUnderway caller Begun flat old.table.flattenings f × (after.flattenings ≡ with_flattening (record f { stage = Put }) old.table.flattenings)
 FlatteningsMade old caller (SyncFlat flat) after = (f : Flattening) × IsUnderway caller Put flat old.table.flattenings f × (after.flattenings ≡ with_flattening (record f { stage = Synced }) old.table.flattenings)
 FlatteningsMade old caller (InstallFlat flat) after = (f : Flattening) × IsUnderway caller Synced flat old.table.flattenings f × (after.flattenings ≡ without_flattening f.id old.table.flattenings)
+FlatteningsMade old caller (StartPack room host writer) after = after.flattenings ≡ old.table.flattenings ++ begun_flat old caller room (making.Pack host writer) ∷ []
 FlatteningsMade old caller call after = ⊥
 
 -- they stay, or the call makes that of them
@@ -178,13 +182,16 @@ answers_turn old caller (Release number) reply new a = on_holder caller number o
     (table.release_table (TurnsHolders old caller (Release number)) old.table (turned old caller (Release number) old.table (same old.table)) h (release_turns old caller number h is)) m)
 answers_turn old caller (StartFlat room) reply new a = unless_refused _ old reply new _ (TurnsHolders old caller (StartFlat room) new.table) a (turned_same old caller (StartFlat room) reply new)
     (λ none m. turned_act old caller (StartFlat room) reply new _ _ (drawn old)
-    (table.start_table (TurnsHolders old caller (StartFlat room)) old.table (turned old caller (StartFlat room) old.table (same old.table)) (begun_flat old caller room) (record { holders = inl refl; flattenings = inr refl })) m)
+    (table.start_table (TurnsHolders old caller (StartFlat room)) old.table (turned old caller (StartFlat room) old.table (same old.table)) (begun_flat old caller room making.Flat) (record { holders = inl refl; flattenings = inr refl })) m)
 answers_turn old caller (PutFlat flat bytes) reply new a = turned_flat old caller (PutFlat flat bytes) reply new Begun flat _ (λ f. put_flat_outcome f old.table)
     (λ f is. table.put_flat_table (TurnsHolders old caller (PutFlat flat bytes)) old.table (turned old caller (PutFlat flat bytes) old.table (same old.table)) f (record { holders = inl refl; flattenings = inr (f, is, refl) })) a
 answers_turn old caller (SyncFlat flat) reply new a = turned_flat old caller (SyncFlat flat) reply new Put flat _ (λ f. sync_flat_outcome f old.table)
     (λ f is. table.sync_flat_table (TurnsHolders old caller (SyncFlat flat)) old.table (turned old caller (SyncFlat flat) old.table (same old.table)) f (record { holders = inl refl; flattenings = inr (f, is, refl) })) a
 answers_turn old caller (InstallFlat flat) reply new a = turned_flat old caller (InstallFlat flat) reply new Synced flat _ (λ f. install_outcome f old.table)
     (λ f is. table.install_table (TurnsHolders old caller (InstallFlat flat)) old.table (turned old caller (InstallFlat flat) old.table (same old.table)) f (record { holders = inl refl; flattenings = inr (f, is, refl) })) a
+answers_turn old caller (StartPack room host writer) reply new a = unless_refused _ old reply new _ (TurnsHolders old caller (StartPack room host writer) new.table) a (turned_same old caller (StartPack room host writer) reply new)
+    (λ none. λ (x : StartsPackOf caller room host writer old reply new). turned_act old caller (StartPack room host writer) reply new _ _ (drawn old)
+    (table.start_table (TurnsHolders old caller (StartPack room host writer)) old.table (turned old caller (StartPack room host writer) old.table (same old.table)) (begun_flat old caller room (making.Pack host writer)) (record { holders = inl refl; flattenings = inr refl })) x.makes)
 answers_turn old caller call reply new a = turned old caller call new.table (answers_keep old reply new caller call tt a)
 
 -- ---- what is another caller's
@@ -211,7 +218,7 @@ module _ (old : State) (caller : ℕ) (after : Table) where
   made_holds call q h e found other = absurd e
 
   made_flattens : (call : Call) (q : ℕ) (f : Flattening) → FlatteningsMade old caller call after → flattening_at q old.table.flattenings ≡ Some f → (f.owner ≡ caller → ⊥) → flattening_at q after.flattenings ≡ Some f
-  made_flattens (StartFlat room) q f e found other = subst (λ fs. flattening_at q fs ≡ Some f) (sym e) (still_found-push old.table.flattenings (begun_flat old caller room) q f found)
+  made_flattens (StartFlat room) q f e found other = subst (λ fs. flattening_at q fs ≡ Some f) (sym e) (still_found-push old.table.flattenings (begun_flat old caller room making.Flat) q f found)
   made_flattens (PutFlat flat bytes) q f (mine, is, e) found other =
       subst (λ fs. flattening_at q fs ≡ Some f) (sym e)
       (flattening_at_other-with_flattening (record mine { stage = Put }) old.table.flattenings q (found_apart caller Begun flat q old.table.flattenings f mine is found other) ∙ found)
@@ -221,6 +228,7 @@ module _ (old : State) (caller : ℕ) (after : Table) where
   made_flattens (InstallFlat flat) q f (mine, is, e) found other =
       subst (λ fs. flattening_at q fs ≡ Some f) (sym e)
       (flattening_at_other-without_flattening mine.id old.table.flattenings q (found_apart caller Synced flat q old.table.flattenings f mine is found other) ∙ found)
+  made_flattens (StartPack room host writer) q f e found other = subst (λ fs. flattening_at q fs ≡ Some f) (sym e) (still_found-push old.table.flattenings (begun_flat old caller room (making.Pack host writer)) q f found)
   made_flattens call q f e found other = absurd e
 
   turned_holds : (call : Call) (q : ℕ) (h : Holder) → TurnsHolders old caller call after → holder_at q old.table.holders ≡ Some h → (h.owner ≡ caller → ⊥) → holder_at q after.holders ≡ Some h

@@ -16,12 +16,13 @@ use Rattle.mount_model.specs.declared.row.Row.{Row}
 use Rattle.mount_model.specs.declared.row.Stage.{Stage}
 use Rattle.mount_model.specs.declared.row.Holder.{Holder}
 use Rattle.mount_model.specs.declared.row.Flattening.{Flattening}
+use Rattle.mount_model.specs.declared.row.Making.TheVariants as kind
 use Rattle.mount_model.specs.declared.row.FlatStage.{FlatStage}
 use Rattle.mount_model.specs.declared.row.FlatStage.TheVariants as flat_stage
 use Rattle.mount_model.specs.declared.call.Look.{Look as Sight}
 use Rattle.mount_model.specs.declared.call.Look.TheVariants as sight
 use Rattle.mount_model.specs.declared.call.Call.{Call}
-use Rattle.mount_model.specs.declared.call.Call.TheVariants.{Greet, Find, MakeContainer, Rooms, Look, Enter, Floor, MakeHostdir, MakeIndex, MakeLog, Write, Flush, SyncLog, SyncIndex, PutMeta, Exit, Hold, Mark, Move, Release, StartFlat, PutFlat, SyncFlat, InstallFlat, SyncDropping, Inspect, Mend, MendMeta, Bury, MendHold}
+use Rattle.mount_model.specs.declared.call.Call.TheVariants.{Greet, Find, MakeContainer, Rooms, Look, Enter, Floor, MakeHostdir, MakeIndex, MakeLog, Write, Flush, SyncLog, SyncIndex, PutMeta, Exit, Hold, Mark, Move, Release, StartFlat, PutFlat, SyncFlat, InstallFlat, StartPack, SyncDropping, Inspect, Mend, MendMeta, Bury, MendHold}
 use Rattle.mount_model.specs.declared.call.Ask.{Ask}
 use Rattle.mount_model.specs.declared.reply.Refusal.{Refusal}
 use Rattle.mount_model.specs.declared.reply.Refusal.TheVariants.{NoRoom}
@@ -41,7 +42,7 @@ use Rattle.mount_model.specs.Writing.{WritesAt, write_check, write_outcome, stam
 use Rattle.mount_model.specs.Flushing.{FlushesRow, flush_outcome, sync_log_outcome, sync_index_outcome}
 use Rattle.mount_model.specs.Leaving.{closing, put_meta_check, put_meta_outcome, exit_check, exit_outcome}
 use Rattle.mount_model.specs.Holding.{holding, HoldOutcome, OnHolder, truncate_check, truncate_outcome, TruncatesAt, rename_outcome, RenamesRoom, release_outcome}
-use Rattle.mount_model.specs.Flattening.{begun_flat, start_outcome, OnFlattening, put_flat_outcome, sync_flat_outcome, install_outcome}
+use Rattle.mount_model.specs.Flattening.{begun_flat, start_outcome, StartsPackOf, OnFlattening, put_flat_outcome, sync_flat_outcome, install_outcome}
 use Rattle.mount_model.specs.Recovering.{done_outcome, SyncsIt, alive_check, mend_check, MendsIt, mended_file, mend_meta_outcome, MendsItsMeta, bury_outcome, BuriesIt, mend_hold_check, mend_hold_outcome}
 use Rattle.mount_model.specs.Stopping.{part_made, begun, MakesPart, IsEndedBy}
 use Rattle.mount_model.specs.Step.{Answers, IsStep}
@@ -356,10 +357,12 @@ answers_idle caller (Move number to) old reply new given a = on_held caller (Mov
     making caller (Move number to) old reply new given _ _ old refl (rename_idle old.table) r.makes)
 answers_idle caller (Release number) old reply new given a = on_held caller (Release number) old reply new given number _ a (λ h m. making caller (Release number) old reply new given _ _ old refl (release_idle old.table h) m)
 answers_idle caller (StartFlat room) old reply new given a = by_check caller (StartFlat room) old reply new given (draw_check old room) _ a (λ m.
-    making caller (StartFlat room) old reply new given _ _ (drawn old) refl (start_idle old.table (begun_flat old caller room)) m)
+    making caller (StartFlat room) old reply new given _ _ (drawn old) refl (start_idle old.table (begun_flat old caller room kind.Flat)) m)
 answers_idle caller (PutFlat flat bytes) old reply new given a = on_flat caller (PutFlat flat bytes) old reply new given flat_stage.Begun flat _ a (λ f m. making caller (PutFlat flat bytes) old reply new given _ _ old refl (put_flat_idle old.table f) m)
 answers_idle caller (SyncFlat flat) old reply new given a = on_flat caller (SyncFlat flat) old reply new given flat_stage.Put flat _ a (λ f m. making caller (SyncFlat flat) old reply new given _ _ old refl (sync_flat_idle old.table f) m)
 answers_idle caller (InstallFlat flat) old reply new given a = on_flat caller (InstallFlat flat) old reply new given flat_stage.Synced flat _ a (λ f m. making caller (InstallFlat flat) old reply new given _ _ old refl (install_idle old.table f) m)
+answers_idle caller (StartPack room host writer) old reply new given a = by_check caller (StartPack room host writer) old reply new given (draw_check old room) _ a (λ (x : StartsPackOf caller room host writer old reply new).
+    making caller (StartPack room host writer) old reply new given _ _ (drawn old) refl (start_idle old.table (begun_flat old caller room (kind.Pack host writer))) x.makes)
 answers_idle caller (SyncDropping room host writer is_log) old reply new given a = by_check caller (SyncDropping room host writer is_log) old reply new given (room_check old room) _ a (λ (m : SyncsIt room host writer is_log old reply new).
     making caller (SyncDropping room host writer is_log) old reply new given _ _ old refl (done_idle old.table (dropping_path is_log host writer).folder (dropping_path is_log host writer).file) m.makes)
 answers_idle caller (Inspect writer) old reply new given a = by_check caller (Inspect writer) old reply new given (alive_check old writer) ((reply ≡ Done) × (new ≡ old)) a (λ m. unchanged caller (Inspect writer) old reply new given m.1)

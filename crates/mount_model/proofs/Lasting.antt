@@ -11,12 +11,14 @@ use Rattle.plfs_types.specs.declared.entries.Entry.{Entry}
 use Rattle.mount_model.specs.declared.row.Row.{Row}
 use Rattle.mount_model.specs.declared.row.Holder.{Holder}
 use Rattle.mount_model.specs.declared.row.Flattening.{Flattening}
+use Rattle.mount_model.specs.declared.row.Making.{Making}
+use Rattle.mount_model.specs.declared.row.Making.TheVariants as making
 use Rattle.mount_model.specs.declared.row.FlatStage.{FlatStage}
 use Rattle.mount_model.specs.declared.row.FlatStage.TheVariants.{Begun, Put, Synced}
 use Rattle.mount_model.specs.declared.row.Stage.{Stage}
 use Rattle.mount_model.specs.declared.row.Stage.TheVariants as stage
 use Rattle.mount_model.specs.declared.call.Call.{Call}
-use Rattle.mount_model.specs.declared.call.Call.TheVariants.{Greet, Find, MakeContainer, Rooms, Look, Enter, Floor, MakeHostdir, MakeIndex, MakeLog, Write, Flush, SyncLog, SyncIndex, PutMeta, Exit, Hold, Mark, Move, Release, StartFlat, PutFlat, SyncFlat, InstallFlat, SyncDropping, Inspect, Mend, MendMeta, Bury, MendHold}
+use Rattle.mount_model.specs.declared.call.Call.TheVariants.{Greet, Find, MakeContainer, Rooms, Look, Enter, Floor, MakeHostdir, MakeIndex, MakeLog, Write, Flush, SyncLog, SyncIndex, PutMeta, Exit, Hold, Mark, Move, Release, StartFlat, PutFlat, SyncFlat, InstallFlat, StartPack, SyncDropping, Inspect, Mend, MendMeta, Bury, MendHold}
 use Rattle.mount_model.specs.declared.call.Ask.{Ask}
 use Rattle.mount_model.specs.declared.reply.Refusal.{Refusal}
 use Rattle.mount_model.specs.declared.reply.Reply.{Reply}
@@ -33,7 +35,7 @@ use Rattle.mount_model.specs.Building.{build_outcome}
 use Rattle.mount_model.specs.Flushing.{FlushesRow, flushed, log_synced, index_synced}
 use Rattle.mount_model.specs.Leaving.{closed, closing}
 use Rattle.mount_model.specs.Holding.{holding, HoldOutcome, HoldsRoom, OnHolder, TruncatesAt, RenamesRoom, let_go}
-use Rattle.mount_model.specs.Flattening.{OnFlattening, begun_flat, start_step, start_outcome, come_to, drop_flat}
+use Rattle.mount_model.specs.Flattening.{OnFlattening, begun_flat, Starts, StartsPackOf, come_to, drop_flat}
 use Rattle.mount_model.specs.Recovering.{SyncsIt, alive_check, MendsIt, MendsItsMeta, BuriesIt}
 use Rattle.mount_model.specs.Step.{Answers, IsStep, OwedBy, IsOwed}
 use Rattle.mount_model.specs.Stopping.{row_ended, without_caller, drawn_unless, begun, IsEndedBy}
@@ -185,17 +187,16 @@ module _ (old : State) (regular : IsRegular old) (reply : Reply) (new : State) w
       let later : IsRegular (timed t.times old) = regular_of (timed t.times old) regular.mount_fits regular.serial_fits (regular_for old (timed t.times old) old.table refl refl refl kept) in
       makes_regular _ _ (timed t.times old) reply new later (table.truncate_table (AreRegularFor (timed t.times old)) old.table (rows_of (timed t.times old) later) _ size) t.makes
 
-  start_regular : (caller room : ℕ) → draw_check old room ≡ None
-      → MakesAct (start_step (begun_flat old caller room)) (start_outcome (begun_flat old caller room) old.table) (drawn old) reply new → IsRegular new
-  start_regular caller room none m =
+  start_regular : (caller room : ℕ) (makes : Making) → draw_check old room ≡ None → Starts caller room makes old reply new → IsRegular new
+  start_regular caller room makes none m =
       let may = may_enter old room none in
       let next : IsRegular (drawn old) = next_regular old room none regular in
       makes_regular _ _ (drawn old) reply new next
-      (table.start_table (AreRegularFor (drawn old)) old.table (rows_of (drawn old) next) (begun_flat old caller room)
+      (table.start_table (AreRegularFor (drawn old)) old.table (rows_of (drawn old) next) (begun_flat old caller room makes)
       (record {
         writers = (rows_of (drawn old) next).writers;
         holders = next.holders;
-        flattenings = flattenings_pushed old.mount old.serial old.marks old.table.flattenings (begun_flat old caller room) refl may.0 kept.flattenings;
+        flattenings = flattenings_pushed old.mount old.serial old.marks old.table.flattenings (begun_flat old caller room makes) refl may.0 kept.flattenings;
       }))
       m
 
@@ -242,10 +243,11 @@ module _ (old : State) (regular : IsRegular old) (reply : Reply) (new : State) w
   answers_regular caller (Mark holder size top) owed a = by_holder caller holder _ a (λ h is u. by_check _ _ u (λ none. truncate_regular h size top))
   answers_regular caller (Move holder to) owed a = by_holder caller holder _ a (λ h is. λ (x : RenamesRoom h to old reply new). makes_regular _ _ old reply new regular (table.rename_table (AreRegularFor old) old.table kept) x.makes)
   answers_regular caller (Release holder) owed a = by_holder caller holder _ a (λ h is m. makes_regular _ _ old reply new regular (table.release_table (AreRegularFor old) old.table kept h (let_go_regular h.number)) m)
-  answers_regular caller (StartFlat room) owed a = by_check _ _ a (start_regular caller room)
+  answers_regular caller (StartFlat room) owed a = by_check _ _ a (start_regular caller room making.Flat)
   answers_regular caller (PutFlat flat bytes) owed a = by_flattening caller Begun flat _ a (λ f is m. makes_regular _ _ old reply new regular (table.put_flat_table (AreRegularFor old) old.table kept f (come_regular caller _ _ flat f is)) m)
   answers_regular caller (SyncFlat flat) owed a = by_flattening caller Put flat _ a (λ f is m. makes_regular _ _ old reply new regular (table.sync_flat_table (AreRegularFor old) old.table kept f (come_regular caller _ _ flat f is)) m)
   answers_regular caller (InstallFlat flat) owed a = by_flattening caller Synced flat _ a (λ f is m. makes_regular _ _ old reply new regular (table.install_table (AreRegularFor old) old.table kept f (drop_regular f.id)) m)
+  answers_regular caller (StartPack room host writer) owed a = by_check _ _ a (λ none. λ (x : StartsPackOf caller room host writer old reply new). start_regular caller room (making.Pack host writer) none x.makes)
   answers_regular caller (SyncDropping room host writer is_log) owed a = by_check _ _ a (λ none. λ (x : SyncsIt room host writer is_log old reply new). makes_regular _ _ old reply new regular (table.done_table (AreRegularFor old) old.table kept _ _) x.makes)
   answers_regular caller (Inspect writer) owed a = by_check (alive_check old writer) ((reply ≡ Done) × (new ≡ old)) a (λ none x. regular_as old new regular x.1)
   answers_regular caller (Mend room host writer count) owed a = by_check _ _ a (λ none. λ (x : MendsIt room host writer count old reply new). makes_regular _ _ old reply new regular (table.done_table (AreRegularFor old) old.table kept _ _) x.makes)
@@ -300,6 +302,7 @@ pub begun_regular : (old : State) (call : Call) → IsRegular old → IsRegular 
 begun_regular old (Enter room host most) r = drawn_regular old room (draw_check old room) (λ e. e) r
 begun_regular old (Hold room) r = drawn_regular old room (draw_check old room) (λ e. e) r
 begun_regular old (StartFlat room) r = drawn_regular old room (draw_check old room) (λ e. e) r
+begun_regular old (StartPack room host writer) r = drawn_regular old room (draw_check old room) (λ e. e) r
 begun_regular old call r = r
 
 stored_regular : (state : State) (store : Stored) (times : Option (List ℕ)) → IsRegular state → IsRegular (record state { store = store; times = times })

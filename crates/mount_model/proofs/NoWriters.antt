@@ -4,17 +4,18 @@ use Rattle.store_api.specs.declared.step.Answer.TheVariants.{Made, NoFolder, Not
 use Rattle.store_api.specs.Step.{Step}
 use Rattle.mount_model.specs.declared.row.Holder.{Holder}
 use Rattle.mount_model.specs.declared.row.Flattening.{Flattening}
+use Rattle.mount_model.specs.declared.row.Making.TheVariants as making
 use Rattle.mount_model.specs.declared.row.FlatStage.{FlatStage}
 use Rattle.mount_model.specs.declared.row.FlatStage.TheVariants.{Begun, Put, Synced}
 use Rattle.mount_model.specs.declared.call.Call.{Call}
-use Rattle.mount_model.specs.declared.call.Call.TheVariants.{Greet, Find, MakeContainer, Rooms, Look, Enter, Floor, MakeHostdir, MakeIndex, MakeLog, Write, Flush, SyncLog, SyncIndex, PutMeta, Exit, Hold, Mark, Move, Release, StartFlat, PutFlat, SyncFlat, InstallFlat, SyncDropping, Inspect, Mend, MendMeta, Bury, MendHold}
+use Rattle.mount_model.specs.declared.call.Call.TheVariants.{Greet, Find, MakeContainer, Rooms, Look, Enter, Floor, MakeHostdir, MakeIndex, MakeLog, Write, Flush, SyncLog, SyncIndex, PutMeta, Exit, Hold, Mark, Move, Release, StartFlat, PutFlat, SyncFlat, InstallFlat, StartPack, SyncDropping, Inspect, Mend, MendMeta, Bury, MendHold}
 use Rattle.mount_model.specs.declared.reply.Refusal.{Refusal}
 use Rattle.mount_model.specs.declared.reply.Reply.{Reply}
 use Rattle.mount_model.specs.declared.reply.Reply.TheVariants.{Done}
 use Rattle.mount_model.specs.State.{State, Table, drawn, timed}
 use Rattle.mount_model.specs.Making.{Told, CallOutcome, MakesAct, UnlessRefused}
 use Rattle.mount_model.specs.Holding.{holding, HoldOutcome, HoldsRoom, OnHolder, TruncatesAt, RenamesRoom}
-use Rattle.mount_model.specs.Flattening.{OnFlattening, begun_flat}
+use Rattle.mount_model.specs.Flattening.{OnFlattening, begun_flat, StartsPackOf}
 use Rattle.mount_model.specs.Recovering.{SyncsIt, alive_check, MendsIt, MendsItsMeta, BuriesIt}
 use Rattle.mount_model.specs.Step.{Answers}
 use Rattle.mount_model.proofs.Deciding.{on_holder, on_flattening, unless_refused}
@@ -75,10 +76,12 @@ module _ (old : State) (reply : Reply) (new : State) where
       by_act _ _ (timed t.times old) (table.truncate_table HasSame old.table (has old.table refl) _ size) t.makes))
   answers_spare caller (Move holder to) none a = by_holder caller holder _ a (λ h. λ (x : RenamesRoom h to old reply new). by_act _ _ old (table.rename_table HasSame old.table (has old.table refl)) x.makes)
   answers_spare caller (Release holder) none a = by_holder caller holder _ a (λ h. by_act _ _ old (table.release_table HasSame old.table (has old.table refl) h (has _ refl)))
-  answers_spare caller (StartFlat room) none a = by_check _ _ a (by_act _ _ (drawn old) (table.start_table HasSame old.table (has old.table refl) (begun_flat old caller room) (has _ refl)))
+  answers_spare caller (StartFlat room) none a = by_check _ _ a (by_act _ _ (drawn old) (table.start_table HasSame old.table (has old.table refl) (begun_flat old caller room making.Flat) (has _ refl)))
   answers_spare caller (PutFlat flat bytes) none a = by_flattening caller Begun flat _ a (λ f. by_act _ _ old (table.put_flat_table HasSame old.table (has old.table refl) f (has _ refl)))
   answers_spare caller (SyncFlat flat) none a = by_flattening caller Put flat _ a (λ f. by_act _ _ old (table.sync_flat_table HasSame old.table (has old.table refl) f (has _ refl)))
   answers_spare caller (InstallFlat flat) none a = by_flattening caller Synced flat _ a (λ f. by_act _ _ old (table.install_table HasSame old.table (has old.table refl) f (has _ refl)))
+  answers_spare caller (StartPack room host writer) none a = by_check _ _ a (λ (x : StartsPackOf caller room host writer old reply new).
+      by_act _ _ (drawn old) (table.start_table HasSame old.table (has old.table refl) (begun_flat old caller room (making.Pack host writer)) (has _ refl)) x.makes)
   answers_spare caller (SyncDropping room host writer is_log) none a = by_check _ _ a (λ (x : SyncsIt room host writer is_log old reply new). by_act _ _ old (table.done_table HasSame old.table (has old.table refl) _ _) x.makes)
   answers_spare caller (Inspect writer) none a = by_check (alive_check old writer) ((reply ≡ Done) × (new ≡ old)) a (λ x. as_before x.1)
   answers_spare caller (Mend room host writer count) none a = by_check _ _ a (λ (x : MendsIt room host writer count old reply new). by_act _ _ old (table.done_table HasSame old.table (has old.table refl) _ _) x.makes)

@@ -11,7 +11,7 @@ use Rattle.mount_model.specs.declared.row.Flattening.{Flattening}
 use Rattle.mount_model.specs.declared.row.FlatStage.{FlatStage}
 use Rattle.mount_model.specs.declared.row.FlatStage.TheVariants as flat_stage
 use Rattle.mount_model.specs.declared.call.Call.{Call}
-use Rattle.mount_model.specs.declared.call.Call.TheVariants.{Greet, Find, MakeContainer, Rooms, Look, Enter, Floor, MakeHostdir, MakeIndex, MakeLog, Write, Flush, SyncLog, SyncIndex, PutMeta, Exit, Hold, Mark, Move, Release, StartFlat, PutFlat, SyncFlat, InstallFlat, SyncDropping, Inspect, Mend, MendMeta, Bury, MendHold}
+use Rattle.mount_model.specs.declared.call.Call.TheVariants.{Greet, Find, MakeContainer, Rooms, Look, Enter, Floor, MakeHostdir, MakeIndex, MakeLog, Write, Flush, SyncLog, SyncIndex, PutMeta, Exit, Hold, Mark, Move, Release, StartFlat, PutFlat, SyncFlat, InstallFlat, StartPack, SyncDropping, Inspect, Mend, MendMeta, Bury, MendHold}
 use Rattle.mount_model.specs.declared.call.Ask.{Ask}
 use Rattle.mount_model.specs.declared.reply.Refusal.{Refusal}
 use Rattle.mount_model.specs.declared.reply.Reply.{Reply}
@@ -24,7 +24,7 @@ use Rattle.mount_model.specs.Flooring.{FloorsRow}
 use Rattle.mount_model.specs.Writing.{WritesAt}
 use Rattle.mount_model.specs.Flushing.{FlushesRow}
 use Rattle.mount_model.specs.Holding.{HoldsRoom, OnHolder, TruncatesAt, RenamesRoom}
-use Rattle.mount_model.specs.Flattening.{OnFlattening}
+use Rattle.mount_model.specs.Flattening.{OnFlattening, StartsPackOf}
 use Rattle.mount_model.specs.Recovering.{SyncsIt, MendsIt, MendsItsMeta, BuriesIt}
 use Rattle.mount_model.specs.Step.{Answers, IsStep}
 use Rattle.mount_model.specs.Stopping.{without_caller, drawn_unless, begun, IsEndedBy}
@@ -137,6 +137,7 @@ answers_place old caller (StartFlat room) reply new a = by_check _ old reply new
 answers_place old caller (PutFlat flat bytes) reply new a = by_flattening caller flat_stage.Begun flat old reply new _ a (λ f m. made_place _ _ old reply new m)
 answers_place old caller (SyncFlat flat) reply new a = by_flattening caller flat_stage.Put flat old reply new _ a (λ f m. made_place _ _ old reply new m)
 answers_place old caller (InstallFlat flat) reply new a = by_flattening caller flat_stage.Synced flat old reply new _ a (λ f m. made_place _ _ old reply new m)
+answers_place old caller (StartPack room host writer) reply new a = by_check _ old reply new _ a (λ (x : StartsPackOf caller room host writer old reply new). makes_place _ _ old (drawn old) reply new (drawn_place old) x.makes)
 answers_place old caller (SyncDropping room host writer is_log) reply new a = by_check _ old reply new _ a (λ (m : SyncsIt room host writer is_log old reply new). made_place _ _ old reply new m.makes)
 answers_place old caller (Inspect writer) reply new a = by_check _ old reply new ((reply ≡ Done) × (new ≡ old)) a (λ m. place_as old new m.1)
 answers_place old caller (Mend room host writer count) reply new a = by_check _ old reply new _ a (λ (m : MendsIt room host writer count old reply new). made_place _ _ old reply new m.makes)
@@ -152,6 +153,7 @@ pub begun_place : (old : State) (call : Call) → KeepsPlace old (begun old call
 begun_place old (Enter room host most) = drawn_by (draw_check old room) old
 begun_place old (Hold room) = drawn_by (draw_check old room) old
 begun_place old (StartFlat room) = drawn_by (draw_check old room) old
+begun_place old (StartPack room host writer) = drawn_by (draw_check old room) old
 begun_place old call = same_place old
 
 -- a state that differs in store, times and table alone

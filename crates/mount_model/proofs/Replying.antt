@@ -15,12 +15,13 @@ use Rattle.mount_model.specs.declared.row.Row.{Row}
 use Rattle.mount_model.specs.declared.row.Stage.{Stage}
 use Rattle.mount_model.specs.declared.row.Holder.{Holder}
 use Rattle.mount_model.specs.declared.row.Flattening.{Flattening}
+use Rattle.mount_model.specs.declared.row.Making.TheVariants as kind
 use Rattle.mount_model.specs.declared.row.FlatStage.{FlatStage}
 use Rattle.mount_model.specs.declared.row.FlatStage.TheVariants as flat_stage
 use Rattle.mount_model.specs.declared.call.Look.{Look as Sight}
 use Rattle.mount_model.specs.declared.call.Look.TheVariants as sight
 use Rattle.mount_model.specs.declared.call.Call.{Call}
-use Rattle.mount_model.specs.declared.call.Call.TheVariants.{Greet, Find, MakeContainer, Rooms, Look, Enter, Floor, MakeHostdir, MakeIndex, MakeLog, Write, Flush, SyncLog, SyncIndex, PutMeta, Exit, Hold, Mark, Move, Release, StartFlat, PutFlat, SyncFlat, InstallFlat, SyncDropping, Inspect, Mend, MendMeta, Bury, MendHold}
+use Rattle.mount_model.specs.declared.call.Call.TheVariants.{Greet, Find, MakeContainer, Rooms, Look, Enter, Floor, MakeHostdir, MakeIndex, MakeLog, Write, Flush, SyncLog, SyncIndex, PutMeta, Exit, Hold, Mark, Move, Release, StartFlat, PutFlat, SyncFlat, InstallFlat, StartPack, SyncDropping, Inspect, Mend, MendMeta, Bury, MendHold}
 use Rattle.mount_model.specs.declared.call.Ask.{Ask}
 use Rattle.mount_model.specs.declared.reply.Refusal.{Refusal}
 use Rattle.mount_model.specs.declared.reply.Refusal.TheVariants as refusal
@@ -39,7 +40,7 @@ use Rattle.mount_model.specs.Writing.{write_check, write_outcome}
 use Rattle.mount_model.specs.Flushing.{FlushesRow, flush_outcome, sync_log_outcome, sync_index_outcome}
 use Rattle.mount_model.specs.Leaving.{meta_file, put_meta_check, put_meta_outcome, exit_check, exit_outcome}
 use Rattle.mount_model.specs.Holding.{holding, NotEmptyReply, HoldOutcome, OnHolder, truncate_check, truncate_outcome, TruncatesAt, rename_outcome, RenamesRoom, release_outcome}
-use Rattle.mount_model.specs.Flattening.{begun_flat, start_outcome, OnFlattening, put_flat_outcome, sync_flat_outcome, install_outcome}
+use Rattle.mount_model.specs.Flattening.{begun_flat, start_outcome, StartsPackOf, OnFlattening, put_flat_outcome, sync_flat_outcome, install_outcome}
 use Rattle.mount_model.specs.Recovering.{done_outcome, SyncsIt, live_reason, alive_check, mend_check, MendsIt, mended_file, mend_meta_outcome, MendsItsMeta, bury_outcome, BuriesIt, held_reason, mend_hold_check, mend_hold_outcome}
 use Rattle.mount_model.specs.Stopping.{part_made, begun, MakesPart, IsEndedBy, Stops}
 use Rattle.mount_model.specs.Step.{Answers, IsStep}
@@ -420,13 +421,15 @@ answered old reply new caller (Move number to) a = on_holder (Move number to) ol
 answered old reply new caller (Release number) a = on_holder (Release number) old reply new (inr (inl refl)) caller number _ a (λ h m.
     making (Release number) old reply new _ _ old refl (release_tells (Release number) (inl refl) old.table h refl) m)
 answered old reply new caller (StartFlat room) a = unless_refused (StartFlat room) old reply new (draw_check old room) (start_reason old room) _ a (λ m.
-    making (StartFlat room) old reply new _ _ (drawn old) refl (start_tells (StartFlat room) (inl refl) old.table (begun_flat old caller room) (_, refl)) m)
+    making (StartFlat room) old reply new _ _ (drawn old) refl (start_tells (StartFlat room) (inl refl) old.table (begun_flat old caller room kind.Flat) (_, refl)) m)
 answered old reply new caller (PutFlat flat bytes) a = on_flattening (PutFlat flat bytes) old reply new (inr (inl refl)) caller flat_stage.Begun flat _ a (λ f m.
     making (PutFlat flat bytes) old reply new _ _ old refl (put_flat_tells (PutFlat flat bytes) (inl refl) old.table f refl) m)
 answered old reply new caller (SyncFlat flat) a = on_flattening (SyncFlat flat) old reply new (inr (inl refl)) caller flat_stage.Put flat _ a (λ f m.
     making (SyncFlat flat) old reply new _ _ old refl (sync_flat_tells (SyncFlat flat) (inl refl) old.table f refl) m)
 answered old reply new caller (InstallFlat flat) a = on_flattening (InstallFlat flat) old reply new (inr (inl refl)) caller flat_stage.Synced flat _ a (λ f m.
     making (InstallFlat flat) old reply new _ _ old refl (install_tells (InstallFlat flat) (inl refl) old.table f refl) m)
+answered old reply new caller (StartPack room host writer) a = unless_refused (StartPack room host writer) old reply new (draw_check old room) (start_reason old room) _ a (λ (x : StartsPackOf caller room host writer old reply new).
+    making (StartPack room host writer) old reply new _ _ (drawn old) refl (start_tells (StartPack room host writer) (inl refl) old.table (begun_flat old caller room (kind.Pack host writer)) (_, refl)) x.makes)
 answered old reply new caller (SyncDropping room host writer is_log) a = unless_refused (SyncDropping room host writer is_log) old reply new (room_check old room) (λ why e. inl (no_room_reason old room why e)) _ a (λ (m : SyncsIt room host writer is_log old reply new).
     making (SyncDropping room host writer is_log) old reply new _ _ old refl (done_outcome_tells (SyncDropping room host writer is_log) (inl refl) old.table (dropping_path is_log host writer).folder (dropping_path is_log host writer).file refl) m.makes)
 answered old reply new caller (Inspect writer) a = unless_refused (Inspect writer) old reply new (alive_check old writer) (λ why e. inl (live_why (row_of writer old.table.writers) why e)) ((reply ≡ reply_of.Done) × (new ≡ old)) a (λ m.

@@ -7,7 +7,7 @@ use Rattle.store_api.specs.declared.store.Trouble.TheVariants as trouble
 use Rattle.store_api.specs.Step.{Step, rooms as all_rooms, find_room, make_room, list_folder}
 use Rattle.store_api.specs.Acts.{Stored, Acts}
 use Rattle.mount_model.specs.declared.call.Call.{Call}
-use Rattle.mount_model.specs.declared.call.Call.TheVariants.{Greet, Find, MakeContainer, Rooms, Look, Enter, Floor, MakeHostdir, MakeIndex, MakeLog, Write, Flush, SyncLog, SyncIndex, PutMeta, Exit, Hold, Mark, Move, Release, StartFlat, PutFlat, SyncFlat, InstallFlat, SyncDropping, Inspect, Mend, MendMeta, Bury, MendHold}
+use Rattle.mount_model.specs.declared.call.Call.TheVariants.{Greet, Find, MakeContainer, Rooms, Look, Enter, Floor, MakeHostdir, MakeIndex, MakeLog, Write, Flush, SyncLog, SyncIndex, PutMeta, Exit, Hold, Mark, Move, Release, StartFlat, PutFlat, SyncFlat, InstallFlat, StartPack, SyncDropping, Inspect, Mend, MendMeta, Bury, MendHold}
 use Rattle.mount_model.specs.declared.call.Look.{Look as Sight}
 use Rattle.mount_model.specs.declared.call.Look.TheVariants as sight
 use Rattle.mount_model.specs.declared.row.Row.{Row}
@@ -15,6 +15,7 @@ use Rattle.mount_model.specs.declared.row.Stage.{Stage}
 use Rattle.mount_model.specs.declared.row.Stage.TheVariants as stage
 use Rattle.mount_model.specs.declared.row.Holder.{Holder}
 use Rattle.mount_model.specs.declared.row.Flattening.{Flattening}
+use Rattle.mount_model.specs.declared.row.Making.TheVariants as making
 use Rattle.mount_model.specs.declared.row.FlatStage.TheVariants as flat_stage
 use Rattle.mount_model.specs.declared.reply.Refusal.{Refusal}
 use Rattle.mount_model.specs.declared.reply.Refusal.TheVariants.{NotOpen}
@@ -31,8 +32,8 @@ use Rattle.mount_model.specs.Flushing.{FlushesRow, flush_step, flush_outcome, sy
 use Rattle.mount_model.specs.Entering.{EntersAs, draw_check, enter_step, enter_outcome, entered}
 use Rattle.mount_model.specs.Leaving.{closing, put_meta_check, put_meta_step, put_meta_outcome, exit_check, exit_step, exit_outcome}
 use Rattle.mount_model.specs.Holding.{hold_step, HoldsRoom, truncate_check, truncate_stamp, truncate_step, truncate_outcome, rename_step, rename_outcome, release_step, release_outcome, let_go}
-use Rattle.mount_model.specs.Flattening.{begun_flat, start_step, start_outcome, put_flat_step, put_flat_outcome, sync_flat_step, sync_flat_outcome, install_step, install_outcome, drop_flat}
-use Rattle.mount_model.specs.Recovering.{done_outcome, sync_dropping_step, mend_check, mend_step, mended_file, mend_meta_step, mend_meta_outcome, bury_step, bury_outcome, mend_hold_check, mend_hold_step, mend_hold_outcome}
+use Rattle.mount_model.specs.Flattening.{begun_flat, start_step, start_outcome, StartsPackOf, put_flat_step, put_flat_outcome, sync_flat_step, sync_flat_outcome, install_step, install_outcome, drop_flat}
+use Rattle.mount_model.specs.Recovering.{IsHostAndWriter, done_outcome, sync_dropping_step, mend_check, mend_step, mended_file, mend_meta_step, mend_meta_outcome, bury_step, bury_outcome, mend_hold_check, mend_hold_step, mend_hold_outcome}
 use Rattle.mount_model.specs.Paths.{truncs, new_folders, new_files, dropping_path, index_path, log_path, open_path}
 use Rattle.container_layout.specs.Paths.{hostdir_of}
 use Rattle.mount_model.specs.Acting.{unless, flush_act, act_of}
@@ -248,15 +249,27 @@ module _ (old : State) (caller : ℕ) (step : Step) (store : Stored) (made : Act
         same = refl;
       }
 
-  start_strikes : (room : ℕ) → unless (draw_check old room) (start_step (begun_flat old caller room)) ≡ Some step → Strikes old caller (StartFlat room) store
+  start_strikes : (room : ℕ) → unless (draw_check old room) (start_step (begun_flat old caller room making.Flat)) ≡ Some step → Strikes old caller (StartFlat room) store
   start_strikes room e =
-      let f = begun_flat old caller room in
+      let f = begun_flat old caller room making.Flat in
       let (none, is) = unless_cases (draw_check old room) (start_step f) step e in
       record {
         times = old.times;
         table = old.table;
         answers = subst (λ (check : Option Refusal). MatchOption check (MakesAct (start_step f) (start_outcome f old.table) (drawn old) Fault (struck (drawn_unless check old) store old.times old.table)) (λ why. Refuses why old Fault (struck (drawn_unless check old) store old.times old.table))) (sym none)
             (struck_by (start_step f) (start_outcome f old.table) (drawn old) store (made_as (start_step f) is) refl);
+        same = refl;
+      }
+
+  pack_strikes : (room host writer : ℕ) → IsHostAndWriter host writer → unless (draw_check old room) (start_step (begun_flat old caller room (making.Pack host writer))) ≡ Some step → Strikes old caller (StartPack room host writer) store
+  pack_strikes room host writer named e =
+      let f = begun_flat old caller room (making.Pack host writer) in
+      let (none, is) = unless_cases (draw_check old room) (start_step f) step e in
+      record {
+        times = old.times;
+        table = old.table;
+        answers = subst (λ (check : Option Refusal). MatchOption check (StartsPackOf caller room host writer old Fault (struck (drawn_unless check old) store old.times old.table)) (λ why. Refuses why old Fault (struck (drawn_unless check old) store old.times old.table))) (sym none)
+            (record { named = named; makes = struck_by (start_step f) (start_outcome f old.table) (drawn old) store (made_as (start_step f) is) refl });
         same = refl;
       }
 
@@ -343,6 +356,7 @@ module _ (old : State) (caller : ℕ) (step : Step) (store : Stored) (made : Act
         answers = found_does (flattening_of caller flat_stage.Synced flat old.table.flattenings) _ _ f found (struck_by (install_step f) (install_outcome f old.table) old store (made_as (install_step f) (made_is _ step is)) refl);
         same = install_ended caller f.id old.table f (subst (λ n. flattening_at n old.table.flattenings ≡ Some f) (sym its.is) its.found) its.owned;
       }
+  strikes time (StartPack room host writer) typed fits e = pack_strikes room host writer typed e
   strikes time (SyncDropping room host writer is_log) typed fits e =
       let (none, is) = unless_cases (room_check old room) (sync_dropping_step room host writer is_log) step e in
       record { times = old.times; table = old.table; answers = on_none (room_check old room) old Fault _ _ none (record { named = typed; makes = struck_by _ (done_outcome (dropping_path is_log host writer).folder (dropping_path is_log host writer).file old.table) old store (made_as (sync_dropping_step room host writer is_log) is) refl }); same = refl }
@@ -375,10 +389,15 @@ start_begins : (old : State) (caller room : ℕ) (check : Option Refusal) → ch
 start_begins old caller room None is = inr (NoMemory, inr refl, on_none (draw_check old room) old NoMemory (drawn old) _ (sym is) (record { told = Err trouble.NoMemory; made = refl; answered = refl; after = refl }))
 start_begins old caller room (Some why) is = inl refl
 
+pack_begins : (old : State) (caller room host writer : ℕ) → IsHostAndWriter host writer → (check : Option Refusal) → check ≡ draw_check old room → IsCutShort old caller (StartPack room host writer) (drawn_unless check old)
+pack_begins old caller room host writer named None is = inr (NoMemory, inr refl, on_none (draw_check old room) old NoMemory (drawn old) _ (sym is) (record { named = named; makes = record { told = Err trouble.NoMemory; made = refl; answered = refl; after = refl } }))
+pack_begins old caller room host writer named (Some why) is = inl refl
+
 begins : (old : State) (caller : ℕ) (call : Call) → IsWellTyped call → IsCutShort old caller call (begun old call)
 begins old caller (Enter room host most) typed = enter_begins old caller room host most typed (draw_check old room) refl
 begins old caller (Hold room) typed = hold_begins old caller room (draw_check old room) refl
 begins old caller (StartFlat room) typed = start_begins old caller room (draw_check old room) refl
+begins old caller (StartPack room host writer) typed = pack_begins old caller room host writer typed (draw_check old room) refl
 begins old caller call typed = inl refl
 
 drawn_store : (check : Option Refusal) (old : State) → (drawn_unless check old).store ≡ old.store
@@ -393,12 +412,14 @@ pub begun_store : (old : State) (call : Call) → (begun old call).store ≡ old
 begun_store old (Enter room host most) = drawn_store (draw_check old room) old
 begun_store old (Hold room) = drawn_store (draw_check old room) old
 begun_store old (StartFlat room) = drawn_store (draw_check old room) old
+begun_store old (StartPack room host writer) = drawn_store (draw_check old room) old
 begun_store old call = refl
 
 pub begun_table : (old : State) (call : Call) → (begun old call).table ≡ old.table
 begun_table old (Enter room host most) = drawn_table (draw_check old room) old
 begun_table old (Hold room) = drawn_table (draw_check old room) old
 begun_table old (StartFlat room) = drawn_table (draw_check old room) old
+begun_table old (StartPack room host writer) = drawn_table (draw_check old room) old
 begun_table old call = refl
 
 like_of : (from new : State) (store : Stored) (times : Option (List ℕ)) (table : Table) (cut : State) → new ≡ struck from store times table → store.tree ≡ cut.store.tree → cut.opened ≡ from.opened → cut.marks ≡ from.marks → cut.mount ≡ from.mount → cut.serial ≡ from.serial → StopsShort cut new
@@ -423,6 +444,7 @@ begun_untimed : (old : State) (call : Call) → begun (timed None old) call ≡ 
 begun_untimed old (Enter room host most) = unless_untimed (draw_check old room) old
 begun_untimed old (Hold room) = unless_untimed (draw_check old room) old
 begun_untimed old (StartFlat room) = unless_untimed (draw_check old room) old
+begun_untimed old (StartPack room host writer) = unless_untimed (draw_check old room) old
 begun_untimed old call = refl
 
 -- the table that is left is one or the other

@@ -3,7 +3,7 @@ use Rattle.std.specs.Prelude.{ℕ, List, [], ◌∷◌, length, Bool, Option, So
 use Rattle.plfs_types.specs.declared.entries.Entry.{Entry}
 use Rattle.store_api.specs.Step.{Step, rooms as all_rooms, find_room, make_room, list_folder}
 use Rattle.mount_model.specs.declared.call.Call.{Call}
-use Rattle.mount_model.specs.declared.call.Call.TheVariants.{Greet, Find, MakeContainer, Rooms, Look, Enter, Floor, MakeHostdir, MakeIndex, MakeLog, Write, Flush, SyncLog, SyncIndex, PutMeta, Exit, Hold, Mark, Move, Release, StartFlat, PutFlat, SyncFlat, InstallFlat, SyncDropping, Inspect, Mend, MendMeta, Bury, MendHold}
+use Rattle.mount_model.specs.declared.call.Call.TheVariants.{Greet, Find, MakeContainer, Rooms, Look, Enter, Floor, MakeHostdir, MakeIndex, MakeLog, Write, Flush, SyncLog, SyncIndex, PutMeta, Exit, Hold, Mark, Move, Release, StartFlat, PutFlat, SyncFlat, InstallFlat, StartPack, SyncDropping, Inspect, Mend, MendMeta, Bury, MendHold}
 use Rattle.mount_model.specs.declared.row.Row.{Row}
 use Rattle.mount_model.specs.declared.row.Stage.{Stage}
 use Rattle.mount_model.specs.declared.row.Stage.TheVariants as stage
@@ -13,6 +13,7 @@ use Rattle.mount_model.specs.declared.row.Holder.{Holder}
 use Rattle.mount_model.specs.declared.row.Flattening.{Flattening}
 use Rattle.mount_model.specs.declared.row.FlatStage.{FlatStage}
 use Rattle.mount_model.specs.declared.row.FlatStage.TheVariants.{Begun, Put, Synced}
+use Rattle.mount_model.specs.declared.row.Making.TheVariants as making
 use Rattle.mount_model.specs.Table.{only, may_close, is_live, writer_of, holder_of, flattening_of}
 use Rattle.mount_model.specs.State.{State}
 use Rattle.mount_model.specs.Making.{room_check}
@@ -70,10 +71,11 @@ act_of time old caller (Hold room) = unless (draw_check old room) (hold_step roo
 act_of time old caller (Mark holder size top) = holders_act caller holder old (λ h. unless (truncate_check size top) (truncate_step h (truncate_stamp time top) size))
 act_of time old caller (Move holder to) = holders_act caller holder old (λ h. Some (rename_step h to))
 act_of time old caller (Release holder) = holders_act caller holder old (λ h. Some (release_step h))
-act_of time old caller (StartFlat room) = unless (draw_check old room) (start_step (begun_flat old caller room))
+act_of time old caller (StartFlat room) = unless (draw_check old room) (start_step (begun_flat old caller room making.Flat))
 act_of time old caller (PutFlat flat bytes) = flattenings_act caller Begun flat old (λ f. Some (put_flat_step f bytes))
 act_of time old caller (SyncFlat flat) = flattenings_act caller Put flat old (λ f. Some (sync_flat_step f))
 act_of time old caller (InstallFlat flat) = flattenings_act caller Synced flat old (λ f. Some (install_step f))
+act_of time old caller (StartPack room host writer) = unless (draw_check old room) (start_step (begun_flat old caller room (making.Pack host writer)))
 act_of time old caller (SyncDropping room host writer is_log) = unless (room_check old room) (sync_dropping_step room host writer is_log)
 act_of time old caller (Inspect writer) = None
 act_of time old caller (Mend room host writer count) = unless (mend_check old room writer) (mend_step room host writer count)

@@ -1,4 +1,5 @@
--- A container is flattened: a temporary file is made, written and synced, and then gets the name of a flattened index.
+-- A container is flattened, or a writer's index dropping is packed: a temporary file is made, written and synced, and then
+-- gets the name of a flattened index, or of the writer's packed index.
 use Rattle.std.specs.Prelude.{ℕ, List, [], ◌∷◌, ◌++◌, Ok, Err, MatchOption}
 use Rattle.store_api.specs.declared.step.Answer.TheVariants.{Made}
 use Rattle.store_api.specs.declared.store.Trouble.TheVariants as trouble
@@ -6,6 +7,7 @@ use Rattle.store_api.specs.Step.{Step, create, write_at, sync, replace}
 use Rattle.mount_model.specs.declared.row.Flattening.{Flattening}
 use Rattle.mount_model.specs.declared.row.FlatStage.{FlatStage}
 use Rattle.mount_model.specs.declared.row.FlatStage.TheVariants.{Begun, Put, Synced}
+use Rattle.mount_model.specs.declared.row.Making.{Making}
 use Rattle.mount_model.specs.declared.row.Making.TheVariants as making
 use Rattle.mount_model.specs.declared.reply.Reply.{Reply}
 use Rattle.mount_model.specs.declared.reply.Reply.TheVariants.{Started, Done, Fault}
@@ -15,10 +17,11 @@ use Rattle.mount_model.specs.Table.{flattening_of, with_flattening, without_flat
 use Rattle.mount_model.specs.State.{State, Table, drawn}
 use Rattle.mount_model.specs.Making.{Told, CallOutcome, says, otherwise, MakesAct, Refuses, UnlessRefused}
 use Rattle.mount_model.specs.Entering.{draw_check, next_id}
+use Rattle.mount_model.specs.Recovering.{IsHostAndWriter}
 
 -- the flattening that begins once the next serial is drawn
-abbrev pub begun_flat : State → ℕ → ℕ → Flattening
-begun_flat old caller room = record { id = next_id old; owner = caller; room = room; makes = making.Flat; stage = Begun }
+abbrev pub begun_flat : State → ℕ → ℕ → Making → Flattening
+begun_flat old caller room makes = record { id = next_id old; owner = caller; room = room; makes = makes; stage = Begun }
 
 abbrev pub start_step : Flattening → Step
 start_step f = create f.room (temporary f).folder (temporary f).file
@@ -27,10 +30,20 @@ abbrev pub start_outcome : Flattening → Table → Told → CallOutcome
 start_outcome f table (Ok Made) = says (Started f.id) (record table { flattenings = table.flattenings ++ f ∷ [] })
 start_outcome f table told = says (otherwise (temporary f).folder (temporary f).file told) table
 
--- Where it isn't refused, the next serial is drawn, whatever the act tells.
+-- The next serial is drawn, whatever the act tells.
+abbrev pub Starts : ℕ → ℕ → Making → State → Reply → State → Type 0
+Starts caller room makes old reply new =
+    MakesAct (start_step (begun_flat old caller room makes)) (start_outcome (begun_flat old caller room makes) old.table) (drawn old) reply new
+
 abbrev pub StartsFlat : ℕ → ℕ → State → Reply → State → Type 0
-StartsFlat caller room old reply new = UnlessRefused (draw_check old room) old reply new
-    (MakesAct (start_step (begun_flat old caller room)) (start_outcome (begun_flat old caller room) old.table) (drawn old) reply new)
+StartsFlat caller room old reply new = UnlessRefused (draw_check old room) old reply new (Starts caller room making.Flat old reply new)
+
+pub record StartsPackOf (caller room host writer : ℕ) (old : State) (reply : Reply) (new : State) : Type 0 where
+  pub named : IsHostAndWriter host writer
+  pub makes : Starts caller room (making.Pack host writer) old reply new
+
+abbrev pub StartsPack : ℕ → ℕ → ℕ → ℕ → State → Reply → State → Type 0
+StartsPack caller room host writer old reply new = UnlessRefused (draw_check old room) old reply new (StartsPackOf caller room host writer old reply new)
 
 -- The call is refused where the caller has no flattening of this id in this stage.
 abbrev pub OnFlattening : ℕ → FlatStage → ℕ → State → Reply → State → (Flattening → Type 0) → Type 0

@@ -1,7 +1,7 @@
 -- Which refusals each call has.
 use Rattle.std.specs.Prelude.{◌≡◌, ◌⊎◌, ℕ, List, [], ◌∷◌}
 use Rattle.mount_model.specs.declared.call.Call.{Call}
-use Rattle.mount_model.specs.declared.call.Call.TheVariants.{Greet, Find, MakeContainer, Rooms, Look, Enter, Floor, MakeHostdir, MakeIndex, MakeLog, Write, Flush, SyncLog, SyncIndex, PutMeta, Exit, Hold, Mark, Move, Release, StartFlat, PutFlat, SyncFlat, InstallFlat, SyncDropping, Inspect, Mend, MendMeta, Bury, MendHold}
+use Rattle.mount_model.specs.declared.call.Call.TheVariants.{Greet, Find, MakeContainer, Rooms, Look, Enter, Floor, MakeHostdir, MakeIndex, MakeLog, Write, Flush, SyncLog, SyncIndex, PutMeta, Exit, Hold, Mark, Move, Release, StartFlat, PutFlat, SyncFlat, InstallFlat, StartPack, SyncDropping, Inspect, Mend, MendMeta, Bury, MendHold}
 use Rattle.mount_model.specs.declared.reply.Refusal.{Refusal}
 use Rattle.mount_model.specs.declared.reply.Refusal.TheVariants.{NoRoom, Held, Busy, Exists, Full, NotFlushed, NoMeta, TooFar, StampsSpent, IdsSpent, NotOpen, NotHolder, Alive}
 
@@ -35,6 +35,7 @@ MayRefuse (StartFlat room) why = IsOneOf why (NoRoom ∷ IdsSpent ∷ [])
 MayRefuse (PutFlat flat bytes) why = IsOneOf why (NoRoom ∷ NotOpen ∷ [])
 MayRefuse (SyncFlat flat) why = IsOneOf why (NoRoom ∷ NotOpen ∷ [])
 MayRefuse (InstallFlat flat) why = IsOneOf why (NoRoom ∷ NotOpen ∷ [])
+MayRefuse (StartPack room host writer) why = IsOneOf why (NoRoom ∷ IdsSpent ∷ [])
 MayRefuse (SyncDropping room host writer is_log) why = IsOneOf why (NoRoom ∷ [])
 MayRefuse (Inspect writer) why = IsOneOf why (Alive ∷ [])
 MayRefuse (Mend room host writer count) why = IsOneOf why (NoRoom ∷ Alive ∷ [])

@@ -46,6 +46,7 @@ IsAnswerTo (call.StartFlat room) reply = (flat : ℕ) × (reply ≡ Started flat
 IsAnswerTo (call.PutFlat flat bytes) reply = reply ≡ Done
 IsAnswerTo (call.SyncFlat flat) reply = reply ≡ Done
 IsAnswerTo (call.InstallFlat flat) reply = reply ≡ Done
+IsAnswerTo (call.StartPack room host writer) reply = (flat : ℕ) × (reply ≡ Started flat)
 IsAnswerTo (call.SyncDropping room host writer is_log) reply = reply ≡ Done
 IsAnswerTo (call.Inspect writer) reply = reply ≡ Done
 IsAnswerTo (call.Mend room host writer count) reply = reply ≡ Done

@@ -3,7 +3,7 @@ use Rattle.std.specs.Prelude.{◌≡◌, ◌*◌, ◌^◌, ◌≤◌, ◌<◌, �
 use Rattle.plfs_types.specs.declared.limits.TheConstants.{ENTRY_SIZE}
 use Rattle.container_layout.specs.Items.{IsMetaRange}
 use Rattle.mount_model.specs.declared.call.Call.{Call}
-use Rattle.mount_model.specs.declared.call.Call.TheVariants.{Greet, Find, MakeContainer, Rooms, Look, Enter, Floor, MakeHostdir, MakeIndex, MakeLog, Write, Flush, SyncLog, SyncIndex, PutMeta, Exit, Hold, Mark, Move, Release, StartFlat, PutFlat, SyncFlat, InstallFlat, SyncDropping, Inspect, Mend, MendMeta, Bury, MendHold}
+use Rattle.mount_model.specs.declared.call.Call.TheVariants.{Greet, Find, MakeContainer, Rooms, Look, Enter, Floor, MakeHostdir, MakeIndex, MakeLog, Write, Flush, SyncLog, SyncIndex, PutMeta, Exit, Hold, Mark, Move, Release, StartFlat, PutFlat, SyncFlat, InstallFlat, StartPack, SyncDropping, Inspect, Mend, MendMeta, Bury, MendHold}
 use Rattle.mount_model.specs.declared.call.Ask.{Ask}
 use Rattle.mount_model.specs.declared.reply.Reply.{Reply}
 use Rattle.mount_model.specs.declared.reply.Reply.TheVariants.{Greeted}
@@ -17,7 +17,7 @@ use Rattle.mount_model.specs.Writing.{Writes}
 use Rattle.mount_model.specs.Flushing.{Flushes, SyncsLog, SyncsIndex}
 use Rattle.mount_model.specs.Leaving.{PutsMeta, Exits}
 use Rattle.mount_model.specs.Holding.{HoldsContainer, Truncates, Renames, Releases}
-use Rattle.mount_model.specs.Flattening.{StartsFlat, PutsFlat, SyncsFlat, InstallsFlat}
+use Rattle.mount_model.specs.Flattening.{StartsFlat, PutsFlat, SyncsFlat, InstallsFlat, StartsPack}
 use Rattle.mount_model.specs.Recovering.{SyncsDropping, Inspects, Mends, MendsMeta, Buries, MendsHold}
 use Rattle.mount_model.specs.Stopping.{Stops}
 
@@ -47,6 +47,7 @@ Answers old caller (StartFlat room) reply new = StartsFlat caller room old reply
 Answers old caller (PutFlat flat bytes) reply new = PutsFlat caller flat bytes old reply new
 Answers old caller (SyncFlat flat) reply new = SyncsFlat caller flat old reply new
 Answers old caller (InstallFlat flat) reply new = InstallsFlat caller flat old reply new
+Answers old caller (StartPack room host writer) reply new = StartsPack caller room host writer old reply new
 Answers old caller (SyncDropping room host writer is_log) reply new = SyncsDropping room host writer is_log old reply new
 Answers old caller (Inspect writer) reply new = Inspects writer old reply new
 Answers old caller (Mend room host writer count) reply new = Mends room host writer count old reply new

@@ -7,7 +7,7 @@ use Rattle.store_api.specs.declared.store.Trouble.TheVariants as trouble
 use Rattle.store_api.specs.Step.{Step, write_at}
 use Rattle.store_api.specs.Acts.{Stored, Acts}
 use Rattle.mount_model.specs.declared.call.Call.{Call}
-use Rattle.mount_model.specs.declared.call.Call.TheVariants.{Find, MakeContainer, Enter, Write, Hold, Mark, Move, StartFlat, SyncDropping, Mend, MendMeta, Bury}
+use Rattle.mount_model.specs.declared.call.Call.TheVariants.{Find, MakeContainer, Enter, Write, Hold, Mark, Move, StartFlat, StartPack, SyncDropping, Mend, MendMeta, Bury}
 use Rattle.mount_model.specs.declared.reply.Reply.{Reply}
 use Rattle.mount_model.specs.declared.reply.Reply.TheVariants.{Stopped, NoMemory}
 use Rattle.mount_model.specs.declared.reply.Refusal.{Refusal}
@@ -53,6 +53,7 @@ abbrev pub begun : State → Call → State
 begun old (Enter room host cap) = drawn_unless (draw_check old room) old
 begun old (Hold room) = drawn_unless (draw_check old room) old
 begun old (StartFlat room) = drawn_unless (draw_check old room) old
+begun old (StartPack room host writer) = drawn_unless (draw_check old room) old
 begun old call = old
 
 -- the part is made, if any
@@ -72,6 +73,7 @@ IsWellTyped (MakeContainer name) = IsLogicalName name
 IsWellTyped (Enter room host cap) = host < 2 ^ 32
 IsWellTyped (Write writer at block) = 1 ≤ length block
 IsWellTyped (Move holder to) = IsLogicalName to
+IsWellTyped (StartPack room host writer) = IsHostAndWriter host writer
 IsWellTyped (SyncDropping room host writer is_log) = IsHostAndWriter host writer
 IsWellTyped (Mend room host writer count) = IsHostAndWriter host writer
 IsWellTyped (MendMeta room host cover last) = IsHostAndWriter host cover.writer
