@@ -2,6 +2,7 @@
 use Rattle.std.specs.Prelude.{ℕ, List, [], ◌∷◌, codes, Bool, if◌then◌else◌}
 use Rattle.std.specs.Fmt.{decimal}
 use Rattle.plfs_types.specs.declared.names.Path.{Path}
+use Rattle.container_layout.specs.declared.items.Item.{Item}
 use Rattle.container_layout.specs.declared.items.Item.TheVariants.{Access, OpenHost, Meta, Trunc, Flat, TmpFlat, Index, Log, Packed, TmpPacked}
 use Rattle.container_layout.specs.Paths.{path_of}
 use Rattle.mount_model.specs.declared.row.Flattening.{Flattening}
@@ -66,14 +67,20 @@ trunc_path stamp size = path_of (Trunc stamp size)
 abbrev pub flat_path : ℕ → Path
 flat_path id = path_of (Flat id)
 
--- the file to which a flattening is written, and the one that it becomes
+-- the item to which a flattening is written, and the one that it becomes
+abbrev pub temporary_item : Making → ℕ → Item
+temporary_item making.Flat id = TmpFlat id
+temporary_item (making.Pack host writer) id = TmpPacked host id
+
+abbrev pub installed_item : Making → ℕ → Item
+installed_item making.Flat id = Flat id
+installed_item (making.Pack host writer) id = Packed host writer
+
 abbrev pub temporary_of : Making → ℕ → Path
-temporary_of making.Flat id = path_of (TmpFlat id)
-temporary_of (making.Pack host writer) id = path_of (TmpPacked host id)
+temporary_of makes id = path_of (temporary_item makes id)
 
 abbrev pub installed_of : Making → ℕ → Path
-installed_of making.Flat id = path_of (Flat id)
-installed_of (making.Pack host writer) id = path_of (Packed host writer)
+installed_of makes id = path_of (installed_item makes id)
 
 abbrev pub temporary : Flattening → Path
 temporary f = temporary_of f.makes f.id

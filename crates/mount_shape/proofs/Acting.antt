@@ -150,13 +150,13 @@ module _ (last last' marks mount : ℕ) (tree : Tree) (grows : last ≤ last') (
 
   -- a file gets another name in its folder, and neither was `access`
   pub replace_shape : (n : ℕ) (path : Path) (to : Name) → (n ≡ marks → ⊥) → AreTwo access_path path → AreTwo access_path (beside path to)
-      → ((allowed : ℕ → Type 0) (room : Room) (bytes : List ℕ) → IsItemFile allowed room path bytes → IsItemFile allowed room (beside path to) bytes)
+      → ((allowed : ℕ → Type 0) → ((id : ℕ) → IsDrawnBy last' tree id → allowed id) → (room : Room) → slice_get tree.rooms n ≡ Some room → (bytes : List ℕ) → IsItemFile allowed room path bytes → IsItemFile allowed room (beside path to) bytes)
       → Tells (replace n path.folder path.file to) tree told after → IsShapedFor last' marks mount after
   replace_shape n path to apart from_apart to_apart becomes t = elim ((replace_told n path to tree told after t).either) as (λ _. IsShapedFor last' marks mount after) [
     | inl replaced ↦ elim replaced as (λ _. IsShapedFor last' marks mount after) [
       | inl m ↦ subst (IsShapedFor last' marks mount) (sym m.gives)
           (shape_changed last last' marks mount n tree m.room m.new grows s apart m.has_room m.same_name
-          (λ more was. container_moved (IsDrawnBy last' (with_room tree n m.new)) tree n path to after m from_apart to_apart (becomes (IsDrawnBy last' (with_room tree n m.new)) m.room m.bytes) was))
+          (λ more was. container_moved (IsDrawnBy last' (with_room tree n m.new)) tree n path to after m from_apart to_apart (becomes (IsDrawnBy last' (with_room tree n m.new)) more m.room m.has_room m.bytes) was))
       | inr same ↦ stays_shaped same.2
     ]
     | inr same ↦ stays_shaped same

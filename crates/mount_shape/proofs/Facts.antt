@@ -1,5 +1,5 @@
 -- What other crates may cite of this crate's proofs.
-pub use Rattle.mount_shape.proofs.Held.{empty_shaped, item_drawn, item_held, left_shaped, made_flat}
+pub use Rattle.mount_shape.proofs.Held.{empty_shaped, item_drawn, item_held, left_shaped}
 pub use Rattle.mount_shape.proofs.Items.{id_fits}
 pub use Rattle.mount_shape.proofs.Losing.{lost_shaped}
 pub use Rattle.mount_shape.proofs.Mounts.{failed_shape, mounted_shape}

@@ -11,11 +11,7 @@ use Rattle.store_laws.specs.Files.{file_at}
 use Rattle.mount_shape.specs.Marks.{IsOfMark}
 use Rattle.mount_shape.specs.Container.{MayHold, IsOfId, IsContainer}
 use Rattle.mount_shape.specs.Shape.{IsShapedTree, IsDrawnBy, IsShaped}
-use Rattle.mount_model.specs.declared.row.Making.{Making}
-use Rattle.mount_model.specs.declared.row.Making.TheVariants as making
-use Rattle.mount_model.specs.Paths.{temporary_of}
 use Rattle.mount_model.specs.State.{State, last_id}
-use Rattle.mount_shape.proofs.Items.{no_packing}
 use Rattle.mount_shape.proofs.Trees.{IsShapedFor, shape_of, container_at, room_kept}
 
 -- a container has the item's file, with bytes that it may hold
@@ -43,13 +39,6 @@ item_drawn state tree number room item bytes shape told there apart is at =
     let same : shape.tree ≡ tree = cc in
     let s : IsShapedFor (last_id state) state.marks state.mount tree = subst (IsShapedFor (last_id state) state.marks state.mount) same (shape_of state shape) in
     (item_held (IsDrawnBy (last_id state) tree) room item bytes (container_at (last_id state) state.marks state.mount number tree room s apart there) is at).id
-
--- where the temporary file of a flattening stands, it makes a flattened index
-pub made_flat : (allowed : ℕ → Type 0) (room : Room) (makes : Making) (id : ℕ) (bytes : List ℕ) → IsContainer allowed room → file_at room (temporary_of makes id) ≡ Some bytes → makes ≡ making.Flat
-made_flat allowed room making.Flat id bytes c there = refl
-made_flat allowed room (making.Pack host writer) id bytes c there =
-    let f = c.files (temporary_of (making.Pack host writer) id) bytes there in
-    absurd (no_packing host id f.item bytes f.is_at f.holds)
 
 -- ---- trees that no mount is over
 

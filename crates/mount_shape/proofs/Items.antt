@@ -1,5 +1,5 @@
 -- Where items stand, and what their files may hold.
-use Rattle.std.proofs.Common.{◌≡◌, ℕ, ◌%◌, ◌<◌, ◌^◌, List, [], ◌∷◌, ◌++◌, get_or, refl, ap, inr, subst, arith}
+use Rattle.std.proofs.Common.{◌≡◌, ℕ, ◌%◌, ◌<◌, ◌^◌, List, [], ◌∷◌, ◌++◌, refl, ap, inr, subst, arith}
 use Rattle.std.specs.Prelude.{codes}
 use Rattle.std.specs.Fmt.{decimal}
 use Rattle.plfs_types.specs.declared.names.Path.{Path}
@@ -14,9 +14,11 @@ use Rattle.store_laws.specs.Prefix.{IsPrefix}
 use Rattle.store_laws.specs.Changes.{beside}
 use Rattle.mount_model.specs.declared.row.Making.{Making}
 use Rattle.mount_model.specs.declared.row.Making.TheVariants as making
-use Rattle.mount_model.specs.Paths.{Name, access_path, open_path, index_path, log_path, meta_path, trunc_path, flat_path, temporary_of, installed_of}
+use Rattle.mount_model.specs.Paths.{Name, access_path, open_path, index_path, log_path, meta_path, trunc_path, flat_path, temporary_item, temporary_of, installed_of}
+use Rattle.mount_model.specs.Recovering.{IsHostAndWriter}
 use Rattle.mount_model.specs.State.{id_of}
 use Rattle.mount_shape.specs.Container.{IsContainerFolder, MayHold, IsOfId, IsItemFile}
+use Rattle.mount_shape.specs.Named.{FitsNames}
 
 -- ids have 64 bits
 pub id_fits : (mount serial : ℕ) → mount < 2 ^ 32 → serial < 2 ^ 32 → id_of mount serial < 2 ^ 64
@@ -74,8 +76,8 @@ may_lose (Flat id) front bytes p h = tt
 may_lose (TmpFlat id) front bytes p h = tt
 may_lose (Index host writer) front bytes p h = tt
 may_lose (Log host writer) front bytes p h = tt
-may_lose (Packed host writer) front bytes p h = absurd h
-may_lose (TmpPacked host id) front bytes p h = absurd h
+may_lose (Packed host writer) front bytes p h = tt
+may_lose (TmpPacked host id) front bytes p h = tt
 
 -- whatever item's file stands at this path, it may hold any bytes
 abbrev pub MayHoldAny : Path → Type 0
@@ -92,36 +94,53 @@ log_holds_any host writer h w = any_of (log_path host writer) (Log host writer) 
 
 -- ---- flattenings
 
-pub temporary_is_at : (id : ℕ) → id < 2 ^ 64 → IsAt (temporary_of making.Flat id) (TmpFlat id)
-temporary_is_at id fits = record { is_item = record { in_range = tt; widths = fits }; printed = refl }
+pub temporary_is_at : (makes : Making) (id : ℕ) → FitsNames makes → id < 2 ^ 64 → IsAt (temporary_of makes id) (temporary_item makes id)
+temporary_is_at making.Flat id named fits = record { is_item = record { in_range = tt; widths = fits }; printed = refl }
+temporary_is_at (making.Pack host writer) id named fits = record { is_item = record { in_range = tt; widths = (named.host_fits, fits) }; printed = refl }
+
+pub temporary_holds : (makes : Making) (id : ℕ) (bytes : List ℕ) → MayHold (temporary_item makes id) bytes
+temporary_holds making.Flat id bytes = tt
+temporary_holds (making.Pack host writer) id bytes = tt
+
+pub temporary_of_id : (allowed : ℕ → Type 0) (makes : Making) (id : ℕ) → allowed id → IsOfId allowed (temporary_item makes id)
+temporary_of_id allowed making.Flat id of = of
+temporary_of_id allowed (making.Pack host writer) id of = of
 
 flat_is_at : (id : ℕ) → id < 2 ^ 64 → IsAt (flat_path id) (Flat id)
 flat_is_at id fits = record { is_item = record { in_range = tt; widths = fits }; printed = refl }
 
--- no file stands where a packed index would be written
-pub no_packing : (host id : ℕ) (item : Item) (bytes : List ℕ) → IsAt (path_of (TmpPacked host id)) item → MayHold item bytes → ⊥
-no_packing host id Access bytes at holds = elsewhere (first_of_folder at.printed) refl
-no_packing host id (OpenHost h w) bytes at holds = elsewhere (first_of_folder at.printed) refl
-no_packing host id (Meta last count stamp h w) bytes at holds = elsewhere (first_of_folder at.printed) refl
-no_packing host id (Trunc stamp size) bytes at holds = elsewhere (first_of_folder at.printed) refl
-no_packing host id (Flat flat) bytes at holds = elsewhere (first_of_folder at.printed) refl
-no_packing host id (TmpFlat flat) bytes at holds = elsewhere (first_of_folder at.printed) refl
-no_packing host id (Index h w) bytes at holds = elsewhere (ap (λ (p : Path). get_or p.file 0 0) at.printed) refl
-no_packing host id (Log h w) bytes at holds = elsewhere (ap (λ (p : Path). get_or p.file 0 0) at.printed) refl
-no_packing host id (Packed h w) bytes at holds = holds
-no_packing host id (TmpPacked h w) bytes at holds = holds
+pack_is_at : (host writer : ℕ) → IsHostAndWriter host writer → IsAt (path_of (Packed host writer)) (Packed host writer)
+pack_is_at host writer named = record { is_item = record { in_range = tt; widths = (named.host_fits, named.writer_fits) }; printed = refl }
+
+-- whatever item's file stands where a packed index is written holds any bytes
+pack_holds_any : (host id : ℕ) → MayHoldAny (path_of (TmpPacked host id))
+pack_holds_any host id Access old bytes at holds = elsewhere (first_of_folder at.printed) refl
+pack_holds_any host id (OpenHost h w) old bytes at holds = elsewhere (first_of_folder at.printed) refl
+pack_holds_any host id (Meta last count stamp h w) old bytes at holds = elsewhere (first_of_folder at.printed) refl
+pack_holds_any host id (Trunc stamp size) old bytes at holds = elsewhere (first_of_folder at.printed) refl
+pack_holds_any host id (Flat flat) old bytes at holds = tt
+pack_holds_any host id (TmpFlat flat) old bytes at holds = tt
+pack_holds_any host id (Index h w) old bytes at holds = tt
+pack_holds_any host id (Log h w) old bytes at holds = tt
+pack_holds_any host id (Packed h w) old bytes at holds = tt
+pack_holds_any host id (TmpPacked h w) old bytes at holds = tt
 
 pub temporary_holds_any : (makes : Making) (id : ℕ) → id < 2 ^ 64 → MayHoldAny (temporary_of makes id)
-temporary_holds_any making.Flat id fits = any_of (temporary_of making.Flat id) (TmpFlat id) (temporary_is_at id fits) (λ bytes. tt)
-temporary_holds_any (making.Pack host writer) id fits = λ item old bytes at holds. absurd (no_packing host id item old at holds)
+temporary_holds_any making.Flat id fits = any_of (path_of (TmpFlat id)) (TmpFlat id) (temporary_is_at making.Flat id tt fits) (λ bytes. tt)
+temporary_holds_any (making.Pack host writer) id fits = pack_holds_any host id
+
+-- a packed index is of a writer of an allowed id
+abbrev pub MakesAllowed : (ℕ → Type 0) → Making → Type 0
+MakesAllowed allowed making.Flat = Unit {0}
+MakesAllowed allowed (making.Pack host writer) = IsHostAndWriter host writer × allowed writer
 
 -- the temporary file may get the name of what it was made for
-pub may_install : (makes : Making) (id : ℕ) → id < 2 ^ 64 → (allowed : ℕ → Type 0) (room : Room) (bytes : List ℕ) → IsItemFile allowed room (temporary_of makes id) bytes → IsItemFile allowed room (beside (temporary_of makes id) (installed_of makes id).file) bytes
-may_install making.Flat id fits allowed room bytes f =
-    let same : f.item ≡ TmpFlat id = one_item (temporary_of making.Flat id) f.item (TmpFlat id) f.is_at (temporary_is_at id fits) in
-    let of : IsOfId allowed (TmpFlat id) = subst (IsOfId allowed) same f.id in
-    record { item = Flat id; is_at = flat_is_at id fits; holds = tt; id = of; housed = f.housed }
-may_install (making.Pack host writer) id fits allowed room bytes f = absurd (no_packing host id f.item bytes f.is_at f.holds)
+pub may_install : (makes : Making) (id : ℕ) → id < 2 ^ 64 → (allowed : ℕ → Type 0) → MakesAllowed allowed makes → (room : Room) (bytes : List ℕ) → IsItemFile allowed room (temporary_of makes id) bytes → IsItemFile allowed room (beside (temporary_of makes id) (installed_of makes id).file) bytes
+may_install making.Flat id fits allowed of room bytes f =
+    let same : f.item ≡ TmpFlat id = one_item (path_of (TmpFlat id)) f.item (TmpFlat id) f.is_at (temporary_is_at making.Flat id tt fits) in
+    let own : IsOfId allowed (TmpFlat id) = subst (IsOfId allowed) same f.id in
+    record { item = Flat id; is_at = flat_is_at id fits; holds = tt; id = own; housed = f.housed }
+may_install (making.Pack host writer) id fits allowed of room bytes f = record { item = Packed host writer; is_at = pack_is_at host writer of.0; holds = tt; id = of.1; housed = f.housed }
 
 pub temporary_apart : (makes : Making) (id : ℕ) (file : Name) → AreTwo access_path (beside (temporary_of makes id) file)
 temporary_apart making.Flat id file folder same = cc

@@ -1,11 +1,13 @@
 -- Each step of the mount keeps the shape of what its store tells.
 use Rattle.std.proofs.Common.{◌≡◌, ℕ, ◌+◌, ◌*◌, ◌<◌, ◌≤◌, ◌^◌, List, [], ◌∷◌, Option, Some, None, refl, sym, ◌∙◌, ◌⊎◌, inl, inr, subst, arith, Bool}
+use Rattle.std.specs.Prelude.{slice_get}
 use Rattle.plfs_types.specs.declared.entries.Entry.{Entry}
 use Rattle.plfs_types.specs.declared.entries.Cover.{Cover}
 use Rattle.plfs_types.specs.declared.limits.TheConstants.{ENTRY_SIZE}
 use Rattle.container_layout.specs.Items.{IsMetaRange, IsTruncRange}
 use Rattle.container_layout.specs.Paths.{hostdir_of}
-use Rattle.container_layout.specs.declared.items.Item.TheVariants.{OpenHost, Meta, Trunc, TmpFlat, Index, Log}
+use Rattle.container_layout.specs.declared.items.Item.TheVariants.{OpenHost, Meta, Trunc, Index, Log}
+use Rattle.store_api.specs.declared.tree.Room.{Room}
 use Rattle.store_api.specs.declared.tree.Tree.{Tree}
 use Rattle.store_api.specs.Step.{Step, rooms as all_rooms, find_room, list_folder}
 use Rattle.store_laws.specs.Tells.{Tells}
@@ -17,16 +19,17 @@ use Rattle.mount_model.specs.declared.row.Holder.{Holder}
 use Rattle.mount_model.specs.declared.row.Flattening.{Flattening}
 use Rattle.mount_model.specs.declared.row.FlatStage.{FlatStage}
 use Rattle.mount_model.specs.declared.row.FlatStage.TheVariants.{Begun, Put, Synced}
+use Rattle.mount_model.specs.declared.row.Making.{Making}
 use Rattle.mount_model.specs.declared.row.Making.TheVariants as making
 use Rattle.mount_model.specs.declared.call.Call.{Call}
-use Rattle.mount_model.specs.declared.call.Call.TheVariants.{Greet, Find, MakeContainer, Rooms, Look as Looking, Enter, Floor, MakeHostdir, MakeIndex, MakeLog, Write, Flush, SyncLog, SyncIndex, PutMeta, Exit, Hold, Mark, Move, Release, StartFlat, PutFlat, SyncFlat, InstallFlat, SyncDropping, Inspect, Mend, MendMeta, Bury, MendHold}
+use Rattle.mount_model.specs.declared.call.Call.TheVariants.{Greet, Find, MakeContainer, Rooms, Look as Looking, Enter, Floor, MakeHostdir, MakeIndex, MakeLog, Write, Flush, SyncLog, SyncIndex, PutMeta, Exit, Hold, Mark, Move, Release, StartFlat, PutFlat, SyncFlat, InstallFlat, StartPack, SyncDropping, Inspect, Mend, MendMeta, Bury, MendHold}
 use Rattle.mount_model.specs.declared.call.Look.{Look}
 use Rattle.mount_model.specs.declared.call.Look.TheVariants.{Top, List as ListFolder, Length, Read}
 use Rattle.mount_model.specs.declared.call.Ask.{Ask}
 use Rattle.mount_model.specs.declared.reply.Refusal.{Refusal}
 use Rattle.mount_model.specs.declared.reply.Reply.{Reply}
 use Rattle.mount_model.specs.declared.reply.Reply.TheVariants.{Done}
-use Rattle.mount_model.specs.Paths.{Name, openhosts, truncs, open_path, index_path, log_path, meta_path, trunc_path, temporary_of, temporary, installed, dropping_path}
+use Rattle.mount_model.specs.Paths.{Name, openhosts, truncs, open_path, index_path, log_path, meta_path, trunc_path, temporary_item, temporary_of, temporary, installed, dropping_path}
 use Rattle.mount_model.specs.State.{State, id_of, last_id, drawn, timed}
 use Rattle.mount_model.specs.Making.{Told, CallOutcome, MakesAct, OnWriter, UnlessRefused}
 use Rattle.mount_model.specs.Finding.{NamesRooms, MakesContainer}
@@ -38,16 +41,17 @@ use Rattle.mount_model.specs.Writing.{WritesAt}
 use Rattle.mount_model.specs.Flushing.{FlushesRow, flush_step, sync_log_step, sync_index_step}
 use Rattle.mount_model.specs.Leaving.{put_meta_step, exit_step}
 use Rattle.mount_model.specs.Holding.{HoldsRoom, hold_step, OnHolder, truncate_check, truncate_stamp, TruncatesAt, RenamesRoom}
-use Rattle.mount_model.specs.Flattening.{OnFlattening, begun_flat, start_step, put_flat_step, sync_flat_step, install_step}
+use Rattle.mount_model.specs.Flattening.{OnFlattening, Starts, StartsPackOf, put_flat_step, sync_flat_step, install_step}
 use Rattle.mount_model.specs.Recovering.{SyncsIt, MendsIt, MendsItsMeta, BuriesIt, mend_hold_step}
 use Rattle.mount_model.specs.Step.{Answers, IsStep, OwedBy, IsOwed}
 use Rattle.mount_model.specs.Stopped.{IsCutShort, StopsShort, IsLeftBy}
+use Rattle.mount_model.specs.Table.{flattening_at}
 use Rattle.mount_model.specs.Regular.{IsCounted, IsOfSerial, IsRegular}
 use Rattle.mount_model.proofs.Facts.{on_writer, on_holder, on_flattening, unless_refused, step_cases, may_enter, may_truncate, may_mend, may_mend_hold, is_container, next_is_stamp, holder_apart, flattening_apart, flattening_at_all, all-unmap, IsRegularRow, rows_of, regular_of, regular_for, regular_row, stop_left}
 use Rattle.mount_shape.specs.Marks.{HasMark}
 use Rattle.mount_shape.specs.Shape.{IsDrawnBy, IsShaped}
-use Rattle.mount_shape.specs.Named.{NamesDrawnWriter}
-use Rattle.mount_shape.proofs.Items.{id_fits, open_is_at, index_is_at, log_is_at, meta_is_at, trunc_is_at, temporary_is_at, open_apart, temporary_apart, hostdir_is_folder, index_holds_any, log_holds_any, temporary_holds_any, may_install}
+use Rattle.mount_shape.specs.Named.{FitsNames, MakesOfDrawn, NamesDrawnWriter}
+use Rattle.mount_shape.proofs.Items.{id_fits, open_is_at, index_is_at, log_is_at, meta_is_at, trunc_is_at, temporary_is_at, temporary_holds, temporary_of_id, MakesAllowed, open_apart, temporary_apart, hostdir_is_folder, index_holds_any, log_holds_any, temporary_holds_any, may_install}
 use Rattle.mount_shape.proofs.Trees.{IsShapedFor, shape_of, has_shape, own_mark, own_drawn}
 use Rattle.mount_shape.proofs.Acting.{look_shape, create_shape, write_shape, cut_shape, sync_shape, replace_shape, remove_shape, make_folder_shape, close_shape, rename_shape, make_room_shape}
 
@@ -103,9 +107,9 @@ module _ (old : State) (regular : IsRegular old) (shape : IsShaped old) (reply :
   flat_fits id d = subst (λ i. i < 2 ^ 64) (sym d.3) (id_fits old.mount d.0 regular.mount_fits (omega (arith, d.2, regular.serial_fits)))
 
   by_flattening : (caller : ℕ) (stage : FlatStage) (id : ℕ) (does : Flattening → Type 0) → OnFlattening caller stage id old reply new does
-      → ((f : Flattening) → (f.room ≡ old.marks → ⊥) → f.id < 2 ^ 64 → does f → IsShaped new) → IsShaped new
+      → ((f : Flattening) → flattening_at id old.table.flattenings ≡ Some f → (f.room ≡ old.marks → ⊥) → f.id < 2 ^ 64 → does f → IsShaped new) → IsShaped new
   by_flattening caller stage id does on keeps = on_flattening caller stage id old reply new does (IsShaped new) on (shape_as old new shape)
-      (λ f is. keeps f (flattening_apart old.mount old.serial old.marks old.table.flattenings id f regular.flattenings is.found)
+      (λ f is. keeps f is.found (flattening_apart old.mount old.serial old.marks old.table.flattenings id f regular.flattenings is.found)
       (flat_fits f.id (flattening_at_all (λ (x : Flattening). IsOfSerial old.mount old.serial x.id) id old.table.flattenings f
       (all-unmap (IsOfSerial old.mount old.serial) (λ (x : Flattening). x.id) old.table.flattenings regular.flattenings.drawn) is.found)))
 
@@ -235,14 +239,14 @@ module _ (old : State) (regular : IsRegular old) (shape : IsShaped old) (reply :
 
   -- ---- a flattening
 
-  start_shape : (caller room : ℕ) → draw_check old room ≡ None → (outcome : Told → CallOutcome) → MakesAct (start_step (begun_flat old caller room)) outcome (drawn old) reply new → IsShaped new
-  start_shape caller room none outcome m =
+  start_shape : (caller room : ℕ) (makes : Making) → FitsNames makes → draw_check old room ≡ None → Starts caller room makes old reply new → IsShaped new
+  start_shape caller room makes named none m =
       let may = may_enter old room none in
       let fits : old.serial + 1 < 2 ^ 32 = omega (arith, may.1) in
-      makes_shape _ outcome (drawn old) reply new shape.tree shape.told
+      makes_shape _ _ (drawn old) reply new shape.tree shape.told
       (λ told after t. create_shape (last_id old) (last_id (drawn old)) old.marks old.mount shape.tree (omega arith) kept told after
-      room (temporary_of making.Flat (next_id old)) (TmpFlat (next_id old)) may.0 (temporary_is_at (next_id old) (id_fits old.mount (old.serial + 1) regular.mount_fits fits)) tt
-      (λ r there. next_drawn fits) t) m
+      room (temporary_of makes (next_id old)) (temporary_item makes (next_id old)) may.0 (temporary_is_at makes (next_id old) named (id_fits old.mount (old.serial + 1) regular.mount_fits fits)) (temporary_holds makes (next_id old) [])
+      (λ r there. temporary_of_id (IsDrawnBy (last_id (drawn old)) shape.tree) makes (next_id old) (next_drawn fits)) t) m
 
   put_flat_shape : (f : Flattening) → (f.room ≡ old.marks → ⊥) → f.id < 2 ^ 64 → (bytes : List ℕ) (outcome : Told → CallOutcome) → MakesAct (put_flat_step f bytes) outcome old reply new → IsShaped new
   put_flat_shape f apart fits bytes outcome m = makes_shape _ outcome old reply new shape.tree shape.told
@@ -252,10 +256,15 @@ module _ (old : State) (regular : IsRegular old) (shape : IsShaped old) (reply :
   sync_flat_shape f apart outcome m = makes_shape _ outcome old reply new shape.tree shape.told
       (λ told after t. sync_shape (last_id old) (last_id old) old.marks old.mount shape.tree (omega arith) kept told after f.room (temporary f) apart t) m
 
-  install_shape : (f : Flattening) → (f.room ≡ old.marks → ⊥) → f.id < 2 ^ 64 → (outcome : Told → CallOutcome) → MakesAct (install_step f) outcome old reply new → IsShaped new
-  install_shape f apart fits outcome m = makes_shape _ outcome old reply new shape.tree shape.told
+  -- what is made is of an allowed writer, where the ids that were drawn are allowed
+  makes_allowed : (makes : Making) (number : ℕ) → (number ≡ old.marks → ⊥) → MakesOfDrawn old number makes → (allowed : ℕ → Type 0) → ((id : ℕ) → IsDrawnBy (last_id old) shape.tree id → allowed id) → (room : Room) → slice_get shape.tree.rooms number ≡ Some room → MakesAllowed allowed makes
+  makes_allowed making.Flat number apart of allowed more room there = tt
+  makes_allowed (making.Pack host writer) number apart of allowed more room there = (of.0, more writer (of.1 shape.tree room shape.told there apart))
+
+  install_shape : (f : Flattening) → MakesOfDrawn old f.room f.makes → (f.room ≡ old.marks → ⊥) → f.id < 2 ^ 64 → (outcome : Told → CallOutcome) → MakesAct (install_step f) outcome old reply new → IsShaped new
+  install_shape f of apart fits outcome m = makes_shape _ outcome old reply new shape.tree shape.told
       (λ told after t. replace_shape (last_id old) (last_id old) old.marks old.mount shape.tree (omega arith) kept told after f.room (temporary f) (installed f).file apart
-      (temporary_apart f.makes f.id (temporary f).file) (temporary_apart f.makes f.id (installed f).file) (may_install f.makes f.id fits) t) m
+      (temporary_apart f.makes f.id (temporary f).file) (temporary_apart f.makes f.id (installed f).file) (λ allowed more room there. may_install f.makes f.id fits allowed (makes_allowed f.makes f.room apart of allowed more room there) room) t) m
 
   -- ---- what writers left that are gone
 
@@ -298,10 +307,11 @@ module _ (old : State) (regular : IsRegular old) (shape : IsShaped old) (reply :
   answers_shape caller (Mark holder size top) owed names a = by_holder caller holder _ a (λ h apart u. by_check _ _ u (truncate_shape h apart size top))
   answers_shape caller (Move holder to) owed names a = by_holder caller holder _ a (λ h apart. renamed_shape h apart to)
   answers_shape caller (Release holder) owed names a = by_holder caller holder _ a (λ h apart. opened_shape h.room apart _)
-  answers_shape caller (StartFlat room) owed names a = by_check _ _ a (λ none. start_shape caller room none _)
-  answers_shape caller (PutFlat flat bytes) owed names a = by_flattening caller Begun flat _ a (λ f apart fits. put_flat_shape f apart fits bytes _)
-  answers_shape caller (SyncFlat flat) owed names a = by_flattening caller Put flat _ a (λ f apart fits. sync_flat_shape f apart _)
-  answers_shape caller (InstallFlat flat) owed names a = by_flattening caller Synced flat _ a (λ f apart fits. install_shape f apart fits _)
+  answers_shape caller (StartFlat room) owed names a = by_check _ _ a (start_shape caller room making.Flat tt)
+  answers_shape caller (PutFlat flat bytes) owed names a = by_flattening caller Begun flat _ a (λ f found apart fits. put_flat_shape f apart fits bytes _)
+  answers_shape caller (SyncFlat flat) owed names a = by_flattening caller Put flat _ a (λ f found apart fits. sync_flat_shape f apart _)
+  answers_shape caller (InstallFlat flat) owed names a = by_flattening caller Synced flat _ a (λ f found apart fits. install_shape f (names f found) apart fits _)
+  answers_shape caller (StartPack room host writer) owed names a = by_check _ _ a (λ none. λ (x : StartsPackOf caller room host writer old reply new). start_shape caller room (making.Pack host writer) x.named none x.makes)
   answers_shape caller (SyncDropping room host writer is_log) owed names a = by_check _ _ a (λ none. sync_dropping_shape room host writer is_log (is_container old room none))
   answers_shape caller (Inspect writer) owed names a = by_check _ ((reply ≡ Done) × (new ≡ old)) a (λ none same. shape_as old new shape same.1)
   answers_shape caller (Mend room host writer count) owed names a = by_check _ _ a (λ none. mend_shape room host writer count (may_mend old room writer none).0)

@@ -17,14 +17,14 @@ IsContainerFolder folder =
     (folder ≡ []) ⊎ (folder ≡ openhosts) ⊎ (folder ≡ metadata) ⊎ (folder ≡ truncs) ⊎ (folder ≡ flats)
     ⊎ ((host : ℕ) × (host < 32) × (folder ≡ hostdir_of host))
 
--- an item may hold these bytes: droppings and flattened indices hold any, all others none; there are no packed indices yet
+-- an item may hold these bytes: droppings, flattened indices and packed ones hold any, all others none
 abbrev pub MayHold : Item → List ℕ → Type 0
 MayHold (Index host writer) bytes = Unit {0}
 MayHold (Log host writer) bytes = Unit {0}
 MayHold (Flat id) bytes = Unit {0}
 MayHold (TmpFlat id) bytes = Unit {0}
-MayHold (Packed host writer) bytes = ⊥
-MayHold (TmpPacked host id) bytes = ⊥
+MayHold (Packed host writer) bytes = Unit {0}
+MayHold (TmpPacked host id) bytes = Unit {0}
 MayHold item bytes = bytes ≡ []
 
 -- the id in the item's name, where there is one, is one of which this holds
