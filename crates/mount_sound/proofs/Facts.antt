@@ -18,6 +18,7 @@ pub use Rattle.mount_sound.proofs.KeptLater.{kept_no_less, step_keeps_kept}
 pub use Rattle.mount_sound.proofs.Landing.{IsWhole, content_take, entries_landed, entries_take, in_order_take, logged_take, no_writes, writes_take}
 pub use Rattle.mount_sound.proofs.Live.{Own}
 pub use Rattle.mount_sound.proofs.Making.{HasSoundWriters, accounted, all_fit, its_writers, one_tree}
+pub use Rattle.mount_sound.proofs.Makings.{is_installed, is_temporary, named_of}
 pub use Rattle.mount_sound.proofs.Mounting.{mounted_keeps, mounted_sound}
 pub use Rattle.mount_sound.proofs.Nothing.{owes_nothing}
 pub use Rattle.mount_sound.proofs.Stages.{live_stage, stage_live, working}
