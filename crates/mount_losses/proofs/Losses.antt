@@ -11,6 +11,7 @@ use Rattle.store_api.specs.Loss.{Loses}
 use Rattle.store_laws.specs.Files.{file_at, kept_at}
 use Rattle.store_laws.specs.Losing.{HasLost, HaveLost}
 use Rattle.store_laws.proofs.Facts.{have_lost, room_back}
+use Rattle.mount_model.specs.declared.row.Making.{Making}
 use Rattle.mount_model.specs.declared.row.Row.{Row}
 use Rattle.mount_model.specs.Paths.{index_path, installed_item, installed_of, log_path}
 use Rattle.mount_model.specs.Table.{row_of}
@@ -24,6 +25,7 @@ use Rattle.mount_sound.specs.Ledger.{Written, entries_in, AreWritesOf, Ledger}
 use Rattle.mount_sound.specs.Growing.{IsMore}
 use Rattle.mount_sound.specs.Fitting.{fitting}
 use Rattle.mount_sound.specs.Flats.{IsRightFor, AreRightFlats}
+use Rattle.mount_sound.specs.Installed.{IsInstalled}
 use Rattle.mount_sound.specs.Items.{HasItem}
 use Rattle.mount_sound.specs.There.{landed_entries, landed_in}
 use Rattle.mount_sound.specs.Kept.{Begins, IsKept}
@@ -252,3 +254,17 @@ pub lost_told : (issued : Ledger) (state : State) → IsSoundFor issued state �
 lost_told issued state s tree lost told l =
     let same = one_tree tree s.shape.tree state.store.tree told s.shape.told in
     subst (λ t. LosesUnkept issued t lost) (sym same) (lost_mount_sound issued state s lost (have_lost s.shape.tree lost (subst (λ t. Loses t lost) same l)))
+
+-- A flattened index, or a packed one, survives whole.
+pub indices_survive : (issued : Ledger) (state : State) → IsSoundFor issued state → (tree lost : Tree) → state.store.tree ≡ Some tree → Loses tree lost
+    → (makes : Making) (number id : ℕ) (room : Room) (bytes : List ℕ) → slice_get tree.rooms number ≡ Some room → HasItem room (installed_item makes id) bytes → IsInstalled lost number makes id bytes
+indices_survive issued state s tree lost told l makes number id room bytes there has =
+    let h : HaveLost tree lost = have_lost tree lost l in
+    let same = one_tree tree s.shape.tree state.store.tree told s.shape.told in
+    let was = s.flats number room (ap (λ (t : Tree). slice_get t.rooms number) (sym same) ∙ there) makes id bytes has in
+    let now = h.rooms number room there in
+    let f = now.2.files (installed_of makes id) bytes has.there in
+    let whole : f.front ≡ bytes = same_length f.front bytes f.begins (omega (arith, was.1, f.long)) in
+    let item : HasItem now.0 (installed_item makes id) bytes = record { is_item = has.is_item; there = f.there ∙ ap (λ b. Some b) whole } in
+    let right = (lost_told issued state s tree lost told l).sound.flats number now.0 now.1 makes id bytes item in
+    record { room = now.0; there = now.1; has = item; right = right.0; kept = right.1 }

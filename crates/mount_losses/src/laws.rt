@@ -8,7 +8,9 @@ ghost use Rattle.store_api.specs.Loss.{Loses};
 ghost use Rattle.mount_model.specs.declared.call.Ask.{Ask};
 ghost use Rattle.mount_model.specs.declared.call.Call.TheVariants.{SyncIndex};
 ghost use Rattle.mount_model.specs.declared.reply.Reply.TheVariants.{Synced};
+ghost use Rattle.mount_model.specs.declared.row.Making.{Making};
 ghost use Rattle.mount_model.specs.declared.row.Row.{Row};
+ghost use Rattle.mount_model.specs.Paths.{installed_item};
 ghost use Rattle.mount_model.specs.State.{State};
 ghost use Rattle.mount_model.specs.Step.{IsStep};
 ghost use Rattle.mount_model.specs.History.{Event, told_tree_after};
@@ -16,6 +18,7 @@ ghost use Rattle.mount_model.specs.Mounting.{IsMounted};
 ghost use Rattle.mount_model.specs.Table.{row_of};
 ghost use Rattle.mount_sound.specs.Entries.{logged};
 ghost use Rattle.mount_sound.specs.Ledger.{Ledger, entries_in};
+ghost use Rattle.mount_sound.specs.Installed.{IsInstalled};
 ghost use Rattle.mount_sound.specs.Items.{HasItem};
 ghost use Rattle.mount_sound.specs.There.{landed_in};
 ghost use Rattle.mount_sound.specs.Owed.{May, IsLawful};
@@ -76,4 +79,11 @@ pub fn synced_entries_survive()
         → (later : List Event) → IsLawful next later
         → (after lost : Tree) → told_tree_after next later ≡ Some after → Loses after lost
         → (left : Room) → slice_get lost.rooms row.room ≡ Some left → n ≤ landed_in left row.host writer }
+{}
+
+/// A loss of power at whatever moment of a sound mount leaves each flattened index, and each packed one, as it is, byte for
+/// byte, and right for what is left of its room.
+pub fn installed_indices_survive()
+    ensures { (issued : Ledger) (state : State) → IsSoundFor issued state → (tree lost : Tree) → state.store.tree ≡ Some tree → Loses tree lost
+        → (makes : Making) (number id : ℕ) (room : Room) (bytes : List ℕ) → slice_get tree.rooms number ≡ Some room → HasItem room (installed_item makes id) bytes → IsInstalled lost number makes id bytes }
 {}

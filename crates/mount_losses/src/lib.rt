@@ -7,6 +7,7 @@
 mod laws;
 
 pub use laws::{
-    a_lost_mount_is_sound, a_lost_tree_is_sound, kept_entries_survive, synced_entries_survive,
-    what_is_kept_stays_kept, what_was_kept_at_mounting_survives, what_was_synced_is_kept,
+    a_lost_mount_is_sound, a_lost_tree_is_sound, installed_indices_survive, kept_entries_survive,
+    synced_entries_survive, what_is_kept_stays_kept, what_was_kept_at_mounting_survives,
+    what_was_synced_is_kept,
 };
