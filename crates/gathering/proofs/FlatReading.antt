@@ -20,6 +20,7 @@ use Rattle.mount_model.specs.Paths.{flat_path, index_path, marks_folder}
 use Rattle.mount_model.specs.State.{last_id}
 use Rattle.mount_shape.specs.Shape.{IsDrawnBy}
 use Rattle.mount_shape.proofs.Facts.{item_held}
+use Rattle.mount_model.specs.declared.row.Making.TheVariants as making
 use Rattle.mount_sound.specs.Flats.{AreCovered, IsCovered, IsRightFlat}
 use Rattle.mount_sound.specs.Items.{HasItem}
 use Rattle.gathering.specs.Moments.{Moment, IsSoundAt, file_then, Grows}
@@ -156,7 +157,7 @@ flat_right caller number id start end asked content flat seen is reads spells =
     let h : HadFlat start end number id content = file_read caller number id start end asked content seen is reads in
     let s : IsSoundAt h.m = h.sound in
     let r = in_a_room (slice_get s.shape.tree.rooms number) (flat_path id) content (in_tree h.m s number (flat_path id) content h.there) in
-    let right : IsRightFlat r.0 content = (s.flats number r.0 r.1 id content (record { is_item = is; there = r.2 })).0 in
+    let right : IsRightFlat r.0 content = (s.flats number r.0 r.1 making.Flat id content (record { is_item = is; there = r.2 })).0 in
     let w = its_writers h.m s number r.0 r.1 right.flat.covers right.entries right.covered in
     let few : length right.flat.covers < 2 ^ 64 = fewer (length right.flat.covers) (few_covers 1 right.flat.covers (omega arith) right.valid.covers w.0 w.1) in
     let its : SpellsFlat content right.flat = subst (λ b. SpellsFlat b right.flat) (sym right.spelled) (valid_spells right.flat right.valid w.1 few) in

@@ -267,6 +267,7 @@ module _ (m : Moment) (s : IsSoundAt m) (caller : ℕ) (d : Dropping) (named : I
     renames = λ holder h held to spares owes none. none;
     releases = λ holder h held spares owes none. none;
     starts = λ room f makes spares owes. tt;
+    packs = λ room host writer f makes numbers spares owes. tt;
     puts = λ flat f held bytes spares owes names. (index_no_flattenings d.host d.writer).from f names.1;
     flat_syncs = λ flat f held spares owes none. none;
     installs = λ flat f held spares owes names. of_flattening (index_path d.host d.writer) f (index_no_flattenings d.host d.writer) names.1;
@@ -338,6 +339,7 @@ module _ (m : Moment) (s : IsSoundAt m) (caller number stamp size : ℕ) (item :
     renames = λ holder h held to owes. inl (λ none. none);
     releases = λ holder h held owes. inl (λ none. none);
     starts = λ room f makes owes. inl (λ names. (trunc_no_flattenings stamp size).from f names.1);
+    packs = λ room host writer f makes numbers owes. inl (λ names. (trunc_no_flattenings stamp size).from f names.1);
     puts = λ flat f held bytes owes. inl (λ names. (trunc_no_flattenings stamp size).from f names.1);
     flat_syncs = λ flat f held owes. inl (λ none. none);
     installs = λ flat f held owes. inl (λ names. of_flattening (trunc_path stamp size) f (trunc_no_flattenings stamp size) names.1);
