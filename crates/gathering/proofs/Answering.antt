@@ -24,7 +24,7 @@ use Rattle.gathering.specs.Parts.{IsOfLog, IsPartOf}
 use Rattle.gathering.proofs.Growing.{grows_trans, stood_grows}
 use Rattle.gathering.proofs.Looking.{read_told}
 use Rattle.gathering.proofs.Fronts.{log_slice}
-use Rattle.gathering.proofs.Gathers.{answers_as}
+use Rattle.gathering.proofs.Replied.{answers_as}
 use Rattle.gathering.proofs.Viewing.{entries_of-changes, truncs_of-changes, bytes_all, logged_all, keys_differ}
 use Rattle.gathering.proofs.Parts.{plan_within}
 use Rattle.gathering.proofs.Members.{any_found, among}

@@ -30,7 +30,7 @@ use Rattle.gathering.specs.Moments.{Moment, IsSoundAt, next_moment, moment_after
 use Rattle.gathering.specs.Gathering.{Gathered, IsPrefixOf}
 use Rattle.gathering.specs.Bounds.{IsOf, LandedAtLeast, IsFlushedIn, IsSyncedIn, AllSpareIndex}
 use Rattle.gathering.specs.Opening.{HasView}
-use Rattle.gathering.proofs.Gathers.{answers_as}
+use Rattle.gathering.proofs.Replied.{answers_as}
 use Rattle.gathering.proofs.Growing.{trunc_grows, stood_grows}
 use Rattle.gathering.proofs.Seeing.{grows_after}
 use Rattle.gathering.proofs.Stepping.{IsAboveThen, above_room, sound_next, grows_next, lands_none_next, trunc_next}

@@ -1,9 +1,8 @@
 -- What a reader takes of a flattened index is right for its room, at a moment of its reading.
-use Rattle.std.proofs.Common.{◌≡◌, ℕ, zero, suc, ◌+◌, ◌≤◌, ◌<◌, ◌^◌, List, [], ◌∷◌, ◌++◌, get_or, length, take, drop, Option, Some, refl, ap, sym, ◌∙◌, inl, inr, subst, arith, append_assoc}
+use Rattle.std.proofs.Common.{◌≡◌, ℕ, suc, ◌+◌, ◌≤◌, ◌<◌, ◌^◌, List, [], ◌∷◌, get_or, length, take, Some, refl, ap, sym, ◌∙◌, inl, inr, subst, arith}
 use Rattle.std.specs.Prelude.{slice_get}
 use Rattle.std.specs.List.{AllByRecursion}
 use Rattle.std.proofs.Math.Seq.{take-length}
-use Rattle.std.proofs.lemmas.List.{append-nil}
 use Rattle.plfs_types.specs.declared.entries.Cover.{Cover}
 use Rattle.plfs_types.specs.declared.entries.Entry.{Entry}
 use Rattle.plfs_types.specs.declared.names.Path.{Path}
@@ -25,62 +24,15 @@ use Rattle.mount_sound.specs.Flats.{AreCovered, IsCovered, IsRightFlat}
 use Rattle.mount_sound.specs.Items.{HasItem}
 use Rattle.gathering.specs.Moments.{Moment, IsSoundAt, file_then, Grows}
 use Rattle.gathering.specs.Seen.{Asked, IsSeenCall, IsSeen}
-use Rattle.gathering.specs.Flats.{AreFileReads, ReadsFile}
+use Rattle.gathering.specs.Files.{ReadsFile}
 use Rattle.gathering.proofs.Growing.{grows_trans, in_a_room}
 use Rattle.gathering.proofs.Seeing.{seen_grows}
-use Rattle.gathering.proofs.Looking.{length_told, read_told}
-use Rattle.gathering.proofs.Gathers.{answers_as}
+use Rattle.gathering.proofs.Looking.{length_told}
+use Rattle.gathering.proofs.FileReading.{reads_on}
+use Rattle.gathering.proofs.Replied.{answers_as}
 use Rattle.gathering.proofs.Fronts.{in_tree}
 
 -- ---------- its bytes
-
-none_dropped : (bytes : List ℕ) → drop 0 bytes ≡ bytes
-none_dropped [] = refl
-none_dropped (b ∷ bytes) = refl
-
-none_taken : (n k : ℕ) → take {A = ℕ} n [] ≡ take {A = ℕ} k []
-none_taken zero zero = refl
-none_taken zero (suc k) = refl
-none_taken (suc n) zero = refl
-none_taken (suc n) (suc k) = refl
-
-none_more : (n : ℕ) → n ≡ 0 + n
-none_more n = omega arith
-
-one_more : (at n : ℕ) → suc (at + n) ≡ suc at + n
-one_more at n = omega arith
-
-take_on : (at len : ℕ) (bytes : List ℕ) → take at bytes ++ take len (drop at bytes) ≡ take (at + len) bytes
-take_on zero len [] = none_taken len (0 + len)
-take_on zero len (b ∷ bytes) = ap (λ n. take n (b ∷ bytes)) (none_more len)
-take_on (suc at) len [] = none_taken len (suc at + len)
-take_on (suc at) len (b ∷ bytes) = ap (λ l. b ∷ l) (take_on at len bytes) ∙ ap (λ n. take n (b ∷ bytes)) (one_more at len)
-
--- what is taken is as much of the front as it is long
-taken_front : (n : ℕ) (xs : List ℕ) → take n xs ≡ take (length (take n xs)) xs
-taken_front zero [] = refl
-taken_front zero (x ∷ xs) = refl
-taken_front (suc n) [] = refl
-taken_front (suc n) (x ∷ xs) = ap (λ l. x ∷ l) (taken_front n xs)
-
-one_file : (a b : List ℕ) (o : Option (List ℕ)) → o ≡ Some a → o ≡ Some b → a ≡ b
-one_file a b o p q = cc
-
--- what Reads of a flattened index give are its bytes, since it stays as it is
-reads_on : (caller room id : ℕ) (start end : Moment) (at stop : ℕ) (asked : List Asked) (content bytes : List ℕ) → IsSeen caller start asked end → IsItem (FlatItem id) → file_then start room (flat_path id) ≡ Some bytes → AreFileReads room (flat_path id) at stop asked content
-    → take at bytes ++ content ≡ take stop bytes
-reads_on caller room id start end at stop [] content bytes seen is there (ends, none) = ap (λ c. take at bytes ++ c) none ∙ append-nil (take at bytes) ∙ ap (λ n. take n bytes) ends
-reads_on caller room id start end at stop (a ∷ asked) content bytes (next, call, seen) is there (len, got, more, read, rest, split) =
-    let m : Moment = call.before in
-    let t = read_told m call.sound caller room (flat_path id) at len got next.state (answers_as m.state caller a.ask _ a.reply _ next.state read.call read.reply refl call.answers) in
-    let now : file_then m room (flat_path id) ≡ Some bytes = call.waits.flats room id bytes is there in
-    let same : t.0 ≡ bytes = one_file t.0 bytes (file_then m room (flat_path id)) t.1 now in
-    let given : got ≡ take len (drop at bytes) = sym t.2 ∙ ap (λ b. take len (drop at b)) same in
-    let gave : got ≡ take (length got) (drop at bytes) = given ∙ taken_front len (drop at bytes) ∙ ap (λ g. take (length g) (drop at bytes)) (sym given) in
-    ap (λ c. take at bytes ++ c) (split ∙ ap (λ g. g ++ more) gave)
-    ∙ sym (append_assoc (take at bytes) (take (length got) (drop at bytes)) more)
-    ∙ ap (λ l. l ++ more) (take_on at (length got) bytes)
-    ∙ reads_on caller room id next end (at + length got) stop asked more bytes seen is (call.goes.flats room id bytes is now) rest
 
 -- a moment at which the flattened index had the bytes that were read
 record HadFlat (start end : Moment) (room id : ℕ) (content : List ℕ) : Type 0 where
@@ -97,7 +49,7 @@ file_read caller room id start end asked content seen is r =
     let m : Moment = call.before in
     let t = length_told m call.sound caller room (flat_path id) r.told s.0.state (answers_as m.state caller r.first.ask _ r.first.reply _ s.0.state r.call r.reply refl call.answers) in
     let all : content ≡ t.0 =
-    reads_on caller room id s.0 end 0 r.told r.reads content t.0 s.2 is (call.goes.flats room id t.0 is t.1) r.bytes ∙ ap (λ n. take n t.0) (sym t.2) ∙ take-length t.0 in
+    reads_on caller making.Flat room id s.0 end 0 r.told r.reads content t.0 s.2 is (call.goes.indices making.Flat room id t.0 is t.1) r.bytes ∙ ap (λ n. take n t.0) (sym t.2) ∙ take-length t.0 in
     record { m = m; sound = call.sound; begins = call.waits; ends = grows_trans m s.0 end call.goes (seen_grows caller s.0 end r.reads s.2); there = t.1 ∙ ap (λ b. Some b) (sym all) }
 
 -- ---------- its covers

@@ -9,14 +9,9 @@ use Rattle.index_entry.specs.Spelling.{spelling_all}
 use Rattle.index_entry.specs.Within.{within_log}
 use Rattle.index_entry.proofs.Facts.{length-spelling_all}
 use Rattle.store_laws.proofs.Facts.{prefix_length}
-use Rattle.mount_model.specs.declared.call.Ask.{Ask}
-use Rattle.mount_model.specs.declared.call.Call.{Call}
-use Rattle.mount_model.specs.declared.reply.Reply.{Reply}
-use Rattle.mount_model.specs.declared.reply.Reply.TheVariants.{Stopped, NoMemory}
 use Rattle.mount_model.specs.Paths.{index_path, log_path}
 use Rattle.mount_model.specs.State.{State}
-use Rattle.mount_model.specs.Step.{Answers, IsStep}
-use Rattle.mount_model.proofs.Facts.{step_cases, stop_replies}
+use Rattle.mount_model.specs.Step.{IsStep}
 use Rattle.mount_sound.specs.Entries.{AreEntriesOf, logged, last_stamp}
 use Rattle.mount_sound.specs.Ledger.{entries_in, content}
 use Rattle.mount_sound.specs.Dropping.{bytes_of, log_bytes}
@@ -24,32 +19,14 @@ use Rattle.mount_sound.specs.Landed.{whole}
 use Rattle.mount_sound.proofs.Facts.{entries_take, in_order_take, length-content, logged_append, logged_take, order_drop, take_less, writes_take}
 use Rattle.gathering.specs.Moments.{Moment, IsSoundAt, IsNamed, index_then, log_then, Dropping, issued_by, landed, Grows}
 use Rattle.gathering.specs.Seen.{Asked, IsSeenCall, IsSeen}
-use Rattle.gathering.specs.Gathering.{IsLogLength, AreReads, Gathered, Gathers, CoversLanded, GathersAll, IsPrefixOf}
+use Rattle.gathering.specs.Gathering.{IsLogLength, AreReads, Gathered, Gathers, GathersIndex, GathersSo, CoversLanded, GathersAll, IsPrefixOf}
+use Rattle.gathering.proofs.PackReading.{gathers_pack}
+use Rattle.gathering.proofs.Replied.{answers_as}
 use Rattle.gathering.proofs.Growing.{grows_trans, stood_grows, log_grows}
 use Rattle.gathering.proofs.Seeing.{seen_grows, seen_split, seen_more, seen_waits}
 use Rattle.gathering.proofs.Looking.{length_told, absence_told, read_told}
 use Rattle.gathering.proofs.Fronts.{stands, its_log, landed_whole, length-entries, length_taken, entries_stay, issued_grows}
 use Rattle.gathering.proofs.Within.{Stops, told_from, TellNone, ReadsSoMany, reads_so_many}
-
--- the reply is one of a call that is broken off, or of want of memory
-abbrev pub is_cut : Reply → Bool
-is_cut Stopped = true
-is_cut NoMemory = true
-is_cut reply = false
-
-not_cut : (reply : Reply) → is_cut reply ≡ false → (reply ≡ Stopped) ⊎ (reply ≡ NoMemory) → ⊥
-not_cut reply whole (inl stopped) = let both : true ≡ false = sym (ap is_cut stopped) ∙ whole in cc
-not_cut reply whole (inr memory) = let both : true ≡ false = sym (ap is_cut memory) ∙ whole in cc
-
--- a call with another reply was answered
-pub answered_whole : (old : State) (caller : ℕ) (ask : Ask) (reply : Reply) (new : State) → is_cut reply ≡ false → IsStep old caller ask reply new → Answers old caller ask.call reply new
-answered_whole old caller ask reply new whole step = step_cases old caller ask reply new (Answers old caller ask.call reply new) step
-    (λ none a. a)
-    (λ k some x. absurd (not_cut reply whole (stop_replies old caller k ask.call reply new x)))
-
-pub answers_as : (old : State) (caller : ℕ) (ask : Ask) (asked : Call) (reply told : Reply) (new : State) → ask.call ≡ asked → reply ≡ told → is_cut told ≡ false → IsStep old caller ask reply new → Answers old caller asked told new
-answers_as old caller ask asked reply told new c r whole s =
-    subst (λ x. Answers old caller x told new) c (answered_whole old caller ask told new whole (subst (λ y. IsStep old caller ask y new) r s))
 
 -- ---- what is told
 
@@ -268,10 +245,9 @@ landed_logged m s d index named e =
     length-content (take h.landed (issued_by m d)) (writes_take h.landed d.writer (issued_by m d) (s.sound.writes d.room d.writer)).full ∙ ap logged (entries_take h.landed (issued_by m d)) in
     omega (arith, ap (λ n. logged (take n (entries_in (issued_by m d)))) is, long, prefix_length (content (take h.landed (issued_by m d))) (log_bytes st.room d.host d.writer) h.logged, ap length (its_log m s d index st))
 
-gathers_one : (caller : ℕ) (start next later end : Moment) (g : Gathered) (asked : List Asked) (gathers : Gathers g asked) → IsSeenCall caller start gathers.first next → IsSeenCall caller next gathers.second later → IsSeen caller later gathers.reads end → CoversLanded start g → IsPrefixOf start end g
-gathers_one caller start next later end g asked gathers call second seen covers =
+gathers_one : (caller : ℕ) (start next later end : Moment) (g : Gathered) (asked : List Asked) (named : IsNamed g.dropping) (gathers : GathersIndex g asked) → IsSeenCall caller start gathers.first next → IsSeenCall caller next gathers.second later → IsSeen caller later gathers.reads end → CoversLanded start g → IsPrefixOf start end g
+gathers_one caller start next later end g asked named gathers call second seen covers =
     let d : Dropping = g.dropping in
-    let named : IsNamed d = gathers.named in
     let m : Moment = call.before in
     let es : List Entry = entries_in (issued_by end d) in
     let length_is = gathers.index_length in
@@ -298,11 +274,19 @@ gathers_one caller start next later end g asked gathers call second seen covers 
       entries = tail ∙ sym (drop-take g.covered told.more es) ∙ ap (λ n. drop g.covered (take n es)) (sym count);
     }
 
+gathers_index : (caller : ℕ) (start end : Moment) (g : Gathered) (asked : List Asked) → IsNamed g.dropping → IsSeen caller start asked end → GathersIndex g asked → CoversLanded start g → IsPrefixOf start end g
+gathers_index caller start end g asked named seen gathered covers =
+    let s : IsSeen caller start (gathered.first ∷ gathered.second ∷ gathered.reads) end = subst (λ a. IsSeen caller start a end) gathered.calls seen in
+    gathers_one caller start s.0 s.2.0 end g asked named gathered s.1 s.2.1 s.2.2 covers
+
+-- whether it was gathered of the packed index or not
+by_flag : (packed : Bool) (caller : ℕ) (start end : Moment) (g : Gathered) (asked : List Asked) → IsNamed g.dropping → IsSeen caller start asked end → GathersSo packed g asked → CoversLanded start g → IsPrefixOf start end g
+by_flag true caller start end g asked named seen reads covers = gathers_pack caller start end g asked named seen reads covers
+by_flag false caller start end g asked named seen reads covers = gathers_index caller start end g asked named seen reads covers
+
 -- The law of one writer.
 pub gathers : (caller : ℕ) (start end : Moment) (g : Gathered) (asked : List Asked) → IsSeen caller start asked end → Gathers g asked → CoversLanded start g → IsPrefixOf start end g
-gathers caller start end g asked seen gathered covers =
-    let s : IsSeen caller start (gathered.first ∷ gathered.second ∷ gathered.reads) end = subst (λ a. IsSeen caller start a end) gathered.calls seen in
-    gathers_one caller start s.0 s.2.0 end g asked gathered s.1 s.2.1 s.2.2 covers
+gathers caller start end g asked seen gathered covers = by_flag g.packed caller start end g asked gathered.named seen gathered.reads covers
 
 -- each that was gathered is a prefix of what its writer issued, where what is covered of it had landed
 abbrev pub AdmissibleEach : Moment → Moment → List Gathered → Type 0

@@ -20,7 +20,7 @@ grows_refl m = record {
   stands = λ room item stays had. had;
   landed = λ d named. omega arith;
   logs = λ d log named e. (log, e, omega arith);
-  flats = λ room id bytes is e. e;
+  indices = λ makes room id bytes is e. e;
 }
 
 pub grows_trans : (a b c : Moment) → Grows a b → Grows b c → Grows a c
@@ -35,7 +35,7 @@ grows_trans a b c f g = record {
       let x = f.logs d log named e in
       let y = g.logs d x.0 named x.1 in
       (y.0, y.1, omega (arith, x.2, y.2));
-  flats = λ room id bytes is e. g.flats room id bytes is (f.flats room id bytes is e);
+  indices = λ makes room id bytes is e. g.indices makes room id bytes is (f.indices makes room id bytes is e);
 }
 
 -- ---------- what stays

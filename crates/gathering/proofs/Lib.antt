@@ -8,6 +8,9 @@ pub mod Issuing
 pub mod Stepping
 pub mod Seeing
 pub mod Looking
+pub mod Replied
+pub mod FileReading
+pub mod PackReading
 pub mod Gathers
 pub mod Listings
 pub mod Scans

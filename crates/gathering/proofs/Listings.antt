@@ -24,7 +24,7 @@ use Rattle.gathering.proofs.Growing.{in_a_room, grows_trans, stood_grows}
 use Rattle.gathering.proofs.Seeing.{seen_grows, seen_split}
 use Rattle.gathering.proofs.Looking.{top_listed, folder_listed}
 use Rattle.gathering.proofs.Fronts.{in_tree}
-use Rattle.gathering.proofs.Gathers.{answers_as}
+use Rattle.gathering.proofs.Replied.{answers_as}
 use Rattle.gathering.proofs.Members.{is_among, among_left, among_right}
 use Rattle.gathering.proofs.Entries.{file_named, folder_named, not_top}
 

@@ -1,14 +1,15 @@
 -- What the reader of the short history gathered and read.
-use Rattle.std.proofs.Common.{◌≡◌, ℕ, ◌<◌, ◌^◌, ◌∙◌, Bool, true, false, List, [], ◌∷◌, get_or, Some, None, refl, ap, sym, arith, inl, inr}
+use Rattle.std.proofs.Common.{◌≡◌, ℕ, ◌<◌, ◌^◌, ◌∙◌, Bool, true, false, List, [], ◌∷◌, get_or, Some, None, refl, ap, sym, subst, arith, inl, inr}
 use Rattle.std.specs.Prelude.{◌&&◌, nat_le, nat_lt, cond, option_map, if◌then◌else◌, not, Ok}
-use Rattle.store_api.specs.declared.step.Answer.TheVariants.{Number}
+use Rattle.store_api.specs.declared.step.Answer.TheVariants.{Number, Names}
 use Rattle.std.specs.Fmt.{digits}
 use Rattle.std.specs.List.{Any, list_all, range_with_len}
 use Rattle.std.proofs.lemmas.List.{append-nil}
 use Rattle.std.proofs.lemmas.List.Elements.{All-from_recursion}
 use Rattle.plfs_types.specs.declared.names.Path.{Path}
 use Rattle.index_entry.specs.Spelling.{spelling, entry_in}
-use Rattle.container_layout.specs.Paths.{hostdir_of}
+use Rattle.container_layout.specs.declared.items.Item.TheVariants.{Packed}
+use Rattle.container_layout.specs.Paths.{hostdir_of, path_of}
 use Rattle.container_layout.proofs.Facts.{elsewhere}
 use Rattle.store_laws.specs.Files.{file_at}
 use Rattle.store_laws.specs.Differ.{is_listed}
@@ -16,6 +17,9 @@ use Rattle.plain_file.specs.declared.pieces.Piece.{Piece}
 use Rattle.plain_file.specs.Newest.{newest}
 use Rattle.plain_file.specs.Sources.{source_of, source_in}
 use Rattle.plain_file.specs.Runs.{ArePieces}
+use Rattle.mount_model.specs.declared.call.Call.TheVariants.{Look}
+use Rattle.mount_model.specs.declared.call.Look.TheVariants.{Top, List as ListFolder}
+use Rattle.mount_model.specs.declared.reply.Reply.TheVariants.{Looked}
 use Rattle.mount_model.specs.Paths.{Name, index_path}
 use Rattle.mount_model.specs.Mounting.{IsMounted}
 use Rattle.mount_shape.proofs.Facts.{empty_shaped}
@@ -23,13 +27,14 @@ use Rattle.mount_sound.specs.Sound.{IsSoundTree}
 use Rattle.mount_sound.specs.Ledger.{entries_in}
 use Rattle.mount_sound.proofs.Facts.{no_writes, mounted_sound}
 use Rattle.gathering.specs.Moments.{Moment, IsSoundAt, moment_after, Dropping}
-use Rattle.gathering.specs.Seen.{asked_in, calls_of}
+use Rattle.gathering.specs.Seen.{Asked, asked_in, calls_of}
 use Rattle.gathering.specs.Gathering.{Gathered, Gathers}
-use Rattle.gathering.specs.Listing.{IsAmong, IsIndexName, AreDroppingsOf, ListsHostdirs, IsScan}
+use Rattle.gathering.specs.Listing.{IsAmong, IsListed, IsIndexName, AreDroppingsOf, ListsHostdirs, IsScan}
 use Rattle.gathering.specs.Flats.{IsCoveredSo}
 use Rattle.gathering.specs.View.{writes_in}
-use Rattle.gathering.specs.Opening.{IsOpening, ReadsSo}
+use Rattle.gathering.specs.Opening.{IsOpening, IsPackedSo, ReadsSo}
 use Rattle.gathering.specs.Example.{no_rooms, IsBesideTornFlush}
+use Rattle.plain_file.proofs.Facts.{Among}
 use Rattle.gathering.proofs.Entries.{among_listed}
 use Rattle.gathering.proofs.Members.{among, is_among, any_found, found_any}
 use Rattle.gathering.proofs.Sample.{first_writer, second_writer, holds, begun}
@@ -50,7 +55,7 @@ empty_is_sound = record {
   all_landed = λ number room there writer fits. absurd (no_place room there);
   fitting = λ number writer past. refl;
   roomless = λ number writer e. refl;
-  flats = λ number room there id bytes item. absurd (no_place room there);
+  flats = λ number room there makes id bytes item. absurd (no_place room there);
 }
 
 abbrev pub start : Moment
@@ -159,13 +164,43 @@ scans = record {
   );
 }
 
+-- ---------- no packed index
+
+abbrev scanned : List Asked
+scanned = asked_in sample.lists_top ∷ asked_in sample.lists_folder ∷ []
+
+no_pack_name : (host writer : ℕ) → Among (path_of (Packed host writer)).file sample.folder_names → ⊥
+no_pack_name host writer (inl e) = elsewhere (ap (λ n. get_or n 5 0) e) refl
+no_pack_name host writer (inr (inl e)) = elsewhere (ap (λ n. get_or n 5 0) e) refl
+no_pack_name host writer (inr (inr (inl e))) = elsewhere (ap (λ n. get_or n 0 0) e) refl
+no_pack_name host writer (inr (inr (inr (inl e)))) = elsewhere (ap (λ n. get_or n 0 0) e) refl
+no_pack_name host writer (inr (inr (inr (inr a)))) = absurd a
+
+-- the names that were told are those of the folder
+its_names : (names : List Name) → Looked (Names sample.folder_names) ≡ Looked (Names names) → sample.folder_names ≡ names
+its_names names e = cc
+
+no_listing : (d : Dropping) (names : List Name) → Look 1 Top ≡ Look d.room (ListFolder (hostdir_of d.host)) → ⊥
+no_listing d names e = cc
+
+not_among : (d : Dropping) (a : Asked) → Among a scanned → (names : List Name) → IsListed d.room (ListFolder (hostdir_of d.host)) names a → IsAmong (path_of (Packed d.host d.writer)).file names → ⊥
+not_among d a (inl e) names lists is = no_listing d names (ap (λ (x : Asked). x.ask.call) (sym e) ∙ lists.call)
+not_among d a (inr (inl e)) names lists is = no_pack_name d.host d.writer (subst (λ ns. Among (path_of (Packed d.host d.writer)).file ns) (sym (its_names names (ap (λ (x : Asked). x.reply) (sym e) ∙ lists.reply))) (among names (path_of (Packed d.host d.writer)).file is))
+not_among d a (inr (inr x)) names lists is = absurd x
+
+unpacked : (g : Gathered) → g.packed ≡ false → IsPackedSo scanned g
+unpacked g none = record {
+  named = λ some. absurd (let both : true ≡ false = sym some ∙ none in cc);
+  unnamed = λ e any. let f = any_found _ scanned any in not_among g.dropping f.0 f.1 f.2.0 f.2.1 f.2.2;
+}
+
 -- ---------- what was gathered
 
 abbrev first_gathered : Gathered
-first_gathered = record { dropping = first_dropping; covered = 0; count = 1; tail = sample.first_entry ∷ [] }
+first_gathered = record { dropping = first_dropping; packed = false; covered = 0; count = 1; tail = sample.first_entry ∷ [] }
 
 abbrev second_gathered : Gathered
-second_gathered = record { dropping = second_dropping; covered = 0; count = 0; tail = [] }
+second_gathered = record { dropping = second_dropping; packed = false; covered = 0; count = 0; tail = [] }
 
 abbrev pub cut : List Gathered
 cut = first_gathered ∷ second_gathered ∷ []
@@ -174,35 +209,39 @@ gathers_first : Gathers first_gathered (asked_in sample.asks_first ∷ asked_in 
 unfolding spelling entry_in
 gathers_first = record {
   named = record { in_range = tt; widths = (omega arith, omega arith) };
-  first = asked_in sample.asks_first;
-  second = asked_in sample.asks_first_log;
-  reads = asked_in sample.reads_first ∷ [];
-  calls = refl;
-  told = 40;
-  log = 2;
-  content = sample.first_bytes;
-  index_length = record { call = refl; reply = refl };
-  log_length = record { call = refl; reply = inl refl };
-  bytes = (1, sample.first_bytes, record { call = refl; reply = refl }, omega arith, inl (refl, ([], (refl, refl), sym (append-nil sample.first_bytes))));
-  tail = refl;
-  count = refl;
+  reads = record {
+    first = asked_in sample.asks_first;
+    second = asked_in sample.asks_first_log;
+    reads = asked_in sample.reads_first ∷ [];
+    calls = refl;
+    told = 40;
+    log = 2;
+    content = sample.first_bytes;
+    index_length = record { call = refl; reply = refl };
+    log_length = record { call = refl; reply = inl refl };
+    bytes = (1, sample.first_bytes, record { call = refl; reply = refl }, omega arith, inl (refl, ([], (refl, refl), sym (append-nil sample.first_bytes))));
+    tail = refl;
+    count = refl;
+  };
 }
 
 gathers_second : Gathers second_gathered (asked_in sample.asks_second ∷ asked_in sample.asks_second_log ∷ [])
 gathers_second = record {
   named = record { in_range = tt; widths = (omega arith, omega arith) };
-  first = asked_in sample.asks_second;
-  second = asked_in sample.asks_second_log;
-  reads = [];
-  calls = refl;
-  told = 20;
-  log = 2;
-  content = [];
-  index_length = record { call = refl; reply = refl };
-  log_length = record { call = refl; reply = inl refl };
-  bytes = (refl, refl);
-  tail = refl;
-  count = refl;
+  reads = record {
+    first = asked_in sample.asks_second;
+    second = asked_in sample.asks_second_log;
+    reads = [];
+    calls = refl;
+    told = 20;
+    log = 2;
+    content = [];
+    index_length = record { call = refl; reply = refl };
+    log_length = record { call = refl; reply = inl refl };
+    bytes = (refl, refl);
+    tail = refl;
+    count = refl;
+  };
 }
 
 opens : IsOpening 1 cut [] (calls_of 3 sample.gathering) (asked_in sample.lists_truncs)
@@ -221,6 +260,7 @@ opens = record {
     found = All-from_recursion (λ (g : Gathered). IsAmong g.dropping both) cut (is_among both first_dropping (inl refl), (is_among both second_dropping (inr (inl refl)), tt));
     all = All-from_recursion (λ (d : Dropping). Any (λ (g : Gathered). g.dropping ≡ d) cut) both (found_any (λ (g : Gathered). g.dropping ≡ first_dropping) cut first_gathered (inl refl) refl, (found_any (λ (g : Gathered). g.dropping ≡ second_dropping) cut second_gathered (inr (inl refl)) refl, tt));
   };
+  packed = All-from_recursion (IsPackedSo (asked_in sample.lists_top ∷ asked_in sample.lists_folder ∷ [])) cut (unpacked first_gathered refl, (unpacked second_gathered refl, tt));
   gathered = cut;
   gathers = (
     asked_in sample.asks_first ∷ asked_in sample.asks_first_log ∷ asked_in sample.reads_first ∷ [],

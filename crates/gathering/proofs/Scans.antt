@@ -17,7 +17,7 @@ use Rattle.gathering.proofs.Seeing.{seen_grows, seen_split}
 use Rattle.gathering.proofs.Looking.{folder_listed}
 use Rattle.gathering.proofs.Fronts.{stands}
 use Rattle.gathering.proofs.Growing.{stood_grows}
-use Rattle.gathering.proofs.Gathers.{answers_as}
+use Rattle.gathering.proofs.Replied.{answers_as}
 use Rattle.gathering.proofs.Members.{is_among}
 use Rattle.gathering.proofs.Entries.{among_listed, named_file, not_top}
 use Rattle.gathering.proofs.Listings.{dropping_eq, scan_found}

@@ -5,12 +5,14 @@ use Rattle.std.specs.List.{AllByRecursion}
 use Rattle.plfs_types.specs.declared.entries.Entry.{Entry}
 use Rattle.plfs_types.specs.declared.names.Path.{Path}
 use Rattle.container_layout.specs.declared.items.Item.{Item}
-use Rattle.container_layout.specs.declared.items.Item.TheVariants.{Flat, Index, Log}
+use Rattle.container_layout.specs.declared.items.Item.TheVariants.{Flat, Index, Log, Packed}
 use Rattle.container_layout.specs.Items.{IsItem}
 use Rattle.container_layout.specs.Paths.{path_of}
 use Rattle.store_api.specs.declared.tree.Room.{Room}
 use Rattle.store_api.specs.declared.tree.Tree.{Tree}
-use Rattle.mount_model.specs.Paths.{flat_path, index_path, trunc_path}
+use Rattle.mount_model.specs.declared.row.Making.{Making}
+use Rattle.mount_model.specs.declared.row.Making.TheVariants as making
+use Rattle.mount_model.specs.Paths.{flat_path, index_path, installed_item, installed_of, trunc_path}
 use Rattle.mount_model.specs.Step.{IsStep}
 use Rattle.mount_model.specs.History.{Event}
 use Rattle.mount_sound.specs.Excluding.{IsAboveAll}
@@ -19,7 +21,7 @@ use Rattle.mount_sound.specs.Dropping.{bytes_of}
 use Rattle.mount_sound.specs.Growing.{IssuesMore, Stays, least_length}
 use Rattle.mount_sound.specs.Landed.{whole}
 use Rattle.mount_sound.specs.There.{entries_there, landed_in}
-use Rattle.mount_sound.proofs.Facts.{call_issues, is_log, step_flat_stays, step_keeps, step_stays}
+use Rattle.mount_sound.proofs.Facts.{call_issues, is_log, step_flat_stays, step_pack_stays, step_keeps, step_stays}
 use Rattle.gathering.specs.Moments.{Moment, IsSoundAt, next_moment, file_in_room, file_in_tree, file_told, file_then, HadItem, Dropping, IsNamed, HadTrunc, issued_by, index_then, log_then, landed_by, landed, Grows}
 use Rattle.gathering.specs.Bounds.{SparesIndex}
 use Rattle.gathering.proofs.Growing.{in_a_room}
@@ -67,6 +69,19 @@ flat_stays m e rest legal s number id bytes is there =
     let x = step_flat_stays m.issued m.state s number id r.0 r.1 bytes (record { is_item = is; there = r.2 }) e.after e.caller e.ask e.reply legal.1 after.shape.tree after.shape.told in
     ap (λ o. file_told o number path) after.shape.told ∙ ap (λ o. file_in_room o path) x.1 ∙ x.2.there
 
+-- so is a packed one
+pack_stays : (m : Moment) (e : Event) (rest : List Event) → IsLawful m.state (e ∷ rest) → IsSoundAt m → (number host writer : ℕ) (bytes : List ℕ) → IsItem (Packed host writer) → file_then m number (path_of (Packed host writer)) ≡ Some bytes → file_then (next_moment m e) number (path_of (Packed host writer)) ≡ Some bytes
+pack_stays m e rest legal s number host writer bytes is there =
+    let path : Path = path_of (Packed host writer) in
+    let r = in_a_room (slice_get s.shape.tree.rooms number) path bytes (in_tree m s number path bytes there) in
+    let after = sound_next m e rest legal s in
+    let x = step_pack_stays m.issued m.state e.after e.caller e.ask e.reply legal.0 legal.1 s after number host writer r.0 r.1 bytes (record { is_item = is; there = r.2 }) in
+    ap (λ o. file_told o number path) after.shape.told ∙ ap (λ o. file_in_room o path) x.1 ∙ x.2.there
+
+index_stays : (m : Moment) (e : Event) (rest : List Event) → IsLawful m.state (e ∷ rest) → IsSoundAt m → (makes : Making) (number id : ℕ) (bytes : List ℕ) → IsItem (installed_item makes id) → file_then m number (installed_of makes id) ≡ Some bytes → file_then (next_moment m e) number (installed_of makes id) ≡ Some bytes
+index_stays m e rest legal s making.Flat number id bytes is there = flat_stays m e rest legal s number id bytes is there
+index_stays m e rest legal s (making.Pack host writer) number id bytes is there = pack_stays m e rest legal s number host writer bytes is there
+
 -- ---------- growth
 
 -- Each step extends what was before.
@@ -80,7 +95,7 @@ grows_next m e rest legal s = record {
   logs = λ d log named there.
       let (r, is, later, stands, least) = item_stays m e rest legal s d.room (Log d.host d.writer) tt (record { is_item = is_log d.host d.writer named.widths.0 named.widths.1; bytes = log; there = there }) in
       (later, stands, least);
-  flats = λ room id bytes is there. flat_stays m e rest legal s room id bytes is there;
+  indices = λ makes room id bytes is there. index_stays m e rest legal s makes room id bytes is there;
 }
 
 -- ---------- what lands

@@ -18,7 +18,7 @@ use Rattle.gathering.specs.Opening.{ListsTruncs}
 use Rattle.gathering.proofs.Growing.{in_a_room}
 use Rattle.gathering.proofs.Looking.{folder_listed}
 use Rattle.gathering.proofs.Fronts.{in_tree}
-use Rattle.gathering.proofs.Gathers.{answers_as}
+use Rattle.gathering.proofs.Replied.{answers_as}
 use Rattle.gathering.proofs.Members.{any_found, found_any}
 use Rattle.gathering.proofs.Entries.{file_named, named_file}
 

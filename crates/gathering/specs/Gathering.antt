@@ -1,5 +1,5 @@
 -- How a reader gathers the entries of writers.
-use Rattle.std.specs.Prelude.{◌≡◌, ◌⊎◌, ◌≤◌, ◌<◌, ◌+◌, ◌*◌, ◌/◌, ◌++◌, ℕ, List, [], ◌∷◌, length, take, drop}
+use Rattle.std.specs.Prelude.{◌≡◌, ◌⊎◌, ◌≤◌, ◌<◌, ◌+◌, ◌*◌, ◌/◌, ◌++◌, ℕ, List, [], ◌∷◌, length, take, drop, Bool, true, false}
 use Rattle.std.specs.List.{All, Any, AllByRecursion}
 use Rattle.plfs_types.specs.declared.entries.Entry.{Entry}
 use Rattle.plfs_types.specs.declared.limits.TheConstants.{ENTRY_SIZE}
@@ -14,6 +14,7 @@ use Rattle.mount_sound.specs.Ledger.{entries_in}
 use Rattle.index_entry.specs.Within.{within_log}
 use Rattle.gathering.specs.Moments.{Moment, Dropping, IsNamed, Stood, issued_by, landed}
 use Rattle.gathering.specs.Seen.{Asked, calls_of}
+use Rattle.gathering.specs.Packs.{ReadsPack}
 use Rattle.gathering.specs.Listing.{IsAmong}
 
 -- the length of the index dropping was asked and told
@@ -40,17 +41,18 @@ AreReads d first end (asked ∷ rest) content =
     × (((length bytes ≡ ENTRY_SIZE * count) × ((more : List ℕ) × AreReads d (first + count) end rest more × (content ≡ bytes ++ more)))
     ⊎ ((length bytes < ENTRY_SIZE * count) × (rest ≡ []) × (content ≡ bytes)))
 
--- What was gathered of a writer: how many entries, and those that a flattened index doesn't cover.
+-- What was gathered of a writer, of its index dropping or of its packed index: how many entries, and those that a flattened
+-- index doesn't cover.
 pub record Gathered : Type 0 where
   pub dropping : Dropping
+  pub packed : Bool
   pub covered : ℕ
   pub count : ℕ
   pub tail : List Entry
 
--- The calls that gathered it: the length of the index dropping, that of the log, then the bytes of the whole entries
--- past the covered ones. Those count that end within the log, up to the first that doesn't.
-pub record Gathers (g : Gathered) (asked : List Asked) : Type 0 where
-  pub named : IsNamed g.dropping
+-- The calls that gathered it of the index dropping: its length, that of the log, then the bytes of the whole entries past
+-- the covered ones. Those count that end within the log, up to the first that doesn't.
+pub record GathersIndex (g : Gathered) (asked : List Asked) : Type 0 where
   pub first : Asked
   pub second : Asked
   pub reads : List Asked
@@ -63,6 +65,16 @@ pub record Gathers (g : Gathered) (asked : List Asked) : Type 0 where
   pub bytes : AreReads g.dropping g.covered (told / ENTRY_SIZE) reads content
   pub tail : g.tail ≡ within_log log (whole content) content
   pub count : g.count ≡ g.covered + length g.tail
+
+-- they read the packed index, or else the index dropping
+abbrev pub GathersSo : Bool → Gathered → List Asked → Type 0
+GathersSo true g asked = ReadsPack g.dropping g.covered g.count g.tail asked
+GathersSo false g asked = GathersIndex g asked
+
+-- The calls that gathered it.
+pub record Gathers (g : Gathered) (asked : List Asked) : Type 0 where
+  pub named : IsNamed g.dropping
+  pub reads : GathersSo g.packed g asked
 
 -- what a flattened index covers of it had landed at that moment
 abbrev pub CoversLanded : Moment → Gathered → Type 0

@@ -1,5 +1,7 @@
 pub mod Moments
 pub mod Seen
+pub mod Files
+pub mod Packs
 pub mod Gathering
 pub mod Listing
 pub mod View

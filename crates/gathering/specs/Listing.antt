@@ -3,7 +3,7 @@ use Rattle.std.specs.Prelude.{◌≡◌, ◌≢◌, ◌⊎◌, ◌<◌, ◌%◌,
 use Rattle.std.specs.List.{All, Any, AllByRecursion, range_with_len}
 use Rattle.plfs_types.specs.declared.entries.Trunc.{Trunc}
 use Rattle.container_layout.specs.declared.items.Item.TheVariants as item
-use Rattle.container_layout.specs.Paths.{IsIn, hostdir_of}
+use Rattle.container_layout.specs.Paths.{IsIn, hostdir_of, path_of}
 use Rattle.store_api.specs.declared.step.Answer.TheVariants.{Names}
 use Rattle.mount_model.specs.declared.call.Call.TheVariants.{Look}
 use Rattle.mount_model.specs.declared.call.Look.{Look as Sight}
@@ -89,6 +89,10 @@ pub record IsScan (room : ℕ) (ds : List Dropping) (asked : List Asked) : Type 
   pub top : List Name
   pub lists : IsListed room Top top first
   pub hostdirs : ListsHostdirs room top hostdirs rest ds
+
+-- the scan named the packed index of this writer
+abbrev pub NamesPack : List Asked → Dropping → Type 0
+NamesPack scan d = Any (λ (asked : Asked). (names : List Name) × IsListed d.room (ListFolder (hostdir_of d.host)) names asked × IsAmong (path_of (item.Packed d.host d.writer)).file names) scan
 
 -- no two of the droppings are of one writer
 abbrev pub WritersDiffer : List Dropping → Type 0

@@ -3,13 +3,14 @@ use Rattle.std.specs.Prelude.{◌≡◌, ◌≤◌, ℕ, List, [], ◌∷◌, le
 use Rattle.plfs_types.specs.declared.entries.Entry.{Entry}
 use Rattle.plfs_types.specs.declared.names.Path.{Path}
 use Rattle.container_layout.specs.declared.items.Item.{Item}
-use Rattle.container_layout.specs.declared.items.Item.TheVariants.{Flat, Index, Trunc}
+use Rattle.container_layout.specs.declared.items.Item.TheVariants.{Index, Trunc}
 use Rattle.container_layout.specs.Items.{IsItem}
 use Rattle.container_layout.specs.Paths.{path_of}
 use Rattle.store_api.specs.declared.tree.Room.{Room}
 use Rattle.store_api.specs.declared.tree.Tree.{Tree}
 use Rattle.store_laws.specs.Files.{file_at}
-use Rattle.mount_model.specs.Paths.{flat_path, index_path, log_path}
+use Rattle.mount_model.specs.declared.row.Making.{Making}
+use Rattle.mount_model.specs.Paths.{index_path, installed_item, installed_of, log_path}
 use Rattle.mount_model.specs.State.{State}
 use Rattle.mount_model.specs.History.{Event}
 use Rattle.mount_sound.specs.Ledger.{Written, Ledger}
@@ -94,10 +95,10 @@ abbrev pub landed : Moment → Dropping → ℕ
 landed moment d = length (landed_by moment d)
 
 -- A later moment: writers issued no less, what stays stands, no dropping has lost an entry that had landed, no log a
--- byte, and flattened indices are as they were.
+-- byte, and flattened indices and packed ones are as they were.
 pub record Grows (old new : Moment) : Type 0 where
   pub issued : IssuesMore old.issued new.issued
   pub stands : (room : ℕ) (item : Item) → Stays item → HadItem old room item → HadItem new room item
   pub landed : (d : Dropping) → IsNamed d → landed old d ≤ landed new d
   pub logs : (d : Dropping) (log : List ℕ) → IsNamed d → log_then old d ≡ Some log → (later : List ℕ) × (log_then new d ≡ Some later) × (length log ≤ length later)
-  pub flats : (room id : ℕ) (bytes : List ℕ) → IsItem (Flat id) → file_then old room (flat_path id) ≡ Some bytes → file_then new room (flat_path id) ≡ Some bytes
+  pub indices : (makes : Making) (room id : ℕ) (bytes : List ℕ) → IsItem (installed_item makes id) → file_then old room (installed_of makes id) ≡ Some bytes → file_then new room (installed_of makes id) ≡ Some bytes

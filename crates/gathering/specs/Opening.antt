@@ -1,5 +1,5 @@
 -- The opening of a reader, and what it sees from then on.
-use Rattle.std.specs.Prelude.{◌≡◌, ℕ, List, ◌∷◌, ◌++◌, Option}
+use Rattle.std.specs.Prelude.{◌≡◌, ℕ, List, ◌∷◌, ◌++◌, true, false, Option}
 use Rattle.std.specs.List.{All, Any}
 use Rattle.plfs_types.specs.declared.entries.Trunc.{Trunc}
 use Rattle.plain_file.specs.declared.pieces.Piece.{Piece}
@@ -14,7 +14,7 @@ use Rattle.mount_sound.specs.Ledger.{entries_in}
 use Rattle.gathering.specs.Moments.{Moment, moment_after, Dropping, Stood}
 use Rattle.gathering.specs.Seen.{Asked, calls_of}
 use Rattle.gathering.specs.Gathering.{Gathered, GathersAll, AreGathered, Share, GatherShares, AreShared, IsAdmissible}
-use Rattle.gathering.specs.Listing.{IsAmong, IsListed, IsScan, AreTruncsOf, AreTruncsAt}
+use Rattle.gathering.specs.Listing.{IsAmong, IsListed, IsScan, NamesPack, AreTruncsOf, AreTruncsAt}
 use Rattle.gathering.specs.Flats.{IsCoveredSo, ReadsFlat, covers_of}
 use Rattle.gathering.specs.View.{writes_in, tails_in, tails_of, changes_in, WritersRise, IsAnswer}
 
@@ -30,6 +30,11 @@ pub record IsCutOf (room : ℕ) (ds : List Dropping) (cut : List Gathered) : Typ
   pub found : All (λ (g : Gathered). IsAmong g.dropping ds) cut
   pub all : All (λ (d : Dropping). Any (λ (g : Gathered). g.dropping ≡ d) cut) ds
 
+-- It was gathered of its packed index where the scan named one, and else of its index dropping.
+pub record IsPackedSo (scan : List Asked) (g : Gathered) : Type 0 where
+  pub named : g.packed ≡ true → NamesPack scan g.dropping
+  pub unnamed : g.packed ≡ false → NamesPack scan g.dropping → ⊥
+
 -- The calls that open a reader: it reads the newest flattened index, scans the room for droppings, gathers what that
 -- doesn't cover of the cut, and last lists the truncates.
 pub record IsOpening (room : ℕ) (cut : List Gathered) (truncs : List Trunc) (calls : List Asked) (listing : Asked) : Type 0 where
@@ -44,6 +49,7 @@ pub record IsOpening (room : ℕ) (cut : List Gathered) (truncs : List Trunc) (c
   pub droppings : List Dropping
   pub scans : IsScan room droppings scan
   pub cuts : IsCutOf room droppings cut
+  pub packed : All (IsPackedSo scan) cut
   -- in the order of the shares where these are read one after the other, else by rising writer
   pub gathered : List Gathered
   pub gathers : GathersAll gathered entries
@@ -63,6 +69,7 @@ pub record IsSharedOpening (room : ℕ) (cut : List Gathered) (truncs : List Tru
   pub droppings : List Dropping
   pub scans : IsScan room droppings scan
   pub cuts : IsCutOf room droppings cut
+  pub packed : All (IsPackedSo scan) cut
   pub shares : List Share
   pub gathers : GatherShares gathering shares
   pub covered : All (IsCoveredSo (covers_of flat)) cut

@@ -29,8 +29,9 @@ ghost use Rattle.gathering.specs.Bounds.{IsFlushedIn, IsSyncedIn};
 ghost use Rattle.gathering.specs.Failing.{BytesOrTrouble};
 
 /// A law: a caller that asked the lengths of an index dropping and its log, and read the whole
-/// entries past covered ones that had landed at first, has the first writes that the writer issued,
-/// no fewer than had landed at first and no more than had at last.
+/// entries past covered ones that had landed at first, or that read the packed index in their place,
+/// has the first writes that the writer issued, no fewer than had landed at first and no more than
+/// had at last.
 pub fn one_writer()
     ensures { (caller : ℕ) (start end : Moment) (gathered : Gathered) (asked : List Asked) → IsSeen caller start asked end → Gathers gathered asked → CoversLanded start gathered → IsPrefixOf start end gathered }
 {}
