@@ -32,3 +32,4 @@ pub mod Flats
 pub mod Sample
 pub mod SampleSteps
 pub mod SampleReader
+pub mod PackSample

@@ -64,7 +64,7 @@ none_dropped : (bytes : List ℕ) → drop 0 bytes ≡ bytes
 none_dropped [] = refl
 none_dropped (b ∷ bytes) = refl
 
-all_dropped : (n : ℕ) (es : List Entry) → length es ≤ n → drop n es ≡ []
+pub all_dropped : (n : ℕ) (es : List Entry) → length es ≤ n → drop n es ≡ []
 all_dropped zero [] l = refl
 all_dropped zero (e ∷ es) l = absurd (omega (arith, l))
 all_dropped (suc n) [] l = refl

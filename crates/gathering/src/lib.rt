@@ -9,7 +9,7 @@ mod example;
 mod histories;
 mod readers;
 
-pub use example::a_reader_opens_beside_a_torn_flush;
+pub use example::{a_packed_index_can_be_gathered, a_reader_opens_beside_a_torn_flush};
 pub use histories::{
     call_has_place, caller_sees, flush_lands, history_grows, moments_follow_histories,
     nothing_lands_unflushed, reads_fail_by_store, sync_lands, truncates_come_above, truncates_stay,
