@@ -11,7 +11,7 @@ pub use Rattle.mount_sound.proofs.Flushes.{begins_more, begins_old}
 pub use Rattle.mount_sound.proofs.Frames.{Fits}
 pub use Rattle.mount_sound.proofs.Growing.{call_issues}
 pub use Rattle.mount_sound.proofs.HasLanded.{landed_is, landed_was_issued}
-pub use Rattle.mount_sound.proofs.Installing.{indices_stay, one_pack, step_flat_stays, step_pack_stays}
+pub use Rattle.mount_sound.proofs.Installing.{indices_stay, left_packs, one_pack, step_flat_stays, step_pack_stays}
 pub use Rattle.mount_sound.proofs.Items.{apart, is_index, is_log, is_open}
 pub use Rattle.mount_sound.proofs.Keeping.{AreKept, AreKeptIn, are_kept, few, fewer, kept_landed, kept_long, kept_most, same_host}
 pub use Rattle.mount_sound.proofs.KeptLater.{kept_no_less, step_keeps_kept}

@@ -1,7 +1,7 @@
 -- What is installed is right, and a flattened index stays as it is, and so does a packed one.
-use Rattle.std.proofs.Common.{◌≡◌, ◌<◌, ◌^◌, ℕ, List, [], ◌∷◌, Option, Some, None, refl, ap, sym, ◌∙◌, inl, inr, subst, Ok, Err}
+use Rattle.std.proofs.Common.{◌≡◌, ◌<◌, ◌^◌, ℕ, List, [], ◌∷◌, Option, Some, None, refl, ap, sym, ◌∙◌, inl, inr, subst, Ok, Err, ◌≤◌, length, take, min, arith}
 use Rattle.std.specs.Prelude.{slice_get}
-use Rattle.container_layout.specs.declared.items.Item.TheVariants.{Flat, Packed}
+use Rattle.container_layout.specs.declared.items.Item.TheVariants.{Flat, Index, Packed}
 use Rattle.container_layout.specs.Paths.{path_of}
 use Rattle.container_layout.proofs.Facts.{same_items}
 use Rattle.store_api.specs.declared.step.Answer.TheVariants.{Made, NoRoom, NoFolder}
@@ -30,16 +30,20 @@ use Rattle.mount_model.specs.Paths.{flat_path, installed, installed_item, tempor
 use Rattle.mount_model.specs.State.{State, Table}
 use Rattle.mount_shape.specs.Named.{FitsNames}
 use Rattle.index_pack.specs.Spelling.{Packs}
-use Rattle.index_pack.proofs.Facts.{one_packing}
+use Rattle.index_pack.specs.Valid.{CanBePacked}
+use Rattle.index_pack.specs.declared.trouble.TheConstants.{MAX_PACKED}
+use Rattle.index_pack.proofs.Facts.{one_packing, packing}
 use Rattle.mount_sound.specs.Flats.{IsBegunIn, IsRightPack}
 use Rattle.mount_model.specs.Step.{Answers, IsStep}
 use Rattle.mount_model.specs.Table.{flattening_at, flattening_of}
 use Rattle.mount_model.proofs.Facts.{IsUnderway, is_underway, match_cases, step_cases, stop_replies}
 use Rattle.mount_sound.specs.Installed.{HasInstalled, IsInstalled}
 use Rattle.mount_sound.specs.Issued.{issued, issued_after}
-use Rattle.mount_sound.specs.Items.{HasItem}
-use Rattle.mount_sound.specs.Ledger.{Ledger}
-use Rattle.mount_sound.specs.There.{landed_entries}
+use Rattle.mount_sound.specs.Items.{HasItem, HasMeta}
+use Rattle.mount_sound.specs.Ledger.{Written, entries_in, AreWritesOf, Ledger}
+use Rattle.mount_sound.specs.Landed.{whole}
+use Rattle.mount_sound.specs.There.{landed_entries, landed_in}
+use Rattle.mount_sound.specs.Entries.{AreEntriesOf, logged}
 use Rattle.mount_sound.specs.Owed.{IsLawful, May}
 use Rattle.mount_sound.specs.Sound.{IsSoundFor}
 use Rattle.mount_sound.proofs.Acting.{ActsOn, acts_so, step_acts}
@@ -54,6 +58,8 @@ use Rattle.mount_sound.proofs.Flattening.{are_named, flat_container, flat_id_fit
 use Rattle.mount_sound.proofs.FlatsLater.{moved_index}
 use Rattle.mount_sound.proofs.Items.{apart}
 use Rattle.mount_sound.proofs.Making.{accounted, its_writers, one_tree}
+use Rattle.mount_sound.proofs.Landing.{in_order_take, logged_take}
+use Rattle.mount_sound.proofs.There.{told_in_sound}
 use Rattle.mount_sound.proofs.Makings.{is_installed, is_temporary, one_flat, two_kinds}
 use Rattle.mount_sound.proofs.SoundLater.{history_keeps, its_flats, step_keeps}
 
@@ -206,3 +212,21 @@ indices_stay l start events lawful s tree after told now makes n id room bytes t
     let x = history_index_stays l start events lawful s s' makes n id room (ap (λ (t : Tree). slice_get t.rooms n) (sym first) ∙ there) bytes h in
     let right = s'.flats n x.0 x.1 makes id bytes x.2 in
     subst (λ t. IsInstalled t n makes id bytes) last (record { room = x.0; there = x.1; has = x.2; right = right.0; kept = right.1 })
+
+-- ---- a writer that has left can be packed
+
+pub left_packs : (l : Ledger) (state : State) (s : IsSoundFor l state) (number : ℕ) (room : Room) → slice_get s.shape.tree.rooms number ≡ Some room → (host writer : ℕ) (content : List ℕ) → HasItem room (Index host writer) content → HasMeta room host writer
+    → 1 ≤ landed_in room host writer → landed_in room host writer ≤ MAX_PACKED → (bytes : List ℕ) × IsRightPack room host writer bytes
+left_packs l state s number room there host writer content h left some few =
+    let issued : List Written = l number writer in
+    let n : ℕ = min (whole content) (length issued) in
+    let v : AreWritesOf writer issued = s.sound.writes number writer in
+    let told : landed_entries room host writer ≡ take n (entries_in issued) = told_in_sound l state s number room there host writer content h in
+    let can : CanBePacked (landed_entries room host writer) = record {
+      owner = writer;
+      in_order = subst (AreEntriesOf writer 0 0) (sym told) (in_order_take n writer 0 0 (entries_in issued) v.in_order);
+      near = omega (arith, ap logged told, logged_take n (entries_in issued), v.small);
+      counted = (some, few);
+    } in
+    let made = packing (landed_entries room host writer) can h.is_item.widths.1 in
+    (made.0, record { content = content; stands = h; left = left; packs = made.1 })

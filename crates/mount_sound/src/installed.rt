@@ -1,6 +1,7 @@
 //! Laws of flattened indices, and of packed ones.
-ghost use Rattle.std.specs.Prelude.{◌≡◌, ℕ, List, Some, slice_get};
-ghost use Rattle.container_layout.specs.declared.items.Item.TheVariants.{Packed};
+ghost use Rattle.std.specs.Prelude.{◌≡◌, ◌≤◌, ℕ, List, Some, slice_get};
+ghost use Rattle.index_pack.specs.declared.trouble.TheConstants.{MAX_PACKED};
+ghost use Rattle.container_layout.specs.declared.items.Item.TheVariants.{Index, Packed};
 ghost use Rattle.store_api.specs.declared.tree.Room.{Room};
 ghost use Rattle.store_api.specs.declared.tree.Tree.{Tree};
 ghost use Rattle.mount_model.specs.declared.call.Ask.{Ask};
@@ -12,10 +13,12 @@ ghost use Rattle.mount_model.specs.declared.row.Making.{Making};
 ghost use Rattle.mount_model.specs.Paths.{installed_item};
 ghost use Rattle.mount_model.specs.Step.{IsStep};
 ghost use Rattle.mount_sound.specs.Installed.{HasInstalled, IsInstalled};
-ghost use Rattle.mount_sound.specs.Items.{HasItem};
+ghost use Rattle.mount_sound.specs.Flats.{IsRightPack};
+ghost use Rattle.mount_sound.specs.Items.{HasItem, HasMeta};
 ghost use Rattle.mount_sound.specs.Ledger.{Ledger};
 ghost use Rattle.mount_sound.specs.Owed.{IsLawful};
 ghost use Rattle.mount_sound.specs.Sound.{IsSoundFor};
+ghost use Rattle.mount_sound.specs.There.{landed_in};
 
 /// What a sound mount installs is a flattened index that is right for its room, whatever landed since it was gathered, or a
 /// packed index of all that its writer landed, and no loss of power takes a byte of it.
@@ -35,4 +38,12 @@ pub fn installed_indices_stay()
 pub fn a_writer_has_one_packed_index()
     ensures { (before : Ledger) (state : State) (s : IsSoundFor before state) (number : ℕ) (room : Room) → slice_get s.shape.tree.rooms number ≡ Some room
         → (host other writer : ℕ) (some more : List ℕ) → HasItem room (Packed host writer) some → HasItem room (Packed other writer) more → (host ≡ other) × (some ≡ more) }
+{}
+
+/// What is owed where a packed index is put can be met: a writer that has left, with its index dropping and its metadata
+/// dropping, and 1 to `MAX_PACKED` entries that landed, has a packed index that is right for its room.
+pub fn a_left_writer_can_be_packed()
+    ensures { (before : Ledger) (state : State) (s : IsSoundFor before state) (number : ℕ) (room : Room) → slice_get s.shape.tree.rooms number ≡ Some room
+        → (host writer : ℕ) (content : List ℕ) → HasItem room (Index host writer) content → HasMeta room host writer → 1 ≤ landed_in room host writer → landed_in room host writer ≤ MAX_PACKED
+        → (bytes : List ℕ) × IsRightPack room host writer bytes }
 {}
