@@ -317,6 +317,7 @@ module _ (room new : Room) (writer : ℕ) (issued : List Written) (w : IsWriter 
 
     entries_left : KeepsEntries room new host writer
     entries_left = kept_entries room new host writer issued (take lost.count issued) w v left_writer (writes_take lost.count writer issued v) bytes i kept_first are_left
+        (λ last sum stamp inside m. let l = h.files (path_of (Meta last sum stamp host writer)) inside m.there in (l.front, record { is_item = m.is_item; there = l.there }))
 
   pub writer_lost : WriterLost room new writer issued
   unfolding left_writer

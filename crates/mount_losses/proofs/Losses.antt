@@ -3,7 +3,7 @@ use Rattle.std.proofs.Common.{◌≡◌, ℕ, ◌/◌, ◌*◌, ◌≤◌, ◌<�
 use Rattle.std.specs.Prelude.{slice_get, MatchOption}
 use Rattle.std.proofs.lemmas.Bool.{cases_lt}
 use Rattle.std.proofs.lemmas.List.{length-take-le, length-map, take-append-drop}
-use Rattle.container_layout.specs.declared.items.Item.TheVariants.{Trunc, Flat, Index}
+use Rattle.container_layout.specs.declared.items.Item.TheVariants.{Trunc, Index}
 use Rattle.plfs_types.specs.declared.entries.Entry.{Entry}
 use Rattle.store_api.specs.declared.tree.Room.{Room}
 use Rattle.store_api.specs.declared.tree.Tree.{Tree}
@@ -12,7 +12,7 @@ use Rattle.store_laws.specs.Files.{file_at, kept_at}
 use Rattle.store_laws.specs.Losing.{HasLost, HaveLost}
 use Rattle.store_laws.proofs.Facts.{have_lost, room_back}
 use Rattle.mount_model.specs.declared.row.Row.{Row}
-use Rattle.mount_model.specs.Paths.{flat_path, index_path, log_path}
+use Rattle.mount_model.specs.Paths.{index_path, installed_item, installed_of, log_path}
 use Rattle.mount_model.specs.Table.{row_of}
 use Rattle.mount_model.specs.State.{State}
 use Rattle.mount_model.proofs.Facts.{row_of_id}
@@ -23,14 +23,14 @@ use Rattle.mount_sound.specs.Entries.{logged}
 use Rattle.mount_sound.specs.Ledger.{Written, entries_in, AreWritesOf, Ledger}
 use Rattle.mount_sound.specs.Growing.{IsMore}
 use Rattle.mount_sound.specs.Fitting.{fitting}
-use Rattle.mount_sound.specs.Flats.{IsRightFlat, AreRightFlats}
+use Rattle.mount_sound.specs.Flats.{IsRightFor, AreRightFlats}
 use Rattle.mount_sound.specs.Items.{HasItem}
 use Rattle.mount_sound.specs.There.{landed_entries, landed_in}
 use Rattle.mount_sound.specs.Kept.{Begins, IsKept}
 use Rattle.mount_sound.specs.Sound.{TruncatesDiffer, AreSoundRooms, IsSoundFor, IsSoundTree}
 use Rattle.mount_sound.specs.Keeping.{kept_in, safe_of}
 use Rattle.mount_losses.specs.Losing.{HasKept, LosesUnkept}
-use Rattle.mount_sound.proofs.Facts.{IsWhole, KeepsAllEntries, KeepsEntries, flats_frame, few, fewer, kept_most, no_writes, writes_take, is_index, all_fit, one_tree, fit_length, fit_within, fit_least, take_less}
+use Rattle.mount_sound.proofs.Facts.{IsWhole, KeepsAllEntries, KeepsEntries, right_frame, few, fewer, kept_most, no_writes, writes_take, is_index, all_fit, one_tree, fit_length, fit_within, fit_least, take_less}
 use Rattle.mount_losses.proofs.Losing.{WriterLost, writer_lost, had_item, same_length}
 
 -- ---- the first writes of each writer
@@ -167,17 +167,17 @@ module _ (issued : Ledger) (rows : List Row) (tree new : Tree) (s : AreSoundRoom
   kept_left number room left e there host writer bytes item =
       omega (arith, (lost_entries number room left e there host writer bytes item).no_fewer, kept_few left host writer)
 
-  -- no byte of a flattened index is lost
+  -- no byte of a flattened index is lost, or of a packed one
   lost_flats : AreRightFlats tree → AreRightFlats new
-  lost_flats flats number left there id front item =
+  lost_flats flats number left there makes id front item =
       let was = room_back tree new number left h there in
-      let i = had_item was.0 left (Flat id) front was.2 item in
-      let right = flats number was.0 was.1 id i.0 i.1 in
-      let l = was.2.files (flat_path id) i.0 i.1.there in
+      let i = had_item was.0 left (installed_item makes id) front was.2 item in
+      let right = flats number was.0 was.1 makes id i.0 i.1 in
+      let l = was.2.files (installed_of makes id) i.0 i.1.there in
       let fronts : Some l.front ≡ Some front = sym l.there ∙ item.there in
       let same : l.front ≡ front = cc in
       let whole : l.front ≡ i.0 = same_length l.front i.0 l.begins (omega (arith, right.1, l.long)) in
-      (subst (IsRightFlat left) (sym whole ∙ same) (flats_frame was.0 left (lost_entries number was.0 left was.1 there) i.0 right.0), omega (arith, l.kept, ap length same))
+      (subst (IsRightFor left makes) (sym whole ∙ same) (right_frame was.0 left (lost_entries number was.0 left was.1 there) makes i.0 right.0), omega (arith, l.kept, ap length same))
 
   pub loses_unkept : IsShapedTree (IsOfMark new) new → AreRightFlats tree → LosesUnkept issued tree new
   unfolding lost_sound

@@ -12,7 +12,7 @@ use Rattle.store_laws.specs.Tells.{Tells}
 use Rattle.store_laws.proofs.Facts.{acts_told}
 use Rattle.mount_model.specs.declared.call.Ask.{Ask}
 use Rattle.mount_model.specs.declared.call.Call.{Call}
-use Rattle.mount_model.specs.declared.call.Call.TheVariants.{Greet, Find, MakeContainer, Rooms, Look, Enter, Floor, MakeHostdir, MakeIndex, MakeLog, Write, Flush, SyncLog, SyncIndex, PutMeta, Exit, Hold, Mark, Move, Release, StartFlat, PutFlat, SyncFlat, InstallFlat, SyncDropping, Inspect, Mend, MendMeta, Bury, MendHold}
+use Rattle.mount_model.specs.declared.call.Call.TheVariants.{Greet, Find, MakeContainer, Rooms, Look, Enter, Floor, MakeHostdir, MakeIndex, MakeLog, Write, Flush, SyncLog, SyncIndex, PutMeta, Exit, Hold, Mark, Move, Release, StartFlat, PutFlat, SyncFlat, InstallFlat, StartPack, SyncDropping, Inspect, Mend, MendMeta, Bury, MendHold}
 use Rattle.mount_model.specs.declared.call.Look as look
 use Rattle.mount_model.specs.declared.call.Look.TheVariants.{Top, List as ListFolder, Length, Read}
 use Rattle.mount_model.specs.declared.reply.Reply.{Reply}
@@ -33,7 +33,7 @@ use Rattle.mount_model.specs.declared.row.FlatStage.TheVariants.{Begun, Put, Syn
 use Rattle.mount_model.specs.declared.row.Making.TheVariants as making
 use Rattle.mount_model.specs.declared.reply.Reply.TheVariants.{Done}
 use Rattle.mount_model.specs.Holding.{HoldsRoom, OnHolder, RenamesRoom, TruncatesAt, hold_step, truncate_check, truncate_stamp, truncate_step, rename_step, release_step}
-use Rattle.mount_model.specs.Flattening.{OnFlattening, begun_flat, start_step, put_flat_step, sync_flat_step, install_step}
+use Rattle.mount_model.specs.Flattening.{OnFlattening, begun_flat, StartsPackOf, start_step, put_flat_step, sync_flat_step, install_step}
 use Rattle.mount_model.specs.Recovering.{IsHostAndWriter, SyncsIt, MendsIt, MendsItsMeta, BuriesIt, alive_check, sync_dropping_step, mend_step, mend_meta_step, bury_step, mend_hold_step}
 use Rattle.mount_model.specs.Paths.{Name, new_folders, new_files, openhosts, open_path}
 use Rattle.mount_model.specs.State.{State, Table, drawn, timed}
@@ -66,6 +66,7 @@ pub record OfEachAct (table : Table) (id caller : ℕ) (P : Call → Step → Ty
   pub puts : (flat : ℕ) (f : Flattening) → flattening_at flat table.flattenings ≡ Some f → (bytes : List ℕ) → P (PutFlat flat bytes) (put_flat_step f bytes)
   pub flat_syncs : (flat : ℕ) (f : Flattening) → flattening_at flat table.flattenings ≡ Some f → P (SyncFlat flat) (sync_flat_step f)
   pub installs : (flat : ℕ) (f : Flattening) → flattening_at flat table.flattenings ≡ Some f → P (InstallFlat flat) (install_step f)
+  pub packs : (room host writer : ℕ) (f : Flattening) → f.makes ≡ making.Pack host writer → IsHostAndWriter host writer → P (StartPack room host writer) (start_step f)
   pub dropping_syncs : (room host writer : ℕ) (is_log : Bool) → IsHostAndWriter host writer → P (SyncDropping room host writer is_log) (sync_dropping_step room host writer is_log)
   pub mends : (room host writer count : ℕ) → IsHostAndWriter host writer → P (Mend room host writer count) (mend_step room host writer count)
   pub mend_metas : (room host : ℕ) (cover : Cover) (last : ℕ) → IsHostAndWriter host cover.writer → P (MendMeta room host cover last) (mend_meta_step room host cover last)
@@ -168,10 +169,12 @@ module _ (P : Call → Step → Type 0) (old : State) (caller : ℕ) (each : OfE
       one (P (Mark holder size top)) _ _ old (timed t.times old) reply new (each.truncates holder h (its_hold caller holder old.table.holders h is) (truncate_stamp t.time top) size top (truncate_item t.time size top may.near may.stamp_left) (stamp_above t.time top)) refl t.makes))
   acting (Move holder to) reply new a = by_holder (P (Move holder to)) caller holder old reply new _ a (λ h e (x : RenamesRoom h to old reply new). one (P (Move holder to)) _ _ old old reply new (each.renames holder h e to) refl x.makes)
   acting (Release holder) reply new a = by_holder (P (Release holder)) caller holder old reply new _ a (λ h e m. one (P (Release holder)) _ _ old old reply new (each.releases holder h e) refl m)
-  acting (StartFlat room) reply new a = by_check (P (StartFlat room)) _ old reply new _ a (λ m. one (P (StartFlat room)) _ _ old (drawn old) reply new (each.starts room (begun_flat old caller room) refl) refl m)
+  acting (StartFlat room) reply new a = by_check (P (StartFlat room)) _ old reply new _ a (λ m. one (P (StartFlat room)) _ _ old (drawn old) reply new (each.starts room (begun_flat old caller room making.Flat) refl) refl m)
   acting (PutFlat flat bytes) reply new a = by_flattening (P (PutFlat flat bytes)) caller Begun flat old reply new _ a (λ f e m. one (P (PutFlat flat bytes)) _ _ old old reply new (each.puts flat f e bytes) refl m)
   acting (SyncFlat flat) reply new a = by_flattening (P (SyncFlat flat)) caller Put flat old reply new _ a (λ f e m. one (P (SyncFlat flat)) _ _ old old reply new (each.flat_syncs flat f e) refl m)
   acting (InstallFlat flat) reply new a = by_flattening (P (InstallFlat flat)) caller Synced flat old reply new _ a (λ f e m. one (P (InstallFlat flat)) _ _ old old reply new (each.installs flat f e) refl m)
+  acting (StartPack room host writer) reply new a =
+      by_check (P (StartPack room host writer)) _ old reply new _ a (λ (x : StartsPackOf caller room host writer old reply new). one (P (StartPack room host writer)) _ _ old (drawn old) reply new (each.packs room host writer (begun_flat old caller room (making.Pack host writer)) refl x.named) refl x.makes)
   acting (SyncDropping room host writer is_log) reply new a =
       by_check (P (SyncDropping room host writer is_log)) _ old reply new _ a (λ (x : SyncsIt room host writer is_log old reply new). one (P (SyncDropping room host writer is_log)) _ _ old old reply new (each.dropping_syncs room host writer is_log x.named) refl x.makes)
   acting (Inspect writer) reply new a = by_check (P (Inspect writer)) (alive_check old writer) old reply new ((reply ≡ Done) × (new ≡ old)) a (λ x. none (P (Inspect writer)) old new x.1)

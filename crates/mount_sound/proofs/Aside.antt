@@ -1,19 +1,17 @@
--- Acts that leave alone what lies in the folder of flattened indices, and let nobody into a container that is held.
-use Rattle.std.proofs.Common.{◌≡◌, ◌≤◌, ℕ, List, [], ◌∷◌, ◌++◌, length, get_or, false, nat_eq, Option, Some, refl, ap, sym, ◌∙◌, ◌⊎◌, inl, inr, subst, arith}
+-- Acts that leave alone the files of flattenings, and let nobody into a container that is held.
+use Rattle.std.proofs.Common.{◌≡◌, ◌≤◌, ℕ, List, [], ◌∷◌, ◌++◌, length, false, Option, Some, refl, ap, sym, ◌∙◌, ◌⊎◌, inl, inr, subst, arith}
 use Rattle.std.specs.Prelude.{slice_get, Result}
 use Rattle.std.proofs.lemmas.Bool.{cases_eq}
 use Rattle.plfs_types.specs.declared.names.Path.{Path}
-use Rattle.container_layout.specs.declared.items.Item.TheVariants.{Flat}
-use Rattle.container_layout.proofs.Facts.{elsewhere}
 use Rattle.store_api.specs.declared.step.Answer.{Answer}
 use Rattle.store_api.specs.declared.store.Trouble.{Trouble}
 use Rattle.store_api.specs.declared.tree.Room.{Room}
 use Rattle.store_api.specs.declared.tree.Tree.{Tree}
 use Rattle.store_api.specs.Step.{Step, rooms as all_rooms, find_room, make_room, rename_room, make_folder, remove_folder, list_folder, create, remove, replace, length_of, read_at, write_at, cut, sync}
-use Rattle.store_api.specs.Room.{has_folder}
+use Rattle.store_api.specs.Room.{has_folder, is_top}
 use Rattle.store_laws.specs.Changes.{with_room}
 use Rattle.store_laws.specs.Files.{file_at, kept_at}
-use Rattle.store_laws.specs.Naming.{IsPathOf, NamesFile, NamesKept, NamesFolder, KeepsRoom}
+use Rattle.store_laws.specs.Naming.{NamesFile, NamesKept, NamesFolder, KeepsRoom}
 use Rattle.store_laws.specs.Outcomes.{IsLook}
 use Rattle.store_laws.specs.Tells.{Tells}
 use Rattle.store_laws.proofs.Facts.{keeps_rooms, look_told, other_room, slice_get_more, create_told, cut_told, make_folder_told, make_room_told, remove_folder_told, remove_told, rename_room_told, replace_told, sync_told, write_told}
@@ -21,34 +19,30 @@ use Rattle.mount_model.specs.declared.row.Flattening.{Flattening}
 use Rattle.mount_model.specs.declared.row.Holder.{Holder}
 use Rattle.mount_model.specs.declared.row.Making.{Making}
 use Rattle.mount_model.specs.declared.row.Making.TheVariants as making
-use Rattle.mount_model.specs.Paths.{Name, openhosts, flats, flat_path, temporary, temporary_of}
+use Rattle.mount_model.specs.Paths.{openhosts, installed_item, installed_of, flat_path, temporary}
 use Rattle.mount_model.specs.State.{Table}
 use Rattle.mount_model.specs.Table.{holder_at, flattening_at}
-use Rattle.mount_sound.specs.Flats.{IsRightFlat, IsFlatteningIn, AreRightFlats, AreBeingMade}
+use Rattle.mount_sound.specs.Flats.{IsBegunIn, IsRightFor, IsFlatteningIn, AreRightFlats, AreBeingMade}
 use Rattle.mount_sound.specs.Held.{IsHeldIn, AreHeld}
 use Rattle.mount_sound.proofs.Acting.{ActsOn}
-use Rattle.mount_sound.proofs.Flats.{KeepsAllEntries, flats_frame}
-use Rattle.mount_sound.proofs.NewRooms.{IsBare, made_bare, no_item}
+use Rattle.mount_sound.proofs.FlatPaths.{IsFlattenings, is_installeds, is_temporarys}
+use Rattle.mount_sound.proofs.Flats.{KeepsAllEntries, right_frame}
+use Rattle.mount_sound.proofs.NewRooms.{IsBare, hostdir_below, made_bare, no_item}
 
 -- ---- a step
 
--- The step names no file in the folder of flattened indices, and doesn't make or remove the folder of who has the
--- container open.
+-- The step names no file of a flattening, and doesn't make or remove the folder of who has the container open.
 pub record IsAside (step : Step) : Type 0 where
-  pub files : (n : ℕ) (path : Path) → NamesKept step n path → path.folder ≡ flats → ⊥
+  pub files : (n : ℕ) (path : Path) → NamesKept step n path → IsFlattenings path → ⊥
   pub folders : (n : ℕ) → NamesFolder step n openhosts → ⊥
 
--- the step names no file in the folder of flattened indices
+-- the step names no file of a flattening
 abbrev pub SparesFlats : Step → Type 0
-SparesFlats step = (n : ℕ) (path : Path) → NamesKept step n path → path.folder ≡ flats → ⊥
+SparesFlats step = (n : ℕ) (path : Path) → NamesKept step n path → IsFlattenings path → ⊥
 
 -- the step doesn't make the folder of who has the container open, or remove it
 abbrev pub OpensNone : Step → Type 0
 OpensNone step = (n : ℕ) → NamesFolder step n openhosts → ⊥
-
--- a path of a folder with another first byte
-pub other_folder : (folder file : Name) (path : Path) → nat_eq (get_or folder 0 0) (get_or flats 0 0) ≡ false → IsPathOf folder file path → path.folder ≡ flats → ⊥
-other_folder folder file path apart named at = elsewhere (ap (λ (n : Name). get_or n 0 0) (sym named.0 ∙ at)) apart
 
 pub look_aside : (step : Step) → IsLook step → IsAside step
 look_aside (make_folder n folder) look = absurd look
@@ -67,10 +61,10 @@ named_kept step n path named = named
 
 -- ---- a room
 
--- flattened indices and temporary files are as they were
+-- what was installed and temporary files are as they were
 pub record IsAsideOf (room new : Room) : Type 0 where
-  pub files : (path : Path) → path.folder ≡ flats → file_at new path ≡ file_at room path
-  pub kepts : (path : Path) → path.folder ≡ flats → kept_at new path ≡ kept_at room path
+  pub files : (path : Path) → IsFlattenings path → file_at new path ≡ file_at room path
+  pub kepts : (path : Path) → IsFlattenings path → kept_at new path ≡ kept_at room path
 
 aside_refl : (room : Room) → IsAsideOf room room
 aside_refl room = record { files = λ path at. refl; kepts = λ path at. refl }
@@ -217,32 +211,36 @@ module _ (tree after : Tree) (goes : GoesAside tree after) (keeps : (n : ℕ) (r
   goes_on : (n : ℕ) (room new : Room) → slice_get tree.rooms n ≡ Some room → slice_get after.rooms n ≡ Some new → IsAsideOf room new
   goes_on n room new e now = let o = goes.on n room e in subst (IsAsideOf room) (one_room o.0 new (slice_get after.rooms n) o.1 now) o.2
 
-  right_on : (n : ℕ) (room new : Room) → slice_get tree.rooms n ≡ Some room → slice_get after.rooms n ≡ Some new → (bytes : List ℕ) → IsRightFlat room bytes → IsRightFlat new bytes
-  right_on n room new e now bytes r = flats_frame room new (keeps n room new e now) bytes r
+  right_on : (n : ℕ) (room new : Room) → slice_get tree.rooms n ≡ Some room → slice_get after.rooms n ≡ Some new → (makes : Making) (bytes : List ℕ) → IsRightFor room makes bytes → IsRightFor new makes bytes
+  right_on n room new e now makes bytes r = right_frame room new (keeps n room new e now) makes bytes r
 
-  -- Flattened indices stay right.
+  installed_below : (makes : Making) (id : ℕ) → is_top (installed_of makes id).folder ≡ false
+  installed_below making.Flat id = refl
+  installed_below (making.Pack host writer) id = hostdir_below host
+
+  -- What was installed stays right.
   pub flats_on : AreRightFlats tree → AreRightFlats after
-  flats_on flats n new now id bytes h = elim (goes.from n new now) as (λ _. IsRightFlat new bytes × (length bytes ≤ kept_at new (flat_path id))) [
+  flats_on flats n new now makes id bytes h = elim (goes.from n new now) as (λ _. IsRightFor new makes bytes × (length bytes ≤ kept_at new (installed_of makes id))) [
     | inl (room, e) ↦
         let a : IsAsideOf room new = goes_on n room new e now in
-        let f = flats n room e id bytes (record { is_item = h.is_item; there = sym (a.files (flat_path id) refl) ∙ h.there }) in
-        (right_on n room new e now bytes f.0, omega (arith, f.1, a.kepts (flat_path id) refl))
-    | inr bare ↦ absurd (no_item new (Flat id) bytes bare refl h)
+        let f = flats n room e makes id bytes (record { is_item = h.is_item; there = sym (a.files (installed_of makes id) (is_installeds makes id)) ∙ h.there }) in
+        (right_on n room new e now makes bytes f.0, omega (arith, f.1, a.kepts (installed_of makes id) (is_installeds makes id)))
+    | inr bare ↦ absurd (no_item new (installed_item makes id) bytes bare (installed_below makes id) h)
   ]
 
-  temporary_aside : (f : Flattening) → f.makes ≡ making.Flat → (temporary f).folder ≡ flats
-  temporary_aside f e = ap (λ (m : Making). (temporary_of m f.id).folder) e
+  begun_on : (n : ℕ) (room new : Room) → slice_get tree.rooms n ≡ Some room → slice_get after.rooms n ≡ Some new → (makes : Making) (id : ℕ) → IsBegunIn room makes id → IsBegunIn new makes id
+  begun_on n room new e now making.Flat id begun = (goes_on n room new e now).files (flat_path id) (is_installeds making.Flat id) ∙ begun
+  begun_on n room new e now (making.Pack host writer) id begun = let k = keeps n room new e now host writer begun.0 begun.1 in (k.content, k.stands)
 
   being_made_on : (f : Flattening) (room new : Room) → slice_get tree.rooms f.room ≡ Some room → slice_get after.rooms f.room ≡ Some new → IsFlatteningIn room f → IsFlatteningIn new f
   being_made_on f room new e now i =
       let a : IsAsideOf room new = goes_on f.room room new e now in
-      let at : (temporary f).folder ≡ flats = temporary_aside f i.makes in
+      let at : IsFlattenings (temporary f) = is_temporarys f.makes f.id in
       record {
-        makes = i.makes;
+        begun = begun_on f.room room new e now f.makes f.id i.begun;
         bytes = i.bytes;
         there = a.files (temporary f) at ∙ i.there;
-        uninstalled = a.files (flat_path f.id) refl ∙ i.uninstalled;
-        put = λ far. right_on f.room room new e now i.bytes (i.put far);
+        put = λ far. right_on f.room room new e now f.makes i.bytes (i.put far);
         synced = λ far. omega (arith, i.synced far, a.kepts (temporary f) at);
       }
 

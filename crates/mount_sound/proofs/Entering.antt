@@ -51,7 +51,7 @@ allowed_owner allowed (Flat n) id o w = absurd (cc)
 allowed_owner allowed (TmpFlat n) id o w = absurd (cc)
 allowed_owner allowed (Index host writer) id o w = let same : writer ≡ id = cc in subst allowed same w
 allowed_owner allowed (Log host writer) id o w = let same : writer ≡ id = cc in subst allowed same w
-allowed_owner allowed (Packed host writer) id o w = let same : writer ≡ id = cc in subst allowed same w
+allowed_owner allowed (Packed host writer) id o w = absurd (cc)
 allowed_owner allowed (TmpPacked host n) id o w = absurd (cc)
 
 pub absent : (o : Option (List ℕ)) → ((bytes : List ℕ) → o ≡ Some bytes → ⊥) → o ≡ None

@@ -1,14 +1,15 @@
--- Which acts leave a file as it is, and that most leave those in the folder of flattened indices.
-use Rattle.std.proofs.Common.{◌≡◌, ℕ, List, Some, None, refl, ap, sym, ◌∙◌, ◌⊎◌, inl, inr}
+-- Which acts leave a file as it is, and that most leave one that is no dropping.
+use Rattle.std.proofs.Common.{◌≡◌, ℕ, List, get_or, Some, None, refl, ap, sym, ◌∙◌, ◌⊎◌, inl, inr}
 use Rattle.std.specs.Prelude.{slice_get}
 use Rattle.std.proofs.lemmas.Bool.{cases_eq}
 use Rattle.plfs_types.specs.declared.names.Path.{Path}
+use Rattle.container_layout.proofs.Facts.{elsewhere}
 use Rattle.store_api.specs.declared.tree.Room.{Room}
 use Rattle.store_api.specs.declared.tree.Tree.{Tree}
 use Rattle.store_api.specs.Step.{Step, make_folder, remove_folder, create, remove, replace, write_at, cut, sync}
 use Rattle.store_laws.specs.Changes.{Created}
 use Rattle.store_laws.specs.Files.{file_at}
-use Rattle.store_laws.specs.Naming.{NamesFile}
+use Rattle.store_laws.specs.Naming.{IsPathOf, NamesFile}
 use Rattle.store_laws.specs.Outcomes.{IsLook}
 use Rattle.store_laws.specs.Tells.{Tells}
 use Rattle.store_laws.proofs.Facts.{changed_room, create_told, keeps_rooms, other_room}
@@ -17,11 +18,12 @@ use Rattle.mount_model.specs.declared.call.Call.TheVariants.{PutFlat, InstallFla
 use Rattle.mount_model.specs.declared.row.Flattening.{Flattening}
 use Rattle.mount_model.specs.Flattening.{put_flat_step, install_step}
 use Rattle.mount_model.specs.Making.{Told}
-use Rattle.mount_model.specs.Paths.{flats}
+use Rattle.mount_model.specs.Paths.{Name, index_path, log_path, meta_path, open_path, openhosts}
 use Rattle.mount_model.specs.State.{Table}
 use Rattle.mount_model.specs.Table.{flattening_at}
 use Rattle.mount_sound.proofs.Acting.{OfEachAct, ActsOn}
-use Rattle.mount_sound.proofs.Aside.{one_room, other_folder}
+use Rattle.mount_sound.proofs.Aside.{one_room}
+use Rattle.mount_sound.proofs.FlatPaths.{IsFlattenings, index_no_flattenings, log_no_flattenings, not_flattenings, other_folder}
 
 -- ---- a step that leaves a file
 
@@ -72,7 +74,7 @@ module _ (n : ℕ) (path : Path) (tree : Tree) (room : Room) (there : slice_get 
   acts_leave after (inl same) = as_before after same
   acts_leave after (inr a) = left a.step a.told after a.holds a.tells
 
--- ---- a file in the folder of flattened indices
+-- ---- a file that is no dropping
 
 look_leaves : (n : ℕ) (path : Path) (step : Step) → IsLook step → LeavesFile n path step
 look_leaves n path (make_folder m folder) look = absurd look
@@ -85,24 +87,47 @@ look_leaves n path (cut m folder file len) look = absurd look
 look_leaves n path (sync m folder file) look = absurd look
 look_leaves n path step look = inl (λ named. named)
 
-module _ (n : ℕ) (path : Path) (at : path.folder ≡ flats) (table : Table) (next caller : ℕ) (on : Call → Type 0)
+-- the path is of no log or index dropping, and of no entry of an open writer
+pub record IsNoDropping (path : Path) : Type 0 where
+  pub logs : (host writer : ℕ) → IsPathOf (log_path host writer).folder (log_path host writer).file path → ⊥
+  pub indices : (host writer : ℕ) → IsPathOf (index_path host writer).folder (index_path host writer).file path → ⊥
+  pub opens : (host writer : ℕ) → IsPathOf openhosts (open_path host writer).file path → ⊥
+
+pub flattening_no_dropping : (path : Path) → IsFlattenings path → IsNoDropping path
+flattening_no_dropping path of = record {
+  logs = λ host writer named. not_flattenings (log_path host writer) path (log_no_flattenings host writer) named of;
+  indices = λ host writer named. not_flattenings (index_path host writer) path (index_no_flattenings host writer) named of;
+  opens = λ host writer named. other_folder openhosts (open_path host writer).file path (refl, refl) named of;
+}
+
+first_byte : (a b : Name) → a ≡ b → get_or a 0 0 ≡ get_or b 0 0
+first_byte a b e = ap (λ (n : Name). get_or n 0 0) e
+
+pub meta_no_dropping : (last bytes stamp host writer : ℕ) → IsNoDropping (meta_path last bytes stamp host writer)
+meta_no_dropping last bytes stamp host writer = record {
+  logs = λ h w named. elsewhere (first_byte _ _ named.0) refl;
+  indices = λ h w named. elsewhere (first_byte _ _ named.0) refl;
+  opens = λ h w named. elsewhere (first_byte _ _ named.0) refl;
+}
+
+module _ (n : ℕ) (path : Path) (apart : IsNoDropping path) (table : Table) (next caller : ℕ) (on : Call → Type 0)
     (puts : (flat : ℕ) (g : Flattening) → flattening_at flat table.flattenings ≡ Some g → (bytes : List ℕ) → on (PutFlat flat bytes) → NamesFile (put_flat_step g bytes) n path → ⊥)
     (installs : (flat : ℕ) (g : Flattening) → flattening_at flat table.flattenings ≡ Some g → on (InstallFlat flat) → NamesFile (install_step g) n path → ⊥) where
   -- Where puts and installs leave it, so does the act of every call.
-  pub flat_acts : OfEachAct table next caller (λ call step. on call → LeavesFile n path step)
-  flat_acts = record {
+  pub file_acts : OfEachAct table next caller (λ call step. on call → LeavesFile n path step)
+  file_acts = record {
     looks = λ call step look on_it. look_leaves n path step look;
     rooms = λ name on_it. inl (λ named. named);
     enters = λ room host most on_it. inr tt;
     hostdirs = λ writer row on_it. inl (λ named. named);
     indices = λ writer row e on_it. inr tt;
     logs = λ writer row e on_it. inr tt;
-    writes = λ writer row e from bytes on_it. inl (λ named. other_folder _ _ path refl named.1 at);
-    flushes = λ writer row e on_it. inl (λ named. other_folder _ _ path refl named.1 at);
+    writes = λ writer row e from bytes on_it. inl (λ named. apart.logs row.host row.id named.1);
+    flushes = λ writer row e on_it. inl (λ named. apart.indices row.host row.id named.1);
     log_syncs = λ writer row on_it. inl (λ named. named);
     index_syncs = λ writer row on_it. inl (λ named. named);
     metas = λ writer row on_it. inr tt;
-    exits = λ writer row e on_it. inl (λ named. other_folder _ _ path refl named.1 at);
+    exits = λ writer row e on_it. inl (λ named. apart.opens row.host row.id named.1);
     holds = λ room on_it. inl (λ named. named);
     truncates = λ holder h e stamp size top item above on_it. inr tt;
     renames = λ holder h e to on_it. inl (λ named. named);
@@ -111,9 +136,10 @@ module _ (n : ℕ) (path : Path) (at : path.folder ≡ flats) (table : Table) (n
     puts = λ flat g e bytes on_it. inl (puts flat g e bytes on_it);
     flat_syncs = λ flat g e on_it. inl (λ named. named);
     installs = λ flat g e on_it. inl (installs flat g e on_it);
+    packs = λ room host writer f makes numbers on_it. inr tt;
     dropping_syncs = λ room host writer is_log numbers on_it. inl (λ named. named);
-    mends = λ room host writer count numbers on_it. inl (λ named. other_folder _ _ path refl named.1 at);
+    mends = λ room host writer count numbers on_it. inl (λ named. apart.indices host writer named.1);
     mend_metas = λ room host cover last numbers on_it. inr tt;
-    buries = λ room host writer numbers on_it. inl (λ named. other_folder _ _ path refl named.1 at);
+    buries = λ room host writer numbers on_it. inl (λ named. apart.opens host writer named.1);
     mend_holds = λ room on_it. inl (λ named. named);
   }

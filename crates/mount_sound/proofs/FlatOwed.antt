@@ -1,9 +1,7 @@
 -- What the caller of a put owes lasts while others call: its temporary file is empty yet, and its bytes are right.
-use Rattle.std.proofs.Common.{◌≡◌, ◌<◌, ◌^◌, ℕ, List, [], Some, None, refl, ap, sym, ◌∙◌, ◌⊎◌, inl, inr, subst}
+use Rattle.std.proofs.Common.{◌≡◌, ◌<◌, ◌^◌, ℕ, List, [], Some, None, ap, sym, ◌∙◌, ◌⊎◌, inl, inr, subst}
 use Rattle.std.specs.Prelude.{slice_get}
 use Rattle.std.proofs.lemmas.Bool.{cases_eq}
-use Rattle.container_layout.specs.declared.items.Item.TheVariants.{Flat, TmpFlat}
-use Rattle.container_layout.specs.Paths.{path_of}
 use Rattle.store_api.specs.declared.tree.Room.{Room}
 use Rattle.store_api.specs.declared.tree.Tree.{Tree}
 use Rattle.store_api.specs.Step.{Step}
@@ -17,10 +15,10 @@ use Rattle.mount_model.specs.declared.row.Flattening.{Flattening}
 use Rattle.mount_model.specs.declared.row.FlatStage.{FlatStage}
 use Rattle.mount_model.specs.declared.row.FlatStage.TheVariants.{Begun, Synced}
 use Rattle.mount_model.specs.declared.row.Making.{Making}
-use Rattle.mount_model.specs.declared.row.Making.TheVariants as making
 use Rattle.mount_model.specs.Entering.{next_id}
 use Rattle.mount_model.specs.Flattening.{OnFlattening, install_step}
-use Rattle.mount_model.specs.Paths.{temporary_of, installed_of}
+use Rattle.mount_model.specs.Paths.{installed_item, installed_of, temporary_item, temporary_of}
+use Rattle.mount_shape.specs.Named.{FitsNames}
 use Rattle.mount_model.specs.Regular.{IsRegular}
 use Rattle.mount_model.specs.State.{State, Table, timed}
 use Rattle.mount_model.specs.Step.{Answers, IsStep}
@@ -32,16 +30,16 @@ use Rattle.mount_sound.specs.Ledger.{Ledger}
 use Rattle.mount_sound.specs.Owed.{May, MayPut, Owes}
 use Rattle.mount_sound.specs.Sound.{IsSoundFor}
 use Rattle.mount_sound.proofs.Acting.{OfEachAct, ActsOn, acts_so, answer_acts}
-use Rattle.mount_sound.proofs.Aside.{other_folder}
-use Rattle.mount_sound.proofs.FlatFiles.{LeavesFile, StandsAfter, acts_leave, as_before, flat_acts}
+use Rattle.mount_sound.proofs.FlatPaths.{is_temporarys, one_folder}
+use Rattle.mount_sound.proofs.FlatFiles.{LeavesFile, StandsAfter, acts_leave, as_before, file_acts, flattening_no_dropping}
 use Rattle.mount_sound.proofs.EntriesLater.{room_keeps}
-use Rattle.mount_sound.proofs.Flats.{KeepsAllEntries, flats_frame}
-use Rattle.mount_sound.proofs.FlatRooms.{is_flat, is_temporary}
-use Rattle.mount_sound.proofs.Flattening.{flat_id_fits}
+use Rattle.mount_sound.proofs.Flats.{KeepsAllEntries, right_frame}
+use Rattle.mount_sound.proofs.Flattening.{AreNamed, are_named, flat_id_fits}
 use Rattle.mount_sound.proofs.FlatsLater.{underway_of}
 use Rattle.mount_sound.proofs.Items.{apart}
 use Rattle.mount_sound.proofs.Making.{accounted, its_writers, one_tree}
-use Rattle.mount_sound.proofs.SoundLater.{step_keeps}
+use Rattle.mount_sound.proofs.Makings.{is_installed, is_temporary, one_temporary, two_kinds}
+use Rattle.mount_sound.proofs.SoundLater.{its_flats, step_keeps}
 use Rattle.mount_sound.proofs.Steps.{untimed_regular}
 
 -- ---- the temporary file of a flattening
@@ -52,31 +50,26 @@ IsOnOther id (PutFlat flat bytes) = flat ≡ id → ⊥
 IsOnOther id (InstallFlat flat) = flat ≡ id → ⊥
 IsOnOther id call = Unit {0}
 
-module _ (n id : ℕ) (fits : id < 2 ^ 64) where
+module _ (n : ℕ) (makes : Making) (id : ℕ) (named : FitsNames makes) (fits : id < 2 ^ 64) where
   -- another flattening's files
-  not_its : (makes : Making) (other : ℕ) → other < 2 ^ 64 → (other ≡ id → ⊥) → IsPathOf (temporary_of makes other).folder (temporary_of makes other).file (path_of (TmpFlat id)) → ⊥
-  not_its making.Flat other small not named = apart (TmpFlat id) (TmpFlat other) (is_temporary id fits) (is_temporary other small) (λ e. not (one_id other id (sym e))) named.0 named.1
-    where
-      one_id : (a b : ℕ) → TmpFlat a ≡ TmpFlat b → a ≡ b
-      one_id a b e = cc
-  not_its (making.Pack host writer) other small not named = other_folder _ _ (path_of (TmpFlat id)) refl named refl
+  not_its : (others : Making) (other : ℕ) → FitsNames others → other < 2 ^ 64 → (other ≡ id → ⊥) → IsPathOf (temporary_of others other).folder (temporary_of others other).file (temporary_of makes id) → ⊥
+  not_its others other names small not its = apart (temporary_item makes id) (temporary_item others other) (is_temporary makes id named fits) (is_temporary others other names small) (λ e. not (one_temporary others makes other id (sym e))) its.0 its.1
 
-  not_installed : (makes : Making) (other : ℕ) → other < 2 ^ 64 → IsPathOf (temporary_of makes other).folder (installed_of makes other).file (path_of (TmpFlat id)) → ⊥
-  not_installed making.Flat other small named = apart (TmpFlat id) (Flat other) (is_temporary id fits) (is_flat other small) (λ e. cc) named.0 named.1
-  not_installed (making.Pack host writer) other small named = other_folder _ _ (path_of (TmpFlat id)) refl named refl
+  not_installed : (others : Making) (other : ℕ) → FitsNames others → other < 2 ^ 64 → IsPathOf (temporary_of others other).folder (installed_of others other).file (temporary_of makes id) → ⊥
+  not_installed others other names small its = apart (temporary_item makes id) (installed_item others other) (is_temporary makes id named fits) (is_installed others other names small) (two_kinds makes others id other) (its.0 ∙ sym (one_folder others other)) its.1
 
-  module _ (table : Table) (next caller : ℕ) (all_fit : (q : ℕ) (g : Flattening) → flattening_at q table.flattenings ≡ Some g → g.id < 2 ^ 64) where
+  module _ (table : Table) (next caller : ℕ) (all_fit : (q : ℕ) (g : Flattening) → flattening_at q table.flattenings ≡ Some g → g.id < 2 ^ 64) (all_named : (q : ℕ) (g : Flattening) → flattening_at q table.flattenings ≡ Some g → FitsNames g.makes) where
     another : (flat : ℕ) (g : Flattening) → flattening_at flat table.flattenings ≡ Some g → (flat ≡ id → ⊥) → g.id ≡ id → ⊥
     another flat g e other same = other (sym (flattening_at_id flat table.flattenings g e) ∙ same)
 
-    install_leaves : (flat : ℕ) (g : Flattening) → flattening_at flat table.flattenings ≡ Some g → (flat ≡ id → ⊥) → NamesFile (install_step g) n (path_of (TmpFlat id)) → ⊥
-    install_leaves flat g e other (room, inl named) = not_its g.makes g.id (all_fit flat g e) (another flat g e other) named
-    install_leaves flat g e other (room, inr named) = not_installed g.makes g.id (all_fit flat g e) named
+    install_leaves : (flat : ℕ) (g : Flattening) → flattening_at flat table.flattenings ≡ Some g → (flat ≡ id → ⊥) → NamesFile (install_step g) n (temporary_of makes id) → ⊥
+    install_leaves flat g e other (room, inl its) = not_its g.makes g.id (all_named flat g e) (all_fit flat g e) (another flat g e other) its
+    install_leaves flat g e other (room, inr its) = not_installed g.makes g.id (all_named flat g e) (all_fit flat g e) its
 
-    its_acts : OfEachAct table next caller (λ call step. IsOnOther id call → LeavesFile n (path_of (TmpFlat id)) step)
-    its_acts = flat_acts n (path_of (TmpFlat id)) refl table next caller (IsOnOther id)
-        (λ flat g e bytes on named. not_its g.makes g.id (all_fit flat g e) (another flat g e on) named.1)
-        (λ flat g e on named. install_leaves flat g e on named)
+    its_acts : OfEachAct table next caller (λ call step. IsOnOther id call → LeavesFile n (temporary_of makes id) step)
+    its_acts = file_acts n (temporary_of makes id) (flattening_no_dropping (temporary_of makes id) (is_temporarys makes id)) table next caller (IsOnOther id)
+        (λ flat g e bytes on its. not_its g.makes g.id (all_named flat g e) (all_fit flat g e) (another flat g e on) its.1)
+        (λ flat g e on its. install_leaves flat g e on its)
 
 -- ---- another caller's step
 
@@ -99,33 +92,33 @@ on_other other (InstallFlat flat) old reply new id f found not a = elim (cases_e
 ]
 on_other other call old reply new id f found not a = inl tt
 
-module _ (id : ℕ) (f : Flattening) (bytes : List ℕ) (tree : Tree) (room : Room) (there : slice_get tree.rooms f.room ≡ Some room) (stands : file_at room (path_of (TmpFlat id)) ≡ Some bytes) where
+module _ (id : ℕ) (f : Flattening) (bytes : List ℕ) (tree : Tree) (room : Room) (there : slice_get tree.rooms f.room ≡ Some room) (stands : file_at room (temporary_of f.makes id) ≡ Some bytes) where
   -- the temporary file stands as it stood, in the tree that the state tells
   abbrev StandsIn : State → Type 0
-  StandsIn new = (after : Tree) → new.store.tree ≡ Some after → StandsAfter f.room (path_of (TmpFlat id)) tree room there bytes stands after
+  StandsIn new = (after : Tree) → new.store.tree ≡ Some after → StandsAfter f.room (temporary_of f.makes id) tree room there bytes stands after
 
-  answered_leaves : (old : State) → IsRegular old → old.store.tree ≡ Some tree → flattening_at id old.table.flattenings ≡ Some f → (other : ℕ) → (f.owner ≡ other → ⊥) → (call : Call) (reply : Reply) (new : State) → Answers old other call reply new → StandsIn new
-  answered_leaves old r told found other not call reply new a after now = elim (on_other other call old reply new id f found not a) as (λ _. StandsAfter f.room (path_of (TmpFlat id)) tree room there bytes stands after) [
+  answered_leaves : (old : State) → IsRegular old → AreNamed old → old.store.tree ≡ Some tree → flattening_at id old.table.flattenings ≡ Some f → (other : ℕ) → (f.owner ≡ other → ⊥) → (call : Call) (reply : Reply) (new : State) → Answers old other call reply new → StandsIn new
+  answered_leaves old r named told found other not call reply new a after now = elim (on_other other call old reply new id f found not a) as (λ _. StandsAfter f.room (temporary_of f.makes id) tree room there bytes stands after) [
     | inl on ↦
         let fits : id < 2 ^ 64 = subst (λ i. i < 2 ^ 64) (flattening_at_id id old.table.flattenings f found) (flat_id_fits old r id f found) in
-        let P : Step → Type 0 = λ step. IsOnOther id call → LeavesFile f.room (path_of (TmpFlat id)) step in
-        let g = answer_acts (λ c step. IsOnOther id c → LeavesFile f.room (path_of (TmpFlat id)) step) old other (its_acts f.room id fits old.table (next_id old) other (λ q x e. flat_id_fits old r q x e)) call reply new tree a told in
+        let P : Step → Type 0 = λ step. IsOnOther id call → LeavesFile f.room (temporary_of f.makes id) step in
+        let g = answer_acts (λ c step. IsOnOther id c → LeavesFile f.room (temporary_of f.makes id) step) old other (its_acts f.room f.makes id (named id f found) fits old.table (next_id old) other (λ q x e. flat_id_fits old r q x e) named) call reply new tree a told in
         let is : g.0 ≡ after = one_tree g.0 after new.store.tree g.1 now in
-        acts_leave f.room (path_of (TmpFlat id)) tree room there bytes stands after
-        (acts_so P (LeavesFile f.room (path_of (TmpFlat id))) tree after (λ step holds. holds on) (subst (ActsOn P tree) is g.2))
-    | inr same ↦ as_before f.room (path_of (TmpFlat id)) tree room there bytes stands after (one_tree after tree new.store.tree now (ap (λ (x : State). x.store.tree) same ∙ told))
+        acts_leave f.room (temporary_of f.makes id) tree room there bytes stands after
+        (acts_so P (LeavesFile f.room (temporary_of f.makes id)) tree after (λ step holds. holds on) (subst (ActsOn P tree) is g.2))
+    | inr same ↦ as_before f.room (temporary_of f.makes id) tree room there bytes stands after (one_tree after tree new.store.tree now (ap (λ (x : State). x.store.tree) same ∙ told))
   ]
 
-  cut_leaves : (old : State) → IsRegular old → old.store.tree ≡ Some tree → flattening_at id old.table.flattenings ≡ Some f → (other : ℕ) → (f.owner ≡ other → ⊥) → (call : Call) (short : State) → IsCutShort old other call short → StandsIn short
-  cut_leaves old r told found other not call short (inl same) after now = as_before f.room (path_of (TmpFlat id)) tree room there bytes stands after (one_tree after tree short.store.tree now (ap (λ (x : State). x.store.tree) same ∙ told))
-  cut_leaves old r told found other not call short (inr (reply, which, a)) after now = answered_leaves old r told found other not call reply short a after now
+  cut_leaves : (old : State) → IsRegular old → AreNamed old → old.store.tree ≡ Some tree → flattening_at id old.table.flattenings ≡ Some f → (other : ℕ) → (f.owner ≡ other → ⊥) → (call : Call) (short : State) → IsCutShort old other call short → StandsIn short
+  cut_leaves old r named told found other not call short (inl same) after now = as_before f.room (temporary_of f.makes id) tree room there bytes stands after (one_tree after tree short.store.tree now (ap (λ (x : State). x.store.tree) same ∙ told))
+  cut_leaves old r named told found other not call short (inr (reply, which, a)) after now = answered_leaves old r named told found other not call reply short a after now
 
-  step_leaves : (old new : State) (other : ℕ) (ask : Ask) (reply : Reply) → IsRegular old → old.store.tree ≡ Some tree → flattening_at id old.table.flattenings ≡ Some f → (f.owner ≡ other → ⊥) → IsStep old other ask reply new → StandsIn new
-  step_leaves old new other ask reply r told found not step after now = step_cases old other ask reply new (StandsAfter f.room (path_of (TmpFlat id)) tree room there bytes stands after) step
-      (λ none a. answered_leaves old r told found other not ask.call reply new a after now)
+  step_leaves : (old new : State) (other : ℕ) (ask : Ask) (reply : Reply) → IsRegular old → AreNamed old → old.store.tree ≡ Some tree → flattening_at id old.table.flattenings ≡ Some f → (f.owner ≡ other → ⊥) → IsStep old other ask reply new → StandsIn new
+  step_leaves old new other ask reply r named told found not step after now = step_cases old other ask reply new (StandsAfter f.room (temporary_of f.makes id) tree room there bytes stands after) step
+      (λ none a. answered_leaves old r named told found other not ask.call reply new a after now)
       (λ k some x.
       let left : IsLeftBy old other ask.call new = stop_left old other k ask.call reply new x in
-      cut_leaves (timed None old) (untimed_regular old r) told found other not ask.call left.cut left.short after (sym left.like.tree ∙ now))
+      cut_leaves (timed None old) (untimed_regular old r) named told found other not ask.call left.cut left.short after (sym left.like.tree ∙ now))
 
 -- What the caller of a put owes lasts through each step of another caller.
 pub put_flat_lasts : (l : Ledger) (old new : State) (caller other flat : ℕ) (bytes : List ℕ) (ask : Ask) (reply : Reply) → (caller ≡ other → ⊥) → Owes old caller (PutFlat flat bytes) → May old other ask → IsStep old other ask reply new → IsSoundFor l old → Owes new caller (PutFlat flat bytes)
@@ -140,9 +133,8 @@ put_flat_lasts l old new caller other flat bytes ask reply apart owes may step s
     let same : later.shape.tree ≡ after = one_tree later.shape.tree after new.store.tree later.shape.told now in
     let keeps : KeepsAllEntries being.0 room = room_keeps l old new other ask reply (may.owes s.clean) step (its_writers l old s) (accounted (issued_after l old ask.call reply) new (its_writers (issued_after l old ask.call reply) new later))
     f.room being.0 room being.1 (ap (λ (t : Tree). slice_get t.rooms f.room) same ∙ here) in
-    let at : file_at being.0 (path_of (TmpFlat f.id)) ≡ Some [] = subst (λ m. file_at being.0 (temporary_of m f.id) ≡ Some []) being.2.makes was.empty in
     let its : flattening_at f.id old.table.flattenings ≡ Some f = ap (λ q. flattening_at q old.table.flattenings) is.is ∙ found in
     record {
-      empty = subst (λ m. file_at room (temporary_of m f.id) ≡ Some []) (sym being.2.makes) (step_leaves f.id f [] s.shape.tree being.0 being.1 at old new other ask reply s.regular s.shape.told its not step after now room here);
-      right = flats_frame being.0 room keeps bytes was.right;
+      empty = step_leaves f.id f [] s.shape.tree being.0 being.1 was.empty old new other ask reply s.regular (are_named old s.shape.tree (its_flats l old s)) s.shape.told its not step after now room here;
+      right = right_frame being.0 room keeps f.makes bytes was.right;
     }

@@ -201,6 +201,7 @@ module _ (old : State) (tree : Tree) (told : old.store.tree ≡ Some tree) (fit 
     renames = λ holder h e to owes on. unnamed _ (λ named. named) (λ named. named);
     releases = λ holder h e owes on. unnamed _ (λ named. named) (λ named. named);
     starts = λ room f makes owes on. unnamed _ (λ named. index_no.from f named.1) (λ named. log_no.from f named.1);
+    packs = λ room h w f makes numbers owes on. unnamed _ (λ named. index_no.from f named.1) (λ named. log_no.from f named.1);
     puts = λ flat f e bytes owes on. unnamed _ (λ named. index_no.from f named.1) (λ named. log_no.from f named.1);
     flat_syncs = λ flat f e owes on. unnamed _ (λ named. named) (λ named. named);
     installs = λ flat f e owes on. unnamed _ (λ named. replaced_no (index_path host writer) index_no f named.1) (λ named. replaced_no (log_path host writer) log_no f named.1);

@@ -94,6 +94,7 @@ module _ (l : Ledger) (old new : State) (caller other : ℕ) (ask : Ask) (reply 
     renames = λ holder k e to named. named;
     releases = λ holder k e named. named;
     starts = λ room f makes named. (trunc_no_flattenings stamp size).from f named.1;
+    packs = λ room host writer f makes numbers named. (trunc_no_flattenings stamp size).from f named.1;
     puts = λ flat f e bytes named. (trunc_no_flattenings stamp size).from f named.1;
     flat_syncs = λ flat f e named. named;
     installs = λ flat f e named. replaced h.room stamp size f named.1;

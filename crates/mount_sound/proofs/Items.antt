@@ -12,7 +12,8 @@ use Rattle.store_laws.proofs.Facts.{has_folder_same, file_at_same, kept_at_same}
 use Rattle.mount_model.specs.Paths.{Name}
 use Rattle.mount_sound.specs.Items.{HasItem, HasMeta, HasItemOf}
 
--- the writer that an item is of, and its host
+-- The writer that an item is of, and its host. A packed index is of none here: it stands by what its writer's metadata
+-- dropping tells.
 abbrev pub owner : Item → Option ℕ
 owner Access = None
 owner (OpenHost host writer) = Some writer
@@ -22,7 +23,7 @@ owner (Flat id) = None
 owner (TmpFlat id) = None
 owner (Index host writer) = Some writer
 owner (Log host writer) = Some writer
-owner (Packed host writer) = Some writer
+owner (Packed host writer) = None
 owner (TmpPacked host id) = None
 
 abbrev pub host_of : Item → Option ℕ
@@ -34,7 +35,7 @@ host_of (Flat id) = None
 host_of (TmpFlat id) = None
 host_of (Index host writer) = Some host
 host_of (Log host writer) = Some host
-host_of (Packed host writer) = Some host
+host_of (Packed host writer) = None
 host_of (TmpPacked host id) = None
 
 pub is_index : (host writer : ℕ) → host < 2 ^ 32 → writer < 2 ^ 64 → IsItem (Index host writer)

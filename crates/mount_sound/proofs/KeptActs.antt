@@ -202,6 +202,7 @@ module _ (l : Ledger) (old : State) (s : HasSoundWriters l old) (number host wri
     renames = λ holder h e to owes. record { index = tt; log = tt };
     releases = λ holder h e owes. record { index = tt; log = tt };
     starts = λ room f makes owes. record { index = tt; log = tt };
+    packs = λ room h w f makes numbers owes. record { index = tt; log = tt };
     puts = λ flat f e bytes owes. record { index = λ named. absurd (index_no.from f named.1); log = λ named. absurd (log_no.from f named.1) };
     flat_syncs = λ flat f e owes. record { index = tt; log = tt };
     installs = λ flat f e owes. record { index = λ named. replaced_no (index_path host writer) f index_no named.1; log = λ named. replaced_no (log_path host writer) f log_no named.1 };

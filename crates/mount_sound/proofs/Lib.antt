@@ -45,6 +45,7 @@ mod Live
 mod Local
 mod Looking
 mod Making
+mod Makings
 mod Mending
 mod MoreKept
 mod Mounting

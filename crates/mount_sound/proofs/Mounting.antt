@@ -36,7 +36,8 @@ use Rattle.mount_sound.specs.Flats.{AreRightFlats, AreBeingMade}
 use Rattle.mount_sound.specs.Held.{AreHeld}
 use Rattle.mount_sound.specs.Items.{HasItem}
 use Rattle.mount_sound.specs.Sound.{AreSound, IsSoundFor, IsSoundTree}
-use Rattle.mount_sound.proofs.Aside.{IsAside, goes_aside, flats_on, named_kept, one_room, other_folder}
+use Rattle.mount_sound.proofs.Aside.{IsAside, goes_aside, flats_on, named_kept, one_room}
+use Rattle.mount_sound.proofs.FlatPaths.{other_folder}
 use Rattle.mount_sound.proofs.Entering.{IsNew, new_here, absent}
 use Rattle.mount_sound.proofs.Flats.{KeepsAllEntries, same_entries}
 use Rattle.mount_sound.proofs.Frames.{writer_frame}
@@ -95,7 +96,7 @@ list_foreign room = record { aside = record { files = λ n path named at. named;
 
 mark_foreign : (room mount : ℕ) → IsForeign (mark_step room mount)
 mark_foreign room mount = record {
-  aside = record { files = λ n path named. other_folder _ _ path refl named.1; folders = λ n named. named };
+  aside = record { files = λ n path named. other_folder _ _ path (refl, refl) named.1; folders = λ n named. named };
   items = λ n item named. mark_folder_apart item named.1.0;
 }
 

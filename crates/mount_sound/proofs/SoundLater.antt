@@ -6,11 +6,11 @@ use Rattle.store_api.specs.Acts.{Stored}
 use Rattle.store_api.specs.declared.tree.Tree.{Tree}
 use Rattle.mount_model.specs.declared.call.Ask.{Ask}
 use Rattle.mount_model.specs.declared.call.Call.{Call}
-use Rattle.mount_model.specs.declared.call.Call.TheVariants.{Hold, Release, StartFlat, PutFlat, SyncFlat, InstallFlat, MendHold}
+use Rattle.mount_model.specs.declared.call.Call.TheVariants.{Hold, Release, StartFlat, PutFlat, SyncFlat, InstallFlat, StartPack, MendHold}
 use Rattle.mount_model.specs.declared.reply.Reply.{Reply}
 use Rattle.mount_model.specs.Entering.{next_id}
 use Rattle.mount_model.specs.History.{Event, state_after}
-use Rattle.mount_model.specs.Paths.{Name, openhosts}
+use Rattle.mount_model.specs.Paths.{Name, index_path, log_path, openhosts}
 use Rattle.mount_model.specs.Regular.{IsRegular}
 use Rattle.mount_model.specs.State.{State, Table, timed}
 use Rattle.mount_model.specs.Step.{Answers, IsStep, IsOwed}
@@ -24,10 +24,11 @@ use Rattle.mount_sound.specs.Ledger.{Ledger}
 use Rattle.mount_sound.specs.Owed.{Owes, May, IsLawful}
 use Rattle.mount_sound.specs.Sound.{IsSoundFor}
 use Rattle.mount_sound.proofs.Acting.{OfEachAct, ActsOn, acts_so, answer_acts}
-use Rattle.mount_sound.proofs.Aside.{AreFrom, HasSoundFlats, IsAside, OpensNone, SparesFlats, aside_keeps, goes_aside, look_aside, other_folder, stays_shut}
+use Rattle.mount_sound.proofs.Aside.{AreFrom, HasSoundFlats, IsAside, OpensNone, SparesFlats, aside_keeps, goes_aside, look_aside, stays_shut}
 use Rattle.mount_sound.proofs.EntriesLater.{keeps_each}
 use Rattle.mount_sound.proofs.HeldLater.{hold_keeps_held, release_keeps_held, mend_hold_keeps_held}
-use Rattle.mount_sound.proofs.FlatsLater.{start_flat_keeps_flats, put_flat_keeps_flats, sync_flat_keeps_flats, install_keeps_flats}
+use Rattle.mount_sound.proofs.FlatPaths.{index_no_flattenings, log_no_flattenings, not_flattenings, other_folder}
+use Rattle.mount_sound.proofs.FlatsLater.{start_flat_keeps_flats, start_pack_keeps_flats, put_flat_keeps_flats, sync_flat_keeps_flats, install_keeps_flats}
 use Rattle.mount_sound.proofs.Making.{HasSoundWriters, its_writers, IsAccounted, accounted, one_tree}
 use Rattle.mount_sound.proofs.Steps.{answers_keep, step_keeps_writers, untimed_owes, untimed_writers}
 
@@ -36,41 +37,42 @@ use Rattle.mount_sound.proofs.Steps.{answers_keep, step_keeps_writers, untimed_o
 no_hostdir : (host : ℕ) → openhosts ≡ hostdir_of host → ⊥
 no_hostdir host e = elsewhere (ap (λ (n : Name). get_or n 0 0) e) refl
 
--- a call that neither begins or ends a hold nor touches flattened indices
+-- a call that neither begins or ends a hold nor touches the files of flattenings
 abbrev pub IsAsideCall : Call → Type 0
 IsAsideCall (MendHold room) = ⊥
 IsAsideCall call = IsElsewhere call
 
 aside_dropping : (is_log : Bool) (room host writer : ℕ) → IsAside (sync_dropping_step room host writer is_log)
-aside_dropping true room host writer = record { files = λ n path named. other_folder _ _ path refl named.1; folders = λ n named. named }
-aside_dropping false room host writer = record { files = λ n path named. other_folder _ _ path refl named.1; folders = λ n named. named }
+aside_dropping true room host writer = record { files = λ n path named. not_flattenings (log_path host writer) path (log_no_flattenings host writer) named.1; folders = λ n named. named }
+aside_dropping false room host writer = record { files = λ n path named. not_flattenings (index_path host writer) path (index_no_flattenings host writer) named.1; folders = λ n named. named }
 
 pub its_acts : (table : Table) (id caller : ℕ) → OfEachAct table id caller (λ call step. IsAsideCall call → IsAside step)
 its_acts table id caller = record {
   looks = λ call step look aside. look_aside step look;
   rooms = λ name aside. record { files = λ n path named at. named; folders = λ n named. named };
-  enters = λ room host most aside. record { files = λ n path named. other_folder _ _ path refl named.1; folders = λ n named. named };
+  enters = λ room host most aside. record { files = λ n path named. other_folder _ _ path (refl, refl) named.1; folders = λ n named. named };
   hostdirs = λ writer row aside. record { files = λ n path named at. named; folders = λ n named. no_hostdir row.host named.1 };
-  indices = λ writer row e aside. record { files = λ n path named. other_folder _ _ path refl named.1; folders = λ n named. named };
-  logs = λ writer row e aside. record { files = λ n path named. other_folder _ _ path refl named.1; folders = λ n named. named };
-  writes = λ writer row e at bytes aside. record { files = λ n path named. other_folder _ _ path refl named.1; folders = λ n named. named };
-  flushes = λ writer row e aside. record { files = λ n path named. other_folder _ _ path refl named.1; folders = λ n named. named };
-  log_syncs = λ writer row aside. record { files = λ n path named. other_folder _ _ path refl named.1; folders = λ n named. named };
-  index_syncs = λ writer row aside. record { files = λ n path named. other_folder _ _ path refl named.1; folders = λ n named. named };
-  metas = λ writer row aside. record { files = λ n path named. other_folder _ _ path refl named.1; folders = λ n named. named };
-  exits = λ writer row e aside. record { files = λ n path named. other_folder _ _ path refl named.1; folders = λ n named. named };
+  indices = λ writer row e aside. record { files = λ n path named. not_flattenings (index_path row.host row.id) path (index_no_flattenings row.host row.id) named.1; folders = λ n named. named };
+  logs = λ writer row e aside. record { files = λ n path named. not_flattenings (log_path row.host row.id) path (log_no_flattenings row.host row.id) named.1; folders = λ n named. named };
+  writes = λ writer row e at bytes aside. record { files = λ n path named. not_flattenings (log_path row.host row.id) path (log_no_flattenings row.host row.id) named.1; folders = λ n named. named };
+  flushes = λ writer row e aside. record { files = λ n path named. not_flattenings (index_path row.host row.id) path (index_no_flattenings row.host row.id) named.1; folders = λ n named. named };
+  log_syncs = λ writer row aside. record { files = λ n path named. not_flattenings (log_path row.host row.id) path (log_no_flattenings row.host row.id) named.1; folders = λ n named. named };
+  index_syncs = λ writer row aside. record { files = λ n path named. not_flattenings (index_path row.host row.id) path (index_no_flattenings row.host row.id) named.1; folders = λ n named. named };
+  metas = λ writer row aside. record { files = λ n path named. other_folder _ _ path (refl, refl) named.1; folders = λ n named. named };
+  exits = λ writer row e aside. record { files = λ n path named. other_folder _ _ path (refl, refl) named.1; folders = λ n named. named };
   holds = λ room aside. absurd aside;
-  truncates = λ holder h e stamp size top item above aside. record { files = λ n path named. other_folder _ _ path refl named.1; folders = λ n named. named };
+  truncates = λ holder h e stamp size top item above aside. record { files = λ n path named. other_folder _ _ path (refl, refl) named.1; folders = λ n named. named };
   renames = λ holder h e to aside. record { files = λ n path named at. named; folders = λ n named. named };
   releases = λ holder h e aside. absurd aside;
   starts = λ room f makes aside. absurd aside;
+  packs = λ room host writer f makes numbers aside. absurd aside;
   puts = λ flat f e bytes aside. absurd aside;
   flat_syncs = λ flat f e aside. absurd aside;
   installs = λ flat f e aside. absurd aside;
   dropping_syncs = λ room host writer is_log named aside. aside_dropping is_log room host writer;
-  mends = λ room host writer count named aside. record { files = λ n path names. other_folder _ _ path refl names.1; folders = λ n names. names };
-  mend_metas = λ room host cover last named aside. record { files = λ n path names. other_folder _ _ path refl names.1; folders = λ n names. names };
-  buries = λ room host writer named aside. record { files = λ n path names. other_folder _ _ path refl names.1; folders = λ n names. names };
+  mends = λ room host writer count named aside. record { files = λ n path names. not_flattenings (index_path host writer) path (index_no_flattenings host writer) names.1; folders = λ n names. names };
+  mend_metas = λ room host cover last named aside. record { files = λ n path names. other_folder _ _ path (refl, refl) names.1; folders = λ n names. names };
+  buries = λ room host writer named aside. record { files = λ n path names. other_folder _ _ path (refl, refl) names.1; folders = λ n names. names };
   mend_holds = λ room aside. absurd aside;
 }
 
@@ -101,6 +103,7 @@ answers_keep_flats l old caller (StartFlat room) reply new r o f s a flats = sta
 answers_keep_flats l old caller (PutFlat flat bytes) reply new r o f s a flats = put_flat_keeps_flats old caller reply new r s.shape flats a.tree a.told flat bytes o f
 answers_keep_flats l old caller (SyncFlat flat) reply new r o f s a flats = sync_flat_keeps_flats old caller reply new r s.shape flats a.tree a.told flat f
 answers_keep_flats l old caller (InstallFlat flat) reply new r o f s a flats = install_keeps_flats old caller reply new r s.shape flats a.tree a.told flat f
+answers_keep_flats l old caller (StartPack room host writer) reply new r o f s a flats = start_pack_keeps_flats old caller reply new r s.shape flats a.tree a.told room host writer o f
 answers_keep_flats l old caller call reply new r o f s a flats = by_aside l old caller call reply new o s a flats tt tt f
 
 -- ---- a call that is broken off
@@ -115,7 +118,7 @@ record IsCut (cut : State) : Type 0 where
 cut_keeps_flats : (l : Ledger) (old : State) (caller : ℕ) (ask : Ask) (cut : State) → IsOwed ask → Owes old caller ask.call → IsCutShort old caller ask.call cut → (s : HasSoundWriters l old) → HasSoundFlats old.table s.shape.tree → IsCut cut
 cut_keeps_flats l old caller ask cut owed owes (inl same) s flats = subst IsCut (sym same) (record { regular = s.regular; tree = s.shape.tree; told = s.shape.told; flats = flats })
 cut_keeps_flats l old caller ask cut owed owes (inr (reply, which, f)) s flats =
-    let a : IsAccounted (issued_after l old ask.call reply) cut = answers_keep l old caller ask.call reply cut s.regular s.shape owes f (accounted l old s) flats.held in
+    let a : IsAccounted (issued_after l old ask.call reply) cut = answers_keep l old caller ask.call reply cut s.regular s.shape owes f (accounted l old s) flats in
     record {
       regular = step_regular old cut caller (record { call = ask.call; stop = None }) reply owed (record { does = f }) s.regular;
       tree = a.tree;
@@ -154,12 +157,15 @@ step_keeps_flats l old new caller ask reply owed owes step s s' flats = step_cas
     let c : IsCut left.cut = cut_keeps_flats l (timed None old) caller ask left.cut owed (untimed_owes old caller ask.call owes) left.short (untimed_writers l old s) flats in
     subst (HasSoundFlats new.table) (one_tree c.tree s'.shape.tree new.store.tree (left.like.tree ∙ c.told) s'.shape.told) (ended_flats caller left.cut new left.table c))
 
+pub its_flats : (l : Ledger) (state : State) (s : IsSoundFor l state) → HasSoundFlats state.table s.shape.tree
+its_flats l state s = record { held = s.held; flats = s.flats; flattenings = s.flattenings }
+
 -- Each step keeps soundness, for what was issued then.
 pub step_keeps : (l : Ledger) (old new : State) (caller : ℕ) (ask : Ask) (reply : Reply) → May old caller ask → IsStep old caller ask reply new → IsSoundFor l old → IsSoundFor (issued_after l old ask.call reply) new
 step_keeps l old new caller ask reply may step s =
     let owes : Owes old caller ask.call = may.owes s.clean in
-    let w : HasSoundWriters (issued_after l old ask.call reply) new = step_keeps_writers l old new caller ask reply may.numbers owes step (its_writers l old s) s.held in
-    let f : HasSoundFlats new.table w.shape.tree = step_keeps_flats l old new caller ask reply may.numbers owes step (its_writers l old s) w (record { held = s.held; flats = s.flats; flattenings = s.flattenings }) in
+    let w : HasSoundWriters (issued_after l old ask.call reply) new = step_keeps_writers l old new caller ask reply may.numbers owes step (its_writers l old s) (its_flats l old s) in
+    let f : HasSoundFlats new.table w.shape.tree = step_keeps_flats l old new caller ask reply may.numbers owes step (its_writers l old s) w (its_flats l old s) in
     record {
       clean = (s.clean.0, ap (λ (x : Stored). x.tree) (step_place old new caller ask reply step).opened ∙ s.clean.1, s.clean.2);
       regular = w.regular;

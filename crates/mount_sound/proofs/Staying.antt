@@ -33,7 +33,7 @@ use Rattle.mount_model.specs.Flushing.{flush_step, sync_index_step, sync_log_ste
 use Rattle.mount_model.specs.Holding.{hold_step, release_step, rename_step, truncate_step}
 use Rattle.mount_model.specs.Leaving.{put_meta_step}
 use Rattle.mount_model.specs.Making.{Told}
-use Rattle.mount_model.specs.Paths.{Name, new_files, new_folders, openhosts, open_path, index_path, installed, installed_of, temporary, temporary_of}
+use Rattle.mount_model.specs.Paths.{Name, new_files, new_folders, openhosts, open_path, index_path, installed, installed_item, temporary, temporary_item}
 use Rattle.mount_model.specs.Regular.{IsOfSerial}
 use Rattle.mount_model.specs.Recovering.{IsHostAndWriter, mend_hold_step, mend_meta_step, mend_step, sync_dropping_step}
 use Rattle.mount_model.specs.State.{State}
@@ -41,6 +41,7 @@ use Rattle.mount_model.specs.Step.{IsStep}
 use Rattle.mount_model.specs.Table.{flattening_at}
 use Rattle.mount_model.specs.Writing.{write_step}
 use Rattle.mount_model.proofs.Facts.{all-unmap, flattening_at_all}
+use Rattle.mount_shape.specs.Named.{FitsNames}
 use Rattle.mount_shape.proofs.Facts.{id_fits}
 use Rattle.mount_sound.specs.Dropping.{bytes_of, log_bytes}
 use Rattle.mount_sound.specs.Growing.{ItemsStay, Stays, least_length}
@@ -52,7 +53,9 @@ use Rattle.mount_sound.specs.Sound.{IsSoundFor}
 use Rattle.mount_sound.specs.There.{entries_there, landed_in}
 use Rattle.mount_sound.proofs.Gone.{in_room}
 use Rattle.mount_sound.proofs.Acting.{ActsOn, OfEachAct, step_acts}
+use Rattle.mount_sound.proofs.FlatPaths.{moved_to}
 use Rattle.mount_sound.proofs.Items.{is_index}
+use Rattle.mount_sound.proofs.Makings.{is_installed, is_temporary, named_of}
 
 -- ---- what an item's file is long at least
 
@@ -157,47 +160,45 @@ module _ (tree : Tree) (number host writer count : ℕ) (named : IsHostAndWriter
     ]
   ]
 
--- ---- a flattened index is installed
+-- ---- a flattened index is installed, or a packed one
 
-module _ (tree : Tree) (f : Flattening) (makes : f.makes ≡ making.Flat) (small : f.id < 2 ^ 64) (differ : (room : Room) → slice_get tree.rooms f.room ≡ Some room → PathsDiffer room) where
-  flat_item : IsItem (Flat f.id)
-  flat_item = record { in_range = tt; widths = small }
+module _ (tree : Tree) (f : Flattening) (named : FitsNames f.makes) (small : f.id < 2 ^ 64) (differ : (room : Room) → slice_get tree.rooms f.room ≡ Some room → PathsDiffer room) where
+  least_installed : (room : Room) (makes : Making) (id : ℕ) (bytes : List ℕ) → least_length room (installed_item makes id) bytes ≡ 0
+  least_installed room making.Flat id bytes = refl
+  least_installed room (making.Pack host writer) id bytes = refl
 
-  tmp_item : IsItem (TmpFlat f.id)
-  tmp_item = record { in_range = tt; widths = small }
-
-  tmp_path : temporary f ≡ path_of (TmpFlat f.id)
-  tmp_path = ap (λ (m : Making). temporary_of m f.id) makes
-
-  flat_place : beside (temporary f) (installed f).file ≡ path_of (Flat f.id)
-  flat_place = ap (λ (m : Making). beside (temporary_of m f.id) (installed_of m f.id).file) makes
+  no_stay : (makes : Making) (id : ℕ) → Stays (temporary_item makes id) → ⊥
+  no_stay making.Flat id stays = stays
+  no_stay (making.Pack host writer) id stays = stays
 
   -- the item that it becomes
-  installed_item : (told : Told) (after : Tree) → Tells (install_step f) tree told after → (room : Room) (bytes : List ℕ) → slice_get tree.rooms f.room ≡ Some room → HasItem room (Flat f.id) bytes → IsLater after f.room room (Flat f.id) bytes
-  installed_item told after t room bytes there h = elim (replace_told f.room (temporary f) (installed f).file tree told after t).either as (λ _. IsLater after f.room room (Flat f.id) bytes) [
-    | inr same ↦ (room, bytes, ap (λ (x : Tree). slice_get x.rooms f.room) same ∙ there, h, omega arith)
-    | inl (inr c) ↦ (room, bytes, ap (λ (x : Tree). slice_get x.rooms f.room) c.2 ∙ there, h, omega arith)
-    | inl (inl c) ↦ (
-      c.new,
-      c.bytes,
-      ap (λ (x : Tree). slice_get x.rooms f.room) c.gives ∙ slice_get-slice_set tree.rooms f.room c.room c.new c.has_room,
-      record { is_item = flat_item; there = ap (λ p. file_at c.new p) (sym flat_place) ∙ c.now (differ c.room c.has_room) },
-      omega arith,
-    )
-  ]
+  becomes : (told : Told) (after : Tree) → Tells (install_step f) tree told after → (room : Room) (bytes : List ℕ) → slice_get tree.rooms f.room ≡ Some room → HasItem room (installed_item f.makes f.id) bytes → IsLater after f.room room (installed_item f.makes f.id) bytes
+  becomes told after t room bytes there h =
+      let none : least_length room (installed_item f.makes f.id) bytes ≡ 0 = least_installed room f.makes f.id bytes in
+      elim (replace_told f.room (temporary f) (installed f).file tree told after t).either as (λ _. IsLater after f.room room (installed_item f.makes f.id) bytes) [
+        | inr same ↦ (room, bytes, ap (λ (x : Tree). slice_get x.rooms f.room) same ∙ there, h, omega (arith, none))
+        | inl (inr c) ↦ (room, bytes, ap (λ (x : Tree). slice_get x.rooms f.room) c.2 ∙ there, h, omega (arith, none))
+        | inl (inl c) ↦ (
+          c.new,
+          c.bytes,
+          ap (λ (x : Tree). slice_get x.rooms f.room) c.gives ∙ slice_get-slice_set tree.rooms f.room c.room c.new c.has_room,
+          record { is_item = h.is_item; there = ap (λ p. file_at c.new p) (sym (moved_to f.makes f.id)) ∙ c.now (differ c.room c.has_room) },
+          omega (arith, none),
+        )
+      ]
 
   installs_items : LeavesItems tree (install_step f)
   installs_items told after t n room item bytes there stays h = elim (path_cases (path_of item) (temporary f)) as (λ _. IsLater after n room item bytes) [
-    | inl from ↦ absurd (subst Stays (same_items item (TmpFlat f.id) h.is_item tmp_item (from ∙ tmp_path)) stays)
+    | inl from ↦ absurd (no_stay f.makes f.id (subst Stays (same_items item (temporary_item f.makes f.id) h.is_item (is_temporary f.makes f.id named small) from) stays))
     | inr two ↦ elim (path_cases (path_of item) (beside (temporary f) (installed f).file)) as (λ _. IsLater after n room item bytes) [
       | inr apart ↦ spared_item tree (install_step f) told after t n room item bytes there h (λ names. elim names.1 as (λ _. ⊥) [ inl p ↦ two p.0 p.1 | inr p ↦ apart p.0 p.1 ])
       | inl to ↦ elim (cases_eq n f.room) as (λ _. IsLater after n room item bytes) [
         | inr other ↦ spared_item tree (install_step f) told after t n room item bytes there h (λ names. other names.0)
         | inl at ↦
-            let is : item ≡ Flat f.id = same_items item (Flat f.id) h.is_item flat_item (to ∙ flat_place) in
+            let is : item ≡ installed_item f.makes f.id = same_items item (installed_item f.makes f.id) h.is_item (is_installed f.makes f.id named small) (to ∙ moved_to f.makes f.id) in
             subst (λ k. IsLater after k room item bytes) (sym at)
             (subst (λ x. IsLater after f.room room x bytes) (sym is)
-            (installed_item told after t room bytes (ap (λ k. slice_get tree.rooms k) (sym at) ∙ there) (subst (λ x. HasItem room x bytes) is h)))
+            (becomes told after t room bytes (ap (λ k. slice_get tree.rooms k) (sym at) ∙ there) (subst (λ x. HasItem room x bytes) is h)))
       ]
     ]
   ]
@@ -236,9 +237,10 @@ module _ (l : Ledger) (old : State) (s : IsSoundFor l old) (caller : ℕ) where
     renames = λ holder h e to owes. adds_items s.shape.tree (rename_step h to) tt;
     releases = λ holder h e owes. adds_items s.shape.tree (release_step h) tt;
     starts = λ room f makes owes. adds_items s.shape.tree (start_step f) tt;
+    packs = λ room host writer f makes numbers owes. adds_items s.shape.tree (start_step f) tt;
     puts = λ flat f e bytes owes. adds_items s.shape.tree (put_flat_step f bytes) tt;
     flat_syncs = λ flat f e owes. adds_items s.shape.tree (sync_flat_step f) tt;
-    installs = λ flat f e owes. installs_items s.shape.tree f (s.flattenings flat f e).2.makes (flat_id_fits flat f e) (paths_differ f.room);
+    installs = λ flat f e owes. installs_items s.shape.tree f (named_of (s.flattenings flat f e).0 f.makes f.id (s.flattenings flat f e).2.begun) (flat_id_fits flat f e) (paths_differ f.room);
     dropping_syncs = λ room host writer is_log named owes. adds_items s.shape.tree (sync_dropping_step room host writer is_log) tt;
     mends = λ room host writer count named owes. mends_items s.shape.tree room host writer count named (λ r there. (in_room old room (MayMend host writer count) owes.1 s.shape.tree r s.shape.told there).landed);
     mend_metas = λ room host cover last named owes. adds_items s.shape.tree (mend_meta_step room host cover last) tt;

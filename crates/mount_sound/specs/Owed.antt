@@ -10,7 +10,7 @@ use Rattle.store_api.specs.declared.tree.Tree.{Tree}
 use Rattle.store_laws.specs.Files.{file_at, kept_at}
 use Rattle.mount_model.specs.declared.call.Ask.{Ask}
 use Rattle.mount_model.specs.declared.call.Call.{Call}
-use Rattle.mount_model.specs.declared.call.Call.TheVariants.{Mark, PutFlat, SyncDropping, Mend, MendMeta, Bury}
+use Rattle.mount_model.specs.declared.call.Call.TheVariants.{Mark, PutFlat, StartPack, SyncDropping, Mend, MendMeta, Bury}
 use Rattle.mount_model.specs.declared.row.Row.{Row}
 use Rattle.mount_model.specs.declared.row.Holder.{Holder}
 use Rattle.mount_model.specs.declared.row.Flattening.{Flattening}
@@ -24,7 +24,7 @@ use Rattle.mount_sound.specs.Items.{HasItem, HasMeta}
 use Rattle.mount_sound.specs.Dropping.{IsToldOf}
 use Rattle.mount_sound.specs.Landed.{whole}
 use Rattle.mount_sound.specs.There.{landed_entries, landed_in}
-use Rattle.mount_sound.specs.Flats.{IsRightFlat}
+use Rattle.mount_sound.specs.Flats.{IsRightFor}
 use Rattle.mount_sound.specs.Sound.{IsClean}
 
 -- of the room of this number, as the store tells it
@@ -47,7 +47,7 @@ pub record IsTop (room : Room) (top : ℕ) : Type 0 where
 -- the temporary file is empty yet, and the bytes are right for the room
 pub record MayPut (f : Flattening) (bytes : List ℕ) (room : Room) : Type 0 where
   pub empty : file_at room (temporary f) ≡ Some []
-  pub right : IsRightFlat room bytes
+  pub right : IsRightFor room f.makes bytes
 
 -- the writer's log is there, or its index dropping
 abbrev pub HasDropping : ℕ → ℕ → Bool → Room → Type 0
@@ -81,6 +81,7 @@ MayBury host writer room =
 abbrev pub Owes : State → ℕ → Call → Type 0
 Owes state caller (Mark holder size top) = (h : Holder) → holder_of caller holder state.table.holders ≡ Some h → InRoom state h.room (λ room. IsTop room top)
 Owes state caller (PutFlat flat bytes) = (f : Flattening) → flattening_of caller Begun flat state.table.flattenings ≡ Some f → InRoom state f.room (MayPut f bytes)
+Owes state caller (StartPack room host writer) = StandsInRoom state room (HasDropping host writer false)
 Owes state caller (SyncDropping room host writer is_log) = StandsInRoom state room (HasDropping host writer is_log)
 Owes state caller (Mend room host writer count) = IsNotLive state writer × StandsInRoom state room (MayMend host writer count)
 Owes state caller (MendMeta room host cover last) = IsNotLive state cover.writer × StandsInRoom state room (MayMendMeta host cover last)
@@ -91,6 +92,7 @@ Owes state caller call = Unit {0}
 abbrev pub OwesNothing : Call → Type 0
 OwesNothing (Mark holder size top) = ⊥
 OwesNothing (PutFlat flat bytes) = ⊥
+OwesNothing (StartPack room host writer) = ⊥
 OwesNothing (SyncDropping room host writer is_log) = ⊥
 OwesNothing (Mend room host writer count) = ⊥
 OwesNothing (MendMeta room host cover last) = ⊥

@@ -39,7 +39,7 @@ pub record AreSound (last : ℕ) (issued : Ledger) (rows : List Row) (tree : Tre
   pub roomless : (number writer : ℕ) → slice_get tree.rooms number ≡ None → issued number writer ≡ []
 
 -- A tree is sound where its droppings alone account for what it holds: all that their writers issued has landed; and
--- where its flattened indices are right.
+-- where its flattened and packed indices are right.
 pub record IsSoundTree (tree : Tree) : Type 0 where
   pub shaped : IsShapedTree (IsOfMark tree) tree
   pub issued : Ledger
@@ -56,7 +56,7 @@ abbrev pub IsClean : State → Type 0
 IsClean state = (tree : Tree) × (state.opened.tree ≡ Some tree) × IsSoundTree tree
 
 -- The store told a sound tree as mounting began. It tells a tree of the right shape now, which is sound for what was
--- issued; who holds a room keeps writers out of it, and flattened indices are right, made and in the making.
+-- issued; who holds a room keeps writers out of it, and flattened and packed indices are right, made and in the making.
 pub record IsSoundFor (issued : Ledger) (state : State) : Type 0 where
   pub clean : IsClean state
   pub regular : IsRegular state

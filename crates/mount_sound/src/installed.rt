@@ -1,6 +1,6 @@
-//! Laws of flattened indices.
+//! Laws of flattened indices, and of packed ones.
 ghost use Rattle.std.specs.Prelude.{◌≡◌, ℕ, List, Some, slice_get};
-ghost use Rattle.container_layout.specs.declared.items.Item.TheVariants.{Flat};
+ghost use Rattle.container_layout.specs.declared.items.Item.TheVariants.{Packed};
 ghost use Rattle.store_api.specs.declared.tree.Room.{Room};
 ghost use Rattle.store_api.specs.declared.tree.Tree.{Tree};
 ghost use Rattle.mount_model.specs.declared.call.Ask.{Ask};
@@ -8,6 +8,8 @@ ghost use Rattle.mount_model.specs.declared.call.Call.TheVariants.{InstallFlat};
 ghost use Rattle.mount_model.specs.declared.reply.Reply.TheVariants.{Done};
 ghost use Rattle.mount_model.specs.History.{Event, told_tree_after};
 ghost use Rattle.mount_model.specs.State.{State};
+ghost use Rattle.mount_model.specs.declared.row.Making.{Making};
+ghost use Rattle.mount_model.specs.Paths.{installed_item};
 ghost use Rattle.mount_model.specs.Step.{IsStep};
 ghost use Rattle.mount_sound.specs.Installed.{HasInstalled, IsInstalled};
 ghost use Rattle.mount_sound.specs.Items.{HasItem};
@@ -15,16 +17,22 @@ ghost use Rattle.mount_sound.specs.Ledger.{Ledger};
 ghost use Rattle.mount_sound.specs.Owed.{IsLawful};
 ghost use Rattle.mount_sound.specs.Sound.{IsSoundFor};
 
-/// What a sound mount installs is a flattened index that is right for its room, whatever landed since it was gathered, and
-/// no loss of power takes a byte of it.
+/// What a sound mount installs is a flattened index that is right for its room, whatever landed since it was gathered, or a
+/// packed index of all that its writer landed, and no loss of power takes a byte of it.
 pub fn what_is_installed_is_right()
     ensures { (before : Ledger) (old new : State) (caller flat : ℕ) (ask : Ask) → IsSoundFor before old → ask.call ≡ InstallFlat flat → IsStep old caller ask Done new → HasInstalled old caller flat new }
 {}
 
-/// Along a lawful history of a sound mount a flattened index stays as it is, byte for byte. It stays right for its room,
-/// and no loss of power takes a byte of it.
-pub fn flattened_indices_stay()
+/// Along a lawful history of a sound mount a flattened index stays as it is, byte for byte, and so does a packed one, also
+/// where it is installed again. It stays right for its room, and no loss of power takes a byte of it.
+pub fn installed_indices_stay()
     ensures { (before : Ledger) (start : State) (events : List Event) → IsLawful start events → IsSoundFor before start
         → (tree after : Tree) → start.store.tree ≡ Some tree → told_tree_after start events ≡ Some after
-        → (number id : ℕ) (room : Room) (bytes : List ℕ) → slice_get tree.rooms number ≡ Some room → HasItem room (Flat id) bytes → IsInstalled after number id bytes }
+        → (makes : Making) (number id : ℕ) (room : Room) (bytes : List ℕ) → slice_get tree.rooms number ≡ Some room → HasItem room (installed_item makes id) bytes → IsInstalled after number makes id bytes }
+{}
+
+/// A writer has at most one packed index in a room of a sound mount.
+pub fn a_writer_has_one_packed_index()
+    ensures { (before : Ledger) (state : State) (s : IsSoundFor before state) (number : ℕ) (room : Room) → slice_get s.shape.tree.rooms number ≡ Some room
+        → (host other writer : ℕ) (some more : List ℕ) → HasItem room (Packed host writer) some → HasItem room (Packed other writer) more → (host ≡ other) × (some ≡ more) }
 {}

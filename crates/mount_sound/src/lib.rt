@@ -11,7 +11,9 @@ mod laws;
 mod recovery;
 
 pub use exclusion::{a_truncate_comes_after_all, holders_keep_writers_out};
-pub use installed::{flattened_indices_stay, what_is_installed_is_right};
+pub use installed::{
+    a_writer_has_one_packed_index, installed_indices_stay, what_is_installed_is_right,
+};
 pub use laws::{
     a_failed_mounting_leaves_a_sound_tree, a_left_tree_is_sound, an_empty_tree_is_sound,
     fineness_lasts, issues_only_grow, landed_never_falls, lawful_is_legal_and_allowed,

@@ -2,7 +2,7 @@
 use Rattle.std.proofs.Common.{◌≡◌, ℕ, ◌⊎◌, inl, inr, sym, subst}
 use Rattle.mount_model.specs.declared.call.Ask.{Ask}
 use Rattle.mount_model.specs.declared.call.Call.{Call}
-use Rattle.mount_model.specs.declared.call.Call.TheVariants.{Greet, Find, MakeContainer, Rooms, Look, Enter, Floor, MakeHostdir, MakeIndex, MakeLog, Write, Flush, SyncLog, SyncIndex, PutMeta, Exit, Hold, Mark, Move, Release, StartFlat, PutFlat, SyncFlat, InstallFlat, SyncDropping, Inspect, Mend, MendMeta, Bury, MendHold}
+use Rattle.mount_model.specs.declared.call.Call.TheVariants.{Greet, Find, MakeContainer, Rooms, Look, Enter, Floor, MakeHostdir, MakeIndex, MakeLog, Write, Flush, SyncLog, SyncIndex, PutMeta, Exit, Hold, Mark, Move, Release, StartFlat, PutFlat, SyncFlat, InstallFlat, StartPack, SyncDropping, Inspect, Mend, MendMeta, Bury, MendHold}
 use Rattle.mount_model.specs.declared.reply.Reply.{Reply}
 use Rattle.mount_model.specs.declared.reply.Reply.TheVariants.{Stopped, NoMemory}
 use Rattle.mount_model.specs.State.{State}
@@ -12,7 +12,7 @@ use Rattle.mount_undamaged.specs.Damage.{ShowsNoDamage}
 use Rattle.mount_sound.specs.Ledger.{Ledger}
 use Rattle.mount_sound.specs.Sound.{IsSoundFor}
 use Rattle.mount_sound.specs.Owed.{May, Owes}
-use Rattle.mount_undamaged.proofs.Flattening.{install_shows, put_flat_shows, start_shows, sync_flat_shows}
+use Rattle.mount_undamaged.proofs.Flattening.{install_shows, put_flat_shows, start_pack_shows, start_shows, sync_flat_shows}
 use Rattle.mount_undamaged.proofs.Holding.{hold_shows, mend_hold_shows, release_shows, rename_shows, truncate_shows}
 use Rattle.mount_undamaged.proofs.Recovering.{bury_shows, inspect_shows, mend_meta_shows, mend_shows, sync_dropping_shows}
 use Rattle.mount_undamaged.proofs.Looking.{find_shows, make_shows, rooms_show, look_shows}
@@ -43,6 +43,7 @@ answers_show issued old s caller (StartFlat room) reply new o f = start_shows is
 answers_show issued old s caller (PutFlat flat bytes) reply new o f = put_flat_shows issued old s caller flat bytes reply new f
 answers_show issued old s caller (SyncFlat flat) reply new o f = sync_flat_shows issued old s caller flat reply new f
 answers_show issued old s caller (InstallFlat flat) reply new o f = install_shows issued old s caller flat reply new f
+answers_show issued old s caller (StartPack room host writer) reply new o f = start_pack_shows issued old s caller room host writer reply new o f
 answers_show issued old s caller (SyncDropping room host writer is_log) reply new o f = sync_dropping_shows issued old s caller room host writer is_log reply new o f
 answers_show issued old s caller (Inspect writer) reply new o f = inspect_shows old writer reply new f
 answers_show issued old s caller (Mend room host writer count) reply new o f = mend_shows issued old s caller room host writer count reply new o f
