@@ -1,16 +1,19 @@
 -- A call whose writer, holder or flattening did not come into the table, seen as a state's.
-use Rattle.std.proofs.Common.{◌≡◌, ℕ, ◌<◌, ◌^◌, List, Option, None, Err, refl, ap, sym, subst, inl, inr, ◌∙◌}
+use Rattle.std.proofs.Common.{◌≡◌, ℕ, ◌<◌, ◌^◌, List, Option, Some, None, Err, refl, ap, sym, subst, inl, inr, ◌∙◌}
 use Rattle.std.specs.Prelude.{MatchOption}
 use Rattle.store_api.specs.declared.store.Trouble.TheVariants as trouble
 use Rattle.store_api.specs.Acts.{Stored}
+use Rattle.mount_model.specs.declared.row.Making.{Making}
+use Rattle.mount_model.specs.declared.row.Making.TheVariants as making
 use Rattle.mount_model.specs.declared.reply.Refusal.{Refusal}
 use Rattle.mount_model.specs.declared.reply.Reply.{Reply}
 use Rattle.mount_model.specs.declared.reply.Reply.TheVariants.{NoMemory}
-use Rattle.mount_model.specs.Making.{Refuses, MakesAct}
+use Rattle.mount_model.specs.Making.{Refuses, UnlessRefused}
 use Rattle.mount_model.specs.State.{State, Table, drawn}
 use Rattle.mount_model.specs.Entering.{draw_check, EntersAs, Enters}
 use Rattle.mount_model.specs.Holding.{HoldsRoom, HoldsContainer}
-use Rattle.mount_model.specs.Flattening.{begun_flat, start_step, start_outcome, StartsFlat}
+use Rattle.mount_model.specs.Flattening.{Starts, StartsPackOf, StartsPack}
+use Rattle.mount_model.specs.Recovering.{IsHostAndWriter}
 use Rattle.mount_table.specs.Roll.{Roll, state_of}
 use Rattle.mount_table.specs.Admitting.{IsTurnedAway}
 
@@ -42,8 +45,19 @@ not_held caller room store opened times old new reply t =
       after = left ∙ ap (λ (t : Table). record (drawn (state_of store opened times old)) { table = t }) (sym same);
     })
 
-pub not_started : (caller room : ℕ) (store opened : Stored) (times : Option (List ℕ)) (old new : Roll) (reply : Reply) → IsTurnedAway room old reply new → StartsFlat caller room (state_of store opened times old) reply (state_of store opened times new)
-not_started caller room store opened times old new reply t =
-    by_reason store opened times room old new reply
-    (MakesAct (start_step (begun_flat (state_of store opened times old) caller room)) (start_outcome (begun_flat (state_of store opened times old) caller room) old.table) (drawn (state_of store opened times old)) reply (state_of store opened times new)) t
+pub not_started : (caller room : ℕ) (makes : Making) (store opened : Stored) (times : Option (List ℕ)) (old new : Roll) (reply : Reply) → IsTurnedAway room old reply new
+    → UnlessRefused (draw_check (state_of store opened times old) room) (state_of store opened times old) reply (state_of store opened times new) (Starts caller room makes (state_of store opened times old) reply (state_of store opened times new))
+not_started caller room makes store opened times old new reply t =
+    by_reason store opened times room old new reply (Starts caller room makes (state_of store opened times old) reply (state_of store opened times new)) t
     (λ none is left. record { told = Err trouble.NoMemory; made = refl; answered = is; after = left })
+
+reads_as : {A : Type 0} (found : Option A) (P R : Type 0) (Q : A → Type 0) → (P → R) → MatchOption found P Q → MatchOption found R Q
+reads_as None P R Q reads m = reads m
+reads_as (Some x) P R Q reads m = m
+
+-- a flattening that packs an index dropping was begun as one of a writer of this host
+pub pack_started : (caller room host writer : ℕ) (old : State) (reply : Reply) (new : State) → IsHostAndWriter host writer → UnlessRefused (draw_check old room) old reply new (Starts caller room (making.Pack host writer) old reply new)
+    → StartsPack caller room host writer old reply new
+pack_started caller room host writer old reply new named started =
+    reads_as (draw_check old room) (Starts caller room (making.Pack host writer) old reply new) (StartsPackOf caller room host writer old reply new) (λ why. Refuses why old reply new)
+    (λ makes. record { named = named; makes = makes }) started

@@ -2,7 +2,7 @@
 use Rattle.std.proofs.Common.{◌≡◌, ℕ, List, Option, Some, None, refl, subst}
 use Rattle.store_api.specs.Acts.{Stored}
 use Rattle.mount_model.specs.declared.call.Call.{Call}
-use Rattle.mount_model.specs.declared.call.Call.TheVariants.{Greet, Find, MakeContainer, Rooms, Look, Enter, Floor, MakeHostdir, MakeIndex, MakeLog, Write, Flush, SyncLog, SyncIndex, PutMeta, Exit, Hold, Mark, Move, Release, StartFlat, PutFlat, SyncFlat, InstallFlat, SyncDropping, Inspect, Mend, MendMeta, Bury, MendHold}
+use Rattle.mount_model.specs.declared.call.Call.TheVariants.{Greet, Find, MakeContainer, Rooms, Look, Enter, Floor, MakeHostdir, MakeIndex, MakeLog, Write, Flush, SyncLog, SyncIndex, PutMeta, Exit, Hold, Mark, Move, Release, StartFlat, PutFlat, SyncFlat, InstallFlat, StartPack, SyncDropping, Inspect, Mend, MendMeta, Bury, MendHold}
 use Rattle.mount_model.specs.declared.reply.Refusal.{Refusal}
 use Rattle.mount_model.specs.declared.reply.Reply.{Reply}
 use Rattle.mount_model.specs.State.{State}
@@ -48,6 +48,7 @@ module _ (caller k : ℕ) (old : State) (told : Told) (reply : Reply) (middle ne
   stops (Enter room host most) typed b ended = untimed (Enter room host most) (λ times e. e) (same_store (draw_check old room) old) (same_times (draw_check old room) old) typed b ended
   stops (Hold room) typed b ended = untimed (Hold room) (λ times e. e) (same_store (draw_check old room) old) (same_times (draw_check old room) old) typed b ended
   stops (StartFlat room) typed b ended = untimed (StartFlat room) (λ times e. e) (same_store (draw_check old room) old) (same_times (draw_check old room) old) typed b ended
+  stops (StartPack room host writer) typed b ended = untimed (StartPack room host writer) (λ times e. e) (same_store (draw_check old room) old) (same_times (draw_check old room) old) typed b ended
   stops Greet typed b ended = untimed Greet (λ times e. e) refl refl typed b ended
   stops (Find name) typed b ended = untimed (Find name) (λ times e. e) refl refl typed b ended
   stops (MakeContainer name) typed b ended = untimed (MakeContainer name) (λ times e. e) refl refl typed b ended

@@ -5,7 +5,7 @@ ghost use Rattle.mount_sound.specs.Sound.{IsFine};
 
 use crate::mount::Mount;
 use edge_io::Clock;
-use mount_model::{Ask, Call, Reply};
+use mount_model::{Ask, Call, Making, Reply};
 use store_api::Store;
 
 impl<S: Store + Drop, C: Clock + Drop> Mount<S, C> {
@@ -57,10 +57,13 @@ impl<S: Store + Drop, C: Clock + Drop> Mount<S, C> {
             Call::Mark { holder, size, top } => self.truncate(caller, *holder, *size, *top),
             Call::Move { holder, to } => self.rename(caller, *holder, to),
             Call::Release { holder } => self.release(caller, *holder),
-            Call::StartFlat { room } => self.start_flat(caller, *room),
+            Call::StartFlat { room } => self.start(caller, *room, Making::Flat),
             Call::PutFlat { flat, bytes } => self.put_flat(caller, *flat, bytes.as_slice()),
             Call::SyncFlat { flat } => self.sync_flat(caller, *flat),
             Call::InstallFlat { flat } => self.install_flat(caller, *flat),
+            Call::StartPack { room, host, writer } => {
+                self.start_pack(caller, *room, *host, *writer)
+            }
             Call::SyncDropping {
                 room,
                 host,

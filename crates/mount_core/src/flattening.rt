@@ -1,22 +1,24 @@
-//! A container is flattened: a temporary file is made, written and synced, and then gets the name of a flattened index.
+//! A container is flattened, or a writer's index dropping is packed: a temporary file is made, written and synced, and
+//! then gets the name of a flattened index, or of the writer's packed index.
 ghost use Rattle.std.specs.Prelude.{◌≡◌, List, [], ◌∷◌, ◌++◌, Some};
 ghost use Rattle.mount_model.specs.declared.row.Flattening.{Flattening};
 ghost use Rattle.mount_model.specs.Table.{flattening_at};
-ghost use Rattle.mount_model.specs.Making.{MakesAct};
-ghost use Rattle.mount_model.specs.Flattening.{StartsFlat, start_step, start_outcome, PutsFlat, put_flat_step, put_flat_outcome, SyncsFlat, sync_flat_step, sync_flat_outcome, InstallsFlat, install_step, install_outcome};
+ghost use Rattle.mount_model.specs.Making.{MakesAct, UnlessRefused};
+ghost use Rattle.mount_model.specs.Entering.{draw_check as draw_refusal};
+ghost use Rattle.mount_model.specs.Flattening.{Starts, StartsPack, start_step, start_outcome, PutsFlat, put_flat_step, put_flat_outcome, SyncsFlat, sync_flat_step, sync_flat_outcome, InstallsFlat, install_step, install_outcome};
 
 use crate::mount::Mount;
 use edge_io::Clock;
-use mount_model::{FlatStage, Flattening, Refusal, Reply};
+use mount_model::{FlatStage, Flattening, Making, Refusal, Reply};
 use mount_table::{installed_path, temporary_path};
 use store_api::{Step, Store};
 
 impl<S: Store + Drop, C: Clock + Drop> Mount<S, C> {
-    /// Begins to flatten the container for the caller, under the next id.
-    pub(crate) fn start_flat(&mut self, caller: u64, room: u64) -> Reply
-        ensures { StartsFlat caller room self.old result self.new }
+    /// Begins a flattening of the container for the caller, under the next id.
+    pub(crate) fn start(&mut self, caller: u64, room: u64, makes: Making) -> Reply
+        ensures { UnlessRefused (draw_refusal self.old room) self.old result self.new (Starts caller room makes self.old result self.new) }
     {
-        match self.roster.admit_flattening(caller, room) {
+        match self.roster.admit_flattening(caller, room, makes) {
             Ok(flattening) => self.start_as(flattening),
             Err(reply) => reply,
         }
@@ -34,6 +36,14 @@ impl<S: Store + Drop, C: Clock + Drop> Mount<S, C> {
             file: at.file,
         });
         self.roster.flat_started(flattening, &at, told)
+    }
+
+    /// Begins to pack the index dropping of this writer of this host for the caller, under the next id.
+    #[tactic(auto, using(crate::proofs::Admitted::pack_started))]
+    pub(crate) fn start_pack(&mut self, caller: u64, room: u64, host: u32, writer: u64) -> Reply
+        ensures { StartsPack caller room host writer self.old result self.new }
+    {
+        self.start(caller, room, Making::Pack { host, writer })
     }
 
     /// Writes the bytes to the temporary file of the caller's flattening, which was made and not written before.
@@ -84,7 +94,7 @@ impl<S: Store + Drop, C: Clock + Drop> Mount<S, C> {
         self.roster.flat_synced(flattening, &at, told)
     }
 
-    /// Gives the temporary file of the caller's flattening, which was synced, the name of a flattened index.
+    /// Gives the temporary file of the caller's flattening, which was synced, the name of what it was begun for.
     pub(crate) fn install_flat(&mut self, caller: u64, flat: u64) -> Reply
         ensures { InstallsFlat caller flat self.old result self.new }
     {

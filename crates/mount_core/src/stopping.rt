@@ -15,7 +15,7 @@ use crate::finding::access;
 use crate::mount::Mount;
 use container_layout::{flats, metadata, openhosts, truncs};
 use edge_io::Clock;
-use mount_model::{Call, Look, Reply};
+use mount_model::{Call, Look, Making, Reply};
 use mount_table::open_path;
 use plfs_types::{Block, LogicalName, Name};
 use store_api::{Answer, Step, Store, Trouble};
@@ -70,6 +70,7 @@ fn typed(call: &Call)
         Call::Enter { host, .. } => fits(*host),
         Call::Write { block, .. } => some(block),
         Call::Move { to, .. } => logical(to),
+        Call::StartPack { host, writer, .. } => fit(*host, *writer),
         Call::SyncDropping { host, writer, .. } => fit(*host, *writer),
         Call::Mend { host, writer, .. } => fit(*host, *writer),
         Call::MendMeta { host, cover, .. } => fit(*host, cover.writer),
@@ -150,12 +151,19 @@ impl<S: Store + Drop, C: Clock + Drop> Mount<S, C> {
             }
             Call::Move { holder, to } => self.break_rename(caller, k, *holder, to.name()),
             Call::Release { holder } => self.break_release(caller, k, *holder),
-            Call::StartFlat { room } => self.break_start_flat(caller, k, *room),
+            Call::StartFlat { room } => self.break_start(caller, k, *room, Making::Flat),
             Call::PutFlat { flat, bytes } => {
                 self.break_put_flat(caller, k, *flat, bytes.as_slice())
             }
             Call::SyncFlat { flat } => self.break_sync_flat(caller, k, *flat),
             Call::InstallFlat { flat } => self.break_install_flat(caller, k, *flat),
+            Call::StartPack { room, host, writer } => {
+                let makes = Making::Pack {
+                    host: *host,
+                    writer: *writer,
+                };
+                self.break_start(caller, k, *room, makes)
+            }
             Call::SyncDropping {
                 room,
                 host,

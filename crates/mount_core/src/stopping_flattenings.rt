@@ -15,13 +15,14 @@ use mount_table::{installed_path, temporary_path};
 use store_api::{Answer, Step, Store, Trouble};
 
 impl<S: Store + Drop, C: Clock + Drop> Mount<S, C> {
-    pub(crate) fn break_start_flat(
+    pub(crate) fn break_start(
         &mut self,
         caller: u64,
         k: u64,
         room: u64,
+        makes: Making,
     ) -> Result<Answer, Trouble>
-        ensures { BreaksOff (option_and_then (part_of k) (unless (draw_refusal self.old room) (start_step (begun_flat self.old caller room)))) (drawn_unless (draw_refusal self.old room) self.old) result self.new }
+        ensures { BreaksOff (option_and_then (part_of k) (unless (draw_refusal self.old room) (start_step (begun_flat self.old caller room makes)))) (drawn_unless (draw_refusal self.old room) self.old) result self.new }
     {
         match self.roster.draw(room) {
             Ok(id) => {
@@ -29,7 +30,7 @@ impl<S: Store + Drop, C: Clock + Drop> Mount<S, C> {
                     id,
                     owner: caller,
                     room,
-                    makes: Making::Flat,
+                    makes,
                     stage: FlatStage::Begun,
                 });
                 self.make_if(

@@ -1,8 +1,9 @@
-mod Numbered
+mod Admits
+mod Counts
+mod Ended
+pub mod Facts
 mod Holds
-pub mod Rows
-pub mod Counts
-pub mod Rolls
-pub mod Scans
-pub mod Admits
-pub mod Ended
+mod Numbered
+mod Rolls
+mod Rows
+mod Scans

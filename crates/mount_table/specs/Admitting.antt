@@ -3,6 +3,7 @@ use Rattle.std.specs.Prelude.{◌≡◌, ◌≢◌, ◌⊎◌, ℕ, ◌+◌, ◌
 use Rattle.mount_model.specs.declared.row.Row.{Row}
 use Rattle.mount_model.specs.declared.row.Holder.{Holder}
 use Rattle.mount_model.specs.declared.row.Flattening.{Flattening}
+use Rattle.mount_model.specs.declared.row.Making.{Making}
 use Rattle.mount_model.specs.declared.reply.Reply.{Reply}
 use Rattle.mount_model.specs.declared.reply.Reply.TheVariants.{Refused, NoMemory}
 use Rattle.mount_model.specs.declared.reply.Refusal.{Refusal}
@@ -71,10 +72,10 @@ pub record IsHolderAdmitted (caller room : ℕ) (old : Roll) (h : Holder) (new :
   pub left : new ≡ with_next (with_holders (old.table.holders ++ holding (bare old) caller room ∷ []) old)
 
 -- the next serial was drawn, and its flattening is the last one in the table
-pub record IsFlatAdmitted (caller room : ℕ) (old : Roll) (f : Flattening) (new : Roll) : Type 0 where
+pub record IsFlatAdmitted (caller room : ℕ) (makes : Making) (old : Roll) (f : Flattening) (new : Roll) : Type 0 where
   pub granted : draw_check (bare old) room ≡ None
-  pub is : f ≡ begun_flat (bare old) caller room
-  pub left : new ≡ with_next (with_flattenings (old.table.flattenings ++ begun_flat (bare old) caller room ∷ []) old)
+  pub is : f ≡ begun_flat (bare old) caller room makes
+  pub left : new ≡ with_next (with_flattenings (old.table.flattenings ++ begun_flat (bare old) caller room makes ∷ []) old)
 
 -- it was refused, or memory was once the serial was drawn
 abbrev pub IsTurnedAway : ℕ → Roll → Reply → Roll → Type 0

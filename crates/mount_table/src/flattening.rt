@@ -14,9 +14,14 @@ use plfs_types::{NoMemory, Path};
 use store_api::{Answer, Trouble};
 
 impl Roster {
-    /// Draws the next serial, and adds a flattening of the room under its id at the end of the table.
-    pub fn admit_flattening(&mut self, caller: u64, room: u64) -> Result<Flattening, Reply>
-        ensures ok { IfOk result (λ f. IsFlatAdmitted caller room self.old f self.new) }
+    /// Draws the next serial, and adds a flattening of the room that makes this, under its id at the end of the table.
+    pub fn admit_flattening(
+        &mut self,
+        caller: u64,
+        room: u64,
+        makes: Making,
+    ) -> Result<Flattening, Reply>
+        ensures ok { IfOk result (λ f. IsFlatAdmitted caller room makes self.old f self.new) }
         ensures err { IfErr result (λ reply. IsTurnedAway room self.old reply self.new) }
     {
         let id = match self.draw(room) {
@@ -27,7 +32,7 @@ impl Roster {
             id,
             owner: caller,
             room,
-            makes: Making::Flat,
+            makes,
             stage: FlatStage::Begun,
         };
         match self.add_flattening(flattening) {

@@ -1,4 +1,4 @@
-use Rattle.mount_table.proofs.Rolls.{regular_as}
+use Rattle.mount_table.proofs.Facts.{regular_as}
 use Rattle.mount_core.proofs.mount.Mount.regular.Goals as goal
 
 pub returns : goal.returns
