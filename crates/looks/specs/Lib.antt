@@ -1,0 +1,5 @@
+pub mod Replies
+pub mod Names
+pub mod Entries
+pub mod Order
+pub mod Listed

@@ -1,0 +1,38 @@
+//! The entries of an index dropping.
+ghost use Rattle.std.specs.Prelude.{◌≡◌, ◌≤◌, length};
+ghost use Rattle.index_entry.specs.Spelling.{entry_in as entry_of};
+ghost use Rattle.looks.specs.Entries.{is_next as next_of};
+
+use index_entry::number_at;
+use plfs_types::{Cover, Entry, MAX_LOG, MAX_SIZE, MAX_STAMP};
+
+/// The entry that the first 40 bytes are, valid or not.
+#[tactic(auto, unfolding(index_entry::specs::Spelling::entry_in))]
+pub fn first_entry(bytes: &[u8]) -> Entry
+    requires { 40 ≤ length bytes.now }
+    ensures { result ≡ entry_of bytes.now }
+{
+    Entry {
+        at: number_at(bytes, 0),
+        len: number_at(bytes, 8),
+        physical: number_at(bytes, 16),
+        stamp: number_at(bytes, 24),
+        writer: number_at(bytes, 32),
+    }
+}
+
+/// Whether the entry is valid and follows what the cover counts: it has its writer, a later stamp, and the next place in
+/// the log, where it ends within the longest one.
+pub fn is_next(cover: &Cover, entry: &Entry) -> bool
+    ensures { result ≡ next_of cover.now entry.now }
+{
+    0 < entry.len
+        && entry.at <= MAX_SIZE
+        && entry.len <= MAX_SIZE - entry.at
+        && cover.stamp < entry.stamp
+        && entry.stamp <= MAX_STAMP
+        && entry.writer == cover.writer
+        && entry.physical == cover.bytes
+        && entry.physical <= MAX_LOG
+        && entry.len <= MAX_LOG - entry.physical
+}

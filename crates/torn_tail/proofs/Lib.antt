@@ -1,0 +1,4 @@
+pub mod RunLemmas
+pub mod CheckLemmas
+pub mod ReadLemmas
+pub mod StageLemmas

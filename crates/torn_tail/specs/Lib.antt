@@ -1,0 +1,6 @@
+pub mod Queues
+pub mod Entries
+pub mod Writers
+pub mod Steps
+pub mod Recovering
+pub mod Stages

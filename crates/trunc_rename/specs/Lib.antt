@@ -1,0 +1,6 @@
+pub mod Holding
+pub mod Tops
+pub mod Truncating
+pub mod TruncateStages
+pub mod Renaming
+pub mod RenameStages
