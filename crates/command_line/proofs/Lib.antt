@@ -1,0 +1,6 @@
+mod Spelling
+mod Walking
+mod Leaves
+mod Parsing
+mod Taking
+mod Answering
