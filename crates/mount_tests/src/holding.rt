@@ -3,6 +3,7 @@ ghost use Rattle.mount_model.specs.Step.{OwedBy};
 
 use crate::asking::{clock, container, failing, logical, mounted, name, sound};
 use crate::faults::Tried;
+use crate::flattening::pack;
 use crate::telling::{
     ACTS_BEFORE, FIRST, ROOM, SECOND, Told, ask, damaged, length, names_in, room_of, tell,
 };
@@ -207,11 +208,15 @@ fn the_last_serial_ends_holds_and_flattenings(rt: HostRuntime) -> Result<(), Fai
                 ask(&mut mount, 1, Call::Hold { room: ROOM }),
                 ask(&mut mount, 1, Call::StartFlat { room: 0 }),
                 ask(&mut mount, 1, Call::StartFlat { room: ROOM }),
+                pack(&mut mount, 0),
+                pack(&mut mount, ROOM),
                 names_in(&rt, &mut mount, "openhosts"),
                 names_in(&rt, &mut mount, "flats"),
             ];
             assert!(rt;
                 told == [
+                    Told::Refused(Refusal::NoRoom),
+                    Told::Refused(Refusal::IdsSpent),
                     Told::Refused(Refusal::NoRoom),
                     Told::Refused(Refusal::IdsSpent),
                     Told::Refused(Refusal::NoRoom),
