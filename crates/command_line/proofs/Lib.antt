@@ -1,6 +1,6 @@
-mod Spelling
-mod Walking
+mod Answering
 mod Leaves
 mod Parsing
+mod Spelling
 mod Taking
-mod Answering
+mod Walking

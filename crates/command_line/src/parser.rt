@@ -79,7 +79,6 @@ fn program<'a>(alloc: Global) -> Command<'a>
         .disable_help_subcommand(true)
 }
 
-#[tactic(auto, unfolding(crate::specs::Parser::parser))]
 fn parser<'a>(alloc: Global) -> Result<Command<'a>, AllocError>
     ensures { IfOk result (λ command. app_of command ≡ parser) }
 {
