@@ -1,0 +1,8 @@
+mod Safety
+mod Tops
+mod Greatest
+mod Listed
+mod Entries
+mod Waiting
+mod Truncating
+mod Telling
