@@ -1,8 +1,19 @@
 pub mod Queues
+pub mod Searching
 pub mod Replies
 pub mod Found
 pub mod Covered
 pub mod Listing
+pub mod Items
+pub mod Newest
+pub mod FileReads
+pub mod Breaks
+pub mod FlatRules
+pub mod PackRules
+pub mod Scanning
+pub mod Tops
+pub mod Packs
+pub mod Opening
 pub mod Runs
 pub mod Entries
 pub mod Tails
@@ -13,3 +24,4 @@ pub mod Reading
 pub mod Truncs
 pub mod TruncStages
 pub mod ReadingStages
+pub mod Gathered

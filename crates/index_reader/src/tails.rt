@@ -3,7 +3,8 @@ ghost use Rattle.std.specs.Prelude.{All, ℕ, ◌≡◌, ◌≤◌, ◌<◌, ◌
 ghost use Rattle.interval_merge.specs.Writer.{HasPiece};
 ghost use Rattle.flow.specs.Standing.{ready, next_of, rest_of, replied};
 ghost use Rattle.mount_model.specs.Paths.{index_path as path_of_index, log_path as path_of_log};
-ghost use Rattle.index_reader.specs.Tails.{next_read as read_next, tail_program, no_tail, looked, reads_left};
+ghost use Rattle.index_reader.specs.Tails.{next_read as read_next, tail_program, looked, reads_left};
+ghost use Rattle.index_reader.specs.Packs.{no_tail};
 ghost use Rattle.index_reader.specs.Stages.{tail_left, after_left, IsOfPieces, step_calls, after_calls};
 
 use crate::entries::{Tail, Went};
