@@ -7,8 +7,12 @@ use Rattle.flow.specs.declared.trouble.Stuck.TheVariants as stuck
 use Rattle.story.specs.Program.{Program, done}
 use Rattle.mount_model.specs.declared.call.Call.{Call}
 use Rattle.mount_model.specs.declared.reply.Reply.{Reply}
-use Rattle.mount_model.specs.declared.reply.Reply.TheVariants.{Looked, Refused, Damaged}
+use Rattle.mount_model.specs.declared.reply.Reply.TheVariants.{Looked, Refused, Damaged, Room}
 use Rattle.mount_model.specs.Paths.{Name}
+
+abbrev pub room_in : Reply → Option ℕ
+room_in (Room room) = Some room
+room_in reply = None
 
 abbrev pub names_in : Reply → Option (List Name)
 names_in (Looked (Names names)) = Some names
@@ -53,3 +57,8 @@ given (Some a) why next = next a
 abbrev pub on_ok : {A R : Type 0} → (A → Tries R) → Result A Stuck → Tries R
 on_ok next (Ok a) = next a
 on_ok next (Err why) = done (Err why)
+
+-- a result, unless there was a trouble before
+abbrev pub on_trouble : {R : Type 0} → Option Stuck → Result R Stuck → Result R Stuck
+on_trouble None next = next
+on_trouble (Some why) next = Err why

@@ -9,7 +9,8 @@ use Rattle.index_reader.specs.declared.sharing.Sofar.{Sofar}
 use Rattle.index_reader.specs.Replies.{Tries, on_ok}
 use Rattle.index_reader.specs.Runs.{pieces_of, merged_of}
 use Rattle.index_reader.specs.Covered.{cover_of}
-use Rattle.index_reader.specs.Tails.{no_tail, tail_program}
+use Rattle.index_reader.specs.Tails.{tail_program}
+use Rattle.index_reader.specs.Packs.{no_tail, packed_path, pack_program}
 
 abbrev pub nothing : Sofar
 nothing = record { covers = []; lists = [] }
@@ -26,10 +27,14 @@ added tail sofar = record { covers = sofar.covers ++ covered tail.cover; lists =
 abbrev pub share_of : Sofar → Share
 share_of sofar = record { covers = sofar.covers; pieces = merged_of sofar.lists }
 
+-- a dropping is read by its packed index, where there is one
+abbrev pub dropping_program : ℕ → Dropping → Cover → Tries Tail
+dropping_program room d cover = if d.packed then pack_program room (packed_path d.host d.writer) cover else tail_program room d (no_tail cover)
+
 -- the droppings that are left, behind what was read so far
 abbrev pub gathers : ℕ → List Cover → List Dropping → Sofar → Tries Share
 gathers room covers [] sofar = done (Ok (share_of sofar))
-gathers room covers (d ∷ ds) sofar = followed_by (tail_program room d (no_tail (cover_of d.writer covers))) (on_ok (λ tail. gathers room covers ds (added tail sofar)))
+gathers room covers (d ∷ ds) sofar = followed_by (dropping_program room d (cover_of d.writer covers)) (on_ok (λ tail. gathers room covers ds (added tail sofar)))
 
 abbrev pub share_program : ℕ → List Dropping → List Cover → Tries Share
 share_program room share covers = gathers room covers share nothing

@@ -13,10 +13,6 @@ use Rattle.index_reader.specs.declared.entries.Went.TheVariants.{On, Ends, Break
 use Rattle.index_reader.specs.Replies.{Tries, given, number_in, log_length_in, bytes_in, damage, trouble}
 use Rattle.index_reader.specs.Entries.{checked}
 
--- nothing past what a flattened index covers
-abbrev pub no_tail : Cover → Tail
-no_tail cover = record { cover = cover; entries = [] }
-
 -- how many Reads so many entries take, 4096 by each
 abbrev pub reads_of : ℕ → ℕ
 reads_of left = (left + 4095) / 4096

@@ -9,22 +9,8 @@ use Rattle.story.specs.Program.{done, ask}
 use Rattle.mount_model.specs.declared.call.Call.TheVariants.{Look}
 use Rattle.mount_model.specs.declared.call.Look.TheVariants.{List as ListFolder}
 use Rattle.mount_model.specs.Paths.{Name, truncs}
+use Rattle.index_reader.specs.Searching.{find_below, same_bytes}
 use Rattle.index_reader.specs.Replies.{Tries, given, names_in, damage, trouble}
-
-abbrev pub or_else : {X : Type 0} → Option X → Option X → Option X
-or_else None other = other
-or_else (Some x) other = Some x
-
--- the first that is found below a number
-abbrev pub find_below : {X : Type 0} → (ℕ → Option X) → ℕ → Option X
-find_below f zero = None
-find_below f (suc n) = or_else (find_below f n) (f n)
-
-abbrev pub same_bytes : List ℕ → List ℕ → Bool
-same_bytes [] [] = true
-same_bytes [] (y ∷ ys) = false
-same_bytes (x ∷ xs) [] = false
-same_bytes (x ∷ xs) (y ∷ ys) = (x == y) && same_bytes xs ys
 
 -- the truncate of this stamp and size, where the name is that of its dropping
 abbrev pub trunc_at : Name → ℕ → ℕ → Option Trunc

@@ -5,22 +5,37 @@
 //! program of calls. It stands on `flow` and on the mount's model, and needs no mount.
 #![tactic(auto)]
 
+mod bytes;
 mod covers;
 mod droppings;
 mod entries;
+mod firsts;
+mod flats;
+mod gathered;
+mod listed;
 mod listing;
+mod newest;
 mod opened;
+mod opening;
+mod owners;
+mod packed;
+mod packs;
+mod parts;
 mod placing;
 mod queue;
 mod reading;
 mod replies;
+mod scanning;
 mod sharing;
 mod steps;
 mod tails;
+mod tops;
 mod truncs;
 
-pub use listing::{Dropping, DroppingList};
-pub use opened::{Gathered, OpenReader};
+pub use gathered::{Gathered, ShareList, gather, join_shares};
+pub use listing::{Dropping, DroppingList, Listing};
+pub use opened::OpenReader;
+pub use opening::OpenRead;
 pub use reading::Reading;
 pub use sharing::{Share, ShareRead};
 pub use truncs::TruncRead;

@@ -1,25 +1,22 @@
 //! An open reader.
-ghost use Rattle.std.specs.Prelude.{◌≡◌, ℕ, IfOk};
+ghost use Rattle.std.specs.Prelude.{◌≡◌, ℕ, List, [], All, IfOk};
+ghost use Rattle.plfs_types.specs.declared.entries.Entry.{Entry};
+ghost use Rattle.plain_file.specs.declared.changes.Change.{Change};
+ghost use Rattle.plain_file.specs.File.{HasItsBytes, plain_size};
+ghost use Rattle.plain_file.specs.Keys.{KeysDiffer};
+ghost use Rattle.plain_file.specs.Runs.{ArePieces};
+ghost use Rattle.plain_file.specs.Shows.{entries_of, truncs_of};
 ghost use Rattle.index_reader.specs.Listing.{AreByWriter};
 ghost use Rattle.plain_file.specs.Size.{size_from};
 ghost use Rattle.plain_file.specs.Sources.{source_at, kept_source};
 
 use crate::droppings::Droppings;
-use crate::listing::DroppingList;
-use crate::sharing::Share;
+use crate::gathered::Gathered;
+use flat_format::Flat;
 use interval_merge::{clip, size};
 use plain_file::Pieces;
 use plfs_types::{CoverList, NoMemory, TruncList};
 use std::alloc::Global;
-
-/// What was gathered of a container without a flattened index.
-#[derive(Drop)]
-pub struct Gathered {
-    pub room: u64,
-    pub droppings: DroppingList,
-    pub share: Share,
-    pub truncs: TruncList,
-}
 
 /// What an open reader keeps: where the bytes of its file lie.
 #[derive(Drop)]
@@ -38,19 +35,24 @@ impl OpenReader {
         requires { AreByWriter gathered.droppings }
         ensures room { IfOk result (λ reader. reader.room ≡ gathered.room) }
         ensures droppings { IfOk result (λ reader. reader.droppings ≡ gathered.droppings) }
-        ensures covers { IfOk result (λ reader. reader.covers ≡ gathered.share.covers) }
+        ensures covers { IfOk result (λ reader. reader.covers ≡ gathered.flat.covers) }
         ensures truncs { IfOk result (λ reader. reader.truncs ≡ gathered.truncs) }
-        ensures size { IfOk result (λ reader. reader.size ≡ size_from gathered.share.pieces gathered.truncs) }
+        ensures size { IfOk result (λ reader. reader.size ≡ size_from gathered.flat.pieces gathered.truncs) }
+        // That is the size of the plain file.
+        ensures plain { IfOk result (λ reader. (changes : List Change) → KeysDiffer (entries_of changes) → All HasItsBytes changes
+            → ArePieces (entries_of changes) [] gathered.flat.pieces → gathered.truncs ≡ truncs_of changes → reader.size ≡ plain_size changes) }
         // Its pieces are what the truncates leave.
-        ensures kept { IfOk result (λ reader. (x : ℕ) → source_at reader.pieces x ≡ kept_source gathered.truncs x (source_at gathered.share.pieces x)) }
+        ensures kept { IfOk result (λ reader. (x : ℕ) → source_at reader.pieces x ≡ kept_source gathered.truncs x (source_at gathered.flat.pieces x)) }
+        // So they are the pieces of the same entries under the truncates.
+        ensures truncated { IfOk result (λ reader. (entries : List Entry) → ArePieces entries [] gathered.flat.pieces → ArePieces entries gathered.truncs reader.pieces) }
     {
         let Gathered {
             room,
+            flat,
             droppings,
-            share,
             truncs,
         } = gathered;
-        let Share { covers, pieces } = share;
+        let Flat { covers, pieces } = flat;
         let clipped = clip(alloc, &pieces, truncs.as_slice())?;
         let size = size(&pieces, truncs.as_slice());
         Ok(OpenReader {

@@ -3,13 +3,14 @@ ghost use Rattle.std.specs.Prelude.{All, ℕ, ◌≡◌, ◌≤◌, ◌<◌, ◌
 ghost use Rattle.interval_merge.specs.Writer.{HasPiece};
 ghost use Rattle.flow.specs.Standing.{ready, next_of, rest_of, replied};
 ghost use Rattle.mount_model.specs.Paths.{index_path as path_of_index, log_path as path_of_log};
-ghost use Rattle.index_reader.specs.Tails.{next_read as read_next, tail_program, no_tail, looked, reads_left};
+ghost use Rattle.index_reader.specs.Tails.{next_read as read_next, tail_program, looked, reads_left};
+ghost use Rattle.index_reader.specs.Packs.{no_tail};
 ghost use Rattle.index_reader.specs.Stages.{tail_left, after_left, IsOfPieces, step_calls, after_calls};
 
 use crate::entries::{Tail, Went};
 use crate::listing::Dropping;
 use crate::replies::{bytes_in, damage, log_length_in, number_in, trouble};
-use crate::steps::{Step, TailRead};
+use crate::steps::{DroppingRead, Step, TailRead};
 use container_layout::{Item, print};
 use flow::Stuck;
 use mount_model::{Call, Look, Reply};
@@ -22,7 +23,7 @@ const MAX_READ: u64 = 4096;
 /// What comes after a reply.
 #[derive(Drop)]
 pub(crate) enum After {
-    GoesOn(TailRead),
+    GoesOn(DroppingRead),
     Is(Result<Tail, Stuck>),
 }
 
@@ -115,11 +116,11 @@ impl TailRead {
         if whole < self.tail.cover.count {
             return After::Is(Err(damage(&path, told)));
         }
-        After::GoesOn(TailRead {
+        After::GoesOn(DroppingRead::Entries(TailRead {
             dropping: self.dropping,
             tail: self.tail,
             step: Step::Log { whole },
-        })
+        }))
     }
 
     fn after_log(self, whole: u64, reply: Reply) -> After
@@ -204,7 +205,7 @@ fn reading(dropping: Dropping, tail: Tail, log: u64, whole: u64, left: u64, ende
     if left == 0 {
         return After::Is(Ok(tail));
     }
-    After::GoesOn(TailRead {
+    After::GoesOn(DroppingRead::Entries(TailRead {
         dropping,
         tail,
         step: Step::Entries {
@@ -213,5 +214,5 @@ fn reading(dropping: Dropping, tail: Tail, log: u64, whole: u64, left: u64, ende
             left,
             ended,
         },
-    })
+    }))
 }

@@ -1,0 +1,36 @@
+-- The calls that read a file's bytes up to a length that was told.
+use Rattle.std.specs.Prelude.{ℕ, zero, suc, ◌+◌, ◌-◌, ◌/◌, nat_le, min, if◌then◌else◌, List, ◌++◌, length, Ok}
+use Rattle.plfs_types.specs.declared.names.Path.{Path}
+use Rattle.story.specs.Program.{done, ask}
+use Rattle.mount_model.specs.declared.call.Call.TheVariants.{Look}
+use Rattle.mount_model.specs.declared.call.Look.TheVariants.{Read}
+use Rattle.index_reader.specs.declared.bytes.TheConstants.{MAX_BYTES}
+use Rattle.index_reader.specs.Replies.{Tries, given, bytes_in, trouble}
+
+-- how many Reads so many bytes take, 2^20 by each
+abbrev pub parts_of : ℕ → ℕ
+parts_of left = (left + (MAX_BYTES - 1)) / MAX_BYTES
+
+-- how many bytes the next Read asks for
+abbrev pub next_part : ℕ → ℕ
+next_part left = min left MAX_BYTES
+
+-- Reads of the bytes that are left of so many, by so many calls, behind those so far. A Read that gives less than it
+-- asked for is the last.
+abbrev pub parts : ℕ → ℕ → Path → ℕ → ℕ → List ℕ → Tries (List ℕ)
+parts zero room path told left sofar = done (Ok sofar)
+parts (suc n) room path told left sofar = ask
+    (Look room (Read path (told - left) (next_part left)))
+    (λ reply. given (bytes_in reply) (trouble path reply)
+    (λ bytes. if nat_le (next_part left) (length bytes) then parts n room path told (left - next_part left) (sofar ++ bytes) else done (Ok (sofar ++ bytes))))
+
+-- the same, by as many calls as they take
+abbrev pub bytes_left : ℕ → Path → ℕ → ℕ → List ℕ → Tries (List ℕ)
+bytes_left room path told left sofar = parts (parts_of left) room path told left sofar
+
+-- the next Read where some are left, and all that follows
+abbrev pub bytes_on : ℕ → Path → ℕ → ℕ → List ℕ → Tries (List ℕ)
+bytes_on room path told left sofar = ask
+    (Look room (Read path (told - left) (next_part left)))
+    (λ reply. given (bytes_in reply) (trouble path reply)
+    (λ bytes. if nat_le (next_part left) (length bytes) then bytes_left room path told (left - next_part left) (sofar ++ bytes) else done (Ok (sofar ++ bytes))))
