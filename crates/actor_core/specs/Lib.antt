@@ -8,6 +8,9 @@ pub mod Sharing
 pub mod Opened
 pub mod Writers
 pub mod Readers
+pub mod Gathering
+pub mod Called
 pub mod Statements
 pub mod Progress
 pub mod Standings
+pub mod Owed

@@ -6,11 +6,14 @@ use Rattle.plfs_types.specs.declared.entries.WriterCount.{WriterCount}
 use Rattle.plain_file.specs.Size.{size_from}
 use Rattle.plain_file.specs.Sources.{kept_source}
 use Rattle.interval_merge.specs.Lists.{newest_source}
+use Rattle.story.specs.Program.{done, followed_by}
 use Rattle.flow.specs.declared.trouble.Stuck.{Stuck}
 use Rattle.script_lang.specs.declared.line.Outcome.TheVariants.{Reader}
 use Rattle.index_reader.specs.declared.listing.Listing.{Listing}
 use Rattle.index_reader.specs.declared.sharing.Share.{Share}
 use Rattle.index_reader.specs.declared.opened.OpenReader.{OpenReader}
+use Rattle.index_reader.specs.Replies.{Tries, on_ok}
+use Rattle.index_reader.specs.Truncs.{trunc_program}
 use Rattle.index_reader.specs.Runs.{runs_of, merged_of}
 use Rattle.index_reader.specs.Gathered.{covers_of, pieces_of_each}
 use Rattle.actor_core.specs.declared.kept.Kept.{Kept}
@@ -47,10 +50,14 @@ abbrev pub cut_of : List Cover → List WriterCount
 cut_of [] = []
 cut_of (c ∷ covers) = if c.count == 0 then cut_of covers else record { writer = c.writer; count = c.count } ∷ cut_of covers
 
-abbrev pub reader_opened : Kept → OpenReader → Ending
-reader_opened kept reader = ending (Reader reader.size (cut_of reader.covers) reader.truncs) (record kept { reader = Some reader })
-
 -- once the truncates are listed
-abbrev pub if_truncs : Kept → Listing → List Share → Result (List Trunc) Stuck → Ending
-if_truncs kept listing shares (Ok truncs) = reader_opened kept (reader_of listing shares truncs)
-if_truncs kept listing shares (Err because) = ending (stuck_outcome because) kept
+abbrev pub if_truncs : Listing → List Share → List Trunc → Tries OpenReader
+if_truncs listing shares truncs = done (Ok (reader_of listing shares truncs))
+
+-- the truncates are listed behind the shares
+abbrev pub opens : Listing → List Share → Tries OpenReader
+opens listing shares = followed_by (trunc_program listing.room) (on_ok (if_truncs listing shares))
+
+abbrev pub reader_opened : Kept → Result OpenReader Stuck → Ending
+reader_opened kept (Ok reader) = ending (Reader reader.size (cut_of reader.covers) reader.truncs) (record kept { reader = Some reader })
+reader_opened kept (Err because) = ending (stuck_outcome because) kept

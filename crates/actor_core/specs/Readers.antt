@@ -1,5 +1,6 @@
 -- The statements on a reader.
-use Rattle.std.specs.Prelude.{ℕ, List, map, Option, Some, None, Result, Ok, Err}
+use Rattle.std.specs.Prelude.{ℕ, ◌-◌, List, map, Option, Some, None, Result, Ok, Err}
+use Rattle.std.specs.List.{range_with_len}
 use Rattle.flow.specs.declared.trouble.Stuck.{Stuck}
 use Rattle.script_lang.specs.declared.script.Data.{Data}
 use Rattle.script_lang.specs.declared.line.Why.TheVariants.{AlreadyOpen, NotOpen}
@@ -10,35 +11,33 @@ use Rattle.index_reader.specs.declared.sharing.Share.{Share}
 use Rattle.index_reader.specs.Replies.{Tries}
 use Rattle.index_reader.specs.Opening.{open_read_program}
 use Rattle.index_reader.specs.Sharing.{share_program}
-use Rattle.index_reader.specs.Truncs.{trunc_program}
 use Rattle.index_reader.specs.Reading.{read_program}
 use Rattle.actor_core.specs.declared.kept.Stop.{Stop}
 use Rattle.actor_core.specs.declared.kept.Kept.{Kept}
 use Rattle.actor_core.specs.Data.{length_of}
 use Rattle.actor_core.specs.Stopping.{carried}
-use Rattle.actor_core.specs.Dealing.{dealt}
+use Rattle.actor_core.specs.Dealing.{dealt_to}
 use Rattle.actor_core.specs.Outcomes.{stuck_outcome}
 use Rattle.actor_core.specs.Endings.{ending, refused, stopped, read_from, verified, mapped, reader_closed}
 use Rattle.actor_core.specs.Work.{Work, finishes}
 use Rattle.actor_core.specs.Sharing.{shared}
-use Rattle.actor_core.specs.Opened.{if_truncs}
+use Rattle.actor_core.specs.Opened.{opens, reader_opened}
 
 -- ---- it is opened
 
--- each worker's share of the droppings, behind what the flattened index covers
-abbrev pub share_programs : ℕ → Listing → List (Tries Share)
-share_programs workers listing = map (λ share. share_program listing.room share listing.flat.covers) (dealt workers listing.droppings)
+-- one worker's share of the droppings, behind what the flattened index covers
+abbrev pub worker_program : ℕ → Listing → ℕ → Tries Share
+worker_program workers listing worker = share_program listing.room (dealt_to workers worker 0 listing.droppings) listing.flat.covers
 
--- the truncates are listed, unless a share was stuck
-abbrev pub if_shared : Kept → Listing → Option Stop → Result (List Share) Stuck → Work
-if_shared kept listing stop (Err because) = finishes (ending (stuck_outcome because) kept)
-if_shared kept listing stop (Ok shares) =
-    carried (trunc_program listing.room) stop (λ left result. finishes (if_truncs kept listing shares result)) (finishes (stopped kept))
+-- those of so many workers from this one on
+abbrev pub programs_from : ℕ → Listing → ℕ → List (Tries Share)
+programs_from workers listing worker = map (worker_program workers listing) (range_with_len worker (workers - worker))
 
--- the shares are read, unless the listing was stuck
+-- the shares are read and then the truncates, unless the listing was stuck
 abbrev pub if_listed : Kept → ℕ → Option Stop → Result Listing Stuck → Work
 if_listed kept workers stop (Err because) = finishes (ending (stuck_outcome because) kept)
-if_listed kept workers stop (Ok listing) = shared stop (share_programs workers listing) (if_shared kept listing) (finishes (stopped kept))
+if_listed kept workers stop (Ok listing) =
+    shared stop (programs_from workers listing 0) (opens listing) (λ left result. finishes (reader_opened kept result)) (finishes (stopped kept))
 
 -- refused where the actor has a reader
 abbrev pub opens_reader : Kept → Option Stop → List ℕ → ℕ → Option OpenReader → Work

@@ -1,5 +1,6 @@
 //! The statement that an actor is at work on.
-use index_reader::Reading;
+use crate::gathering::Gathering;
+use index_reader::{OpenRead, Reading};
 use script_lang::{Data, Outcome};
 use writer_flow::{CloseFlow, OpenWrite, SyncFlow, WriteFlow};
 
@@ -12,6 +13,8 @@ pub(crate) enum Doing {
     Writing { flow: WriteFlow, at: u64, len: u64 },
     Syncing(SyncFlow),
     Closing(CloseFlow),
+    Listing { flow: OpenRead, workers: u32 },
+    Gathering(Gathering),
     Reading { flow: Reading, at: u64 },
     Verifying { flow: Reading, at: u64, content: Data },
 }

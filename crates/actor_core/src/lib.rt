@@ -7,13 +7,21 @@
 
 mod actor;
 mod data;
+mod dealing;
 mod doing;
+mod gathering;
 mod kept;
+mod laws;
+mod listed;
 mod machines;
+mod opening;
 mod outcomes;
 mod starting;
+mod stepping;
 mod stopping;
+mod taking;
 
 pub use actor::Actor;
+pub use laws::statements_owe_nothing;
 pub use kept::{Kept, Stop};
 pub use outcomes::why_of;

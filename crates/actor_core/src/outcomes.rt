@@ -9,7 +9,6 @@ use plain_file::{Piece, Pieces};
 use plfs_types::{Bytes, Entry, NoMemory};
 use script_lang::{Data, MapText, Outcome, Why};
 use std::alloc::Global;
-use writer_flow::WriterHandle;
 
 /// Why a line says that a call was refused. The last five come of no call that an actor makes.
 pub fn why_of(refusal: Refusal) -> Why
@@ -47,17 +46,6 @@ pub(crate) fn stuck_outcome(because: Stuck) -> Outcome
             place,
         },
         Stuck::Refused(why) => Outcome::Refused { why: why_of(why) },
-    }
-}
-
-pub(crate) fn open_outcome(made: Result<WriterHandle, Stuck>) -> Outcome
-    ensures { result ≡ of.open_outcome made }
-{
-    match made {
-        Ok(handle) => Outcome::Opened {
-            writer: handle.writer,
-        },
-        Err(because) => stuck_outcome(because),
     }
 }
 

@@ -2,10 +2,10 @@
 ghost use Rattle.std.specs.Prelude.{◌≡◌, ◌≤◌, ◌^◌, true, IfOk, OnOk};
 ghost use Rattle.script_lang.specs.Ranges.{FitsData, FitsStatement};
 ghost use Rattle.actor_core.specs.Data.{bytes_of};
-ghost use Rattle.actor_core.specs.Endings.{refused};
+ghost use Rattle.actor_core.specs.Endings.{armed};
 ghost use Rattle.actor_core.specs.Work.{finishes};
 ghost use Rattle.actor_core.specs.Writers.{opens, writes, syncs, closes};
-ghost use Rattle.actor_core.specs.Readers.{reads, verifies, maps};
+ghost use Rattle.actor_core.specs.Readers.{opens_reader, reads, verifies, maps, closes_reader};
 ghost use Rattle.actor_core.specs.Statements.{is_built_statement, greeted_work};
 ghost use Rattle.actor_core.specs.Standings.{goes, doing_ready};
 
@@ -14,7 +14,7 @@ use crate::data::{block, length};
 use crate::doing::Doing;
 use crate::kept::Stop;
 use crate::outcomes::map_text;
-use index_reader::Reading;
+use index_reader::{OpenRead, Reading};
 use plfs_types::{LogicalName, NoMemory};
 use script_lang::{Data, Outcome, Statement, Why};
 use writer_flow::{CloseFlow, OpenWrite, SyncFlow, WriteFlow};
@@ -32,6 +32,7 @@ impl Actor {
         requires built { is_built_statement statement ≡ true }
         ensures goes { IfOk result (λ doing. doing_ready self.new.kept self.new.stop doing ≡ goes (greeted_work self.old.kept statement)) }
         ensures number { self.new.number ≡ self.old.number }
+        ensures state { self.new.state ≡ self.old.state }
     {
         if self.kept.gone {
             return Ok(Doing::Known(Outcome::Gone));
@@ -43,6 +44,7 @@ impl Actor {
             Statement::Write { at, content } => self.write(at, content),
             Statement::Sync => Ok(self.sync()),
             Statement::Close => Ok(self.close()),
+            Statement::Ropen { name, workers } => Ok(self.open_reader(name, workers)),
             Statement::Read { at, len } => self.read(at, len),
             Statement::Verify { at, content } => self.verify(at, content),
             Statement::Map => self.map(),
@@ -111,6 +113,19 @@ impl Actor {
 }
 
 impl Actor {
+    fn open_reader(&self, name: LogicalName, workers: u32) -> Doing
+        ensures { doing_ready self.now.kept self.now.stop result
+            ≡ goes (opens_reader self.now.kept self.now.stop name workers self.now.kept.reader) }
+    {
+        match &self.kept.reader {
+            Some(_) => refuse(Why::AlreadyOpen),
+            None => Doing::Listing {
+                flow: OpenRead::new(self.alloc, name),
+                workers,
+            },
+        }
+    }
+
     fn read(&self, at: u64, len: u64) -> Result<Doing, NoMemory>
         requires { len ≤ 2 ^ 24 }
         ensures { IfOk result (λ doing. doing_ready self.now.kept self.now.stop doing
@@ -148,6 +163,7 @@ impl Actor {
     fn close_reader(&mut self) -> Doing
         ensures goes { doing_ready self.new.kept self.new.stop result ≡ goes (closes_reader self.old.kept self.old.kept.reader) }
         ensures number { self.new.number ≡ self.old.number }
+        ensures state { self.new.state ≡ self.old.state }
     {
         match self.kept.reader.take() {
             None => refuse(Why::NotOpen),
@@ -158,6 +174,7 @@ impl Actor {
     fn arm(&mut self, call: u64, bytes: u64) -> Doing
         ensures goes { doing_ready self.new.kept self.new.stop result ≡ goes (finishes (armed self.old.kept (record { call = call; bytes = bytes }))) }
         ensures number { self.new.number ≡ self.old.number }
+        ensures state { self.new.state ≡ self.old.state }
     {
         self.kept.armed = Some(Stop { call, bytes });
         Doing::Known(Outcome::Armed)
