@@ -1,5 +1,18 @@
+mod Deciding
 pub mod EntryLemmas
+pub mod Facts
+mod FileLemmas
+mod FirstLemmas
+mod FlatMeaning
+mod FlatRuleLemmas
 mod Found
+mod ItemLemmas
+mod OpenLemmas
+mod OwnerLemmas
+mod PackRuleLemmas
+mod PackedLemmas
 pub mod RunLemmas
+mod Searching
 pub mod TailLemmas
+mod TopLemmas
 pub mod TruncLemmas
