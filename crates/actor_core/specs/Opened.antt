@@ -1,5 +1,5 @@
 -- The reader that is opened.
-use Rattle.std.specs.Prelude.{ℕ, ◌==◌, nat_lt, if◌then◌else◌, List, [], ◌∷◌, ◌++◌, Option, Some, Result, Ok, Err}
+use Rattle.std.specs.Prelude.{◌==◌, nat_lt, if◌then◌else◌, List, [], ◌∷◌, ◌++◌, map, filter, Some, Result, Ok, Err}
 use Rattle.plfs_types.specs.declared.entries.Cover.{Cover}
 use Rattle.plfs_types.specs.declared.entries.Trunc.{Trunc}
 use Rattle.plfs_types.specs.declared.entries.WriterCount.{WriterCount}
@@ -45,10 +45,12 @@ reader_of listing shares truncs = record {
   truncs = truncs;
 }
 
+abbrev pub counted : Cover → WriterCount
+counted c = record { writer = c.writer; count = c.count }
+
 -- how many entries of each writer there are; counts of 0 are left out
 abbrev pub cut_of : List Cover → List WriterCount
-cut_of [] = []
-cut_of (c ∷ covers) = if c.count == 0 then cut_of covers else record { writer = c.writer; count = c.count } ∷ cut_of covers
+cut_of covers = map counted (filter (λ (c : Cover). nat_lt 0 c.count) covers)
 
 -- once the truncates are listed
 abbrev pub if_truncs : Listing → List Share → List Trunc → Tries OpenReader

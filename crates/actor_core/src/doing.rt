@@ -1,6 +1,5 @@
 //! The statement that an actor is at work on.
-use crate::gathering::Gathering;
-use index_reader::{OpenRead, Reading};
+use index_reader::Reading;
 use script_lang::{Data, Outcome};
 use writer_flow::{CloseFlow, OpenWrite, SyncFlow, WriteFlow};
 
@@ -10,11 +9,20 @@ pub(crate) enum Doing {
     /// It makes no further call, and this is what comes of it.
     Known(Outcome),
     Opening(OpenWrite),
-    Writing { flow: WriteFlow, at: u64, len: u64 },
+    Writing {
+        flow: WriteFlow,
+        at: u64,
+        len: u64,
+    },
     Syncing(SyncFlow),
     Closing(CloseFlow),
-    Listing { flow: OpenRead, workers: u32 },
-    Gathering(Gathering),
-    Reading { flow: Reading, at: u64 },
-    Verifying { flow: Reading, at: u64, content: Data },
+    Reading {
+        flow: Reading,
+        at: u64,
+    },
+    Verifying {
+        flow: Reading,
+        at: u64,
+        content: Data,
+    },
 }

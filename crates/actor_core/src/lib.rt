@@ -7,21 +7,19 @@
 
 mod actor;
 mod data;
-mod dealing;
 mod doing;
-mod gathering;
 mod kept;
 mod laws;
-mod listed;
 mod machines;
-mod opening;
 mod outcomes;
+mod reading;
 mod starting;
 mod stepping;
 mod stopping;
 mod taking;
 
 pub use actor::Actor;
-pub use laws::statements_owe_nothing;
 pub use kept::{Kept, Stop};
+pub use laws::statements_owe_nothing;
 pub use outcomes::why_of;
+pub use starting::is_built_statement;

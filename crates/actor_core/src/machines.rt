@@ -51,8 +51,6 @@ impl Actor {
             Doing::Writing { flow, at, len } => self.next_writing(flow, at, len),
             Doing::Syncing(flow) => self.next_syncing(flow),
             Doing::Closing(flow) => self.next_closing(flow),
-            Doing::Listing { flow, workers } => self.next_listing(flow, workers),
-            Doing::Gathering(flow) => self.next_gathering(flow),
             Doing::Reading { flow, at } => self.next_reading(flow, at),
             Doing::Verifying { flow, at, content } => self.next_verifying(flow, at, content),
         }
@@ -97,7 +95,12 @@ impl Actor {
 }
 
 impl Actor {
-    fn next_writing(&mut self, mut flow: WriteFlow, at: u64, len: u64) -> Result<Option<Ask>, NoMemory>
+    fn next_writing(
+        &mut self,
+        mut flow: WriteFlow,
+        at: u64,
+        len: u64,
+    ) -> Result<Option<Ask>, NoMemory>
         requires idle { self.old.state ≡ Idle }
         requires ready { IsReady (busy self.old.number (doing_ready self.old.kept self.old.stop (Doing.Writing flow at len))) }
         ensures ask { IfOk result (λ ask. ask ≡ ask_of (busy self.old.number (doing_ready self.old.kept self.old.stop (Doing.Writing flow at len)))) }

@@ -1,5 +1,5 @@
 //! What a line says of a statement that came to its end.
-ghost use Rattle.std.specs.Prelude.{◌≡◌, IfOk};
+ghost use Rattle.std.specs.Prelude.{◌≡◌, map, IfOk};
 ghost use Rattle.actor_core.specs.Outcomes as of;
 
 use crate::data::first_difference;
@@ -8,7 +8,7 @@ use mount_model::Refusal;
 use plain_file::{Piece, Pieces};
 use plfs_types::{Bytes, Entry, NoMemory};
 use script_lang::{Data, MapText, Outcome, Why};
-use std::alloc::Global;
+use std::alloc::{AllocError, Global};
 
 /// Why a line says that a call was refused. The last five come of no call that an actor makes.
 pub fn why_of(refusal: Refusal) -> Why
@@ -121,13 +121,15 @@ fn entry_of(piece: &Piece) -> Entry
     }
 }
 
+fn entries_of(alloc: Global, pieces: &[Piece]) -> Result<Vec<Entry>, AllocError>
+    ensures { IfOk result (λ entries. entries.items ≡ map of.entry_of pieces.now) }
+{
+    pieces.iter().map(|piece| entry_of(piece)).collect(alloc)
+}
+
 /// The pieces, each as an entry.
 pub(crate) fn map_text(alloc: Global, pieces: &Pieces) -> Result<MapText, NoMemory>
     ensures { IfOk result (λ entries. entries ≡ of.map_text pieces.now) }
 {
-    let mut entries = MapText::new(alloc);
-    for piece in pieces.as_slice() {
-        entries.push(entry_of(piece))?;
-    }
-    Ok(entries)
+    Ok(MapText::from_vec(entries_of(alloc, pieces.as_slice())?))
 }

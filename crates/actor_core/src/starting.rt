@@ -5,8 +5,8 @@ ghost use Rattle.actor_core.specs.Data.{bytes_of};
 ghost use Rattle.actor_core.specs.Endings.{armed};
 ghost use Rattle.actor_core.specs.Work.{finishes};
 ghost use Rattle.actor_core.specs.Writers.{opens, writes, syncs, closes};
-ghost use Rattle.actor_core.specs.Readers.{opens_reader, reads, verifies, maps, closes_reader};
-ghost use Rattle.actor_core.specs.Statements.{is_built_statement, greeted_work};
+ghost use Rattle.actor_core.specs.Readers.{reads, verifies, maps, closes_reader};
+ghost use Rattle.actor_core.specs.Statements.{is_built_statement as built, greeted_work};
 ghost use Rattle.actor_core.specs.Standings.{goes, doing_ready};
 
 use crate::actor::Actor;
@@ -14,7 +14,7 @@ use crate::data::{block, length};
 use crate::doing::Doing;
 use crate::kept::Stop;
 use crate::outcomes::map_text;
-use index_reader::{OpenRead, Reading};
+use index_reader::Reading;
 use plfs_types::{LogicalName, NoMemory};
 use script_lang::{Data, Outcome, Statement, Why};
 use writer_flow::{CloseFlow, OpenWrite, SyncFlow, WriteFlow};
@@ -25,11 +25,27 @@ fn refuse(why: Why) -> Doing
     Doing::Known(Outcome::Refused { why })
 }
 
+/// Whether an actor makes this statement; the others are to come.
+pub fn is_built_statement(statement: &Statement) -> bool
+    ensures { result ≡ built statement.now }
+{
+    match statement {
+        Statement::Ropen { .. }
+        | Statement::Stat { .. }
+        | Statement::Flatten { .. }
+        | Statement::Recover { .. }
+        | Statement::Trunc { .. }
+        | Statement::Rename { .. }
+        | Statement::Ls => false,
+        _ => true,
+    }
+}
+
 impl Actor {
     /// The statement's beginning, of an actor that has greeted or is to.
     pub(crate) fn start(&mut self, statement: Statement) -> Result<Doing, NoMemory>
         requires fits { FitsStatement statement }
-        requires built { is_built_statement statement ≡ true }
+        requires built { built statement ≡ true }
         ensures goes { IfOk result (λ doing. doing_ready self.new.kept self.new.stop doing ≡ goes (greeted_work self.old.kept statement)) }
         ensures number { self.new.number ≡ self.old.number }
         ensures state { self.new.state ≡ self.old.state }
@@ -44,7 +60,6 @@ impl Actor {
             Statement::Write { at, content } => self.write(at, content),
             Statement::Sync => Ok(self.sync()),
             Statement::Close => Ok(self.close()),
-            Statement::Ropen { name, workers } => Ok(self.open_reader(name, workers)),
             Statement::Read { at, len } => self.read(at, len),
             Statement::Verify { at, content } => self.verify(at, content),
             Statement::Map => self.map(),
@@ -113,19 +128,6 @@ impl Actor {
 }
 
 impl Actor {
-    fn open_reader(&self, name: LogicalName, workers: u32) -> Doing
-        ensures { doing_ready self.now.kept self.now.stop result
-            ≡ goes (opens_reader self.now.kept self.now.stop name workers self.now.kept.reader) }
-    {
-        match &self.kept.reader {
-            Some(_) => refuse(Why::AlreadyOpen),
-            None => Doing::Listing {
-                flow: OpenRead::new(self.alloc, name),
-                workers,
-            },
-        }
-    }
-
     fn read(&self, at: u64, len: u64) -> Result<Doing, NoMemory>
         requires { len ≤ 2 ^ 24 }
         ensures { IfOk result (λ doing. doing_ready self.now.kept self.now.stop doing

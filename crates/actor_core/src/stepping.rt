@@ -130,7 +130,15 @@ impl Actor {
                     stop: None,
                 }))
             }
-            State::Asked(_) | State::Greeted(_) => unreachable!(),
+            // Where a call is out, nobody asks for a further one.
+            State::Asked(doing) => {
+                self.set(State::Asked(doing));
+                Ok(None)
+            }
+            State::Greeted(doing) => {
+                self.set(State::Greeted(doing));
+                Ok(None)
+            }
         }
     }
 
@@ -145,12 +153,15 @@ impl Actor {
             return Err(NoMemory);
         }
         match self.state_taken() {
+            // In each of these a call of the statement's machine is out.
             State::Asked(doing) => self.take_reply(doing, reply),
+            State::Ready(doing) => self.take_reply(doing, reply),
+            State::Greeting(doing) => self.take_reply(doing, reply),
             State::Greeted(doing) => {
                 self.set(State::Ready(doing));
                 Ok(())
             }
-            _ => unreachable!(),
+            State::Idle | State::Told(_) => unreachable!(),
         }
     }
 

@@ -60,11 +60,6 @@ fn after_reply(doing: Doing, reply: Reply) -> Result<Doing, NoMemory>
             flow.take(reply)?;
             Doing::Closing(flow)
         }
-        Doing::Listing { mut flow, workers } => {
-            flow.take(reply)?;
-            Doing::Listing { flow, workers }
-        }
-        Doing::Gathering(flow) => Doing::Gathering(flow.take(reply)?),
         Doing::Reading { mut flow, at } => {
             flow.take(reply)?;
             Doing::Reading { flow, at }
