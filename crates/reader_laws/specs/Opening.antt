@@ -74,16 +74,18 @@ pub record OpensAlone (caller : ℕ) (events : List Event) (listing : Listing) (
   pub reads : ReadsInTurn caller listing.room listing.flat.covers portions gathering
   pub truncates : Runs caller (trunc_program listing.room) listing_truncs (Ok truncs)
 
--- The same where each portion is read by a worker, in the events between.
+-- The same where each portion is read by a worker, in the events between the caller's last call of the listing and its
+-- call that lists the truncates.
 pub record OpensByWorkers (caller : ℕ) (events : List Event) (listing : Listing) (works : List Work) (truncs : List Trunc) : Type 0 where
   pub program : Tries Listing
   pub lists : Lists program
   pub scanning : List Event
   pub gathering : List Event
-  pub listing_truncs : List Event
-  pub split : events ≡ scanning ++ (gathering ++ listing_truncs)
+  pub last : Event
+  pub later : List Event
+  pub split : events ≡ scanning ++ (gathering ++ last ∷ later)
   pub scans : Runs caller program scanning (Ok listing)
   pub dealt : AreDealt listing.droppings (portions_of works)
   pub reads : WorkersRead listing.room listing.flat.covers works gathering
-  pub waits : calls_of caller gathering ≡ []
-  pub truncates : Runs caller (trunc_program listing.room) listing_truncs (Ok truncs)
+  pub by_caller : last.caller ≡ caller
+  pub truncates : Runs caller (trunc_program listing.room) (last ∷ later) (Ok truncs)

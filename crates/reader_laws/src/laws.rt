@@ -23,12 +23,13 @@ ghost use Rattle.index_reader.specs.Truncs.{trunc_program};
 ghost use Rattle.gathering.specs.Moments.{Moment, IsSoundAt, IsNamed, moment_after};
 ghost use Rattle.gathering.specs.Seen.{calls_of};
 ghost use Rattle.gathering.specs.Gathering.{Gathered, GathersAll};
+ghost use Rattle.gathering.specs.Listing.{IsAmong};
 ghost use Rattle.gathering.specs.View.{view};
 ghost use Rattle.reader_laws.specs.Sharing.{in_room, IsShareOf};
 ghost use Rattle.reader_laws.specs.Listing.{HasListed, HasListedTruncs};
 ghost use Rattle.reader_laws.specs.Opening.{Lists, Portion, shares_of, Work, portions_of, OpensAlone, OpensByWorkers};
 ghost use Rattle.reader_laws.specs.Opened.{IsReaderOf, HasOpenReader, HasOpenedIn};
-ghost use Rattle.reader_laws.specs.Failing.{FailsByStore, FailsToOpen};
+ghost use Rattle.reader_laws.specs.Failing.{FailsByStore};
 
 /// A law: who runs the program that lists a container, and ends well, has read the newest flattened index, if there was
 /// one, and scanned the container; what it listed is what it read and found.
@@ -86,6 +87,19 @@ pub fn an_open_reader_reads_its_file()
         → IsLawful end.state (between ++ reading) → IsSoundAt end → HasOpenReader start end reader cut
         → Runs caller (read_program reader.room reader.droppings (plan_of reader.pieces reader.size at len)) reading (Err why)
         → FailsByStore caller (state_after end.state between) reading why }
+{}
+
+/// A law: where a share of what was listed, or the list of truncates behind it, ends in trouble, whenever it is read and
+/// whatever others call, the store's count of faults rose meanwhile: it is no damage and no refusal.
+pub fn shares_and_truncates_fail_by_store()
+    ensures shares { (lister caller : ℕ) (program : Tries Listing) (start : Moment) (scanning between reading : List Event) (listing : Listing) (ds : List Listed) (why : Stuck)
+        → IsLawful start.state (scanning ++ (between ++ reading)) → IsSoundAt start → Lists program → Runs lister program scanning (Ok listing)
+        → All (λ (d : Listed). IsAmong d listing.droppings) ds → Runs caller (share_program listing.room ds listing.flat.covers) reading (Err why)
+        → FailsByStore caller (state_after start.state (scanning ++ between)) reading why }
+    ensures truncates { (lister caller : ℕ) (program : Tries Listing) (start : Moment) (scanning between reading : List Event) (listing : Listing) (why : Stuck)
+        → IsLawful start.state (scanning ++ (between ++ reading)) → IsSoundAt start → Lists program → Runs lister program scanning (Ok listing)
+        → Runs caller (trunc_program listing.room) reading (Err why)
+        → FailsByStore caller (state_after start.state (scanning ++ between)) reading why }
 {}
 
 /// A law: readers of one cut and the same truncates have the same pieces, size and covers, whatever flattened index each

@@ -10,5 +10,6 @@ mod laws;
 
 pub use laws::{
     a_listing_is_a_scan, a_reader_opens, a_reader_opens_by_workers, a_share_is_gathered,
-    an_open_reader_reads_its_file, flattening_leaves_readers_the_same, truncates_are_listed,
+    an_open_reader_reads_its_file, flattening_leaves_readers_the_same,
+    shares_and_truncates_fail_by_store, truncates_are_listed,
 };
