@@ -9,11 +9,16 @@ use Rattle.index_reader.specs.declared.entries.Tail.{Tail}
 use Rattle.story.specs.Program.{followed_by}
 use Rattle.flow.specs.Standing.{ready, rest_of, replied}
 use Rattle.mount_model.specs.declared.reply.Reply.{Reply}
-use Rattle.index_reader.specs.declared.steps.TailRead.{TailRead}
+use Rattle.plfs_types.specs.declared.entries.Cover.{Cover}
+use Rattle.plfs_types.specs.declared.names.Path.{Path}
+use Rattle.index_reader.specs.declared.steps.PackStep.{PackStep}
+use Rattle.index_reader.specs.declared.steps.PackStep.TheVariants as packing
+use Rattle.index_reader.specs.declared.steps.DroppingRead.{DroppingRead}
+use Rattle.index_reader.specs.declared.steps.DroppingRead.TheVariants as from
 use Rattle.index_reader.specs.declared.steps.Step.{Step}
 use Rattle.index_reader.specs.declared.steps.Step.TheVariants.{Index, Log, Entries}
 use Rattle.index_reader.specs.declared.sharing.Share.{Share}
-use Rattle.index_reader.specs.Stages.{step_program, tail_left}
+use Rattle.index_reader.specs.Stages.{step_program, pack_step, dropping_left}
 use Rattle.flow.specs.declared.trouble.Stuck.{Stuck}
 use Rattle.index_reader.specs.Replies.{Tries}
 use Rattle.index_reader.specs.Tails.{reads_of, next_read, reads, reads_left, reads_on}
@@ -38,5 +43,14 @@ step_later room d tail Index k reply = refl
 step_later room d tail (Log whole) k reply = refl
 step_later room d tail (Entries log whole left ended) k reply = refl
 
-pub taken_later : (room : ℕ) (t : TailRead) (k : Result Tail Stuck → Tries Share) (reply : Reply) (p : Tries Tail) (q : Tries Share) → p ≡ replied (rest_of (ready (tail_left room t))) reply → q ≡ followed_by p k → q ≡ replied (rest_of (ready (followed_by (tail_left room t) k))) reply
-taken_later room t k reply p q is then_is = then_is ∙ ap (λ r. followed_by r k) is ∙ step_later room t.dropping t.tail t.step k reply
+pack_later : (room : ℕ) (path : Path) (cover : Cover) (step : PackStep) (k : Result Tail Stuck → Tries Share) (reply : Reply) → followed_by (replied (rest_of (ready (pack_step room path cover step))) reply) k ≡ replied (rest_of (ready (followed_by (pack_step room path cover step) k))) reply
+pack_later room path cover packing.Length k reply = refl
+pack_later room path cover (packing.Head told) k reply = refl
+pack_later room path cover (packing.Rest f) k reply = refl
+
+dropping_later : (room : ℕ) (d : DroppingRead) (k : Result Tail Stuck → Tries Share) (reply : Reply) → followed_by (replied (rest_of (ready (dropping_left room d))) reply) k ≡ replied (rest_of (ready (followed_by (dropping_left room d) k))) reply
+dropping_later room (from.Entries t) k reply = step_later room t.dropping t.tail t.step k reply
+dropping_later room (from.Packed p) k reply = pack_later room p.path p.cover p.step k reply
+
+pub taken_later : (room : ℕ) (d : DroppingRead) (k : Result Tail Stuck → Tries Share) (reply : Reply) (p : Tries Tail) (q : Tries Share) → p ≡ replied (rest_of (ready (dropping_left room d))) reply → q ≡ followed_by p k → q ≡ replied (rest_of (ready (followed_by (dropping_left room d) k))) reply
+taken_later room d k reply p q is then_is = then_is ∙ ap (λ r. followed_by r k) is ∙ dropping_later room d k reply

@@ -10,39 +10,9 @@ use Rattle.container_layout.specs.declared.items.Item.TheVariants as item
 use Rattle.container_layout.specs.Paths.{path_of, IsIn}
 use Rattle.container_layout.proofs.Facts.{one_item}
 use Rattle.mount_model.specs.Paths.{Name, truncs}
-use Rattle.index_reader.specs.Truncs.{find_below, same_bytes, trunc_at, trunc_in}
-
-same_bytes-itself : (xs : List ℕ) → same_bytes xs xs ≡ true
-same_bytes-itself [] = refl
-same_bytes-itself (x ∷ xs) = let e : (x == x) ≡ true = grind (arith, nat_tests) in and_from (x == x) (same_bytes xs xs) e (same_bytes-itself xs)
-
-same_bytes-eq : (xs ys : List ℕ) → same_bytes xs ys ≡ true → xs ≡ ys
-same_bytes-eq [] [] h = refl
-same_bytes-eq [] (y ∷ ys) h = absurd (cc)
-same_bytes-eq (x ∷ xs) [] h = absurd (cc)
-same_bytes-eq (x ∷ xs) (y ∷ ys) h =
-    let parts = and_parts (x == y) (same_bytes xs ys) h in
-    let first : x ≡ y = grind (arith, nat_tests, parts.0) in
-    let rest : xs ≡ ys = same_bytes-eq xs ys parts.1 in
-    cc
-
-found_below : {X : Type 0} (f : ℕ → Option X) (n : ℕ) (x : X) → find_below f n ≡ Some x → (k : ℕ) × (k < n) × (f k ≡ Some x)
-found_below f zero x h = absurd (cc)
-found_below f (suc n) x h = elim (cases_Option (find_below f n)) [
-  | inl none ↦ (let e : find_below f (suc n) ≡ f n = cc in (n, omega arith, sym e ∙ h))
-  | inr some ↦ (let e : find_below f (suc n) ≡ Some some.0 = cc in
-      let rest = found_below f n x (some.1 ∙ sym e ∙ h) in (rest.0, omega (arith, rest.1), rest.2))
-]
-
-none_below : {X : Type 0} (f : ℕ → Option X) (n k : ℕ) → find_below f n ≡ None → k < n → f k ≡ None
-none_below f zero k h l = absurd (omega arith)
-none_below f (suc n) k h l = elim (cases_Option (find_below f n)) [
-  | inl none ↦ elim (cases_lt k n) [
-    | inl before ↦ none_below f n k none before
-    | inr last ↦ (let at : k ≡ n = omega arith in let e : find_below f (suc n) ≡ f n = cc in ap f at ∙ sym e ∙ h)
-  ]
-  | inr some ↦ absurd (cc)
-]
+use Rattle.index_reader.specs.Searching.{find_below, same_bytes}
+use Rattle.index_reader.specs.Truncs.{trunc_at, trunc_in}
+use Rattle.index_reader.proofs.Searching.{same_bytes-itself, same_bytes-eq, found_below, none_below}
 
 -- the test of one stamp and size
 holds_at : Name → ℕ → ℕ → Bool

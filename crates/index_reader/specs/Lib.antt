@@ -7,13 +7,16 @@ pub mod Listing
 pub mod Items
 pub mod Newest
 pub mod FileReads
+pub mod FileStages
 pub mod Breaks
 pub mod FlatRules
 pub mod PackRules
 pub mod Scanning
 pub mod Tops
 pub mod Packs
+pub mod Packed
 pub mod Opening
+pub mod OpenStages
 pub mod Runs
 pub mod Entries
 pub mod Tails
@@ -25,3 +28,4 @@ pub mod Truncs
 pub mod TruncStages
 pub mod ReadingStages
 pub mod Gathered
+pub mod Firsts

@@ -1,6 +1,6 @@
 -- The calls that list a container: its flattened indices, of which the newest is read, its top, and its folders of
 -- droppings.
-use Rattle.std.specs.Prelude.{ℕ, ◌+◌, ◌*◌, ◌==◌, ◌&&◌, Bool, true, false, if◌then◌else◌, List, [], ◌∷◌, map, Option, Some, None, Result, Ok, Err}
+use Rattle.std.specs.Prelude.{ℕ, ◌+◌, ◌*◌, ◌==◌, Bool, false, if◌then◌else◌, List, [], ◌∷◌, map, Option, Some, None, Result, Ok, Err}
 use Rattle.plfs_types.specs.declared.entries.Cover.{Cover}
 use Rattle.container_layout.specs.Paths.{hostdir_of}
 use Rattle.flat_format.specs.declared.flat.Flat.{Flat}
@@ -19,7 +19,7 @@ use Rattle.index_reader.specs.FileReads.{bytes_left}
 use Rattle.index_reader.specs.FlatRules.{flat_told}
 use Rattle.index_reader.specs.Newest.{newest_in, flats_path}
 use Rattle.index_reader.specs.Packs.{packed_path}
-use Rattle.index_reader.specs.Scanning.{file_in, has_writer, nothing_found, scanned}
+use Rattle.index_reader.specs.Scanning.{file_in, owner_of, has_writer, nothing_found, scanned}
 use Rattle.index_reader.specs.Tops.{top_shows}
 
 -- ---- the newest flattened index
@@ -47,9 +47,14 @@ abbrev pub uncovered : List Owner → ℕ → List Cover → Option ℕ
 uncovered indices index [] = None
 uncovered indices index (c ∷ covers) = if has_writer c.writer indices then uncovered indices (index + 1) covers else Some index
 
+-- there is one, of this host
+abbrev pub is_of_host : ℕ → Option Owner → Bool
+is_of_host host None = false
+is_of_host host (Some o) = o.host == host
+
+-- the writer is there, with this host
 abbrev pub has_owner : Owner → List Owner → Bool
-has_owner o [] = false
-has_owner o (p ∷ owners) = if (p.host == o.host) && (p.writer == o.writer) then true else has_owner o owners
+has_owner o owners = is_of_host o.host (owner_of o.writer owners)
 
 -- the first packed index whose host and writer have no index dropping
 abbrev pub lone_pack : List Owner → List Owner → Option Owner

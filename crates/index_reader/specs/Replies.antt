@@ -57,3 +57,8 @@ given (Some a) why next = next a
 abbrev pub on_ok : {A R : Type 0} → (A → Tries R) → Result A Stuck → Tries R
 on_ok next (Ok a) = next a
 on_ok next (Err why) = done (Err why)
+
+-- a result, unless there was a trouble before
+abbrev pub on_trouble : {R : Type 0} → Option Stuck → Result R Stuck → Result R Stuck
+on_trouble None next = next
+on_trouble (Some why) next = Err why

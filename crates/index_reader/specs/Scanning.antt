@@ -1,5 +1,5 @@
 -- What the listings of a container's folders of droppings show.
-use Rattle.std.specs.Prelude.{ℕ, ◌==◌, nat_lt, Bool, true, false, if◌then◌else◌, List, [], ◌∷◌, Option, Some, None, Result, Ok, Err}
+use Rattle.std.specs.Prelude.{ℕ, nat_lt, Bool, if◌then◌else◌, is_some, List, [], ◌∷◌, Option, Some, None, Result, Ok, Err}
 use Rattle.plfs_types.specs.declared.names.Path.{Path}
 use Rattle.container_layout.specs.declared.items.Item.{Item}
 use Rattle.container_layout.specs.declared.items.Item.TheVariants as item
@@ -8,6 +8,7 @@ use Rattle.mount_model.specs.Paths.{Name}
 use Rattle.index_reader.specs.declared.owners.Owner.{Owner}
 use Rattle.index_reader.specs.declared.scanning.Scan.{Scan}
 use Rattle.index_reader.specs.Replies.{damage}
+use Rattle.index_reader.specs.Found.{item_of, AscendBy}
 use Rattle.index_reader.specs.Items.{hostdir_item}
 
 abbrev pub file_in : Name → Name → Path
@@ -18,9 +19,16 @@ owner host writer = record { host = host; writer = writer }
 
 -- ---- writers in order
 
+-- the first one of this writer
+abbrev pub owner_of : ℕ → List Owner → Option Owner
+owner_of writer owners = item_of (λ (o : Owner). o.writer) writer owners
+
 abbrev pub has_writer : ℕ → List Owner → Bool
-has_writer writer [] = false
-has_writer writer (o ∷ owners) = if o.writer == writer then true else has_writer writer owners
+has_writer writer owners = is_some (owner_of writer owners)
+
+-- each writer is above those before it
+abbrev pub Ascends : List Owner → Type 0
+Ascends owners = AscendBy (λ (o : Owner). o.writer) owners
 
 -- with one more, before the first of a greater writer
 abbrev pub placed : Owner → List Owner → List Owner

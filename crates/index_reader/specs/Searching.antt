@@ -1,5 +1,6 @@
 -- Searching numbers and names.
-use Rattle.std.specs.Prelude.{ℕ, zero, suc, ◌==◌, ◌&&◌, Bool, true, false, if◌then◌else◌, List, [], ◌∷◌, Option, Some, None}
+use Rattle.std.specs.Prelude.{ℕ, zero, suc, nat_eq, Bool, true, false, if◌then◌else◌, List, [], ◌∷◌, Option, Some, None}
+use Rattle.std.specs.Cmp.Lexicographic.{pointwise}
 
 abbrev pub or_else : {X : Type 0} → Option X → Option X → Option X
 or_else None other = other
@@ -11,10 +12,7 @@ find_below f zero = None
 find_below f (suc n) = or_else (find_below f n) (f n)
 
 abbrev pub same_bytes : List ℕ → List ℕ → Bool
-same_bytes [] [] = true
-same_bytes [] (y ∷ ys) = false
-same_bytes (x ∷ xs) [] = false
-same_bytes (x ∷ xs) (y ∷ ys) = (x == y) && same_bytes xs ys
+same_bytes xs ys = pointwise nat_eq xs ys
 
 -- one of the names is this one
 abbrev pub has_name : List ℕ → List (List ℕ) → Bool

@@ -1,6 +1,7 @@
 -- Where the stages of a share stand in its program.
 use Rattle.std.specs.Prelude.{ℕ, ◌+◌, ◌*◌, ◌^◌, List, length, All, Result, Ok, Err}
 use Rattle.plfs_types.specs.declared.entries.Cover.{Cover}
+use Rattle.plfs_types.specs.declared.names.Path.{Path}
 use Rattle.flow.specs.declared.trouble.Stuck.{Stuck}
 use Rattle.interval_merge.specs.Writer.{HasPiece}
 use Rattle.story.specs.Program.{done, followed_by}
@@ -12,6 +13,11 @@ use Rattle.index_reader.specs.declared.entries.Tail.{Tail}
 use Rattle.index_reader.specs.declared.steps.TailRead.{TailRead}
 use Rattle.index_reader.specs.declared.steps.Step.{Step}
 use Rattle.index_reader.specs.declared.steps.Step.TheVariants.{Index, Log, Entries}
+use Rattle.index_reader.specs.declared.steps.PackRead.{PackRead}
+use Rattle.index_reader.specs.declared.steps.PackStep.{PackStep}
+use Rattle.index_reader.specs.declared.steps.PackStep.TheVariants as packing
+use Rattle.index_reader.specs.declared.steps.DroppingRead.{DroppingRead}
+use Rattle.index_reader.specs.declared.steps.DroppingRead.TheVariants as from
 use Rattle.index_reader.specs.declared.tails.After.{After}
 use Rattle.index_reader.specs.declared.tails.After.TheVariants.{GoesOn, Is}
 use Rattle.index_reader.specs.declared.sharing.Share.{Share}
@@ -21,6 +27,9 @@ use Rattle.index_reader.specs.declared.sharing.Stage.TheVariants.{Underway, Ende
 use Rattle.index_reader.specs.declared.sharing.ShareRead.{ShareRead}
 use Rattle.index_reader.specs.Replies.{Tries, on_ok}
 use Rattle.index_reader.specs.Tails.{tail_program, log_then, reads_on}
+use Rattle.index_reader.specs.FileStages.{file_left}
+use Rattle.index_reader.specs.PackRules.{pack_told}
+use Rattle.index_reader.specs.Packs.{pack_program, head_then, pack_tail}
 use Rattle.index_reader.specs.Sharing.{gathers, added}
 
 abbrev pub step_program : ℕ → Dropping → Tail → Step → Tries Tail
@@ -31,13 +40,25 @@ step_program room d tail (Entries log whole left ended) = reads_on room d log wh
 abbrev pub tail_left : ℕ → TailRead → Tries Tail
 tail_left room t = step_program room t.dropping t.tail t.step
 
+abbrev pub pack_step : ℕ → Path → Cover → PackStep → Tries Tail
+pack_step room path cover packing.Length = pack_program room path cover
+pack_step room path cover (packing.Head told) = head_then room path cover told
+pack_step room path cover (packing.Rest f) = followed_by (file_left room f) (on_ok (λ bytes. done (pack_tail path cover bytes (pack_told bytes))))
+
+abbrev pub pack_left : ℕ → PackRead → Tries Tail
+pack_left room p = pack_step room p.path p.cover p.step
+
+abbrev pub dropping_left : ℕ → DroppingRead → Tries Tail
+dropping_left room (from.Entries t) = tail_left room t
+dropping_left room (from.Packed p) = pack_left room p
+
 abbrev pub after_left : ℕ → After → Tries Tail
-after_left room (GoesOn t) = tail_left room t
+after_left room (GoesOn d) = dropping_left room d
 after_left room (Is result) = done result
 
 -- the entries of a tail that is read are pieces of the file
 abbrev pub IsOfPieces : After → Type 0
-IsOfPieces (GoesOn t) = Unit {0}
+IsOfPieces (GoesOn d) = Unit {0}
 IsOfPieces (Is (Ok tail)) = All HasPiece tail.entries
 IsOfPieces (Is (Err why)) = Unit {0}
 
@@ -47,16 +68,25 @@ step_calls Index = 2 ^ 64 + 2
 step_calls (Log whole) = whole + 1
 step_calls (Entries log whole left ended) = left
 
+abbrev pub pack_calls : PackStep → ℕ
+pack_calls packing.Length = 2 ^ 64 + 1
+pack_calls (packing.Head told) = told + 1
+pack_calls (packing.Rest f) = f.left
+
+abbrev pub dropping_calls : DroppingRead → ℕ
+dropping_calls (from.Entries t) = step_calls t.step
+dropping_calls (from.Packed p) = pack_calls p.step
+
 abbrev pub after_calls : After → ℕ
-after_calls (GoesOn t) = step_calls t.step
+after_calls (GoesOn d) = dropping_calls d
 after_calls (Is result) = 0
 
 abbrev pub stage_left : ℕ → List Cover → List Dropping → Sofar → Stage → Tries Share
-stage_left room covers rest sofar (Underway t) = followed_by (tail_left room t) (on_ok (λ tail. gathers room covers rest (added tail sofar)))
+stage_left room covers rest sofar (Underway d) = followed_by (dropping_left room d) (on_ok (λ tail. gathers room covers rest (added tail sofar)))
 stage_left room covers rest sofar (Ended result) = done result
 
 abbrev pub stage_calls : List Dropping → Stage → ℕ
-stage_calls rest (Underway t) = step_calls t.step + length rest * (2 ^ 64 + 3)
+stage_calls rest (Underway d) = dropping_calls d + length rest * (2 ^ 64 + 3)
 stage_calls rest (Ended result) = 0
 
 abbrev pub share_standing : ShareRead → Standing Call Reply (Result Share Stuck)

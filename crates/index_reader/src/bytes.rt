@@ -1,4 +1,91 @@
 //! Reading a file's bytes up to a length that was told.
+ghost use Rattle.std.specs.Prelude.{◌≡◌, ◌≤◌, ◌<◌, ◌++◌, ℕ, Some, IfOk, OnOk};
+ghost use Rattle.flow.specs.Standing.{ready, next_of, rest_of, replied};
+ghost use Rattle.index_reader.specs.FileReads.{next_part as part_next, bytes_left};
+ghost use Rattle.index_reader.specs.FileStages.{file_left, part_left, part_calls};
+
+use crate::parts::FileRead;
+use crate::replies::{bytes_in, trouble};
+use flow::Stuck;
+use mount_model::{Call, Look, Reply};
+use plfs_types::{Bytes, NoMemory, Path};
 
 /// How many bytes one Read asks for at most.
 pub(crate) const MAX_BYTES: u64 = 1 << 20;
+
+/// What comes after a Read.
+#[derive(Drop)]
+pub(crate) enum AfterPart {
+    GoesOn(FileRead),
+    Is(Result<Bytes, Stuck>),
+}
+
+fn next_part(left: u64) -> u64
+    ensures { result ≡ part_next left }
+{
+    left.min(MAX_BYTES)
+}
+
+/// Adds bytes at the end.
+pub(crate) fn add(bytes: &mut Bytes, more: &[u8]) -> Result<(), NoMemory>
+    ensures { OnOk result (bytes.new ≡ bytes.old ++ more.now) }
+{
+    let end = bytes.as_slice().len();
+    bytes.overwrite(end, more)
+}
+
+/// So many of the bytes that were told are left.
+#[tactic(auto, using(crate::proofs::FileLemmas::bytes_going_on))]
+pub(crate) fn read_on(path: Path, told: u64, left: u64, sofar: Bytes) -> AfterPart
+    requires { left ≤ told }
+    ensures goes_on { (room : ℕ) → part_left room result ≡ bytes_left room path told left sofar }
+    ensures fewer { part_calls result ≤ left }
+{
+    if left == 0 {
+        return AfterPart::Is(Ok(sofar));
+    }
+    AfterPart::GoesOn(FileRead {
+        path,
+        told,
+        left,
+        sofar,
+    })
+}
+
+impl FileRead {
+    /// The call that is to be made.
+    pub(crate) fn call(&self, room: u64) -> Call
+        ensures { Some result ≡ next_of (ready (file_left room self.now)) }
+    {
+        Call::Look {
+            room,
+            look: Look::Read {
+                path: self.path,
+                at: self.told - self.left,
+                len: next_part(self.left),
+            },
+        }
+    }
+
+    /// What comes after the reply to that call.
+    pub(crate) fn after(self, reply: Reply) -> Result<AfterPart, NoMemory>
+        ensures goes_on { IfOk result (λ after. (room : ℕ) → part_left room after ≡ replied (rest_of (ready (file_left room self))) reply) }
+        ensures fewer { IfOk result (λ after. part_calls after < self.left) }
+    {
+        let why = trouble(&self.path, &reply);
+        let Some(bytes) = bytes_in(reply) else {
+            return Ok(AfterPart::Is(Err(why)));
+        };
+        let bytes = bytes.as_slice();
+        let asked = next_part(self.left);
+        let is_full = asked <= bytes.len() as u64;
+        let left = self.left - asked;
+        let mut sofar = self.sofar;
+        add(&mut sofar, bytes)?;
+        if is_full {
+            Ok(read_on(self.path, self.told, left, sofar))
+        } else {
+            Ok(AfterPart::Is(Ok(sofar)))
+        }
+    }
+}

@@ -32,6 +32,14 @@ impl Droppings {
         Droppings { list }
     }
 
+    /// The droppings as a list.
+    pub(crate) fn into_list(self) -> DroppingList
+        ensures value { result ≡ self }
+        ensures order { AreByWriter self }
+    {
+        self.list
+    }
+
     /// The droppings in order.
     pub(crate) fn as_slice(&self) -> &[Dropping]
         ensures value { result.now ≡ self.now }

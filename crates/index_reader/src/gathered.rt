@@ -1,7 +1,15 @@
 //! What comes of a listing and the shares of its droppings.
-use crate::listing::DroppingList;
+ghost use Rattle.std.specs.Prelude.{◌≡◌, ◌++◌, ℕ, IfOk, OnOk};
+ghost use Rattle.index_reader.specs.Gathered.{covers_of, pieces_of_each, IsGatheredOf, IsJoinedOf};
+
+use crate::firsts::first_covers;
+use crate::listing::{DroppingList, Listing};
+use crate::sharing::Share;
 use flat_format::Flat;
-use plfs_types::TruncList;
+use interval_merge::{PiecesList, merge_all, merge_on};
+use plfs_types::{Cover, NoMemory, Sequence, TruncList};
+use std::alloc::Global;
+use std::thread::Threads;
 
 /// What was gathered of a container.
 #[derive(Drop)]
@@ -14,4 +22,80 @@ pub struct Gathered {
     pub droppings: DroppingList,
     /// The truncates.
     pub truncs: TruncList,
+}
+
+/// A list of shares.
+pub type ShareList = Sequence<Share>;
+
+/// Puts the covers of the shares behind these covers, and their pieces behind these lists of pieces.
+fn add_parts(
+    covers: &mut Vec<Cover>,
+    lists: &mut PiecesList,
+    shares: ShareList,
+) -> Result<(), NoMemory>
+    ensures covers { OnOk result (covers.new.items ≡ covers.old.items ++ covers_of shares) }
+    ensures lists { OnOk result (lists.new ≡ lists.old ++ pieces_of_each shares) }
+{
+    for share in shares.into_vec() {
+        let Share {
+            covers: more,
+            pieces,
+        } = share;
+        covers.extend_from_slice(more.as_slice())?;
+        lists.push(pieces)?;
+    }
+    Ok(())
+}
+
+/// What was gathered by these shares of a listing's droppings, and these truncates: of each writer the cover of its share,
+/// or else the listing's, and the pieces of all. Of two covers of one writer the first counts. A share in which several
+/// were joined may stand for them.
+pub fn gather(
+    alloc: Global,
+    listing: Listing,
+    shares: ShareList,
+    truncs: TruncList,
+) -> Result<Gathered, NoMemory>
+    ensures { IfOk result (IsGatheredOf listing shares truncs) }
+{
+    let Listing {
+        room,
+        droppings,
+        flat,
+    } = listing;
+    let Flat {
+        covers: covered,
+        pieces,
+    } = flat;
+    let mut covers = Vec::new(alloc);
+    let mut lists = PiecesList::new(alloc);
+    lists.push(pieces)?;
+    add_parts(&mut covers, &mut lists, shares)?;
+    covers.extend_from_slice(covered.as_slice())?;
+    let covers = first_covers(alloc, covers.as_slice())?;
+    let pieces = merge_all(alloc, lists)?;
+    Ok(Gathered {
+        room,
+        flat: Flat { covers, pieces },
+        droppings,
+        truncs,
+    })
+}
+
+/// One share of these shares, whose pieces are merged by up to so many threads: a cover of each writer that one of them
+/// covers, by ascending writer, and the pieces of all. Of two covers of one writer the first counts.
+pub fn join_shares<R: Threads + Sync>(
+    rt: &R,
+    alloc: Global,
+    shares: ShareList,
+    workers: u32,
+) -> Result<Share, NoMemory>
+    ensures { IfOk result (IsJoinedOf shares) }
+{
+    let mut covers = Vec::new(alloc);
+    let mut lists = PiecesList::new(alloc);
+    add_parts(&mut covers, &mut lists, shares)?;
+    let covers = first_covers(alloc, covers.as_slice())?;
+    let pieces = merge_on(rt, alloc, lists, workers)?;
+    Ok(Share { covers, pieces })
 }

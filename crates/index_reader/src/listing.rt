@@ -3,7 +3,7 @@ use flat_format::Flat;
 use plfs_types::Sequence;
 
 /// The index dropping of a writer.
-#[derive(Clone, Copy, PartialEq, Eq)]
+#[derive(Clone, Copy)]
 pub struct Dropping {
     /// The writer's host.
     pub host: u32,

@@ -11,7 +11,7 @@ use read_plan::Part;
 use std::alloc::Global;
 
 /// Bytes of a writer's log.
-#[derive(Clone, Copy, Debug, PartialEq, Eq)]
+#[derive(Clone, Copy)]
 pub(crate) struct Place {
     pub(crate) host: u32,
     pub(crate) writer: u64,
@@ -20,7 +20,7 @@ pub(crate) struct Place {
 }
 
 /// A part of a read.
-#[derive(Clone, Copy, Debug, PartialEq, Eq)]
+#[derive(Clone, Copy)]
 pub(crate) enum Placed {
     /// So many zeros.
     Zeros { len: u64 },

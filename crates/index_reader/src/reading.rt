@@ -5,6 +5,7 @@ ghost use Rattle.read_plan.specs.Plan.{plan_of};
 ghost use Rattle.index_reader.specs.Reading.{spells, read_program, ends_at as end_of};
 ghost use Rattle.index_reader.specs.ReadingStages.{part_left, part_calls, read_standing, read_left};
 
+use crate::bytes::add;
 use crate::opened::OpenReader;
 use crate::placing::{Place, Placed, place_all};
 use crate::queue::Queue;
@@ -45,14 +46,6 @@ fn add_zeros(bytes: &mut Bytes, len: u64) -> Result<(), NoMemory>
         left -= 1;
     }
     Ok(())
-}
-
-/// Adds bytes at the end.
-fn add(bytes: &mut Bytes, more: &[u8]) -> Result<(), NoMemory>
-    ensures { OnOk result (bytes.new ≡ bytes.old ++ more.now) }
-{
-    let end = bytes.as_slice().len();
-    bytes.overwrite(end, more)
 }
 
 /// Where the bytes of a place end, where there are so many.

@@ -5,15 +5,15 @@ ghost use Rattle.story.specs.Program.{followed_by};
 ghost use Rattle.flow.specs.Standing.{ready, next_of, rest_of, replied, Awaits};
 ghost use Rattle.index_reader.specs.Replies.{on_ok};
 ghost use Rattle.index_reader.specs.Runs.{merged_of, pieces_of};
-ghost use Rattle.index_reader.specs.Covered.{AreByWriter};
-ghost use Rattle.index_reader.specs.Sharing.{nothing, added, share_of, gathers, share_program};
-ghost use Rattle.index_reader.specs.Stages.{after_left, after_calls, IsOfPieces, stage_left, stage_calls, share_standing, share_left};
+ghost use Rattle.index_reader.specs.Covered.{AreByWriter, cover_of as cover_for};
+ghost use Rattle.index_reader.specs.Sharing.{nothing, added, share_of, dropping_program, gathers, share_program};
+ghost use Rattle.index_reader.specs.Stages.{after_left, after_calls, dropping_left, dropping_calls, IsOfPieces, stage_left, stage_calls, share_standing, share_left};
 
 use crate::covers::Covers;
 use crate::entries::Tail;
 use crate::listing::{Dropping, DroppingList};
 use crate::queue::Queue;
-use crate::steps::TailRead;
+use crate::steps::{DroppingRead, PackRead, TailRead};
 use crate::tails::After;
 use flow::{Flow, Stuck};
 use interval_merge::{PiecesList, merge_all, of_writer};
@@ -40,11 +40,16 @@ pub(crate) struct Sofar {
 
 /// Reads what a flattened index doesn't cover of these index droppings, one after the other: the length of each, the
 /// length of its log, which is 0 where the log is absent, and the whole entries behind the covered ones, 4096 by a Read.
+/// Of a dropping with a packed index that one is read in its place: its length, its head of 24 bytes, and, where it has
+/// another number of entries than are covered, the rest, 2^20 bytes by a Read.
 ///
 /// It ends with the share, in which an entry that ends past its log and all behind it count as not there, or with the
 /// first trouble: a call that was refused or failed, or damage. Damage is an index dropping with fewer entries than its
 /// cover counts, at its length; a log shorter than its cover's bytes, at its length; an entry that breaks a rule, at its
-/// first byte; a missing file or folder, at 0. The entries of one dropping at a time are held.
+/// first byte; a missing file or folder, at 0. Of a packed index it is: other letters, at 0; a number of entries out of
+/// its range or below the covered ones, at 8; a length that doesn't fit the number of runs, at 16; bytes that are no
+/// packed index, at the first fault; another writer's entries, at 24; covered entries without the cover's bytes and
+/// stamp, at the run of the first entry past them. The entries of one dropping at a time are held.
 #[derive(Drop)]
 pub struct ShareRead {
     alloc: Global,
@@ -57,7 +62,7 @@ pub struct ShareRead {
 
 #[derive(Drop)]
 pub(crate) enum Stage {
-    Underway(TailRead),
+    Underway(DroppingRead),
     Ended(Result<Share, Stuck>),
 }
 
@@ -124,7 +129,7 @@ impl Sofar {
 
 impl ShareRead {
     /// Reads these index droppings of this room, behind what a flattened index with these covers has, which stand by
-    /// ascending writer. It reads no packed index.
+    /// ascending writer.
     pub fn new(alloc: Global, room: u64, share: DroppingList, covers: CoverList) -> Self
         requires { AreByWriter covers }
         ensures { share_standing result ≡ ready (share_program room share covers) }
@@ -149,7 +154,8 @@ impl ShareRead {
         ensures { result ≡ next_of (share_standing self.now) }
     {
         match &self.stage {
-            Stage::Underway(read) => Some(read.call(self.room)),
+            Stage::Underway(DroppingRead::Entries(read)) => Some(read.call(self.room)),
+            Stage::Underway(DroppingRead::Packed(read)) => Some(read.call(self.room)),
             Stage::Ended(_) => None,
         }
     }
@@ -192,6 +198,19 @@ impl Flow for ShareRead {
     }
 }
 
+/// Begins with a dropping, by its packed index where it has one.
+fn begin(alloc: Global, covers: &Covers, dropping: Dropping) -> DroppingRead
+    ensures starts { (room : ℕ) → dropping_left room result ≡ dropping_program room dropping (cover_for dropping.writer covers.now) }
+    ensures calls { dropping_calls result ≤ 2 ^ 64 + 2 }
+{
+    let cover = covers.of_writer(dropping.writer);
+    if dropping.packed {
+        DroppingRead::Packed(PackRead::new(dropping.host, dropping.writer, cover))
+    } else {
+        DroppingRead::Entries(TailRead::new(alloc, dropping, cover))
+    }
+}
+
 /// Begins with the first of the droppings, where nothing was read.
 fn first_stage(alloc: Global, covers: &Covers, rest: &mut Queue<Dropping>) -> Stage
     ensures { (room : ℕ) → stage_left room covers.now rest.new nothing result ≡ gathers room covers.now rest.old nothing }
@@ -202,8 +221,7 @@ fn first_stage(alloc: Global, covers: &Covers, rest: &mut Queue<Dropping>) -> St
             pieces: no_pieces(alloc),
         }));
     };
-    let cover = covers.of_writer(dropping.writer);
-    Stage::Underway(TailRead::new(alloc, dropping, cover))
+    Stage::Underway(begin(alloc, covers, dropping))
 }
 
 /// Begins with the first of the droppings that are left, or ends where there is none.
@@ -219,8 +237,7 @@ fn next_stage(
     let Some(dropping) = rest.pop() else {
         return Ok(Stage::Ended(Ok(sofar.share(alloc)?)));
     };
-    let cover = covers.of_writer(dropping.writer);
-    Ok(Stage::Underway(TailRead::new(alloc, dropping, cover)))
+    Ok(Stage::Underway(begin(alloc, covers, dropping)))
 }
 
 /// Goes on after a reply.
@@ -246,6 +263,23 @@ fn goes_on(
     }
 }
 
+/// What comes after the reply to the call of one dropping.
+fn after_dropping(
+    alloc: Global,
+    room: u64,
+    read: DroppingRead,
+    reply: Reply,
+) -> Result<After, NoMemory>
+    ensures goes_on { IfOk result (λ after. after_left room after ≡ replied (rest_of (ready (dropping_left room read))) reply) }
+    ensures fewer { IfOk result (λ after. after_calls after < dropping_calls read) }
+    ensures pieces { IfOk result IsOfPieces }
+{
+    match read {
+        DroppingRead::Entries(read) => read.after(room, reply),
+        DroppingRead::Packed(read) => read.after(alloc, reply),
+    }
+}
+
 /// What comes after the reply to the call of this stage.
 fn after_reply(
     alloc: Global,
@@ -263,7 +297,7 @@ fn after_reply(
 {
     match stage {
         Stage::Underway(read) => {
-            let after = read.after(room, reply)?;
+            let after = after_dropping(alloc, room, read, reply)?;
             let next = goes_on(alloc, covers, rest, sofar, after)?;
             Ok(next)
         }

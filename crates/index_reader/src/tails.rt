@@ -10,7 +10,7 @@ ghost use Rattle.index_reader.specs.Stages.{tail_left, after_left, IsOfPieces, s
 use crate::entries::{Tail, Went};
 use crate::listing::Dropping;
 use crate::replies::{bytes_in, damage, log_length_in, number_in, trouble};
-use crate::steps::{Step, TailRead};
+use crate::steps::{DroppingRead, Step, TailRead};
 use container_layout::{Item, print};
 use flow::Stuck;
 use mount_model::{Call, Look, Reply};
@@ -23,7 +23,7 @@ const MAX_READ: u64 = 4096;
 /// What comes after a reply.
 #[derive(Drop)]
 pub(crate) enum After {
-    GoesOn(TailRead),
+    GoesOn(DroppingRead),
     Is(Result<Tail, Stuck>),
 }
 
@@ -116,11 +116,11 @@ impl TailRead {
         if whole < self.tail.cover.count {
             return After::Is(Err(damage(&path, told)));
         }
-        After::GoesOn(TailRead {
+        After::GoesOn(DroppingRead::Entries(TailRead {
             dropping: self.dropping,
             tail: self.tail,
             step: Step::Log { whole },
-        })
+        }))
     }
 
     fn after_log(self, whole: u64, reply: Reply) -> After
@@ -205,7 +205,7 @@ fn reading(dropping: Dropping, tail: Tail, log: u64, whole: u64, left: u64, ende
     if left == 0 {
         return After::Is(Ok(tail));
     }
-    After::GoesOn(TailRead {
+    After::GoesOn(DroppingRead::Entries(TailRead {
         dropping,
         tail,
         step: Step::Entries {
@@ -214,5 +214,5 @@ fn reading(dropping: Dropping, tail: Tail, log: u64, whole: u64, left: u64, ende
             left,
             ended,
         },
-    })
+    }))
 }

@@ -1,0 +1,336 @@
+//! Listing a container.
+ghost use Rattle.std.specs.Prelude.{◌≡◌, ◌≤◌, ◌<◌, ◌+◌, ◌^◌, ◌∷◌, length, IfOk};
+ghost use Rattle.story.specs.Program.{followed_by};
+ghost use Rattle.index_reader.specs.Replies.{on_ok};
+ghost use Rattle.flow.specs.Standing.{ready, next_of, rest_of, replied, Awaits, IsOver, over};
+ghost use Rattle.index_reader.specs.Listing.{AreByWriter};
+ghost use Rattle.index_reader.specs.Scanning.{nothing_found};
+ghost use Rattle.index_reader.specs.Opening.{top_program, scans, open_at_program, open_read_program};
+ghost use Rattle.index_reader.specs.OpenStages.{after_flat, after_flat_calls, IsOfFlat, open_left, open_calls, open_standing, open_calls_left};
+
+use crate::droppings::Droppings;
+use crate::flats::{AfterFlat, FlatRead};
+use crate::listed::{listed, no_flat};
+use crate::listing::Listing;
+use crate::newest::{flats_path, newest_in};
+use crate::queue::Queue;
+use crate::replies::{names_in, room_in, trouble};
+use crate::scanning::{Scan, file_in};
+use crate::tops::folders;
+use container_layout::{flats, hostdir};
+use flat_format::Flat;
+use flow::{Flow, Stuck};
+use mount_model::{Call, Look, Reply};
+use plfs_types::{LogicalName, Name, NoMemory, Sequence};
+use std::alloc::Global;
+use std::mem;
+
+/// Lists a container: its flattened indices, of which the one of the greatest id is read, 2^20 bytes by a Read, its top,
+/// and its folders of droppings by ascending number.
+///
+/// It ends with the listing, or with the first trouble: a call that was refused or failed, or damage. Damage is, in the
+/// order of the calls and within one listing in the order of its names: a foreign name, and then a missing file or folder
+/// of the top, at 0; bytes that are no flattened index, at the first fault; a second index dropping or packed index of
+/// one writer, at 0, once no name of its folder is foreign; after the last listing a covered writer without an index
+/// dropping, at its cover in the flattened index, and then a packed index without an index dropping, at 0.
+#[derive(Drop)]
+pub struct OpenRead {
+    alloc: Global,
+    pub(crate) stage: Stage,
+}
+
+#[derive(Drop)]
+pub(crate) enum Stage {
+    Finding(LogicalName),
+    Flats {
+        room: u64,
+    },
+    Reading {
+        room: u64,
+        read: FlatRead,
+    },
+    Top {
+        room: u64,
+        id: u64,
+        flat: Flat,
+    },
+    Scans {
+        room: u64,
+        id: u64,
+        flat: Flat,
+        folder: u32,
+        rest: Queue<u32>,
+        scan: Scan,
+    },
+    Listed {
+        room: u64,
+        droppings: Droppings,
+        flat: Flat,
+    },
+    Failed(Stuck),
+}
+
+impl OpenRead {
+    /// Lists the container of this name.
+    pub fn new(alloc: Global, name: LogicalName) -> Self
+        ensures { open_standing result ≡ ready (open_read_program name) }
+    {
+        OpenRead {
+            alloc,
+            stage: Stage::Finding(name),
+        }
+    }
+
+    /// Lists the container of this room.
+    pub fn at(alloc: Global, room: u64) -> Self
+        ensures { open_standing result ≡ ready (open_at_program room) }
+    {
+        OpenRead {
+            alloc,
+            stage: Stage::Flats { room },
+        }
+    }
+
+    /// The call that is to be made, where there is one.
+    fn call(&self) -> Option<Call>
+        ensures { result ≡ next_of (open_standing self.now) }
+    {
+        match &self.stage {
+            Stage::Finding(name) => Some(Call::Find { name: *name }),
+            Stage::Flats { room } => Some(Call::Look {
+                room: *room,
+                look: Look::List { folder: flats() },
+            }),
+            Stage::Reading { room, read } => Some(read.call(*room)),
+            Stage::Top { room, .. } => Some(Call::Look {
+                room: *room,
+                look: Look::Top,
+            }),
+            Stage::Scans { room, folder, .. } => Some(Call::Look {
+                room: *room,
+                look: Look::List {
+                    folder: hostdir(*folder),
+                },
+            }),
+            Stage::Listed { .. } | Stage::Failed(_) => None,
+        }
+    }
+}
+
+/// What comes after the search for a container.
+fn after_find(name: LogicalName, reply: Reply) -> Stage
+    ensures goes_on { open_left result ≡ replied (rest_of (ready (open_read_program name))) reply }
+    ensures fewer { open_calls result < 2 ^ 64 + 60 }
+{
+    match room_in(&reply) {
+        Some(room) => Stage::Flats { room },
+        None => Stage::Failed(trouble(&file_in(Name::empty(), Name::empty()), &reply)),
+    }
+}
+
+/// What comes after the listing of the flattened indices.
+fn after_flats(alloc: Global, room: u64, reply: Reply) -> Stage
+    ensures goes_on { open_left result ≡ replied (rest_of (ready (open_at_program room))) reply }
+    ensures fewer { open_calls result < 2 ^ 64 + 50 }
+{
+    let why = trouble(&flats_path(Name::empty()), &reply);
+    let Some(names) = names_in(reply) else {
+        return Stage::Failed(why);
+    };
+    match newest_in(names.as_slice()) {
+        Err(why) => Stage::Failed(why),
+        Ok(None) => Stage::Top {
+            room,
+            id: 0,
+            flat: no_flat(alloc),
+        },
+        Ok(Some(id)) => Stage::Reading {
+            room,
+            read: FlatRead::new(id),
+        },
+    }
+}
+
+/// What comes after a reply while a flattened index is read.
+fn after_flat_read(
+    alloc: Global,
+    room: u64,
+    read: FlatRead,
+    reply: Reply,
+) -> Result<Stage, NoMemory>
+    ensures goes_on { IfOk result (λ stage. open_left stage ≡ replied (rest_of (ready (open_left (Stage.Reading room read)))) reply) }
+    ensures fewer { IfOk result (λ stage. open_calls stage < open_calls (Stage.Reading room read)) }
+{
+    let id = read.id;
+    let after = read.after(alloc, reply)?;
+    Ok(stage_of(room, id, after))
+}
+
+/// Where the reading of the flattened index of this id leads.
+fn stage_of(room: u64, id: u64, after: AfterFlat) -> Stage
+    requires { IsOfFlat id after }
+    ensures goes_on { open_left result ≡ followed_by (after_flat room after) (on_ok (λ flat. top_program room id flat)) }
+    ensures fewer { open_calls result ≤ after_flat_calls after + 40 }
+{
+    match after {
+        AfterFlat::GoesOn(read) => Stage::Reading { room, read },
+        AfterFlat::Is(Err(why)) => Stage::Failed(why),
+        AfterFlat::Is(Ok(flat)) => Stage::Top { room, id, flat },
+    }
+}
+
+/// Goes on to the next folder of droppings, or ends with what was listed.
+fn next_folder(
+    alloc: Global,
+    room: u64,
+    id: u64,
+    flat: Flat,
+    rest: Queue<u32>,
+    scan: Scan,
+) -> Result<Stage, NoMemory>
+    ensures goes_on { IfOk result (λ stage. open_left stage ≡ scans room id flat rest scan) }
+    ensures fewer { IfOk result (λ stage. open_calls stage ≤ length rest) }
+{
+    let mut rest = rest;
+    match rest.pop() {
+        Some(folder) => Ok(Stage::Scans {
+            room,
+            id,
+            flat,
+            folder,
+            rest,
+            scan,
+        }),
+        None => match listed(alloc, id, &flat, &scan)? {
+            Ok(droppings) => Ok(Stage::Listed {
+                room,
+                droppings,
+                flat,
+            }),
+            Err(why) => Ok(Stage::Failed(why)),
+        },
+    }
+}
+
+/// What comes after the listing of the top.
+fn after_top(alloc: Global, room: u64, id: u64, flat: Flat, reply: Reply) -> Result<Stage, NoMemory>
+    ensures goes_on { IfOk result (λ stage. open_left stage ≡ replied (rest_of (ready (top_program room id flat))) reply) }
+    ensures fewer { IfOk result (λ stage. open_calls stage < 40) }
+{
+    let why = trouble(&file_in(Name::empty(), Name::empty()), &reply);
+    let Some(names) = names_in(reply) else {
+        return Ok(Stage::Failed(why));
+    };
+    let shown = folders(alloc, names.as_slice())?;
+    let stage = begin_scan(alloc, room, id, flat, shown)?;
+    Ok(stage)
+}
+
+/// Begins with the first of the folders of droppings that the top shows.
+fn begin_scan(
+    alloc: Global,
+    room: u64,
+    id: u64,
+    flat: Flat,
+    shown: Result<Sequence<u32>, Stuck>,
+) -> Result<Stage, NoMemory>
+    requires { IfOk shown (λ ks. length ks ≤ 32) }
+    ensures goes_on { IfOk result (λ stage. open_left stage ≡ on_ok (λ ks. scans room id flat ks nothing_found) shown) }
+    ensures fewer { IfOk result (λ stage. open_calls stage < 40) }
+{
+    match shown {
+        Err(why) => Ok(Stage::Failed(why)),
+        Ok(shown) => next_folder(alloc, room, id, flat, Queue::of(shown), Scan::new(alloc)),
+    }
+}
+
+/// What comes after the listing of a folder of droppings.
+fn after_folder(
+    alloc: Global,
+    room: u64,
+    id: u64,
+    flat: Flat,
+    folder: u32,
+    rest: Queue<u32>,
+    scan: Scan,
+    reply: Reply,
+) -> Result<Stage, NoMemory>
+    ensures goes_on { IfOk result (λ stage. open_left stage ≡ replied (rest_of (ready (scans room id flat (folder ∷ rest) scan))) reply) }
+    ensures fewer { IfOk result (λ stage. open_calls stage < length rest + 1) }
+{
+    let folder = hostdir(folder);
+    let why = trouble(&file_in(folder, Name::empty()), &reply);
+    let Some(names) = names_in(reply) else {
+        return Ok(Stage::Failed(why));
+    };
+    let mut scan = scan;
+    match scan.scan(folder, names.as_slice())? {
+        Some(why) => Ok(Stage::Failed(why)),
+        None => next_folder(alloc, room, id, flat, rest, scan),
+    }
+}
+
+/// What comes after the reply to the call of this stage.
+fn after_reply(alloc: Global, stage: Stage, reply: Reply) -> Result<Stage, NoMemory>
+    requires awaits { Awaits (rest_of (ready (open_left stage))) }
+    ensures goes_on { IfOk result (λ next. open_left next ≡ replied (rest_of (ready (open_left stage))) reply) }
+    ensures fewer { IfOk result (λ next. open_calls next < open_calls stage) }
+{
+    match stage {
+        Stage::Finding(name) => Ok(after_find(name, reply)),
+        Stage::Flats { room } => Ok(after_flats(alloc, room, reply)),
+        Stage::Reading { room, read } => after_flat_read(alloc, room, read, reply),
+        Stage::Top { room, id, flat } => after_top(alloc, room, id, flat, reply),
+        Stage::Scans {
+            room,
+            id,
+            flat,
+            folder,
+            rest,
+            scan,
+        } => after_folder(alloc, room, id, flat, folder, rest, scan, reply),
+        Stage::Listed { .. } | Stage::Failed(_) => unreachable!(),
+    }
+}
+
+impl Flow for OpenRead {
+    type Out = Result<Listing, Stuck>;
+
+    ghost standing = { open_standing };
+
+    ghost left = { open_calls_left };
+
+    fn next(&mut self) -> Result<Option<Call>, NoMemory> {
+        Ok(self.call())
+    }
+
+    fn take(&mut self, reply: Reply) -> Result<(), NoMemory> {
+        if let Reply::NoMemory = reply {
+            return Err(NoMemory);
+        }
+        let stage = mem::replace(&mut self.stage, Stage::Failed(Stuck::Fault));
+        self.stage = after_reply(self.alloc, stage, reply)?;
+        Ok(())
+    }
+
+    fn out(self) -> Result<Listing, Stuck>
+        requires { IsOver (rest_of (open_standing self)) }
+        ensures is { rest_of (open_standing self) ≡ over result }
+        // The droppings stand by ascending writer.
+        ensures ascends { IfOk result (λ listing. AreByWriter listing.droppings) }
+    {
+        match self.stage {
+            Stage::Listed {
+                room,
+                droppings,
+                flat,
+            } => Ok(Listing {
+                room,
+                droppings: droppings.into_list(),
+                flat,
+            }),
+            Stage::Failed(why) => Err(why),
+            _ => unreachable!(),
+        }
+    }
+}
