@@ -16,6 +16,7 @@ use Rattle.flat_format.specs.Spelling.{SpellsFlat}
 use Rattle.flat_format.specs.Valid.{IsFlat}
 use Rattle.flat_format.proofs.Facts.{valid_spells}
 use Rattle.mount_model.specs.declared.call.Ask.{Ask}
+use Rattle.mount_model.specs.declared.row.Making.TheVariants as making
 use Rattle.mount_model.specs.Paths.{Name, flat_path}
 use Rattle.mount_model.specs.History.{Event}
 use Rattle.mount_sound.specs.Flats.{IsRightFlat}
@@ -32,11 +33,13 @@ use Rattle.index_reader.specs.Items.{flat_item}
 use Rattle.index_reader.specs.Newest.{flats_path, greater_id, if_flat, newest_in}
 use Rattle.index_reader.specs.Opening.{flat_or_damage, flat_program}
 use Rattle.index_reader.proofs.FlatRuleLemmas.{flat_told-valid}
-use Rattle.index_reader.proofs.ItemLemmas.{flat_item-at, flat_item-flat}
+use Rattle.index_reader.proofs.ItemLemmas.{flat_item-at, flat_item-here}
 use Rattle.gathering.specs.Moments.{Moment, IsSoundAt, file_then}
 use Rattle.gathering.specs.Seen.{asked_in, calls_of, IsSeen, IsSeenCall}
-use Rattle.gathering.specs.Flats.{AreFileReads, ReadsFile, IsFlatName, IsNewest}
+use Rattle.gathering.specs.Files.{AreFileReads, ReadsFile}
+use Rattle.gathering.specs.Flats.{IsFlatName, IsNewest}
 use Rattle.gathering.proofs.Facts.{answers_as, any_found, few_covers, found_any, in_a_room, in_tree, its_writers, length_told, read_told}
+use Rattle.reader_laws.proofs.FileRuns.{parts_run}
 use Rattle.reader_laws.proofs.Histories.{first_of, calls_from}
 use Rattle.reader_laws.proofs.Calling.{asked_all, calls_are, calls_append, given_so, same_ok, number_given, bytes_given}
 
@@ -106,7 +109,7 @@ with_item name names sofar newest other found made later =
     }
   where
     its : (n : Name) (k : ℕ) → Among n (name ∷ names) → IsFlatName n k → IsNewestSo names sofar newest → (m : ℕ) × (newest ≡ Some m) × (k ≤ m)
-    its n k (inl e) is h = let clash : Some other ≡ Some (item.Flat k) = sym found ∙ flat_item-flat (flats_path name) k (subst (λ x. IsFlatName x k) e is) in absurd (cc)
+    its n k (inl e) is h = let clash : Some other ≡ Some (item.Flat k) = sym found ∙ flat_item-here (flats_path name) (item.Flat k) refl (subst (λ x. IsFlatName x k) e is) in absurd (cc)
     its n k (inr a) is h = h.named_in n k a is
 
 newest_so : (names : List Name) (sofar newest : Option ℕ) → newest_in names sofar ≡ Ok newest → IsNewestSo names sofar newest
@@ -137,83 +140,13 @@ newest_named names id made =
       greatest = λ other any. (let (name, a, is) = any_found (λ n. IsFlatName n other) names any in let m = h.named_in name other a is in omega (arith, same_some id m.0 m.1, m.2));
     }
 
--- ---- the bytes of a flattened index, which stays as it is
-
-next_fits : (left : ℕ) → next_part left ≤ left
-next_fits left = omega arith
-
-none_left : (left : ℕ) → parts_of left ≡ 0 → left ≡ 0
-none_left left e = omega (arith, e)
-
-one_less : (left k : ℕ) → parts_of left ≡ suc k → parts_of (left - next_part left) ≡ k
-one_less left k e = elim (cases_lt 1048576 left) as (λ _. parts_of (left - next_part left) ≡ k) [
-  | inl more ↦ omega (arith, e, more)
-  | inr few ↦ omega (arith, e, few)
-]
-
-one_file : (a b : List ℕ) (o : Option (List ℕ)) → o ≡ Some a → o ≡ Some b → a ≡ b
-one_file a b o p q = cc
-
-full_read : (at len : ℕ) (bytes : List ℕ) → at + len ≤ length bytes → length (take len (drop at bytes)) ≡ len
-full_read at len bytes within = omega (arith, within, length-take len (drop at bytes), length-drop at bytes)
-
-all_there : (a b : ℕ) → a ≡ b → nat_le a b ≡ true
-all_there a b e = grind (arith, nat_tests)
-
--- what was read from a place on, behind what was read before
-record HasBytes (room : ℕ) (path : Path) (at end : ℕ) (calls : List Event) (bytes sofar out : List ℕ) : Type 0 where
-  pub reads : AreFileReads room path at end (asked_all calls) (drop at bytes)
-  pub whole : out ≡ sofar ++ drop at bytes
-
-drop_all : (bytes : List ℕ) (n : ℕ) → n ≡ length bytes → drop n bytes ≡ []
-drop_all [] zero e = refl
-drop_all [] (suc n) e = refl
-drop_all (b ∷ bytes) zero e = absurd (omega (arith, e))
-drop_all (b ∷ bytes) (suc n) e = drop_all bytes n (omega (arith, e))
-
-parts_run : (caller room id n told_ left : ℕ) (start end : Moment) (calls : List Event) (bytes sofar out : List ℕ) → IsItem (item.Flat id) → file_then start room (flat_path id) ≡ Some bytes → length bytes ≡ told_ → left ≤ told_ → parts_of left ≡ n
-    → IsSeen caller start (asked_all calls) end → AreCallsOf (asking (parts n room (flat_path id) told_ left sofar)) calls (Ok out) → HasBytes room (flat_path id) (told_ - left) told_ calls bytes sofar out
-parts_run caller room id zero told_ left start end calls bytes sofar out is there size few count seen made =
-    let none : left ≡ 0 = none_left left count in
-    let whole_ : told_ - left ≡ told_ = omega (arith, none) in
-    let nothing : drop (told_ - left) bytes ≡ [] = drop_all bytes (told_ - left) (whole_ ∙ sym size) in
-    record {
-      reads = subst (λ es. AreFileReads room (flat_path id) (told_ - left) told_ (asked_all es) (drop (told_ - left) bytes)) (sym made.0) (whole_, nothing);
-      whole = sym (same_ok sofar out made.1) ∙ sym (ap (λ b. sofar ++ b) nothing ∙ append-nil sofar);
-    }
-parts_run caller room id (suc n) told_ left start end [] bytes sofar out is there size few count seen made = absurd made
-parts_run caller room id (suc n) told_ left start end (e ∷ calls) bytes sofar out is there size few count (next, call, seen) (asked, made) =
-    let path : Path = flat_path id in
-    let at : ℕ = told_ - left in
-    let len : ℕ = next_part left in
-    let g = given_so (bytes_in e.reply) _ _ calls out made in
-    let got : List ℕ = g.0 in
-    let asks = ap (λ (a : Ask). a.call) asked in
-    let reply = bytes_given e.reply got g.1 in
-    let m : Moment = call.before in
-    let t = read_told m call.sound caller room path at len got next.state (answers_as m.state caller e.ask _ e.reply _ next.state asks reply refl call.answers) in
-    let now : file_then m room path ≡ Some bytes = call.waits.flats room id bytes is there in
-    let gave : take len (drop at bytes) ≡ got = ap (λ b. take len (drop at b)) (one_file bytes t.0 (file_then m room path) now t.1) ∙ t.2 in
-    let long : length got ≡ len = ap length (sym gave) ∙ full_read at len bytes (omega (arith, size, few, next_fits left)) in
-    let full : nat_le len (length got) ≡ true = all_there len (length got) (sym long) in
-    let on : AreCallsOf (asking (parts n room path told_ (left - len) (sofar ++ got))) calls (Ok out) =
-    subst (λ p. AreCallsOf (asking p) calls (Ok out)) (cond-true (nat_le len (length got)) (parts n room path told_ (left - len) (sofar ++ got)) (done (Ok (sofar ++ got))) full) g.2 in
-    let h = parts_run caller room id n told_ (left - len) next end calls bytes (sofar ++ got) out is (call.goes.flats room id bytes is now) size (omega (arith, few)) (one_less left n count) seen on in
-    let further : told_ - (left - len) ≡ at + length got = omega (arith, long, few, next_fits left) in
-    let split : drop at bytes ≡ got ++ drop (told_ - (left - len)) bytes =
-    sym (take-append-drop len (drop at bytes)) ∙ ap (λ b. b ++ drop len (drop at bytes)) gave ∙ ap (λ b. got ++ b) (drop-drop len at bytes ∙ ap (λ k. drop k bytes) (omega (arith, further, long))) in
-    record {
-      reads = (len, got, drop (told_ - (left - len)) bytes, record { call = asks; reply = reply }, subst (λ k. AreFileReads room path k told_ (asked_all calls) (drop (told_ - (left - len)) bytes)) further h.reads, split);
-      whole = h.whole ∙ append_assoc sofar got (drop (told_ - (left - len)) bytes) ∙ ap (λ b. sofar ++ b) (sym split);
-    }
-
 -- ---- that it is right
 
 -- a flattened index that stands spells a valid one
 spells_there : (m : Moment) (s : IsSoundAt m) (number id : ℕ) (content : List ℕ) → IsItem (item.Flat id) → file_then m number (flat_path id) ≡ Some content → (flat : Flat) × IsFlat flat × SpellsFlat content flat
 spells_there m s number id content is there =
     let r = in_a_room (slice_get s.shape.tree.rooms number) (flat_path id) content (in_tree m s number (flat_path id) content there) in
-    let right : IsRightFlat r.0 content = (s.flats number r.0 r.1 id content (record { is_item = is; there = r.2 })).0 in
+    let right : IsRightFlat r.0 content = (s.flats number r.0 r.1 making.Flat id content (record { is_item = is; there = r.2 })).0 in
     let w = its_writers m s number r.0 r.1 right.flat.covers right.entries right.covered in
     let few : length right.flat.covers < 2 ^ 64 = fewer (length right.flat.covers) (few_covers 1 right.flat.covers (omega arith) right.valid.covers w.0 w.1) in
     (right.flat, right.valid, subst (λ b. SpellsFlat b right.flat) (sym right.spelled) (valid_spells right.flat right.valid w.1 few))
@@ -259,7 +192,7 @@ flat_run caller room id start end events flat is seen runs =
     let none : calls_of caller two.rest ≡ [] = calls_are caller two.rest ∙ ap asked_all v.2.0 in
     let later : calls_of caller f.later ≡ asked_all (made_by caller two.first) =
     ap (calls_of caller) two.all ∙ calls_append caller two.first two.rest ∙ ap (λ l. calls_of caller two.first ++ l) none ∙ append_nil (calls_of caller two.first) ∙ calls_are caller two.first in
-    let read = parts_run caller room id (parts_of size) size size next end (made_by caller two.first) t.0 [] content is (call.goes.flats room id t.0 is t.1) t.2 (omega arith) refl
+    let read = parts_run caller making.Flat room id (parts_of size) size size next end (made_by caller two.first) t.0 [] content is (call.goes.indices making.Flat room id t.0 is t.1) t.2 (omega arith) refl
     (subst (λ a. IsSeen caller next a end) later s.2) (subst (λ r. Runs caller (bytes_left room path size size []) two.first r) v.1 two.runs) in
     let begins : size - size ≡ 0 = omega arith in
     let whole : content ≡ t.0 = read.whole ∙ ap (λ n. drop n t.0) begins ∙ drop_none t.0 in

@@ -9,6 +9,7 @@ mod Portions
 mod Histories
 mod Cuts
 mod Openings
+mod NamedPacks
 mod Listings
 mod Counts
 mod Readers
@@ -16,6 +17,7 @@ mod Workers
 mod Troubles
 mod LogReads
 mod Alike
+mod FileRuns
 mod FlatRuns
 mod Scanning
 mod LookEnds

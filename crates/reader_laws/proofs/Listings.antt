@@ -1,14 +1,20 @@
 -- Who runs the program of a listing has read the newest flattened index and scanned the container.
-use Rattle.std.proofs.Common.{◌≡◌, ℕ, zero, suc, ◌+◌, ◌<◌, true, false, List, [], ◌∷◌, ◌++◌, map, Option, Some, None, refl, ap, sym, ◌∙◌, ◌⊎◌, inl, inr, subst, arith}
-use Rattle.std.specs.Prelude.{Result, Ok, Err, if◌then◌else◌}
+use Rattle.std.proofs.Common.{◌≡◌, ℕ, zero, suc, ◌+◌, ◌<◌, nat_eq, true, false, List, [], ◌∷◌, ◌++◌, map, Option, Some, None, refl, ap, sym, ◌∙◌, ◌⊎◌, inl, inr, subst, arith}
+use Rattle.std.specs.Prelude.{Result, Ok, Err, if◌then◌else◌, is_some}
 use Rattle.std.specs.List.{All, Any, AllByRecursion, range_with_len}
 use Rattle.std.proofs.lemmas.Bool.{cases_Bool, cond-true, cond-false}
+use Rattle.std.proofs.lemmas.Bool.Decides.{nat_tests}
 use Rattle.std.proofs.lemmas.List.Elements.{All-from_recursion}
 use Rattle.plfs_types.specs.declared.names.Path.{Path}
 use Rattle.plain_file.proofs.Facts.{Among, All-Among}
-use Rattle.container_layout.specs.Paths.{hostdir_of}
+use Rattle.container_layout.specs.declared.items.Item.TheVariants as item
+use Rattle.container_layout.specs.Items.{IsItem}
+use Rattle.container_layout.specs.Paths.{hostdir_of, path_of}
+use Rattle.store_api.specs.declared.step.Answer.TheVariants.{Names}
 use Rattle.flat_format.specs.declared.flat.Flat.{Flat}
 use Rattle.mount_model.specs.declared.call.Ask.{Ask}
+use Rattle.mount_model.specs.declared.call.Call.TheVariants.{Look}
+use Rattle.mount_model.specs.declared.reply.Reply.TheVariants.{Looked}
 use Rattle.mount_model.specs.Paths.{Name, flats, metadata, truncs}
 use Rattle.mount_model.specs.History.{Event}
 use Rattle.mount_sound.specs.Owed.{IsLawful}
@@ -21,26 +27,27 @@ use Rattle.index_reader.specs.declared.listing.Listing.{Listing}
 use Rattle.index_reader.specs.declared.scanning.Scan.{Scan}
 use Rattle.index_reader.specs.Listing.{AreByWriter}
 use Rattle.index_reader.specs.Newest.{newest_in}
-use Rattle.index_reader.specs.Opening.{no_flat, flat_program, uncovered, lone_pack, dropping_of, listing_of, unless_uncovered, unless_lone, listed, scans, top_program, if_newest, open_at_program, open_read_program}
+use Rattle.index_reader.specs.Opening.{no_flat, flat_program, uncovered, is_of_host, has_owner, lone_pack, dropping_of, listing_of, unless_uncovered, unless_lone, listed, scans, top_program, if_newest, open_at_program, open_read_program}
 use Rattle.index_reader.specs.Replies.{Tries, damage, on_ok, names_in, room_in}
-use Rattle.index_reader.specs.Scanning.{file_in, nothing_found, unless_foreign, scanned}
+use Rattle.index_reader.specs.Scanning.{file_in, owner, owner_of, has_writer, nothing_found, unless_foreign, scanned}
 use Rattle.index_reader.specs.Searching.{same_bytes, has_name}
 use Rattle.index_reader.specs.Tops.{access, hostdirs, foreign_at_top, required, shown, top_shows}
 use Rattle.index_reader.proofs.Searching.{same_bytes-itself, same_bytes-eq}
 use Rattle.gathering.specs.Moments.{Moment, IsSoundAt, Dropping, IsNamed, moment_after, next_moment}
 use Rattle.gathering.specs.Seen.{Asked, asked_in, calls_of}
 use Rattle.gathering.specs.Flats.{IsFlatName, ReadsFlat, covers_of, pieces_of}
-use Rattle.mount_model.specs.declared.call.Look.TheVariants.{List as ListFolder}
-use Rattle.gathering.specs.Listing.{IsAmong, IsListed, ListsHostdirs, IsScan}
-use Rattle.gathering.proofs.Facts.{All-append, among, answers_as, any_found, folder_listed, found_any, is_among, legal_first, legal_rest, seen, sound_after}
-use Rattle.reader_laws.specs.Listing.{AreListed, HasListed}
+use Rattle.mount_model.specs.declared.call.Look.TheVariants.{List as ListFolder, Top}
+use Rattle.gathering.specs.Listing.{IsAmong, IsListed, ListsHostdirs, IsScan, NamesPack}
+use Rattle.gathering.proofs.Facts.{All-append, alike, among, any_found, found_any, is_among, legal_first, legal_rest, seen, sound_after}
+use Rattle.reader_laws.specs.Listing.{AreListed, HasListed, IsPackedAs}
 use Rattle.reader_laws.specs.Opening.{Lists}
 use Rattle.reader_laws.specs.Sharing.{in_room}
 use Rattle.reader_laws.proofs.Calling.{asked_all, calls_append, calls_are, given_so, same_ok, names_given}
 use Rattle.reader_laws.proofs.Cuts.{all_by, map_among, among_map}
 use Rattle.reader_laws.proofs.FlatRuns.{part_so, none_named, newest_named, HasFlat, flat_run}
+use Rattle.reader_laws.proofs.NamedPacks.{NamedIn, none_named_in, named_now, named_later, named_then, not_named, all_members, were_packed}
 use Rattle.reader_laws.proofs.Histories.{first_of, calls_from}
-use Rattle.reader_laws.proofs.Scanning.{Owner, dropping, Rise, GoesOnWith, goes_nowhere, goes_both, HasTaken, folder_taken}
+use Rattle.reader_laws.proofs.Scanning.{Owner, dropping, Rise, GoesOnWith, goes_nowhere, goes_both, PacksGoOn, packs_nowhere, packs_both, NameOwner, HasTaken, folder_taken}
 
 -- ---- moments
 
@@ -109,12 +116,21 @@ record HasScanned (caller room id : ℕ) (flat : Flat) (top : List Name) (ks : L
   pub named : AllByRecursion IsNamed found
   pub last : Scan
   pub goes : GoesOnWith room scan last found
+  pub packs : PacksGoOn scan.packs last.packs (NamedIn room (calls_of caller events))
   pub made : listed room id flat last ≡ Ok listing
 
 scans_run : (caller room id : ℕ) (flat : Flat) (start : Moment) (top : List Name) (ks : List ℕ) (events : List Event) (scan : Scan) (listing : Listing) → IsLawful start.state events → IsSoundAt start → AllByRecursion (λ k. k < 32) ks → Runs caller (scans room id flat (shown top ks) scan) events (Ok listing)
     → HasScanned caller room id flat top ks events scan listing
 scans_run caller room id flat start top [] events scan listing lawful sound small runs =
-    record { found = []; lists = (calls_are caller events ∙ ap asked_all runs.0, refl); named = tt; last = scan; goes = goes_nowhere room scan; made = runs.1 }
+    record {
+      found = [];
+      lists = (calls_are caller events ∙ ap asked_all runs.0, refl);
+      named = tt;
+      last = scan;
+      goes = goes_nowhere room scan;
+      packs = packs_nowhere scan.packs (NamedIn room (calls_of caller events)) (λ o n. none_named_in room o (subst (λ a. NamedIn room a o) (calls_are caller events ∙ ap asked_all runs.0) n));
+      made = runs.1;
+    }
 scans_run caller room id flat start top (k ∷ ks) events scan listing lawful sound small runs = elim (cases_Bool (has_name (hostdir_of k) top)) [
   | inl has ↦
       let here_runs : Runs caller (scans room id flat (k ∷ shown top ks) scan) events (Ok listing) = subst (λ l. Runs caller (scans room id flat l scan) events (Ok listing)) (cond-true (has_name (hostdir_of k) top) (k ∷ shown top ks) (shown top ks) has) runs in
@@ -127,8 +143,7 @@ scans_run caller room id flat start top (k ∷ ks) events scan listing lawful so
       let v = part_so (λ more. scans room id flat (shown top ks) more) (scanned (hostdir_of k) names scan) (made_by caller f.later) listing g.2 in
       let asks = ap (λ (a : Ask). a.call) f.asked in
       let reply = names_given e.reply names g.1 in
-      let l = folder_listed m p.here e.caller room (hostdir_of k) names e.after (answers_as m.state e.caller e.ask _ e.reply _ e.after asks reply refl p.rest.1) in
-      let t : HasTaken room k names scan v.0 = folder_taken m p.here room k small.0 names l scan v.0 v.1 in
+      let t : HasTaken room k names scan v.0 = folder_taken room k small.0 names scan v.0 v.1 in
       let h = scans_run caller room id flat (next_moment m e) top ks f.later v.0 listing p.rest.2 p.next small.1 v.2 in
       record {
         found = t.ds ++ h.found;
@@ -145,6 +160,9 @@ scans_run caller room id flat start top (k ∷ ks) events scan listing lawful so
         named = All-append IsNamed t.ds h.found t.named h.named;
         last = h.last;
         goes = goes_both room scan v.0 h.last t.ds h.found t.goes h.goes;
+        packs = subst (λ a. PacksGoOn scan.packs h.last.packs (NamedIn room a)) (sym (calls_from caller _ _ events (Ok listing) f))
+            (packs_both scan.packs v.0.packs h.last.packs (NameOwner (hostdir_of k) names) (NamedIn room (calls_of caller f.later)) (NamedIn room (asked_in e ∷ calls_of caller f.later)) t.packs h.packs
+            (λ o n. named_now room k names (asked_in e) (calls_of caller f.later) o asks reply n) (λ o n. named_later room (asked_in e) (calls_of caller f.later) o n) (λ o n. named_then room k names (asked_in e) (calls_of caller f.later) o asks reply n));
         made = h.made;
       }
   | inr lacks ↦
@@ -156,6 +174,7 @@ scans_run caller room id flat start top (k ∷ ks) events scan listing lawful so
         named = h.named;
         last = h.last;
         goes = h.goes;
+        packs = h.packs;
         made = h.made;
       }
 ]
@@ -170,9 +189,23 @@ lone_so : {X : Type 0} (o : Option Owner) (next : Result X Stuck) (x : X) → un
 lone_so None next x e = e
 lone_so (Some p) next x e = absurd (cc)
 
-listed_so : (room id : ℕ) (flat : Flat) (scan : Scan) (listing : Listing) → listed room id flat scan ≡ Ok listing → listing_of room flat scan ≡ listing
+lone_none : {X : Type 0} (o : Option Owner) (next : Result X Stuck) (x : X) → unless_lone o next ≡ Ok x → o ≡ None
+lone_none None next x e = refl
+lone_none (Some p) next x e = absurd (cc)
+
+-- what was listed is of what was found, and no packed index stands alone
+record IsListingOf (room : ℕ) (flat : Flat) (scan : Scan) (listing : Listing) : Type 0 where
+  pub is : listing_of room flat scan ≡ listing
+  pub none_lone : lone_pack scan.indices scan.packs ≡ None
+
+listed_so : (room id : ℕ) (flat : Flat) (scan : Scan) (listing : Listing) → listed room id flat scan ≡ Ok listing → IsListingOf room flat scan listing
 listed_so room id flat scan listing made =
-    same_ok (listing_of room flat scan) listing (lone_so (lone_pack scan.indices scan.packs) (Ok (listing_of room flat scan)) listing (uncovered_so id (uncovered scan.indices 0 flat.covers) (unless_lone (lone_pack scan.indices scan.packs) (Ok (listing_of room flat scan))) listing made))
+    let told : Result Listing Stuck = Ok (listing_of room flat scan) in
+    let covered = uncovered_so id (uncovered scan.indices 0 flat.covers) (unless_lone (lone_pack scan.indices scan.packs) told) listing made in
+    record {
+      is = same_ok (listing_of room flat scan) listing (lone_so (lone_pack scan.indices scan.packs) told listing covered);
+      none_lone = lone_none (lone_pack scan.indices scan.packs) told listing covered;
+    }
 
 ascending : (packs owners : List Owner) → Rise owners → AreByWriter (map (dropping_of packs) owners)
 ascending packs [] rise = tt
@@ -181,9 +214,6 @@ ascending packs (o ∷ owners) rise = (All-from_recursion (λ later. o.writer < 
     above : (os : List Owner) → AllByRecursion (λ (p : Owner). o.writer < p.writer) os → AllByRecursion (λ later. o.writer < later) (map (λ (d : Listed). d.writer) (map (dropping_of packs) os))
     above [] all = tt
     above (p ∷ os) all = (all.0, above os all.1)
-
-all_members : {X : Type 0} (P : X → Type 0) (xs : List X) → ((x : X) → Among x xs → P x) → All P xs
-all_members P xs f = All-from_recursion P xs (all_by P xs f)
 
 were_listed : (room : ℕ) (found : List Dropping) (last : Scan) → GoesOnWith room nothing_found last found → AllByRecursion IsNamed found → AreListed room found (map (dropping_of last.packs) last.indices)
 were_listed room found last goes named =
@@ -197,7 +227,6 @@ were_listed room found last goes named =
           let o = All-Among (λ (d : Dropping). (p : Owner) × Among p last.indices × (dropping room p ≡ d)) found f goes.found a in
           found_any (λ (d : Listed). in_room room d ≡ f) listed_ (dropping_of last.packs o.0) (among_map (dropping_of last.packs) last.indices o.0 o.1) o.2);
       named = all_members (λ (d : Listed). IsNamed (in_room room d)) listed_ (λ d a. (let o = its d a in subst (λ x. IsNamed (in_room room x)) (sym o.2) (All-Among IsNamed found (dropping room o.0) named (in_found o.0 o.1))));
-      unpacked = all_members (λ (d : Listed). d.packed ≡ false) listed_ (λ d a. (let o = its d a in ap (λ (x : Listed). x.packed) o.2 ∙ ap (λ ps. (dropping_of ps o.0).packed) goes.packs));
     }
   where
     only : (o : Owner) → Among o [] ⊎ Among (dropping room o) found → Among (dropping room o) found
@@ -212,6 +241,7 @@ record HasTop (caller room : ℕ) (flat : Flat) (events : List Event) (listing :
   pub room_is : listing.room ≡ room
   pub flat_is : listing.flat ≡ flat
   pub droppings : AreListed room found listing.droppings
+  pub packs : All (IsPackedAs room (calls_of caller events)) listing.droppings
 
 range_below : (from n : ℕ) → AllByRecursion (λ k. k < from + n) (range_with_len from n)
 range_below from zero = tt
@@ -231,7 +261,15 @@ top_run caller room id flat start events listing lawful sound runs =
     let v = part_so (λ ks. scans room id flat ks nothing_found) (top_shows names) (made_by caller f.later) listing g.2 in
     let on : Runs caller (scans room id flat (shown names hostdirs) nothing_found) f.later (Ok listing) = subst (λ ks. Runs caller (scans room id flat ks nothing_found) f.later (Ok listing)) (top_so names v.0 v.1) v.2 in
     let h = scans_run caller room id flat (next_moment (moment_after start f.before) e) names hostdirs f.later nothing_found listing p.rest.2 p.next (range_below 0 32) on in
-    let is : listing_of room flat h.last ≡ listing = listed_so room id flat h.last listing h.made in
+    let of = listed_so room id flat h.last listing h.made in
+    let is : listing_of room flat h.last ≡ listing = of.is in
+    let asks = ap (λ (a : Ask). a.call) f.asked in
+    let top : PacksGoOn [] h.last.packs (NamedIn room (asked_in e ∷ calls_of caller f.later)) = record {
+      from = λ o a. elim (h.packs.from o a) as (λ _. Among o [] ⊎ NamedIn room (asked_in e ∷ calls_of caller f.later) o) [ inl before ↦ inl before | inr n ↦ inr (named_later room (asked_in e) (calls_of caller f.later) o n) ];
+      kept = h.packs.kept;
+      found = λ o n. h.packs.found o (not_named room (asked_in e) (calls_of caller f.later) o asks n);
+    } in
+    let packs : PacksGoOn [] h.last.packs (NamedIn room (calls_of caller events)) = subst (λ a. PacksGoOn [] h.last.packs (NamedIn room a)) (sym (calls_from caller _ _ events (Ok listing) f)) top in
     record {
       found = h.found;
       scans = record {
@@ -245,6 +283,7 @@ top_run caller room id flat start events listing lawful sound runs =
       room_is = ap (λ (l : Listing). l.room) (sym is);
       flat_is = ap (λ (l : Listing). l.flat) (sym is);
       droppings = subst (λ (l : Listing). AreListed room h.found l.droppings) is (were_listed room h.found h.last h.goes h.named);
+      packs = subst (λ (l : Listing). All (IsPackedAs room (calls_of caller events)) l.droppings) is (were_packed room (calls_of caller events) h.last (h.goes.rise tt) of.none_lone packs h.found h.goes h.named);
     }
 
 -- ---- the listing
@@ -262,6 +301,7 @@ record HasListedAt (caller room : ℕ) (events : List Event) (listing : Listing)
   pub found : List Dropping
   pub scans : IsScan room found scan
   pub droppings : AreListed room found listing.droppings
+  pub packs : All (IsPackedAs room scan) listing.droppings
 
 by_newest : (caller room : ℕ) (first : Asked) (names : List Name) (start : Moment) (events later : List Event) (newest : Option ℕ) (listing : Listing) → calls_of caller events ≡ first ∷ calls_of caller later → IsListed room (ListFolder flats) names first → newest_in names None ≡ Ok newest → IsLawful start.state later → IsSoundAt start
     → Runs caller (if_newest room newest) later (Ok listing) → HasListedAt caller room events listing
@@ -279,6 +319,7 @@ by_newest caller room first names start events later None listing calls lists ne
       found = t.found;
       scans = t.scans;
       droppings = t.droppings;
+      packs = t.packs;
     }
 by_newest caller room first names start events later (Some id) listing calls lists newest lawful sound runs =
     let two = runs_in_two caller (flat_program room id) (on_ok (λ flat. top_program room id flat)) later (Ok listing) runs in
@@ -302,6 +343,7 @@ by_newest caller room first names start events later (Some id) listing calls lis
       found = t.found;
       scans = t.scans;
       droppings = t.droppings;
+      packs = t.packs;
     }
 
 at_run : (caller room : ℕ) (start : Moment) (events : List Event) (listing : Listing) → IsLawful start.state events → IsSoundAt start → Runs caller (open_at_program room) events (Ok listing) → HasListedAt caller room events listing
@@ -328,6 +370,7 @@ with_earlier caller room earlier events later listing calls h = record {
   found = h.found;
   scans = subst (λ r. IsScan r h.found h.scan) (sym h.room_is) h.scans;
   droppings = subst (λ r. AreListed r h.found listing.droppings) (sym h.room_is) h.droppings;
+  packs = subst (λ r. All (IsPackedAs r h.scan) listing.droppings) (sym h.room_is) h.packs;
 }
 
 named_run : (caller : ℕ) (name : Name) (start : Moment) (events : List Event) (listing : Listing) → IsLawful start.state events → IsSoundAt start → Runs caller (open_read_program name) events (Ok listing) → HasListed listing (calls_of caller events)

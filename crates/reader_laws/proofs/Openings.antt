@@ -30,17 +30,17 @@ use Rattle.index_reader.specs.Gathered.{ArePiecesOfAll, IsGatheredOf, pieces_of_
 use Rattle.gathering.specs.Moments.{Moment, IsSoundAt, Dropping, IsNamed, moment_after}
 use Rattle.gathering.specs.Seen.{Asked, asked_in, calls_of}
 use Rattle.gathering.specs.Gathering.{Gathered, GathersAll}
-use Rattle.gathering.specs.Listing.{IsAmong}
+use Rattle.gathering.specs.Listing.{IsAmong, NamesPack}
 use Rattle.gathering.specs.Flats.{IsCoveredSo, covered_count, covers_of}
-use Rattle.gathering.specs.Opening.{IsCutOf, HasView}
+use Rattle.gathering.specs.Opening.{IsCutOf, IsPackedSo, HasView}
 use Rattle.gathering.specs.View.{covered_in, changes_in, tails_in, tails_of, writes_in, WritersRise}
 use Rattle.gathering.proofs.Facts.{alike, all_at, among, among_left, among_right, any_found, found_any, keys_in, legal_first, legal_rest, same_entries, size_of_pieces, sound_after}
-use Rattle.reader_laws.specs.Listing.{AreListed, HasListed}
+use Rattle.reader_laws.specs.Listing.{AreListed, HasListed, IsPackedAs}
 use Rattle.reader_laws.specs.Opened.{IsReaderOf, HasOpenReader}
 use Rattle.reader_laws.specs.Opening.{AreDealt, Portion, droppings_of, ReadsInTurn}
 use Rattle.reader_laws.specs.Sharing.{in_room, cover_before}
 use Rattle.reader_laws.proofs.Calling.{calls_append}
-use Rattle.reader_laws.proofs.Cuts.{dropping_of, either_part, all_by, matching, IsPicked, WasGathered, picked, cut_rises, all_picked}
+use Rattle.reader_laws.proofs.Cuts.{same_head, same_rest, dropping_of, either_part, all_by, matching, IsPicked, WasGathered, picked, cut_rises, all_picked}
 use Rattle.reader_laws.proofs.Histories.{fit}
 use Rattle.reader_laws.proofs.Portions.{HasEach, all_of, HasAllOf, gathers-append}
 use Rattle.reader_laws.proofs.Shares.{IsReadAlone, share_run, all_first, all_rest}
@@ -68,13 +68,13 @@ in_turn caller room covers start (p ∷ portions) events lawful sound alone (min
     }
 
 -- each dropping of the portions is read alone
-pub alone_in : (listing : Listing) (found : List Dropping) (portions : List Portion) → AreListed listing.room found listing.droppings → AreDealt listing.droppings portions → AllByRecursion (IsReadAlone listing.room) (droppings_of portions)
-alone_in listing found portions listed dealt = of (droppings_of portions) (recursion_from_All (λ (d : Listed). IsAmong d listing.droppings) (droppings_of portions) dealt.only)
+pub alone_in : (listing : Listing) (found : List Dropping) (portions : List Portion) → AreListed listing.room found listing.droppings → All (λ (d : Listed). d.packed ≡ false) listing.droppings → AreDealt listing.droppings portions → AllByRecursion (IsReadAlone listing.room) (droppings_of portions)
+alone_in listing found portions listed unpacked dealt = of (droppings_of portions) (recursion_from_All (λ (d : Listed). IsAmong d listing.droppings) (droppings_of portions) dealt.only)
   where
     of : (ds : List Listed) → AllByRecursion (λ (d : Listed). IsAmong d listing.droppings) ds → AllByRecursion (IsReadAlone listing.room) ds
     of [] all = tt
     of (d ∷ ds) all = (
-      record { named = all_at (λ (e : Listed). IsNamed (in_room listing.room e)) listing.droppings d listed.named (among listing.droppings d all.0); unpacked = all_at (λ (e : Listed). e.packed ≡ false) listing.droppings d listed.unpacked (among listing.droppings d all.0) },
+      record { named = all_at (λ (e : Listed). IsNamed (in_room listing.room e)) listing.droppings d listed.named (among listing.droppings d all.0); unpacked = all_at (λ (e : Listed). e.packed ≡ false) listing.droppings d unpacked (among listing.droppings d all.0) },
       of ds all.1,
     )
 
@@ -88,14 +88,35 @@ count_is (c ∷ covers) writer = elim (nat_eq c.writer writer) as (λ b. (or_not
   | false ↦ count_is covers writer
 ]
 
+-- what was listed of one that was gathered
+its_listed : (room : ℕ) (gathered : List Gathered) (ds : List Listed) (g : Gathered) → map dropping_of gathered ≡ map (in_room room) ds → map (λ (x : Gathered). x.packed) gathered ≡ map (λ (d : Listed). d.packed) ds → Among g gathered → (d : Listed) × Among d ds × (g.dropping ≡ in_room room d) × (g.packed ≡ d.packed)
+its_listed room [] ds g are packed a = absurd a
+its_listed room (x ∷ gathered) [] g are packed a = absurd (cc)
+its_listed room (x ∷ gathered) (d ∷ ds) g are packed (inl e) = (
+  d,
+  inl refl,
+  ap dropping_of e ∙ same_head x.dropping (in_room room d) (map dropping_of gathered) (map (in_room room) ds) are,
+  ap (λ (y : Gathered). y.packed) e ∙ same_head x.packed d.packed (map (λ (y : Gathered). y.packed) gathered) (map (λ (y : Listed). y.packed) ds) packed,
+)
+its_listed room (x ∷ gathered) (d ∷ ds) g are packed (inr a) =
+    let l = its_listed room gathered ds g (same_rest x.dropping (in_room room d) (map dropping_of gathered) (map (in_room room) ds) are) (same_rest x.packed d.packed (map (λ (y : Gathered). y.packed) gathered) (map (λ (y : Listed). y.packed) ds) packed) a in
+    (l.0, inr l.1, l.2, l.3)
+
+packed_as : (room : ℕ) (scan : List Asked) (d : Listed) (g : Gathered) → g.dropping ≡ in_room room d → g.packed ≡ d.packed → IsPackedAs room scan d → IsPackedSo scan g
+packed_as room scan d g its same p = record {
+  named = λ e. subst (NamesPack scan) (sym its) (p.of_named (sym same ∙ e));
+  unnamed = λ e n. p.of_unnamed (sym same ∙ e) (subst (NamesPack scan) its n);
+}
+
 -- The cut of what was gathered of all portions.
-pub record HasCutOf (listing : Listing) (found : List Dropping) (flat : Option Flat) (gathered cut : List Gathered) : Type 0 where
+pub record HasCutOf (listing : Listing) (found : List Dropping) (scan : List Asked) (flat : Option Flat) (gathered cut : List Gathered) : Type 0 where
   pub picks : IsPicked listing.room gathered listing.droppings cut
   pub cuts : IsCutOf listing.room found cut
+  pub packed : All (IsPackedSo scan) cut
   pub covered : All (IsCoveredSo (covers_of flat)) cut
   pub all : (g : Gathered) → Among g gathered → Among g cut
 
-pub cut_of : (listing : Listing) (asked : List Asked) (portions : List Portion) (gathered : List Gathered) (h : HasListed listing asked) → AreDealt listing.droppings portions → HasAllOf listing.room listing.flat.covers portions gathered → (cut : List Gathered) × HasCutOf listing h.found h.flat gathered cut
+pub cut_of : (listing : Listing) (asked : List Asked) (portions : List Portion) (gathered : List Gathered) (h : HasListed listing asked) → AreDealt listing.droppings portions → HasAllOf listing.room listing.flat.covers portions gathered → (cut : List Gathered) × HasCutOf listing h.found h.scan h.flat gathered cut
 cut_of listing asked portions gathered h dealt has =
     let room : ℕ = listing.room in
     let listed : AreListed room h.found listing.droppings = h.droppings in
@@ -119,6 +140,9 @@ cut_of listing asked portions gathered h dealt has =
               let m = matching (in_room room) dropping_of listing.droppings cut d (sym p.1.are) b in
               found_any (λ (g : Gathered). g.dropping ≡ f) cut m.0 m.1 (sym m.2 ∙ is)));
         };
+        packed = All-from_recursion (IsPackedSo h.scan) cut (all_by (IsPackedSo h.scan) cut (λ g a.
+            let l = its_listed room gathered (droppings_of portions) g has.droppings_are has.packed_are (All-Among (λ (x : Gathered). Among x gathered) cut g p.1.from a) in
+            packed_as room h.scan l.0 g l.2 l.3 (all_at (IsPackedAs room h.scan) listing.droppings l.0 h.packs (only l.0 l.1))));
         covered = All-from_recursion (IsCoveredSo (covers_of h.flat)) cut (all_by (IsCoveredSo (covers_of h.flat)) cut (λ g a.
             All-Among (λ (x : Gathered). x.covered ≡ (cover_before listing.flat.covers x).count) gathered g has.covered_so (All-Among (λ (x : Gathered). Among x gathered) cut g p.1.from a)
             ∙ count_is listing.flat.covers g.dropping.writer ∙ ap (λ cs. covered_count cs g.dropping.writer) (sym h.covers)));

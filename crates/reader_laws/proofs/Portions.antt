@@ -5,6 +5,7 @@ use Rattle.std.proofs.lemmas.List.{map-append}
 use Rattle.plfs_types.specs.declared.entries.Cover.{Cover}
 use Rattle.plfs_types.specs.declared.entries.Entry.{Entry}
 use Rattle.interval_merge.specs.Lists.{ArePiecesOfEach, joined}
+use Rattle.index_reader.specs.declared.listing.Dropping.{Dropping as Listed}
 use Rattle.index_reader.specs.Gathered.{covers_of, pieces_of_each}
 use Rattle.index_reader.specs.Sharing.{covered}
 use Rattle.gathering.specs.Seen.{Asked}
@@ -47,6 +48,7 @@ gathers-append (g ∷ a) b mine others (first, rest, split, one, more) gathered 
 
 pub record HasAllOf (room : ℕ) (covers : List Cover) (portions : List Portion) (gathered : List Gathered) : Type 0 where
   pub droppings_are : map (λ (g : Gathered). g.dropping) gathered ≡ map (in_room room) (droppings_of portions)
+  pub packed_are : map (λ (g : Gathered). g.packed) gathered ≡ map (λ (d : Listed). d.packed) (droppings_of portions)
   pub covered_so : AllByRecursion (λ (g : Gathered). g.covered ≡ (cover_before covers g).count) gathered
   pub counted : AllByRecursion (λ (g : Gathered). g.count ≡ (cover_with (cover_before covers g) g.tail).count) gathered
   pub covers_are : covers_of (shares_of portions) ≡ covers_with covers gathered
@@ -55,7 +57,7 @@ pub record HasAllOf (room : ℕ) (covers : List Cover) (portions : List Portion)
   pub entries : joined each ≡ tails_of gathered
 
 pub all_together : (room : ℕ) (covers : List Cover) (portions : List Portion) (parts : List (List Gathered)) → HasEach room covers portions parts → HasAllOf room covers portions (all_of parts)
-all_together room covers [] [] has = record { droppings_are = refl; covered_so = tt; counted = tt; covers_are = refl; each = []; pieces = tt; entries = refl }
+all_together room covers [] [] has = record { droppings_are = refl; packed_are = refl; covered_so = tt; counted = tt; covers_are = refl; each = []; pieces = tt; entries = refl }
 all_together room covers [] (gathered ∷ parts) has = absurd has
 all_together room covers (p ∷ portions) [] has = absurd has
 all_together room covers (p ∷ portions) (gathered ∷ parts) (one, has) =
@@ -63,6 +65,7 @@ all_together room covers (p ∷ portions) (gathered ∷ parts) (one, has) =
     let rest : List Gathered = all_of parts in
     record {
       droppings_are = map-append (λ (g : Gathered). g.dropping) gathered rest ∙ ap (λ l. l ++ map (λ (g : Gathered). g.dropping) rest) one.droppings_are ∙ ap (λ l. map (in_room room) p.droppings ++ l) h.droppings_are ∙ sym (map-append (in_room room) p.droppings (droppings_of portions));
+      packed_are = map-append (λ (g : Gathered). g.packed) gathered rest ∙ ap (λ l. l ++ map (λ (g : Gathered). g.packed) rest) one.packed_are ∙ ap (λ l. map (λ (d : Listed). d.packed) p.droppings ++ l) h.packed_are ∙ sym (map-append (λ (d : Listed). d.packed) p.droppings (droppings_of portions));
       covered_so = All-append (λ (g : Gathered). g.covered ≡ (cover_before covers g).count) gathered rest one.covered_so h.covered_so;
       counted = All-append (λ (g : Gathered). g.count ≡ (cover_with (cover_before covers g) g.tail).count) gathered rest one.counted h.counted;
       covers_are = ap (λ l. l ++ covers_of (shares_of portions)) one.covers_are ∙ ap (λ l. covers_with covers gathered ++ l) h.covers_are ∙ sym (covers-append covers gathered rest);

@@ -1,6 +1,6 @@
 -- The laws of opening.
-use Rattle.std.proofs.Common.{◌≡◌, ℕ, List, [], ◌∷◌, ◌++◌, Option, Some, None, refl, ap, sym, ◌∙◌, subst, append_assoc, arith}
-use Rattle.std.specs.List.{Any}
+use Rattle.std.proofs.Common.{◌≡◌, ℕ, false, List, [], ◌∷◌, ◌++◌, Option, Some, None, refl, ap, sym, ◌∙◌, subst, append_assoc, arith}
+use Rattle.std.specs.List.{All, Any}
 use Rattle.std.proofs.lemmas.List.{append-nil}
 use Rattle.plfs_types.specs.declared.entries.Cover.{Cover}
 use Rattle.plfs_types.specs.declared.entries.Trunc.{Trunc}
@@ -11,6 +11,7 @@ use Rattle.plain_file.proofs.Facts.{Among, All-Among}
 use Rattle.mount_model.specs.History.{Event}
 use Rattle.mount_sound.specs.Owed.{IsLawful}
 use Rattle.index_reader.specs.declared.gathered.Gathered.{Gathered as Parts}
+use Rattle.index_reader.specs.declared.listing.Dropping.{Dropping as Listed}
 use Rattle.index_reader.specs.declared.listing.Listing.{Listing}
 use Rattle.index_reader.specs.declared.opened.OpenReader.{OpenReader}
 use Rattle.index_reader.specs.Gathered.{AreFirstOf, IsGatheredOf, covers_of}
@@ -68,7 +69,7 @@ counted_so start end cut flat g p before count = record {
 }
 
 -- The covers that were first told are the counts of the cut.
-pub covers_of_cut : (start end : Moment) (listing : Listing) (asked : List Asked) (portions : List Portion) (truncs : List Trunc) (gathered cut : List Gathered) (covers : List Cover) (h : HasListed listing asked) → HasView start end listing.room cut truncs → HasCutOf listing h.found h.flat gathered cut
+pub covers_of_cut : (start end : Moment) (listing : Listing) (asked : List Asked) (portions : List Portion) (truncs : List Trunc) (gathered cut : List Gathered) (covers : List Cover) (h : HasListed listing asked) → HasView start end listing.room cut truncs → HasCutOf listing h.found h.scan h.flat gathered cut
     → HasAllOf listing.room listing.flat.covers portions gathered → AreRightFor end cut listing.flat.covers → AreFirstOf (covers_of (shares_of portions) ++ listing.flat.covers) covers → covers ≡ counts_in end cut
 covers_of_cut start end listing asked portions truncs gathered cut covers h view c has right first =
     let flat : List Cover = listing.flat.covers in
@@ -83,7 +84,7 @@ covers_of_cut start end listing asked portions truncs gathered cut covers h view
 -- ---- one who reads all portions
 
 -- What the caller made of its calls is what one who opens a reader alone makes.
-opens_so : (caller : ℕ) (listing : Listing) (scanning gathering before : List Event) (last : Asked) (truncs : List Trunc) (gathered cut : List Gathered) (h : HasListed listing (calls_of caller scanning)) → HasCutOf listing h.found h.flat gathered cut
+opens_so : (caller : ℕ) (listing : Listing) (scanning gathering before : List Event) (last : Asked) (truncs : List Trunc) (gathered cut : List Gathered) (h : HasListed listing (calls_of caller scanning)) → HasCutOf listing h.found h.scan h.flat gathered cut
     → GathersAll gathered (calls_of caller gathering) → calls_of caller before ≡ [] → ListsTruncs listing.room truncs last
     → (o : IsOpening listing.room cut truncs (calls_of caller (scanning ++ (gathering ++ before))) last) × (o.flat ≡ h.flat)
 opens_so caller listing scanning gathering before last truncs gathered cut h has gathers waits lists = (
@@ -102,6 +103,7 @@ opens_so caller listing scanning gathering before last truncs gathered cut h has
     droppings = h.found;
     scans = h.scans;
     cuts = has.cuts;
+    packed = has.packed;
     gathered = gathered;
     gathers = gathers;
     covered = has.covered;
@@ -114,9 +116,9 @@ opens_so caller listing scanning gathering before last truncs gathered cut h has
 regroup : (a b c : List Event) (last : Event) (later : List Event) → a ++ (b ++ (c ++ last ∷ later)) ≡ (a ++ (b ++ c)) ++ last ∷ later
 regroup a b c last later = ap (λ l. a ++ l) (sym (append_assoc b c (last ∷ later))) ∙ sym (append_assoc a (b ++ c) (last ∷ later))
 
-pub opens_alone : (caller : ℕ) (start : Moment) (events : List Event) (listing : Listing) (portions : List Portion) (truncs : List Trunc) (parts : Parts) (reader : OpenReader) → IsLawful start.state events → IsSoundAt start → OpensAlone caller events listing portions truncs → IsGatheredOf listing (shares_of portions) truncs parts → IsReaderOf parts reader
+pub opens_alone : (caller : ℕ) (start : Moment) (events : List Event) (listing : Listing) (portions : List Portion) (truncs : List Trunc) (parts : Parts) (reader : OpenReader) → IsLawful start.state events → IsSoundAt start → OpensAlone caller events listing portions truncs → All (λ (d : Listed). d.packed ≡ false) listing.droppings → IsGatheredOf listing (shares_of portions) truncs parts → IsReaderOf parts reader
     → HasOpenedIn caller start events reader
-opens_alone caller start events listing portions truncs parts reader lawful sound o is made =
+opens_alone caller start events listing portions truncs parts reader lawful sound o unpacked is made =
     let all : IsLawful start.state (o.scanning ++ (o.gathering ++ o.listing_truncs)) = subst (IsLawful start.state) o.split lawful in
     let l1 = legal_first start o.scanning (o.gathering ++ o.listing_truncs) all in
     let m1 : Moment = moment_after start o.scanning in
@@ -127,7 +129,7 @@ opens_alone caller start events listing portions truncs parts reader lawful soun
     let s2 : IsSoundAt m2 = sound_after m1 o.gathering l2 s1 in
     let r2 = legal_rest m1 o.gathering o.listing_truncs r1 in
     let h : HasListed listing (calls_of caller o.scanning) = listing_run caller o.program start o.scanning listing l1 sound o.lists o.scans in
-    let t = in_turn caller listing.room listing.flat.covers m1 portions o.gathering l2 s1 (alone_in listing h.found portions h.droppings o.dealt) o.reads in
+    let t = in_turn caller listing.room listing.flat.covers m1 portions o.gathering l2 s1 (alone_in listing h.found portions h.droppings unpacked o.dealt) o.reads in
     let gathered : List Gathered = all_of t.parts in
     let has : HasAllOf listing.room listing.flat.covers portions gathered = all_together listing.room listing.flat.covers portions t.parts t.each in
     let c = cut_of listing (calls_of caller o.scanning) portions gathered h o.dealt has in

@@ -1,6 +1,6 @@
 -- Who runs the program that scans a container has scanned it.
-use Rattle.gathering.proofs.Facts.{All-append, All-weaker, among_left, among_right, named_file, not_top}
-use Rattle.std.proofs.Common.{◌≡◌, ℕ, ◌≤◌, ◌<◌, ◌%◌, nat_lt, nat_eq, true, false, List, [], ◌∷◌, ◌++◌, drop, get_or, Some, None, refl, ap, sym, ◌∙◌, ◌⊎◌, inl, inr, subst, arith}
+use Rattle.gathering.proofs.Facts.{All-append, All-weaker, among_left, among_right}
+use Rattle.std.proofs.Common.{◌≡◌, ℕ, ◌≤◌, ◌<◌, ◌%◌, nat_lt, nat_eq, true, false, List, [], ◌∷◌, ◌++◌, drop, Option, Some, None, refl, ap, sym, ◌∙◌, ◌⊎◌, inl, inr, subst, arith}
 use Rattle.std.specs.Prelude.{Result, Ok, Err, if◌then◌else◌, is_some}
 use Rattle.std.specs.Fmt.{decimal}
 use Rattle.std.specs.List.{AllByRecursion}
@@ -12,17 +12,15 @@ use Rattle.plain_file.proofs.Facts.{Among, All-Among, cases_Option}
 use Rattle.container_layout.specs.declared.items.Item.{Item}
 use Rattle.container_layout.specs.declared.items.Item.TheVariants as item
 use Rattle.container_layout.specs.Paths.{IsAt, hostdir_of}
-use Rattle.container_layout.proofs.Facts.{elsewhere, one_item}
-use Rattle.store_laws.specs.There.{ListsFolder}
-use Rattle.mount_shape.specs.Container.{MayHold, IsItemFile}
-use Rattle.mount_model.specs.Paths.{Name, marks_folder}
+use Rattle.container_layout.proofs.Facts.{one_item}
+use Rattle.mount_model.specs.Paths.{Name}
 use Rattle.flow.specs.declared.trouble.Stuck.{Stuck}
 use Rattle.index_reader.specs.declared.scanning.Scan.{Scan}
 use Rattle.index_reader.specs.Items.{hostdir_item}
 use Rattle.index_reader.specs.Replies.{damage}
 use Rattle.index_reader.specs.Scanning.{file_in, nothing_found, owner, has_writer, placed, taken, taken_all, foreign_in, unless_foreign, scanned, owner_of}
-use Rattle.index_reader.proofs.ItemLemmas.{hostdir_item-at, hostdir_item-index}
-use Rattle.gathering.specs.Moments.{Moment, IsSoundAt, Dropping, IsNamed}
+use Rattle.index_reader.proofs.ItemLemmas.{hostdir_item-at, hostdir_item-here}
+use Rattle.gathering.specs.Moments.{Dropping, IsNamed}
 use Rattle.gathering.specs.Listing.{AreDroppingsOf}
 use Rattle.reader_laws.proofs.Calling.{same_ok}
 
@@ -41,23 +39,6 @@ host_of_folder k host small same =
     let numbers : decimal (k % 32) ≡ decimal (host % 32) = ap (drop 8) same in
     let one : k % 32 ≡ host % 32 = decimal_injective (k % 32) (host % 32) (omega arith) (omega arith) numbers in
     omega (arith, one, small)
-
--- ---- one name
-
--- a sound room has no packed index
-no_packed : (m : Moment) (s : IsSoundAt m) (room k : ℕ) (names : List Name) (l : ListsFolder s.shape.tree room (hostdir_of k) names) (name : Name) (it : Item) → Among name names → IsAt (file_in (hostdir_of k) name) it → ((bytes : List ℕ) → MayHold it bytes → ⊥) → ⊥
-no_packed m s room k names l name it a at never =
-    let f = named_file l.room (hostdir_of k) name names (not_top k) l.entries a in
-    elim (s.shape.shaped.rooms room l.room l.has_room) as (λ _. ⊥) [
-      | inl marks ↦
-          let mark = marks.files (file_in (hostdir_of k) name) f.0 f.1 in
-          let clash : marks_folder ≡ hostdir_of k = sym (ap (λ (p : Path). p.folder) mark.3) in
-          elsewhere (ap (λ (l : List ℕ). get_or l 0 0) clash) refl
-      | inr container ↦
-          let file : IsItemFile _ l.room (file_in (hostdir_of k) name) f.0 = container.files (file_in (hostdir_of k) name) f.0 f.1 in
-          let same : file.item ≡ it = one_item (file_in (hostdir_of k) name) file.item it file.is_at at in
-          never f.0 (subst (λ i. MayHold i f.0) same file.holds)
-    ]
 
 abbrev pub dropping : ℕ → Owner → Dropping
 dropping room o = record { room = room; host = o.host; writer = o.writer }
@@ -120,14 +101,13 @@ pub record GoesOnWith (room : ℕ) (old new : Scan) (ds : List Dropping) : Type 
   pub from : AllByRecursion (λ (o : Owner). Among o old.indices ⊎ Among (dropping room o) ds) new.indices
   pub kept : (o : Owner) → Among o old.indices → Among o new.indices
   pub found : AllByRecursion (λ (d : Dropping). (o : Owner) × Among o new.indices × (dropping room o ≡ d)) ds
-  pub packs : new.packs ≡ old.packs
 
 among_all : {X : Type 0} (P : X → Type 0) (xs : List X) → ((x : X) → Among x xs → P x) → AllByRecursion P xs
 among_all P [] f = tt
 among_all P (x ∷ xs) f = (f x (inl refl), among_all P xs (λ y a. f y (inr a)))
 
 pub goes_nowhere : (room : ℕ) (scan : Scan) → GoesOnWith room scan scan []
-goes_nowhere room scan = record { rise = λ r. r; from = among_all (λ (o : Owner). Among o scan.indices ⊎ Among (dropping room o) []) scan.indices (λ o a. inl a); kept = λ o a. a; found = tt; packs = refl }
+goes_nowhere room scan = record { rise = λ r. r; from = among_all (λ (o : Owner). Among o scan.indices ⊎ Among (dropping room o) []) scan.indices (λ o a. inl a); kept = λ o a. a; found = tt }
 
 pub goes_both : (room : ℕ) (a b c : Scan) (here others : List Dropping) → GoesOnWith room a b here → GoesOnWith room b c others → GoesOnWith room a c (here ++ others)
 goes_both room a b c here others f g = record {
@@ -142,7 +122,6 @@ goes_both room a b c here others f g = record {
   kept = λ o x. g.kept o (f.kept o x);
   found = All-append (λ (d : Dropping). (o : Owner) × Among o c.indices × (dropping room o ≡ d)) here others
       (All-weaker (λ (d : Dropping). (o : Owner) × Among o b.indices × (dropping room o ≡ d)) (λ (d : Dropping). (o : Owner) × Among o c.indices × (dropping room o ≡ d)) here (λ d w. (w.0, g.kept w.0 w.1, w.2)) f.found) g.found;
-  packs = g.packs ∙ f.packs;
 }
 
 placed_goes : (room : ℕ) (scan : Scan) (host writer : ℕ) → has_writer writer scan.indices ≡ false → GoesOnWith room scan (record { indices = placed (owner host writer) scan.indices; packs = scan.packs }) (record { room = room; host = host; writer = writer } ∷ [])
@@ -152,8 +131,61 @@ placed_goes room scan host writer none = record {
       (among_all (λ (o : Owner). Among o scan.indices ⊎ Among (dropping room o) (record { room = room; host = host; writer = writer } ∷ [])) scan.indices (λ o a. inl a));
   kept = λ o a. among_placed (owner host writer) o scan.indices (inr a);
   found = ((owner host writer, among_placed (owner host writer) (owner host writer) scan.indices (inl refl), refl), tt);
-  packs = refl;
 }
+
+-- ---- packed indices
+
+-- What was found goes on with the packed indices that are named so: they are there, and all new ones are of them.
+pub record PacksGoOn (old new : List Owner) (Named : Owner → Type 0) : Type 0 where
+  pub from : (o : Owner) → Among o new → Among o old ⊎ Named o
+  pub kept : (o : Owner) → Among o old → Among o new
+  pub found : (o : Owner) → Named o → Among o new
+
+pub packs_nowhere : (packs : List Owner) (Named : Owner → Type 0) → ((o : Owner) → Named o → ⊥) → PacksGoOn packs packs Named
+packs_nowhere packs Named none = record { from = λ o a. inl a; kept = λ o a. a; found = λ o n. absurd (none o n) }
+
+pub packs_both : (a b c : List Owner) (A B All_ : Owner → Type 0) → PacksGoOn a b A → PacksGoOn b c B → ((o : Owner) → A o → All_ o) → ((o : Owner) → B o → All_ o) → ((o : Owner) → All_ o → A o ⊎ B o) → PacksGoOn a c All_
+packs_both a b c A B All_ f g one other split = record {
+  from = λ o x. elim (g.from o x) as (λ _. Among o a ⊎ All_ o) [
+    | inl before ↦ elim (f.from o before) as (λ _. Among o a ⊎ All_ o) [ inl first ↦ inl first | inr named ↦ inr (one o named) ]
+    | inr named ↦ inr (other o named)
+  ];
+  kept = λ o x. g.kept o (f.kept o x);
+  found = λ o n. elim (split o n) as (λ _. Among o c) [ inl here ↦ g.kept o (f.found o here) | inr later ↦ g.found o later ];
+}
+
+-- the name is that of the packed index of this owner
+abbrev pub NamesOwner : Name → Name → Owner → Type 0
+NamesOwner folder name o = IsAt (file_in folder name) (item.Packed o.host o.writer)
+
+-- one of the names is
+abbrev pub NameOwner : Name → List Name → Owner → Type 0
+NameOwner folder names o = (name : Name) × Among name names × NamesOwner folder name o
+
+named_first : (folder name : Name) (names : List Name) (o : Owner) → NameOwner folder (name ∷ names) o → NamesOwner folder name o ⊎ NameOwner folder names o
+named_first folder name names o (other, inl same, at) = inl (subst (λ n. NamesOwner folder n o) same at)
+named_first folder name names o (other, inr a, at) = inr (other, a, at)
+
+-- a name that is no packed index's
+packs_passed : (folder name : Name) (names : List Name) (old new : List Owner) → ((o : Owner) → NamesOwner folder name o → ⊥) → PacksGoOn old new (NameOwner folder names) → PacksGoOn old new (NameOwner folder (name ∷ names))
+packs_passed folder name names old new none h = packs_both old old new (NamesOwner folder name) (NameOwner folder names) (NameOwner folder (name ∷ names)) (packs_nowhere old (NamesOwner folder name) none) h
+    (λ o at. (name, inl refl, at)) (λ o n. (n.0, inr n.1, n.2)) (named_first folder name names)
+
+same_owner : (o : Owner) (host writer : ℕ) → item.Packed o.host o.writer ≡ item.Packed host writer → o ≡ owner host writer
+same_owner o host writer e = let h : o.host ≡ host = cc in let w : o.writer ≡ writer = cc in (λ i. owner (h i) (w i))
+
+-- a packed index's
+packs_taken : (folder name : Name) (names : List Name) (old new : List Owner) (host writer : ℕ) → IsAt (file_in folder name) (item.Packed host writer) → PacksGoOn (placed (owner host writer) old) new (NameOwner folder names) → PacksGoOn old new (NameOwner folder (name ∷ names))
+packs_taken folder name names old new host writer at h =
+    let p : Owner = owner host writer in
+    let here : PacksGoOn old (placed p old) (NamesOwner folder name) = record {
+      from = λ o a. All-Among (λ (x : Owner). Among x old ⊎ NamesOwner folder name x) (placed p old) o (all_placed (λ (x : Owner). Among x old ⊎ NamesOwner folder name x) p old (inr at) (among_all (λ (x : Owner). Among x old ⊎ NamesOwner folder name x) old (λ x b. inl b))) a;
+      kept = λ o a. among_placed p o old (inr a);
+      found = λ o named. among_placed p o old (inl (same_owner o host writer (one_item (file_in folder name) (item.Packed o.host o.writer) (item.Packed host writer) named at)));
+    } in
+    packs_both old (placed p old) new (NamesOwner folder name) (NameOwner folder names) (NameOwner folder (name ∷ names)) here h (λ o named. (name, inl refl, named)) (λ o n. (n.0, inr n.1, n.2)) (named_first folder name names)
+
+-- ---- one folder
 
 -- the droppings of names of one folder, and what was found with them
 pub record HasTaken (room k : ℕ) (names : List Name) (old new : Scan) : Type 0 where
@@ -161,18 +193,24 @@ pub record HasTaken (room k : ℕ) (names : List Name) (old new : Scan) : Type 0
   pub are : AreDroppingsOf room k names ds
   pub named : AllByRecursion IsNamed ds
   pub goes : GoesOnWith room old new ds
+  pub packs : PacksGoOn old.packs new.packs (NameOwner (hostdir_of k) names)
 
-module _ (m : Moment) (s : IsSoundAt m) (room k : ℕ) (small : k < 32) (all : List Name) (l : ListsFolder s.shape.tree room (hostdir_of k) all) where
+module _ (room k : ℕ) (small : k < 32) where
   abbrev folder_ : Name
   folder_ = hostdir_of k
 
-  -- a name that is no index dropping's is passed over
-  passed : (name : Name) (names : List Name) (old new : Scan) → ((host writer : ℕ) → hostdir_item (file_in folder_ name) ≡ Some (item.Index host writer) → ⊥) → HasTaken room k names old new → HasTaken room k (name ∷ names) old new
-  passed name names old new other h = record {
+  -- a name is no packed index's where it is another item's, or none's
+  no_pack : (name : Name) (found : Option Item) → hostdir_item (file_in folder_ name) ≡ found → ((host writer : ℕ) → found ≡ Some (item.Packed host writer) → ⊥) → (o : Owner) → NamesOwner folder_ name o → ⊥
+  no_pack name found is other o at = other o.host o.writer (sym is ∙ hostdir_item-here (file_in folder_ name) (item.Packed o.host o.writer) refl at)
+
+  -- a name that is no index dropping's is passed over, and so is one that is no packed index's
+  passed : (name : Name) (names : List Name) (old new : Scan) (found : Option Item) → hostdir_item (file_in folder_ name) ≡ found → ((host writer : ℕ) → found ≡ Some (item.Index host writer) → ⊥) → ((host writer : ℕ) → found ≡ Some (item.Packed host writer) → ⊥) → HasTaken room k names old new → HasTaken room k (name ∷ names) old new
+  passed name names old new found is other unpacked h = record {
     ds = h.ds;
     named = h.named;
-    are = inr (λ d is. other d.host d.writer (hostdir_item-index (file_in folder_ name) d.host d.writer is.named), h.are);
+    are = inr (λ d its. other d.host d.writer (sym is ∙ hostdir_item-here (file_in folder_ name) (item.Index d.host d.writer) refl its.named), h.are);
     goes = h.goes;
+    packs = packs_passed folder_ name names old.packs new.packs (no_pack name found is unpacked) h.packs;
   }
 
   one_taken : (name : Name) (names : List Name) (old new : Scan) (host writer : ℕ) → hostdir_item (file_in folder_ name) ≡ Some (item.Index host writer) → has_writer writer old.indices ≡ false → HasTaken room k names (record { indices = placed (owner host writer) old.indices; packs = old.packs }) new → HasTaken room k (name ∷ names) old new
@@ -184,37 +222,57 @@ module _ (m : Moment) (s : IsSoundAt m) (room k : ℕ) (small : k < 32) (all : L
         named = (at.is_item, h.named);
         are = inl (d, h.ds, record { room_is = refl; folder = host_of_folder k host small (ap (λ (p : Path). p.folder) at.printed); named = at }, refl, h.are);
         goes = goes_both room old (record { indices = placed (owner host writer) old.indices; packs = old.packs }) new (d ∷ []) h.ds (placed_goes room old host writer none) h.goes;
+        packs = packs_passed folder_ name names old.packs new.packs (no_pack name (Some (item.Index host writer)) found (λ other_host other is. (cc))) h.packs;
       }
+
+  -- a packed index is one more
+  pack_taken : (name : Name) (names : List Name) (old new : Scan) (host writer : ℕ) → hostdir_item (file_in folder_ name) ≡ Some (item.Packed host writer) → HasTaken room k names (record { indices = old.indices; packs = placed (owner host writer) old.packs }) new → HasTaken room k (name ∷ names) old new
+  pack_taken name names old new host writer found h = record {
+    ds = h.ds;
+    named = h.named;
+    are = inr (λ d its. (let clash : Some (item.Packed host writer) ≡ Some (item.Index d.host d.writer) = sym found ∙ hostdir_item-here (file_in folder_ name) (item.Index d.host d.writer) refl its.named in cc), h.are);
+    goes = record { rise = h.goes.rise; from = h.goes.from; kept = h.goes.kept; found = h.goes.found };
+    packs = packs_taken folder_ name names old.packs new.packs host writer (hostdir_item-at (file_in folder_ name) (item.Packed host writer) found) h.packs;
+  }
 
   never_damaged : {X : Type 0} (x : X) (why : Stuck) → ◌≡◌ {A = Result X Stuck} (Err why) (Ok x) → ⊥
   never_damaged x why e = cc
 
-  by_item : (name : Name) (names : List Name) (old new : Scan) (it : Item) → Among name all → hostdir_item (file_in folder_ name) ≡ Some it → taken (file_in folder_ name) (Some it) old (λ more. taken_all folder_ names more) ≡ Ok new
+  by_item : (name : Name) (names : List Name) (old new : Scan) (it : Item) → hostdir_item (file_in folder_ name) ≡ Some it → taken (file_in folder_ name) (Some it) old (λ more. taken_all folder_ names more) ≡ Ok new
       → ((more : Scan) → taken_all folder_ names more ≡ Ok new → HasTaken room k names more new) → HasTaken room k (name ∷ names) old new
-  by_item name names old new (item.Index host writer) a found made later = elim (has_writer writer old.indices) as (λ t. has_writer writer old.indices ≡ t
+  by_item name names old new (item.Index host writer) found made later = elim (has_writer writer old.indices) as (λ t. has_writer writer old.indices ≡ t
       → (if t then Err (damage (file_in folder_ name) 0) else taken_all folder_ names (record { indices = placed (owner host writer) old.indices; packs = old.packs })) ≡ Ok new → HasTaken room k (name ∷ names) old new) [
         | true ↦ λ t e. absurd (never_damaged new (damage (file_in folder_ name) 0) e)
         | false ↦ λ t e. one_taken name names old new host writer found t (later (record { indices = placed (owner host writer) old.indices; packs = old.packs }) e)
       ] refl made
-  by_item name names old new (item.Packed host writer) a found made later =
-      absurd (no_packed m s room k all l name (item.Packed host writer) a (hostdir_item-at (file_in folder_ name) (item.Packed host writer) found) (λ bytes never. never))
-  by_item name names old new other a found made later =
-      passed name names old new (λ host writer is. (let clash : Some other ≡ Some (item.Index host writer) = sym found ∙ is in cc)) (later old made)
+  by_item name names old new (item.Packed host writer) found made later = elim (has_writer writer old.packs) as (λ t.
+      (if t then Err (damage (file_in folder_ name) 0) else taken_all folder_ names (record { indices = old.indices; packs = placed (owner host writer) old.packs })) ≡ Ok new → HasTaken room k (name ∷ names) old new) [
+        | true ↦ λ e. absurd (never_damaged new (damage (file_in folder_ name) 0) e)
+        | false ↦ λ e. pack_taken name names old new host writer found (later (record { indices = old.indices; packs = placed (owner host writer) old.packs }) e)
+      ] made
+  by_item name names old new other found made later =
+      passed name names old new (Some other) found (λ host writer is. (cc)) (λ host writer is. (cc)) (later old made)
 
-  all_taken : (names : List Name) (old new : Scan) → ((name : Name) → Among name names → Among name all) → taken_all folder_ names old ≡ Ok new → HasTaken room k names old new
-  all_taken [] old new within made = record { ds = []; are = refl; named = tt; goes = subst (λ x. GoesOnWith room old x []) (same_ok old new made) (goes_nowhere room old) }
-  all_taken (name ∷ names) old new within made = elim (cases_Option (hostdir_item (file_in folder_ name))) [
+  all_taken : (names : List Name) (old new : Scan) → taken_all folder_ names old ≡ Ok new → HasTaken room k names old new
+  all_taken [] old new made = record {
+    ds = [];
+    are = refl;
+    named = tt;
+    goes = subst (λ x. GoesOnWith room old x []) (same_ok old new made) (goes_nowhere room old);
+    packs = subst (λ (x : Scan). PacksGoOn old.packs x.packs (NameOwner folder_ [])) (same_ok old new made) (packs_nowhere old.packs (NameOwner folder_ []) (λ o n. n.1));
+  }
+  all_taken (name ∷ names) old new made = elim (cases_Option (hostdir_item (file_in folder_ name))) [
     | inl none ↦
-        passed name names old new (λ host writer is. (let clash : None ≡ Some (item.Index host writer) = sym none ∙ is in cc))
-        (all_taken names old new (λ n a. within n (inr a)) (sym (ap (λ o. taken (file_in folder_ name) o old (λ more. taken_all folder_ names more)) none) ∙ made))
+        passed name names old new None none (λ host writer is. (cc)) (λ host writer is. (cc))
+        (all_taken names old new (sym (ap (λ o. taken (file_in folder_ name) o old (λ more. taken_all folder_ names more)) none) ∙ made))
     | inr (it, found) ↦
-        by_item name names old new it (within name (inl refl)) found (sym (ap (λ o. taken (file_in folder_ name) o old (λ more. taken_all folder_ names more)) found) ∙ made)
-        (λ more e. all_taken names more new (λ n a. within n (inr a)) e)
+        by_item name names old new it found (sym (ap (λ o. taken (file_in folder_ name) o old (λ more. taken_all folder_ names more)) found) ∙ made)
+        (λ more e. all_taken names more new e)
   ]
 
-  -- What the names of the folder show are its droppings.
-  pub folder_taken : (old new : Scan) → scanned folder_ all old ≡ Ok new → HasTaken room k all old new
-  folder_taken old new made = elim (cases_Option (foreign_in folder_ all)) [
-    | inl none ↦ all_taken all old new (λ n a. a) (sym (ap (λ o. unless_foreign folder_ o (taken_all folder_ all old)) none) ∙ made)
-    | inr (name, some) ↦ absurd (never_damaged new (damage (file_in folder_ name) 0) (sym (ap (λ o. unless_foreign folder_ o (taken_all folder_ all old)) some) ∙ made))
+  -- What the names of the folder show are its droppings and its packed indices.
+  pub folder_taken : (names : List Name) (old new : Scan) → scanned folder_ names old ≡ Ok new → HasTaken room k names old new
+  folder_taken names old new made = elim (cases_Option (foreign_in folder_ names)) [
+    | inl none ↦ all_taken names old new (sym (ap (λ o. unless_foreign folder_ o (taken_all folder_ names old)) none) ∙ made)
+    | inr (name, some) ↦ absurd (never_damaged new (damage (file_in folder_ name) 0) (sym (ap (λ o. unless_foreign folder_ o (taken_all folder_ names old)) some) ∙ made))
   ]

@@ -3,7 +3,7 @@ use Rattle.std.proofs.Common.{◌≡◌, ℕ, false, List, [], ◌∷◌, ◌++�
 use Rattle.std.specs.Prelude.{Result, Ok, Err}
 use Rattle.std.specs.List.{All, Any, AllByRecursion}
 use Rattle.std.proofs.lemmas.Bool.{cond-false}
-use Rattle.std.proofs.lemmas.List.Elements.{All-from_recursion}
+use Rattle.std.proofs.lemmas.List.Elements.{All-from_recursion, recursion_from_All}
 use Rattle.plfs_types.specs.declared.entries.Cover.{Cover}
 use Rattle.plain_file.proofs.Facts.{Among, All-Among}
 use Rattle.container_layout.proofs.Facts.{elsewhere}
@@ -47,17 +47,15 @@ use Rattle.reader_laws.proofs.Troubles.{fails_first, fails_rest}
 
 -- ---- a share
 
--- the dropping stands, without a packed index, and its cover is right
+-- the dropping stands, and its cover is right
 pub record IsSafe (m : Moment) (room : ℕ) (covers : List Cover) (d : Listed) : Type 0 where
   pub named : IsNamed (in_room room d)
-  pub unpacked : d.packed ≡ false
   pub stood : Stood m (in_room room d)
   pub cover : IsCoverOf m (in_room room d) (cover_of d.writer covers)
 
 safe_later : (a b : Moment) (s : IsSoundAt a) (room : ℕ) (covers : List Cover) (d : Listed) → Grows a b → IsSafe a room covers d → IsSafe b room covers d
 safe_later a b s room covers d grows safe = record {
   named = safe.named;
-  unpacked = safe.unpacked;
   stood = stood_grows a b (in_room room d) grows safe.stood;
   cover = cover_later a b s (in_room room d) (cover_of d.writer covers) safe.named grows safe.cover;
 }
@@ -72,14 +70,14 @@ no_ok x why e = cc
 same_trouble : {R : Type 0} (a b : Stuck) → ◌≡◌ {A = Result R Stuck} (Err a) (Err b) → a ≡ b
 same_trouble a b e = cc
 
-one_fails : (caller room : ℕ) (covers : List Cover) (d : Listed) (m : Moment) (events : List Event) (why : Stuck) → IsSoundAt m → IsLawful m.state events → IsSafe m room covers d → Runs caller (dropping_program room d (cover_of d.writer covers)) events (Err why) → FailsByStore caller m.state events why
-one_fails caller room covers d m events why s lawful safe runs =
+one_fails : (caller room : ℕ) (covers : List Cover) (d : Listed) (m : Moment) (events : List Event) (why : Stuck) → d.packed ≡ false → IsSoundAt m → IsLawful m.state events → IsSafe m room covers d → Runs caller (dropping_program room d (cover_of d.writer covers)) events (Err why) → FailsByStore caller m.state events why
+one_fails caller room covers d m events why unpacked s lawful safe runs =
     tail_fails caller room d safe.named m (cover_of d.writer covers) events why s safe.stood lawful safe.cover
-    (subst (λ p. Runs caller p events (Err why)) (cond-false d.packed (pack_program room (packed_path d.host d.writer) (cover_of d.writer covers)) (tail_program room d (no_tail (cover_of d.writer covers))) safe.unpacked) runs)
+    (subst (λ p. Runs caller p events (Err why)) (cond-false d.packed (pack_program room (packed_path d.host d.writer) (cover_of d.writer covers)) (tail_program room d (no_tail (cover_of d.writer covers))) unpacked) runs)
 
-gathers_fail : (caller room : ℕ) (covers : List Cover) (ds : List Listed) (m : Moment) (events : List Event) (old : Sofar) (why : Stuck) → IsSoundAt m → IsLawful m.state events → AllByRecursion (IsSafe m room covers) ds → Runs caller (gathers room covers ds old) events (Err why) → FailsByStore caller m.state events why
-gathers_fail caller room covers [] m events old why s lawful safe runs = absurd (no_ok (share_of old) why runs.1)
-gathers_fail caller room covers (d ∷ ds) m events old why s lawful safe runs =
+gathers_fail : (caller room : ℕ) (covers : List Cover) (ds : List Listed) (m : Moment) (events : List Event) (old : Sofar) (why : Stuck) → AllByRecursion (λ (d : Listed). d.packed ≡ false) ds → IsSoundAt m → IsLawful m.state events → AllByRecursion (IsSafe m room covers) ds → Runs caller (gathers room covers ds old) events (Err why) → FailsByStore caller m.state events why
+gathers_fail caller room covers [] m events old why unpacked s lawful safe runs = absurd (no_ok (share_of old) why runs.1)
+gathers_fail caller room covers (d ∷ ds) m events old why unpacked s lawful safe runs =
     let next = on_ok (λ tail. gathers room covers ds (added tail old)) in
     let two = runs_in_two caller (dropping_program room d (cover_of d.writer covers)) next events (Err why) runs in
     let both : IsLawful m.state (two.first ++ two.rest) = subst (IsLawful m.state) two.all lawful in
@@ -89,20 +87,20 @@ gathers_fail caller room covers (d ∷ ds) m events old why s lawful safe runs =
     subst (λ es. FailsByStore caller m.state es why) (sym two.all)
     (by_value two.value two.first two.rest both l1 two.runs two.then_runs
     (λ tail then_runs. subst (λ st. FailsByStore caller st two.rest why) state_is
-    (gathers_fail caller room covers ds (moment_after m two.first) two.rest (added tail old) why s1 (legal_rest m two.first two.rest both) (all_later m (moment_after m two.first) s room covers ds (grows_after m two.first l1 s) safe.1) then_runs)))
+    (gathers_fail caller room covers ds (moment_after m two.first) two.rest (added tail old) why unpacked.1 s1 (legal_rest m two.first two.rest both) (all_later m (moment_after m two.first) s room covers ds (grows_after m two.first l1 s) safe.1) then_runs)))
   where
     by_value : (value : Result Tail Stuck) (first rest : List Event) → IsLawful m.state (first ++ rest) → IsLawful m.state first → Runs caller (dropping_program room d (cover_of d.writer covers)) first value → Runs caller (on_ok (λ tail. gathers room covers ds (added tail old)) value) rest (Err why)
         → ((tail : Tail) → Runs caller (gathers room covers ds (added tail old)) rest (Err why) → FailsByStore caller (state_after m.state first) rest why) → FailsByStore caller m.state (first ++ rest) why
     by_value (Err other) first rest both l1 mine then_runs later =
         let same : other ≡ why = same_trouble {R = Share} other why then_runs.1 in
-        fails_first caller m.state first rest why both (one_fails caller room covers d m first why s l1 safe.0 (subst (λ x. Runs caller (dropping_program room d (cover_of d.writer covers)) first (Err x)) same mine))
+        fails_first caller m.state first rest why both (one_fails caller room covers d m first why unpacked.0 s l1 safe.0 (subst (λ x. Runs caller (dropping_program room d (cover_of d.writer covers)) first (Err x)) same mine))
     by_value (Ok tail) first rest both l1 mine then_runs later = fails_rest caller m.state first rest why both (later tail then_runs)
 
 -- ---- the droppings of a listing
 
 -- as they are listed, before anything of them is gathered
 ungathered : ℕ → List Cover → Listed → Gathered
-ungathered room covers d = record { dropping = in_room room d; covered = (cover_of d.writer covers).count; count = 0; tail = [] }
+ungathered room covers d = record { dropping = in_room room d; packed = d.packed; covered = (cover_of d.writer covers).count; count = 0; tail = [] }
 
 ungathered_are : (room : ℕ) (covers : List Cover) (ds : List Listed) → map dropping_of (map (ungathered room covers) ds) ≡ map (in_room room) ds
 unfolding ungathered
@@ -147,7 +145,6 @@ listed_safe caller start scanning listing h lawful sound =
     let its = all_at (λ (x : Listed). IsAmong (in_room room x) h.found) ds d h.droppings.each a in
     record {
       named = named;
-      unpacked = all_at (λ (x : Listed). x.packed ≡ false) ds d h.droppings.unpacked a;
       stood = (all_at (λ (x : Dropping). (x.room ≡ room) × Stood middle x) h.found (in_room room d) found.stood (among h.found (in_room room d) its)).1;
       cover = record { tells = right.right g in_cut; had = omega (arith, All-Among (CoversLanded taken.m) cut g taken.landed in_cut, goes.landed (in_room room d) named) };
     })
@@ -179,15 +176,15 @@ after_listing start scanning between reading lawful sound =
     }
 
 pub shares_fail : (lister caller : ℕ) (program : Tries Listing) (start : Moment) (scanning between reading : List Event) (listing : Listing) (ds : List Listed) (why : Stuck) → IsLawful start.state (scanning ++ (between ++ reading)) → IsSoundAt start → Lists program → Runs lister program scanning (Ok listing)
-    → All (λ (d : Listed). IsAmong d listing.droppings) ds → Runs caller (share_program listing.room ds listing.flat.covers) reading (Err why) → FailsByStore caller (state_after start.state (scanning ++ between)) reading why
-shares_fail lister caller program start scanning between reading listing ds why lawful sound lists lister_runs within runs =
+    → All (λ (d : Listed). IsAmong d listing.droppings) ds → All (λ (d : Listed). d.packed ≡ false) ds → Runs caller (share_program listing.room ds listing.flat.covers) reading (Err why) → FailsByStore caller (state_after start.state (scanning ++ between)) reading why
+shares_fail lister caller program start scanning between reading listing ds why lawful sound lists lister_runs within unpacked runs =
     let a = after_listing start scanning between reading lawful sound in
     let h = listing_run lister program start scanning listing a.first sound lists lister_runs in
     let safe = listed_safe lister start scanning listing h a.first sound in
     let these : AllByRecursion (IsSafe (moment_after start scanning) listing.room listing.flat.covers) ds = all_by (IsSafe (moment_after start scanning) listing.room listing.flat.covers) ds (λ d b.
     All-Among (IsSafe (moment_after start scanning) listing.room listing.flat.covers) listing.droppings d safe (among listing.droppings d (all_at (λ (x : Listed). IsAmong x listing.droppings) ds d within b))) in
     subst (λ st. FailsByStore caller st reading why) (follows start (scanning ++ between)).0
-    (gathers_fail caller listing.room listing.flat.covers ds (moment_after start (scanning ++ between)) reading nothing why a.then_ a.rest (all_later (moment_after start scanning) (moment_after start (scanning ++ between)) a.sound listing.room listing.flat.covers ds a.goes these) runs)
+    (gathers_fail caller listing.room listing.flat.covers ds (moment_after start (scanning ++ between)) reading nothing why (recursion_from_All (λ (d : Listed). d.packed ≡ false) ds unpacked) a.then_ a.rest (all_later (moment_after start scanning) (moment_after start (scanning ++ between)) a.sound listing.room listing.flat.covers ds a.goes these) runs)
 
 -- ---- truncates
 

@@ -24,11 +24,12 @@ use Rattle.index_reader.specs.Packs.{no_tail, packed_path, pack_program}
 use Rattle.index_reader.specs.Tails.{tail_program}
 use Rattle.gathering.specs.Moments.{IsNamed}
 use Rattle.gathering.specs.Seen.{calls_of}
-use Rattle.gathering.specs.Gathering.{Gathered, Gathers, GathersAll}
+use Rattle.gathering.specs.Gathering.{Gathered, Gathers, GathersAll, GathersSo}
 use Rattle.gathering.specs.View.{tails_of}
 use Rattle.reader_laws.specs.Covering.{cover_with}
 use Rattle.reader_laws.specs.Sharing.{in_room, gathered_of, cover_before, covers_with, IsShareOf}
 use Rattle.reader_laws.proofs.Calling.{asked_all, calls_are, calls_append, FitsRead, same_ok}
+use Rattle.reader_laws.proofs.Checking.{Longer}
 use Rattle.reader_laws.proofs.Pieces.{gathered_pieces}
 use Rattle.reader_laws.proofs.Tails.{HasTail, tail_run}
 
@@ -52,6 +53,7 @@ ReadsFit caller events = AllByRecursion FitsRead (calls_of caller events)
 pub record HasGathered (caller room : ℕ) (ds : List Listed) (covers : List Cover) (events : List Event) (old : Sofar) (share : Share) : Type 0 where
   pub gathered : List Gathered
   pub droppings_are : map (λ (g : Gathered). g.dropping) gathered ≡ map (in_room room) ds
+  pub packed_are : map (λ (g : Gathered). g.packed) gathered ≡ map (λ (d : Listed). d.packed) ds
   pub covered_so : AllByRecursion (λ (g : Gathered). g.covered ≡ (cover_before covers g).count) gathered
   pub counted : AllByRecursion (λ (g : Gathered). g.count ≡ (cover_with (cover_before covers g) g.tail).count) gathered
   pub gathers : GathersAll gathered (calls_of caller events)
@@ -64,6 +66,7 @@ none_left : (caller room : ℕ) (covers : List Cover) (events : List Event) (old
 none_left caller room covers events old none = record {
   gathered = [];
   droppings_are = refl;
+  packed_are = refl;
   covered_so = tt;
   counted = tt;
   gathers = calls_are caller events ∙ ap asked_all none;
@@ -72,8 +75,13 @@ none_left caller room covers events old none = record {
   pieces = tt;
 }
 
+-- What was read of a dropping was gathered so, and its entries are pieces of the file.
+pub record HasRead (room : ℕ) (d : Listed) (cover : Cover) (calls : List Event) (tail : Tail) : Type 0 where
+  pub gathers : Gathers (gathered_of room d cover tail) (asked_all calls)
+  pub longer : Longer tail.entries (no_tail cover) tail
+
 -- one dropping, and then the others
-one_more : (caller room : ℕ) (d : Listed) (ds : List Listed) (covers : List Cover) (first rest : List Event) (old : Sofar) (tail : Tail) (share : Share) → HasTail room d (cover_of d.writer covers) (made_by caller first) tail → HasGathered caller room ds covers rest (added tail old) share
+one_more : (caller room : ℕ) (d : Listed) (ds : List Listed) (covers : List Cover) (first rest : List Event) (old : Sofar) (tail : Tail) (share : Share) → HasRead room d (cover_of d.writer covers) (made_by caller first) tail → HasGathered caller room ds covers rest (added tail old) share
     → HasGathered caller room (d ∷ ds) covers (first ++ rest) old share
 one_more caller room d ds covers first rest old tail share t h =
     let cover : Cover = cover_of d.writer covers in
@@ -82,6 +90,7 @@ one_more caller room d ds covers first rest old tail share t h =
     record {
       gathered = g ∷ h.gathered;
       droppings_are = ap (λ l. in_room room d ∷ l) h.droppings_are;
+      packed_are = ap (λ l. d.packed ∷ l) h.packed_are;
       covered_so = (refl, h.covered_so);
       counted = (ap (λ (c : Cover). c.count) t.longer.cover, h.counted);
       gathers = (calls_of caller first, calls_of caller rest, calls_append caller first rest, subst (Gathers g) (sym (calls_are caller first)) t.gathers, h.gathers);
@@ -91,9 +100,14 @@ one_more caller room d ds covers first rest old tail share t h =
     }
 
 -- a dropping without a packed index is read by itself
-unpacked_run : (caller room : ℕ) (d : Listed) (cover : Cover) (events : List Event) (tail : Tail) → d.packed ≡ false → Runs caller (dropping_program room d cover) events (Ok tail) → Runs caller (tail_program room d (no_tail cover)) events (Ok tail)
-unpacked_run caller room d cover events tail unpacked runs =
-    subst (λ p. Runs caller p events (Ok tail)) (cond-false d.packed (pack_program room (packed_path d.host d.writer) cover) (tail_program room d (no_tail cover)) unpacked) runs
+unpacked_run : (caller room : ℕ) (d : Listed) (cover : Cover) (events : List Event) (tail : Tail) → IsNamed (in_room room d) → d.packed ≡ false → ReadsFit caller events → Runs caller (dropping_program room d cover) events (Ok tail) → HasRead room d cover (made_by caller events) tail
+unpacked_run caller room d cover events tail named unpacked fit runs =
+    let runs' = subst (λ p. Runs caller p events (Ok tail)) (cond-false d.packed (pack_program room (packed_path d.host d.writer) cover) (tail_program room d (no_tail cover)) unpacked) runs in
+    let t : HasTail room d cover (made_by caller events) tail = tail_run room d cover tail (made_by caller events) (subst (AllByRecursion FitsRead) (calls_are caller events) fit) runs' in
+    record {
+      gathers = record { named = named; reads = subst (λ b. GathersSo b (gathered_of room d cover tail) (asked_all (made_by caller events))) (sym unpacked) t.reads };
+      longer = t.longer;
+    }
 
 -- the first dropping, where the others are gathered so
 next_run : (caller room : ℕ) (d : Listed) (ds : List Listed) (covers : List Cover) (first rest : List Event) (old : Sofar) (share : Share) (value : Result Tail Stuck) → IsNamed (in_room room d) → d.packed ≡ false → ReadsFit caller first → Runs caller (dropping_program room d (cover_of d.writer covers)) first value
@@ -101,8 +115,7 @@ next_run : (caller room : ℕ) (d : Listed) (ds : List Listed) (covers : List Co
     → HasGathered caller room (d ∷ ds) covers (first ++ rest) old share
 next_run caller room d ds covers first rest old share (Err why) named unpacked fit runs then_runs later = let clash : ◌≡◌ {A = Result Share Stuck} (Err why) (Ok share) = then_runs.1 in absurd (cc)
 next_run caller room d ds covers first rest old share (Ok tail) named unpacked fit runs then_runs later =
-    one_more caller room d ds covers first rest old tail share
-    (tail_run room d (cover_of d.writer covers) tail (made_by caller first) named (subst (AllByRecursion FitsRead) (calls_are caller first) fit) (unpacked_run caller room d (cover_of d.writer covers) first tail unpacked runs)) (later tail then_runs)
+    one_more caller room d ds covers first rest old tail share (unpacked_run caller room d (cover_of d.writer covers) first tail named unpacked fit runs) (later tail then_runs)
 
 -- the name is a dropping's, and it has no packed index
 pub record IsReadAlone (room : ℕ) (d : Listed) : Type 0 where
@@ -130,6 +143,7 @@ share_run caller room ds covers events share alone fit made =
       h.gathers,
       record {
         droppings_are = h.droppings_are;
+        packed_are = h.packed_are;
         covered_so = h.covered_so;
         counted = h.counted;
         covers_are = h.covers_are;

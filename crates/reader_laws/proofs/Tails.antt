@@ -24,9 +24,8 @@ use Rattle.index_reader.specs.Entries.{is_next, longer, checked}
 use Rattle.index_reader.specs.Packs.{no_tail}
 use Rattle.index_reader.specs.Tails.{next_read, if_checked, looked, reads_left, reads_on, log_then, tail_program}
 use Rattle.index_reader.proofs.TailLemmas.{reads_going_on}
-use Rattle.gathering.specs.Moments.{IsNamed}
 use Rattle.gathering.specs.Seen.{asked_in}
-use Rattle.gathering.specs.Gathering.{IsLength, IsLogLength, IsRead, AreReads, Gathers}
+use Rattle.gathering.specs.Gathering.{IsLength, IsLogLength, IsRead, AreReads, GathersIndex}
 use Rattle.reader_laws.specs.Sharing.{in_room, gathered_of}
 use Rattle.reader_laws.proofs.Calling.{asked_all, given_so, passed_so, same_ok, number_given, bytes_given, FitsRead}
 use Rattle.reader_laws.proofs.Checking.{Longer, no_longer, longer_on, within_more, AllCount, SomeCount, all_here, all_later, some_later, ends_here}
@@ -243,19 +242,18 @@ at_least a b e = grind (arith, nat_tests)
 
 -- What was read of an index dropping was gathered so, and its entries are pieces of the file.
 pub record HasTail (room : ℕ) (d : Listed) (cover : Cover) (calls : List Event) (tail : Tail) : Type 0 where
-  pub gathers : Gathers (gathered_of room d cover tail) (asked_all calls)
+  pub reads : GathersIndex (gathered_of room d cover tail) (asked_all calls)
   pub longer : Longer tail.entries (no_tail cover) tail
 
 -- after both lengths
-tail_read : (room : ℕ) (d : Listed) (cover : Cover) (told log : ℕ) (tail : Tail) (first second : Event) (rest : List Event) → IsNamed (in_room room d) → IsLength (in_room room d) told (asked_in first) → IsLogLength (in_room room d) log (asked_in second) → cover.count ≤ told / 40
+tail_read : (room : ℕ) (d : Listed) (cover : Cover) (told log : ℕ) (tail : Tail) (first second : Event) (rest : List Event) → IsLength (in_room room d) told (asked_in first) → IsLogLength (in_room room d) log (asked_in second) → cover.count ≤ told / 40
     → HasReadOn room d log (told / 40 - (told / 40 - cover.count)) (told / 40) false rest (no_tail cover) tail → HasTail room d cover (first ∷ second ∷ rest) tail
-tail_read room d cover told log tail first second rest named index_length log_length few h =
+tail_read room d cover told log tail first second rest index_length log_length few h =
     let from : told / 40 - (told / 40 - cover.count) ≡ cover.count = omega (arith, few) in
     let longer : Longer (within_log log (whole h.content) h.content) (no_tail cover) tail = h.tells.goes_on refl in
     let entries : tail.entries ≡ within_log log (whole h.content) h.content = longer.entries in
     record {
-      gathers = record {
-        named = named;
+      reads = record {
         first = asked_in first;
         second = asked_in second;
         reads = asked_all rest;
@@ -272,9 +270,9 @@ tail_read room d cover told log tail first second rest named index_length log_le
       longer = subst (λ es. Longer es (no_tail cover) tail) (sym entries) longer;
     }
 
-pub tail_run : (room : ℕ) (d : Listed) (cover : Cover) (tail : Tail) (calls : List Event) → IsNamed (in_room room d) → AllByRecursion FitsRead (asked_all calls) → AreCallsOf (asking (tail_program room d (no_tail cover))) calls (Ok tail) → HasTail room d cover calls tail
-tail_run room d cover tail [] named fit made = absurd made
-tail_run room d cover tail (first ∷ calls) named fit (asked, made) =
+pub tail_run : (room : ℕ) (d : Listed) (cover : Cover) (tail : Tail) (calls : List Event) → AllByRecursion FitsRead (asked_all calls) → AreCallsOf (asking (tail_program room d (no_tail cover))) calls (Ok tail) → HasTail room d cover calls tail
+tail_run room d cover tail [] fit made = absurd made
+tail_run room d cover tail (first ∷ calls) fit (asked, made) =
     let g = given_so (number_in first.reply) _ _ calls tail made in
     let told : ℕ = g.0 in
     let p = passed_so (nat_lt (told / 40) cover.count) _ _ calls tail g.2 in
@@ -288,5 +286,5 @@ tail_run room d cover tail (first ∷ calls) named fit (asked, made) =
         let log : ℕ = g.0 in
         let p = passed_so (nat_lt log cover.bytes) _ _ rest tail g.2 in
         let log_length : IsLogLength (in_room room d) log (asked_in second) = record { call = ap (λ (a : Ask). a.call) asked; reply = log_given second.reply log g.1 } in
-        tail_read room d cover told log tail first second rest named index_length log_length few
+        tail_read room d cover told log tail first second rest index_length log_length few
         (reads_run (told / 40 - cover.count) room d log (told / 40) (told / 40 - cover.count) false (no_tail cover) tail rest (omega arith) (omega arith) fit.1 p.1)

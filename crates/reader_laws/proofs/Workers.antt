@@ -1,7 +1,7 @@
 -- A reader whose portions are read by workers.
-use Rattle.std.proofs.Common.{◌≡◌, ℕ, List, [], ◌∷◌, ◌++◌, refl, ap, sym, ◌∙◌, inl, inr, subst, append_assoc}
+use Rattle.std.proofs.Common.{◌≡◌, ℕ, false, List, [], ◌∷◌, ◌++◌, refl, ap, sym, ◌∙◌, inl, inr, subst, append_assoc}
 use Rattle.std.specs.Prelude.{Ok}
-use Rattle.std.specs.List.{Any, AllByRecursion}
+use Rattle.std.specs.List.{All, Any, AllByRecursion}
 use Rattle.std.proofs.lemmas.List.{append-nil}
 use Rattle.std.proofs.lemmas.List.Elements.{All-from_recursion, recursion_from_All}
 use Rattle.plfs_types.specs.declared.entries.Cover.{Cover}
@@ -13,6 +13,7 @@ use Rattle.mount_model.specs.History.{Event}
 use Rattle.mount_sound.specs.Owed.{IsLawful}
 use Rattle.flow.specs.Running.{Runs}
 use Rattle.index_reader.specs.declared.gathered.Gathered.{Gathered as Parts}
+use Rattle.index_reader.specs.declared.listing.Dropping.{Dropping as Listed}
 use Rattle.index_reader.specs.declared.listing.Listing.{Listing}
 use Rattle.index_reader.specs.declared.opened.OpenReader.{OpenReader}
 use Rattle.index_reader.specs.declared.sharing.Share.{Share}
@@ -91,14 +92,14 @@ record IsOpened (caller : ℕ) (start : Moment) (events : List Event) (listing :
   pub gathered : List Gathered
   pub has : HasAllOf listing.room listing.flat.covers portions gathered
   pub cut : List Gathered
-  pub is_cut : HasCutOf listing listed.found listed.flat gathered cut
+  pub is_cut : HasCutOf listing listed.found listed.scan listed.flat gathered cut
   pub sound : IsSoundAt (moment_after (moment_after start before) (first ∷ more))
   pub view : HasView (moment_after start before) (moment_after (moment_after start before) (first ∷ more)) listing.room cut truncs
   pub flat_is : ArePieces (covered_in (moment_after (moment_after start before) (first ∷ more)) cut) [] listing.flat.pieces
   pub right : AreRightFor (moment_after (moment_after start before) (first ∷ more)) cut listing.flat.covers
 
-workers_opened : (caller : ℕ) (start : Moment) (events : List Event) (listing : Listing) (works : List Work) (truncs : List Trunc) → IsLawful start.state events → IsSoundAt start → OpensByWorkers caller events listing works truncs → IsOpened caller start events listing (portions_of works) truncs
-workers_opened caller start events listing works truncs lawful sound o =
+workers_opened : (caller : ℕ) (start : Moment) (events : List Event) (listing : Listing) (works : List Work) (truncs : List Trunc) → IsLawful start.state events → IsSoundAt start → OpensByWorkers caller events listing works truncs → All (λ (d : Listed). d.packed ≡ false) listing.droppings → IsOpened caller start events listing (portions_of works) truncs
+workers_opened caller start events listing works truncs lawful sound o unpacked =
     let room : ℕ = listing.room in
     let rest : List Event = o.gathering ++ o.last ∷ o.later in
     let all : IsLawful start.state (o.scanning ++ rest) = subst (IsLawful start.state) o.split lawful in
@@ -111,7 +112,7 @@ workers_opened caller start events listing works truncs lawful sound o =
     let s2 : IsSoundAt m2 = sound_after m1 o.gathering l2 s1 in
     let r2 = legal_rest m1 o.gathering (o.last ∷ o.later) r1 in
     let h : HasListed listing (calls_of caller o.scanning) = listing_run caller o.program start o.scanning listing l1 sound o.lists o.scans in
-    let t = by_workers room listing.flat.covers m1 works o.gathering l2 s1 (alone_in listing h.found (portions_of works) h.droppings o.dealt)
+    let t = by_workers room listing.flat.covers m1 works o.gathering l2 s1 (alone_in listing h.found (portions_of works) h.droppings unpacked o.dealt)
     (recursion_from_All (λ (w : Work). Runs w.worker (share_program room w.portion.droppings listing.flat.covers) o.gathering (Ok w.portion.share)) works o.reads) in
     let gathered : List Gathered = all_of t.parts in
     let has : HasAllOf room listing.flat.covers (portions_of works) gathered = all_together room listing.flat.covers (portions_of works) t.parts t.each in
@@ -142,6 +143,7 @@ workers_opened caller start events listing works truncs lawful sound o =
         droppings = h.found;
         scans = h.scans;
         cuts = c.1.cuts;
+        packed = c.1.packed;
         shares = gatherings works t.parts;
         gathers = t.gathers;
         covered = c.1.covered;
@@ -181,10 +183,10 @@ workers_opened caller start events listing works truncs lawful sound o =
 same_entries : (gathered cut : List Gathered) → AllByRecursion (λ (g : Gathered). Among g gathered) cut → ((g : Gathered) → Among g gathered → Among g cut) → SameElements (tails_of cut) (tails_of gathered)
 same_entries gathered cut from all = same_tails cut gathered (λ g a. All-Among (λ (x : Gathered). Among x gathered) cut g from a) all
 
-pub opens_each : (caller : ℕ) (start : Moment) (events : List Event) (listing : Listing) (works : List Work) (truncs : List Trunc) (parts : Parts) (reader : OpenReader) → IsLawful start.state events → IsSoundAt start → OpensByWorkers caller events listing works truncs
+pub opens_each : (caller : ℕ) (start : Moment) (events : List Event) (listing : Listing) (works : List Work) (truncs : List Trunc) (parts : Parts) (reader : OpenReader) → IsLawful start.state events → IsSoundAt start → OpensByWorkers caller events listing works truncs → All (λ (d : Listed). d.packed ≡ false) listing.droppings
     → IsGatheredOf listing (shares_of (portions_of works)) truncs parts → IsReaderOf parts reader → HasOpenedIn caller start events reader
-opens_each caller start events listing works truncs parts reader lawful sound opens is made =
-    let o = workers_opened caller start events listing works truncs lawful sound opens in
+opens_each caller start events listing works truncs parts reader lawful sound opens unpacked is made =
+    let o = workers_opened caller start events listing works truncs lawful sound opens unpacked in
     let from : Moment = moment_after start o.before in
     let end : Moment = moment_after from (o.first ∷ o.more) in
     record {
@@ -209,10 +211,10 @@ same_first w a b rest same = elim (cases_Option (item_of (λ (c : Cover). c.writ
   | inr some ↦ item_first w a rest some.0 some.1 ∙ sym (item_first w b rest some.0 (sym same ∙ some.1))
 ]
 
-pub opens_joined : (caller : ℕ) (start : Moment) (events : List Event) (listing : Listing) (works : List Work) (share : Share) (truncs : List Trunc) (parts : Parts) (reader : OpenReader) → IsLawful start.state events → IsSoundAt start → OpensByWorkers caller events listing works truncs
+pub opens_joined : (caller : ℕ) (start : Moment) (events : List Event) (listing : Listing) (works : List Work) (share : Share) (truncs : List Trunc) (parts : Parts) (reader : OpenReader) → IsLawful start.state events → IsSoundAt start → OpensByWorkers caller events listing works truncs → All (λ (d : Listed). d.packed ≡ false) listing.droppings
     → IsJoinedOf (shares_of (portions_of works)) share → IsGatheredOf listing (share ∷ []) truncs parts → IsReaderOf parts reader → HasOpenedIn caller start events reader
-opens_joined caller start events listing works share truncs parts reader lawful sound opens joins is made =
-    let o = workers_opened caller start events listing works truncs lawful sound opens in
+opens_joined caller start events listing works share truncs parts reader lawful sound opens unpacked joins is made =
+    let o = workers_opened caller start events listing works truncs lawful sound opens unpacked in
     let from : Moment = moment_after start o.before in
     let end : Moment = moment_after from (o.first ∷ o.more) in
     let told : List Cover = covers_of (shares_of (portions_of works)) in

@@ -19,7 +19,7 @@ in_room room d = record { room = room; host = d.host; writer = d.writer }
 
 -- the tail behind what a cover counts, as it was gathered of a dropping
 abbrev pub gathered_of : ℕ → Listed → Cover → Tail → Gathered
-gathered_of room d cover tail = record { dropping = in_room room d; covered = cover.count; count = tail.cover.count; tail = tail.entries }
+gathered_of room d cover tail = record { dropping = in_room room d; packed = d.packed; covered = cover.count; count = tail.cover.count; tail = tail.entries }
 
 -- what a flattened index with these covers has of it
 abbrev pub cover_before : List Cover → Gathered → Cover
@@ -33,6 +33,7 @@ covers_with covers (g ∷ gathered) = covered (cover_with (cover_before covers g
 -- The share has what was gathered of these droppings, behind what these covers count.
 pub record IsShareOf (room : ℕ) (ds : List Listed) (covers : List Cover) (gathered : List Gathered) (share : Share) : Type 0 where
   pub droppings_are : map (λ (g : Gathered). g.dropping) gathered ≡ map (in_room room) ds
+  pub packed_are : map (λ (g : Gathered). g.packed) gathered ≡ map (λ (d : Listed). d.packed) ds
   pub covered_so : AllByRecursion (λ (g : Gathered). g.covered ≡ (cover_before covers g).count) gathered
   pub counted : AllByRecursion (λ (g : Gathered). g.count ≡ (cover_with (cover_before covers g) g.tail).count) gathered
   pub covers_are : share.covers ≡ covers_with covers gathered

@@ -59,7 +59,7 @@ pub fn truncates_are_listed()
 /// between the caller's first call and its listing of truncates, and of the truncates of then, whatever others call.
 pub fn a_reader_opens()
     ensures { (caller : ℕ) (start : Moment) (events : List Event) (listing : Listing) (portions : List Portion) (truncs : List Trunc) (parts : Parts) (reader : OpenReader)
-        → IsLawful start.state events → IsSoundAt start → OpensAlone caller events listing portions truncs
+        → IsLawful start.state events → IsSoundAt start → OpensAlone caller events listing portions truncs → All (λ (d : Listed). d.packed ≡ false) listing.droppings
         → IsGatheredOf listing (shares_of portions) truncs parts → IsReaderOf parts reader
         → HasOpenedIn caller start events reader }
 {}
@@ -67,11 +67,11 @@ pub fn a_reader_opens()
 /// A law: the same where workers read the portions, and their shares were joined or not.
 pub fn a_reader_opens_by_workers()
     ensures each { (caller : ℕ) (start : Moment) (events : List Event) (listing : Listing) (works : List Work) (truncs : List Trunc) (parts : Parts) (reader : OpenReader)
-        → IsLawful start.state events → IsSoundAt start → OpensByWorkers caller events listing works truncs
+        → IsLawful start.state events → IsSoundAt start → OpensByWorkers caller events listing works truncs → All (λ (d : Listed). d.packed ≡ false) listing.droppings
         → IsGatheredOf listing (shares_of (portions_of works)) truncs parts → IsReaderOf parts reader
         → HasOpenedIn caller start events reader }
     ensures joined { (caller : ℕ) (start : Moment) (events : List Event) (listing : Listing) (works : List Work) (share : Share) (truncs : List Trunc) (parts : Parts) (reader : OpenReader)
-        → IsLawful start.state events → IsSoundAt start → OpensByWorkers caller events listing works truncs
+        → IsLawful start.state events → IsSoundAt start → OpensByWorkers caller events listing works truncs → All (λ (d : Listed). d.packed ≡ false) listing.droppings
         → IsJoinedOf (shares_of (portions_of works)) share → IsGatheredOf listing (share ∷ []) truncs parts → IsReaderOf parts reader
         → HasOpenedIn caller start events reader }
 {}
@@ -94,7 +94,7 @@ pub fn an_open_reader_reads_its_file()
 pub fn shares_and_truncates_fail_by_store()
     ensures shares { (lister caller : ℕ) (program : Tries Listing) (start : Moment) (scanning between reading : List Event) (listing : Listing) (ds : List Listed) (why : Stuck)
         → IsLawful start.state (scanning ++ (between ++ reading)) → IsSoundAt start → Lists program → Runs lister program scanning (Ok listing)
-        → All (λ (d : Listed). IsAmong d listing.droppings) ds → Runs caller (share_program listing.room ds listing.flat.covers) reading (Err why)
+        → All (λ (d : Listed). IsAmong d listing.droppings) ds → All (λ (d : Listed). d.packed ≡ false) ds → Runs caller (share_program listing.room ds listing.flat.covers) reading (Err why)
         → FailsByStore caller (state_after start.state (scanning ++ between)) reading why }
     ensures truncates { (lister caller : ℕ) (program : Tries Listing) (start : Moment) (scanning between reading : List Event) (listing : Listing) (why : Stuck)
         → IsLawful start.state (scanning ++ (between ++ reading)) → IsSoundAt start → Lists program → Runs lister program scanning (Ok listing)
