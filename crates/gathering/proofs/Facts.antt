@@ -5,7 +5,7 @@ pub use Rattle.gathering.proofs.Entries.{among_listed, file_of, named_file, not_
 pub use Rattle.gathering.proofs.Failing.{log_ends, read_ends}
 pub use Rattle.gathering.proofs.FlatReading.{WasRight, few_covers, flat_right, its_writers}
 pub use Rattle.gathering.proofs.Flats.{same_entries}
-pub use Rattle.gathering.proofs.Fronts.{entries_stay, front_slice, in_tree, issued_grows, its_log, landed_whole, length-entries, length_taken, stands}
+pub use Rattle.gathering.proofs.Fronts.{entries_stay, front_slice, in_tree, issued_grows, its_log, landed_at, landed_is_first, landed_whole, length-entries, length_taken, stands}
 pub use Rattle.gathering.proofs.Gathers.{landed_logged}
 pub use Rattle.gathering.proofs.Growing.{grows_refl, grows_trans, in_a_room, log_grows, stood_grows}
 pub use Rattle.gathering.proofs.Listings.{scan_found}

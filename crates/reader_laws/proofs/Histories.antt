@@ -1,9 +1,7 @@
 -- What a caller's calls in a lawful history from a sound state are.
 use Rattle.std.proofs.Common.{◌≡◌, ℕ, List, [], ◌∷◌, ◌++◌, refl, ap, ◌∙◌, inl, inr, subst}
-use Rattle.std.specs.Prelude.{Ok, false}
-use Rattle.std.specs.List.{All, AllByRecursion}
-use Rattle.std.proofs.lemmas.List.Elements.{recursion_from_All}
-use Rattle.plfs_types.specs.declared.entries.Cover.{Cover}
+use Rattle.std.specs.Prelude.{Ok}
+use Rattle.std.specs.List.{AllByRecursion}
 use Rattle.plfs_types.specs.declared.entries.Trunc.{Trunc}
 use Rattle.mount_model.specs.declared.call.Call.{Call}
 use Rattle.mount_model.specs.declared.reply.Reply.{Reply}
@@ -13,37 +11,20 @@ use Rattle.story.specs.Program.{Program, ask}
 use Rattle.flow.specs.Running.{unbroken, Runs}
 use Rattle.flow.proofs.Facts.{runs_next}
 use Rattle.turn_object.specs.Callers.{made_by}
-use Rattle.index_reader.specs.declared.listing.Dropping.{Dropping as Listed}
-use Rattle.index_reader.specs.declared.sharing.Share.{Share}
-use Rattle.index_reader.specs.Sharing.{share_program}
 use Rattle.index_reader.specs.Truncs.{trunc_program}
-use Rattle.gathering.specs.Moments.{Moment, IsSoundAt, IsNamed, moment_after}
+use Rattle.gathering.specs.Moments.{Moment, IsSoundAt, moment_after}
 use Rattle.gathering.specs.Seen.{asked_in, calls_of}
 use Rattle.gathering.specs.Opening.{ListsTruncs}
-use Rattle.gathering.specs.Gathering.{Gathered, GathersAll}
 use Rattle.gathering.proofs.Facts.{its_call, legal_first, legal_rest, seen, sound_after}
 use Rattle.reader_laws.specs.Listing.{HasListedTruncs}
-use Rattle.reader_laws.specs.Sharing.{in_room, IsShareOf}
 use Rattle.story.proofs.Facts.{entries_not_first}
 use Rattle.index_reader.specs.Replies.{names_in}
-use Rattle.reader_laws.proofs.Calling.{asked_all, calls_append, calls_are, given_so, reads_fit}
-use Rattle.reader_laws.proofs.Shares.{ReadsFit, IsReadAlone, share_run}
+use Rattle.reader_laws.proofs.Calling.{asked_all, calls_append, calls_are, given_so, FitsRead, reads_fit}
 use Rattle.reader_laws.proofs.Truncating.{truncs_told}
 
 -- what a caller reads fits
-pub fit : (caller : ℕ) (start : Moment) (events : List Event) → IsLawful start.state events → IsSoundAt start → ReadsFit caller events
+pub fit : (caller : ℕ) (start : Moment) (events : List Event) → IsLawful start.state events → IsSoundAt start → AllByRecursion FitsRead (calls_of caller events)
 fit caller start events lawful sound = reads_fit caller start (moment_after start events) (calls_of caller events) (seen caller start events lawful sound)
-
-alone_all : (room : ℕ) (ds : List Listed) → AllByRecursion (λ (d : Listed). IsNamed (in_room room d)) ds → AllByRecursion (λ (d : Listed). d.packed ≡ false) ds → AllByRecursion (IsReadAlone room) ds
-alone_all room [] named unpacked = tt
-alone_all room (d ∷ ds) named unpacked = (record { named = named.0; unpacked = unpacked.0 }, alone_all room ds named.1 unpacked.1)
-
-pub share_gathered : (caller room : ℕ) (start : Moment) (events : List Event) (ds : List Listed) (covers : List Cover) (share : Share) → IsLawful start.state events → IsSoundAt start → All (λ (d : Listed). IsNamed (in_room room d)) ds → All (λ (d : Listed). d.packed ≡ false) ds
-    → Runs caller (share_program room ds covers) events (Ok share) → (gathered : List Gathered) × GathersAll gathered (calls_of caller events) × IsShareOf room ds covers gathered share
-share_gathered caller room start events ds covers share lawful sound named unpacked runs =
-    share_run caller room ds covers events share
-    (alone_all room ds (recursion_from_All (λ (d : Listed). IsNamed (in_room room d)) ds named) (recursion_from_All (λ (d : Listed). d.packed ≡ false) ds unpacked))
-    (fit caller start events lawful sound) runs
 
 -- ---- the first call of a program
 

@@ -19,6 +19,8 @@ mod LogReads
 mod Alike
 mod FileRuns
 mod FlatRuns
+mod PackFacts
+mod PackRuns
 mod Scanning
 mod LookEnds
 mod Failing

@@ -2,7 +2,7 @@
 use Rattle.reader_laws.specs.Covering.{counts_in}
 use Rattle.index_reader.specs.Found.{item_of}
 use Rattle.std.proofs.Common.{◌≡◌, ℕ, nat_eq, true, false, List, [], ◌∷◌, ◌++◌, map, Option, Some, refl, ap, sym, ◌∙◌, inl, inr, subst, append_assoc}
-use Rattle.std.specs.Prelude.{option_map, if◌then◌else◌}
+use Rattle.std.specs.Prelude.{Ok, option_map, if◌then◌else◌}
 use Rattle.std.specs.List.{All, Any, AllByRecursion}
 use Rattle.std.proofs.lemmas.Bool.{cases_Bool, cond-false}
 use Rattle.std.proofs.lemmas.List.Elements.{All-from_recursion, recursion_from_All}
@@ -19,12 +19,14 @@ use Rattle.flat_format.specs.declared.flat.Flat.{Flat}
 use Rattle.interval_merge.specs.Lists.{ArePiecesOfEach, joined}
 use Rattle.mount_model.specs.History.{Event}
 use Rattle.mount_sound.specs.Owed.{IsLawful}
+use Rattle.flow.specs.Running.{Runs}
 use Rattle.mount_sound.specs.Ledger.{entries_in}
 use Rattle.index_reader.specs.declared.gathered.Gathered.{Gathered as Parts}
 use Rattle.index_reader.specs.declared.listing.Dropping.{Dropping as Listed}
 use Rattle.index_reader.specs.declared.listing.Listing.{Listing}
 use Rattle.index_reader.specs.declared.opened.OpenReader.{OpenReader}
 use Rattle.index_reader.specs.declared.sharing.Share.{Share}
+use Rattle.index_reader.specs.Sharing.{share_program}
 use Rattle.index_reader.specs.Covered.{cover_of, or_nothing}
 use Rattle.index_reader.specs.Gathered.{ArePiecesOfAll, IsGatheredOf, pieces_of_each}
 use Rattle.gathering.specs.Moments.{Moment, IsSoundAt, Dropping, IsNamed, moment_after}
@@ -34,16 +36,22 @@ use Rattle.gathering.specs.Listing.{IsAmong, NamesPack}
 use Rattle.gathering.specs.Flats.{IsCoveredSo, covered_count, covers_of}
 use Rattle.gathering.specs.Opening.{IsCutOf, IsPackedSo, HasView}
 use Rattle.gathering.specs.View.{covered_in, changes_in, tails_in, tails_of, writes_in, WritersRise}
-use Rattle.gathering.proofs.Facts.{alike, all_at, among, among_left, among_right, any_found, found_any, keys_in, legal_first, legal_rest, same_entries, size_of_pieces, sound_after}
+use Rattle.gathering.proofs.Facts.{alike, all_at, among, among_left, among_right, any_found, found_any, keys_in, legal_first, legal_rest, same_entries, seen, size_of_pieces, sound_after}
 use Rattle.reader_laws.specs.Listing.{AreListed, HasListed, IsPackedAs}
 use Rattle.reader_laws.specs.Opened.{IsReaderOf, HasOpenReader}
 use Rattle.reader_laws.specs.Opening.{AreDealt, Portion, droppings_of, ReadsInTurn}
-use Rattle.reader_laws.specs.Sharing.{in_room, cover_before}
+use Rattle.reader_laws.specs.Sharing.{in_room, cover_before, IsShareOf}
 use Rattle.reader_laws.proofs.Calling.{calls_append}
 use Rattle.reader_laws.proofs.Cuts.{same_head, same_rest, dropping_of, either_part, all_by, matching, IsPicked, WasGathered, picked, cut_rises, all_picked}
-use Rattle.reader_laws.proofs.Histories.{fit}
 use Rattle.reader_laws.proofs.Portions.{HasEach, all_of, HasAllOf, gathers-append}
-use Rattle.reader_laws.proofs.Shares.{IsReadAlone, share_run, all_first, all_rest}
+use Rattle.reader_laws.proofs.Shares.{share_run, all_first, all_rest}
+
+-- ---- shares
+
+pub share_gathered : (caller room : ℕ) (start : Moment) (events : List Event) (ds : List Listed) (covers : List Cover) (share : Share) → IsLawful start.state events → IsSoundAt start → All (λ (d : Listed). IsNamed (in_room room d)) ds
+    → Runs caller (share_program room ds covers) events (Ok share) → (gathered : List Gathered) × GathersAll gathered (calls_of caller events) × IsShareOf room ds covers gathered share
+share_gathered caller room start events ds covers share lawful sound named runs =
+    share_run caller room ds covers start (moment_after start events) events share (recursion_from_All (λ (d : Listed). IsNamed (in_room room d)) ds named) (seen caller start events lawful sound) runs
 
 -- ---- portions, one after the other
 
@@ -53,30 +61,27 @@ pub record InTurn (caller room : ℕ) (covers : List Cover) (portions : List Por
   pub each : HasEach room covers portions parts
   pub gathers : GathersAll (all_of parts) (calls_of caller events)
 
-pub in_turn : (caller room : ℕ) (covers : List Cover) (start : Moment) (portions : List Portion) (events : List Event) → IsLawful start.state events → IsSoundAt start → AllByRecursion (IsReadAlone room) (droppings_of portions) → ReadsInTurn caller room covers portions events
+pub in_turn : (caller room : ℕ) (covers : List Cover) (start : Moment) (portions : List Portion) (events : List Event) → IsLawful start.state events → IsSoundAt start → AllByRecursion (λ (d : Listed). IsNamed (in_room room d)) (droppings_of portions) → ReadsInTurn caller room covers portions events
     → InTurn caller room covers portions events
-in_turn caller room covers start [] events lawful sound alone reads = record { parts = []; each = tt; gathers = reads }
-in_turn caller room covers start (p ∷ portions) events lawful sound alone (mine, rest, split, runs, more) =
+in_turn caller room covers start [] events lawful sound named reads = record { parts = []; each = tt; gathers = reads }
+in_turn caller room covers start (p ∷ portions) events lawful sound named (mine, rest, split, runs, more) =
     let both : IsLawful start.state (mine ++ rest) = subst (IsLawful start.state) split lawful in
     let first = legal_first start mine rest both in
-    let h = share_run caller room p.droppings covers mine p.share (all_first (IsReadAlone room) p.droppings (droppings_of portions) alone) (fit caller start mine first sound) runs in
-    let t = in_turn caller room covers (moment_after start mine) portions rest (legal_rest start mine rest both) (sound_after start mine first sound) (all_rest (IsReadAlone room) p.droppings (droppings_of portions) alone) more in
+    let h = share_run caller room p.droppings covers start (moment_after start mine) mine p.share (all_first (λ (d : Listed). IsNamed (in_room room d)) p.droppings (droppings_of portions) named) (seen caller start mine first sound) runs in
+    let t = in_turn caller room covers (moment_after start mine) portions rest (legal_rest start mine rest both) (sound_after start mine first sound) (all_rest (λ (d : Listed). IsNamed (in_room room d)) p.droppings (droppings_of portions) named) more in
     record {
       parts = h.0 ∷ t.parts;
       each = (h.2, t.each);
       gathers = subst (GathersAll (h.0 ++ all_of t.parts)) (sym (ap (calls_of caller) split ∙ calls_append caller mine rest)) (gathers-append h.0 (all_of t.parts) (calls_of caller mine) (calls_of caller rest) h.1 t.gathers);
     }
 
--- each dropping of the portions is read alone
-pub alone_in : (listing : Listing) (found : List Dropping) (portions : List Portion) → AreListed listing.room found listing.droppings → All (λ (d : Listed). d.packed ≡ false) listing.droppings → AreDealt listing.droppings portions → AllByRecursion (IsReadAlone listing.room) (droppings_of portions)
-alone_in listing found portions listed unpacked dealt = of (droppings_of portions) (recursion_from_All (λ (d : Listed). IsAmong d listing.droppings) (droppings_of portions) dealt.only)
+-- each dropping of the portions has a dropping's name
+pub named_in : (listing : Listing) (found : List Dropping) (portions : List Portion) → AreListed listing.room found listing.droppings → AreDealt listing.droppings portions → AllByRecursion (λ (d : Listed). IsNamed (in_room listing.room d)) (droppings_of portions)
+named_in listing found portions listed dealt = of (droppings_of portions) (recursion_from_All (λ (d : Listed). IsAmong d listing.droppings) (droppings_of portions) dealt.only)
   where
-    of : (ds : List Listed) → AllByRecursion (λ (d : Listed). IsAmong d listing.droppings) ds → AllByRecursion (IsReadAlone listing.room) ds
+    of : (ds : List Listed) → AllByRecursion (λ (d : Listed). IsAmong d listing.droppings) ds → AllByRecursion (λ (d : Listed). IsNamed (in_room listing.room d)) ds
     of [] all = tt
-    of (d ∷ ds) all = (
-      record { named = all_at (λ (e : Listed). IsNamed (in_room listing.room e)) listing.droppings d listed.named (among listing.droppings d all.0); unpacked = all_at (λ (e : Listed). e.packed ≡ false) listing.droppings d unpacked (among listing.droppings d all.0) },
-      of ds all.1,
-    )
+    of (d ∷ ds) all = (all_at (λ (e : Listed). IsNamed (in_room listing.room e)) listing.droppings d listed.named (among listing.droppings d all.0), of ds all.1)
 
 -- ---- the cut of what was gathered
 

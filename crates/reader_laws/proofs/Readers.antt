@@ -1,6 +1,6 @@
 -- The laws of opening.
-use Rattle.std.proofs.Common.{◌≡◌, ℕ, false, List, [], ◌∷◌, ◌++◌, Option, Some, None, refl, ap, sym, ◌∙◌, subst, append_assoc, arith}
-use Rattle.std.specs.List.{All, Any}
+use Rattle.std.proofs.Common.{◌≡◌, ℕ, List, [], ◌∷◌, ◌++◌, Option, Some, None, refl, ap, sym, ◌∙◌, subst, append_assoc, arith}
+use Rattle.std.specs.List.{Any}
 use Rattle.std.proofs.lemmas.List.{append-nil}
 use Rattle.plfs_types.specs.declared.entries.Cover.{Cover}
 use Rattle.plfs_types.specs.declared.entries.Trunc.{Trunc}
@@ -11,7 +11,6 @@ use Rattle.plain_file.proofs.Facts.{Among, All-Among}
 use Rattle.mount_model.specs.History.{Event}
 use Rattle.mount_sound.specs.Owed.{IsLawful}
 use Rattle.index_reader.specs.declared.gathered.Gathered.{Gathered as Parts}
-use Rattle.index_reader.specs.declared.listing.Dropping.{Dropping as Listed}
 use Rattle.index_reader.specs.declared.listing.Listing.{Listing}
 use Rattle.index_reader.specs.declared.opened.OpenReader.{OpenReader}
 use Rattle.index_reader.specs.Gathered.{AreFirstOf, IsGatheredOf, covers_of}
@@ -35,7 +34,7 @@ use Rattle.reader_laws.proofs.Cuts.{all_by, same_tails}
 use Rattle.reader_laws.proofs.Counts.{AreRightFor, none_right, flat_is_right, cover_is, counts_are, IsCounted, covers_counted}
 use Rattle.reader_laws.proofs.Histories.{truncs_listed}
 use Rattle.reader_laws.proofs.Listings.{listing_run}
-use Rattle.reader_laws.proofs.Openings.{in_turn, alone_in, HasCutOf, cut_of, reader_of, IsBegun, listing_begins}
+use Rattle.reader_laws.proofs.Openings.{in_turn, named_in, HasCutOf, cut_of, reader_of, IsBegun, listing_begins}
 use Rattle.reader_laws.proofs.Portions.{all_of, HasAllOf, all_together}
 
 -- ---- the covers
@@ -116,9 +115,9 @@ opens_so caller listing scanning gathering before last truncs gathered cut h has
 regroup : (a b c : List Event) (last : Event) (later : List Event) → a ++ (b ++ (c ++ last ∷ later)) ≡ (a ++ (b ++ c)) ++ last ∷ later
 regroup a b c last later = ap (λ l. a ++ l) (sym (append_assoc b c (last ∷ later))) ∙ sym (append_assoc a (b ++ c) (last ∷ later))
 
-pub opens_alone : (caller : ℕ) (start : Moment) (events : List Event) (listing : Listing) (portions : List Portion) (truncs : List Trunc) (parts : Parts) (reader : OpenReader) → IsLawful start.state events → IsSoundAt start → OpensAlone caller events listing portions truncs → All (λ (d : Listed). d.packed ≡ false) listing.droppings → IsGatheredOf listing (shares_of portions) truncs parts → IsReaderOf parts reader
+pub opens_alone : (caller : ℕ) (start : Moment) (events : List Event) (listing : Listing) (portions : List Portion) (truncs : List Trunc) (parts : Parts) (reader : OpenReader) → IsLawful start.state events → IsSoundAt start → OpensAlone caller events listing portions truncs → IsGatheredOf listing (shares_of portions) truncs parts → IsReaderOf parts reader
     → HasOpenedIn caller start events reader
-opens_alone caller start events listing portions truncs parts reader lawful sound o unpacked is made =
+opens_alone caller start events listing portions truncs parts reader lawful sound o is made =
     let all : IsLawful start.state (o.scanning ++ (o.gathering ++ o.listing_truncs)) = subst (IsLawful start.state) o.split lawful in
     let l1 = legal_first start o.scanning (o.gathering ++ o.listing_truncs) all in
     let m1 : Moment = moment_after start o.scanning in
@@ -129,7 +128,7 @@ opens_alone caller start events listing portions truncs parts reader lawful soun
     let s2 : IsSoundAt m2 = sound_after m1 o.gathering l2 s1 in
     let r2 = legal_rest m1 o.gathering o.listing_truncs r1 in
     let h : HasListed listing (calls_of caller o.scanning) = listing_run caller o.program start o.scanning listing l1 sound o.lists o.scans in
-    let t = in_turn caller listing.room listing.flat.covers m1 portions o.gathering l2 s1 (alone_in listing h.found portions h.droppings unpacked o.dealt) o.reads in
+    let t = in_turn caller listing.room listing.flat.covers m1 portions o.gathering l2 s1 (named_in listing h.found portions h.droppings o.dealt) o.reads in
     let gathered : List Gathered = all_of t.parts in
     let has : HasAllOf listing.room listing.flat.covers portions gathered = all_together listing.room listing.flat.covers portions t.parts t.each in
     let c = cut_of listing (calls_of caller o.scanning) portions gathered h o.dealt has in

@@ -1,7 +1,7 @@
 -- A reader whose portions are read by workers.
-use Rattle.std.proofs.Common.{◌≡◌, ℕ, false, List, [], ◌∷◌, ◌++◌, refl, ap, sym, ◌∙◌, inl, inr, subst, append_assoc}
+use Rattle.std.proofs.Common.{◌≡◌, ℕ, List, [], ◌∷◌, ◌++◌, refl, ap, sym, ◌∙◌, inl, inr, subst, append_assoc}
 use Rattle.std.specs.Prelude.{Ok}
-use Rattle.std.specs.List.{All, Any, AllByRecursion}
+use Rattle.std.specs.List.{Any, AllByRecursion}
 use Rattle.std.proofs.lemmas.List.{append-nil}
 use Rattle.std.proofs.lemmas.List.Elements.{All-from_recursion, recursion_from_All}
 use Rattle.plfs_types.specs.declared.entries.Cover.{Cover}
@@ -20,25 +20,26 @@ use Rattle.index_reader.specs.declared.sharing.Share.{Share}
 use Rattle.index_reader.specs.Found.{item_of}
 use Rattle.index_reader.specs.Gathered.{AreFirstOf, IsJoinedOf, IsGatheredOf, covers_of}
 use Rattle.index_reader.specs.Sharing.{share_program}
-use Rattle.gathering.specs.Moments.{Moment, IsSoundAt, Grows, moment_after}
+use Rattle.gathering.specs.Moments.{Moment, IsNamed, IsSoundAt, Grows, moment_after}
 use Rattle.gathering.specs.Seen.{asked_in, calls_of, Asked}
 use Rattle.gathering.specs.Gathering.{Gathered, Share as Gathering, GatherShares}
 use Rattle.gathering.specs.Listing.{IsAmong}
 use Rattle.gathering.specs.Flats.{pieces_of}
 use Rattle.gathering.specs.Opening.{IsSharedOpening, HasView}
 use Rattle.gathering.specs.View.{covered_in, tails_of}
-use Rattle.gathering.proofs.Facts.{found_any, grows_after, is_among, legal_first, legal_rest, moment-append, shared_flat, shared_opened, sound_after}
+use Rattle.gathering.proofs.Facts.{found_any, grows_after, is_among, legal_first, legal_rest, moment-append, seen, shared_flat, shared_opened, sound_after}
 use Rattle.reader_laws.specs.Listing.{HasListed}
 use Rattle.reader_laws.specs.Opened.{IsReaderOf, HasOpenedIn}
 use Rattle.reader_laws.specs.Opening.{Portion, droppings_of, shares_of, Work, portions_of, OpensByWorkers}
+use Rattle.reader_laws.specs.Sharing.{in_room}
 use Rattle.reader_laws.proofs.Counts.{AreRightFor, item_first, item_rest}
 use Rattle.reader_laws.proofs.Cuts.{either_part, all_by, same_tails}
-use Rattle.reader_laws.proofs.Histories.{fit, truncs_first}
+use Rattle.reader_laws.proofs.Histories.{truncs_first}
 use Rattle.reader_laws.proofs.Listings.{listing_run}
-use Rattle.reader_laws.proofs.Openings.{alone_in, HasCutOf, cut_of, reader_of, IsBegun, listing_begins}
+use Rattle.reader_laws.proofs.Openings.{named_in, HasCutOf, cut_of, reader_of, IsBegun, listing_begins}
 use Rattle.reader_laws.proofs.Portions.{HasEach, all_of, HasAllOf, all_together}
 use Rattle.reader_laws.proofs.Readers.{listing_right, covers_of_cut}
-use Rattle.reader_laws.proofs.Shares.{IsReadAlone, share_run, all_first, all_rest}
+use Rattle.reader_laws.proofs.Shares.{share_run, all_first, all_rest}
 
 -- ---- what the workers gathered
 
@@ -53,14 +54,14 @@ record ByWorkers (room : ℕ) (covers : List Cover) (works : List Work) (events 
   pub each : HasEach room covers (portions_of works) parts
   pub gathers : GatherShares events (gatherings works parts)
 
-by_workers : (room : ℕ) (covers : List Cover) (start : Moment) (works : List Work) (events : List Event) → IsLawful start.state events → IsSoundAt start → AllByRecursion (IsReadAlone room) (droppings_of (portions_of works))
+by_workers : (room : ℕ) (covers : List Cover) (start : Moment) (works : List Work) (events : List Event) → IsLawful start.state events → IsSoundAt start → AllByRecursion (λ (d : Listed). IsNamed (in_room room d)) (droppings_of (portions_of works))
     → AllByRecursion (λ (w : Work). Runs w.worker (share_program room w.portion.droppings covers) events (Ok w.portion.share)) works → ByWorkers room covers works events
 unfolding gatherings
-by_workers room covers start [] events lawful sound alone reads = record { parts = []; each = tt; gathers = tt }
-by_workers room covers start (w ∷ works) events lawful sound alone reads =
+by_workers room covers start [] events lawful sound named reads = record { parts = []; each = tt; gathers = tt }
+by_workers room covers start (w ∷ works) events lawful sound named reads =
     let p : Portion = w.portion in
-    let h = share_run w.worker room p.droppings covers events p.share (all_first (IsReadAlone room) p.droppings (droppings_of (portions_of works)) alone) (fit w.worker start events lawful sound) reads.0 in
-    let t = by_workers room covers start works events lawful sound (all_rest (IsReadAlone room) p.droppings (droppings_of (portions_of works)) alone) reads.1 in
+    let h = share_run w.worker room p.droppings covers start (moment_after start events) events p.share (all_first (λ (d : Listed). IsNamed (in_room room d)) p.droppings (droppings_of (portions_of works)) named) (seen w.worker start events lawful sound) reads.0 in
+    let t = by_workers room covers start works events lawful sound (all_rest (λ (d : Listed). IsNamed (in_room room d)) p.droppings (droppings_of (portions_of works)) named) reads.1 in
     record { parts = h.0 ∷ t.parts; each = (h.2, t.each); gathers = (h.1, t.gathers) }
 
 -- all that was gathered is a worker's
@@ -98,8 +99,8 @@ record IsOpened (caller : ℕ) (start : Moment) (events : List Event) (listing :
   pub flat_is : ArePieces (covered_in (moment_after (moment_after start before) (first ∷ more)) cut) [] listing.flat.pieces
   pub right : AreRightFor (moment_after (moment_after start before) (first ∷ more)) cut listing.flat.covers
 
-workers_opened : (caller : ℕ) (start : Moment) (events : List Event) (listing : Listing) (works : List Work) (truncs : List Trunc) → IsLawful start.state events → IsSoundAt start → OpensByWorkers caller events listing works truncs → All (λ (d : Listed). d.packed ≡ false) listing.droppings → IsOpened caller start events listing (portions_of works) truncs
-workers_opened caller start events listing works truncs lawful sound o unpacked =
+workers_opened : (caller : ℕ) (start : Moment) (events : List Event) (listing : Listing) (works : List Work) (truncs : List Trunc) → IsLawful start.state events → IsSoundAt start → OpensByWorkers caller events listing works truncs → IsOpened caller start events listing (portions_of works) truncs
+workers_opened caller start events listing works truncs lawful sound o =
     let room : ℕ = listing.room in
     let rest : List Event = o.gathering ++ o.last ∷ o.later in
     let all : IsLawful start.state (o.scanning ++ rest) = subst (IsLawful start.state) o.split lawful in
@@ -112,7 +113,7 @@ workers_opened caller start events listing works truncs lawful sound o unpacked 
     let s2 : IsSoundAt m2 = sound_after m1 o.gathering l2 s1 in
     let r2 = legal_rest m1 o.gathering (o.last ∷ o.later) r1 in
     let h : HasListed listing (calls_of caller o.scanning) = listing_run caller o.program start o.scanning listing l1 sound o.lists o.scans in
-    let t = by_workers room listing.flat.covers m1 works o.gathering l2 s1 (alone_in listing h.found (portions_of works) h.droppings unpacked o.dealt)
+    let t = by_workers room listing.flat.covers m1 works o.gathering l2 s1 (named_in listing h.found (portions_of works) h.droppings o.dealt)
     (recursion_from_All (λ (w : Work). Runs w.worker (share_program room w.portion.droppings listing.flat.covers) o.gathering (Ok w.portion.share)) works o.reads) in
     let gathered : List Gathered = all_of t.parts in
     let has : HasAllOf room listing.flat.covers (portions_of works) gathered = all_together room listing.flat.covers (portions_of works) t.parts t.each in
@@ -183,10 +184,10 @@ workers_opened caller start events listing works truncs lawful sound o unpacked 
 same_entries : (gathered cut : List Gathered) → AllByRecursion (λ (g : Gathered). Among g gathered) cut → ((g : Gathered) → Among g gathered → Among g cut) → SameElements (tails_of cut) (tails_of gathered)
 same_entries gathered cut from all = same_tails cut gathered (λ g a. All-Among (λ (x : Gathered). Among x gathered) cut g from a) all
 
-pub opens_each : (caller : ℕ) (start : Moment) (events : List Event) (listing : Listing) (works : List Work) (truncs : List Trunc) (parts : Parts) (reader : OpenReader) → IsLawful start.state events → IsSoundAt start → OpensByWorkers caller events listing works truncs → All (λ (d : Listed). d.packed ≡ false) listing.droppings
+pub opens_each : (caller : ℕ) (start : Moment) (events : List Event) (listing : Listing) (works : List Work) (truncs : List Trunc) (parts : Parts) (reader : OpenReader) → IsLawful start.state events → IsSoundAt start → OpensByWorkers caller events listing works truncs
     → IsGatheredOf listing (shares_of (portions_of works)) truncs parts → IsReaderOf parts reader → HasOpenedIn caller start events reader
-opens_each caller start events listing works truncs parts reader lawful sound opens unpacked is made =
-    let o = workers_opened caller start events listing works truncs lawful sound opens unpacked in
+opens_each caller start events listing works truncs parts reader lawful sound opens is made =
+    let o = workers_opened caller start events listing works truncs lawful sound opens in
     let from : Moment = moment_after start o.before in
     let end : Moment = moment_after from (o.first ∷ o.more) in
     record {
@@ -211,10 +212,10 @@ same_first w a b rest same = elim (cases_Option (item_of (λ (c : Cover). c.writ
   | inr some ↦ item_first w a rest some.0 some.1 ∙ sym (item_first w b rest some.0 (sym same ∙ some.1))
 ]
 
-pub opens_joined : (caller : ℕ) (start : Moment) (events : List Event) (listing : Listing) (works : List Work) (share : Share) (truncs : List Trunc) (parts : Parts) (reader : OpenReader) → IsLawful start.state events → IsSoundAt start → OpensByWorkers caller events listing works truncs → All (λ (d : Listed). d.packed ≡ false) listing.droppings
+pub opens_joined : (caller : ℕ) (start : Moment) (events : List Event) (listing : Listing) (works : List Work) (share : Share) (truncs : List Trunc) (parts : Parts) (reader : OpenReader) → IsLawful start.state events → IsSoundAt start → OpensByWorkers caller events listing works truncs
     → IsJoinedOf (shares_of (portions_of works)) share → IsGatheredOf listing (share ∷ []) truncs parts → IsReaderOf parts reader → HasOpenedIn caller start events reader
-opens_joined caller start events listing works share truncs parts reader lawful sound opens unpacked joins is made =
-    let o = workers_opened caller start events listing works truncs lawful sound opens unpacked in
+opens_joined caller start events listing works share truncs parts reader lawful sound opens joins is made =
+    let o = workers_opened caller start events listing works truncs lawful sound opens in
     let from : Moment = moment_after start o.before in
     let end : Moment = moment_after from (o.first ∷ o.more) in
     let told : List Cover = covers_of (shares_of (portions_of works)) in

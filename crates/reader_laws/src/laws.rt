@@ -43,7 +43,7 @@ pub fn a_listing_is_a_scan()
 /// the pieces of what was gathered.
 pub fn a_share_is_gathered()
     ensures { (caller room : ℕ) (start : Moment) (events : List Event) (ds : List Listed) (covers : List Cover) (share : Share)
-        → IsLawful start.state events → IsSoundAt start → All (λ (d : Listed). IsNamed (in_room room d)) ds → All (λ (d : Listed). d.packed ≡ false) ds
+        → IsLawful start.state events → IsSoundAt start → All (λ (d : Listed). IsNamed (in_room room d)) ds
         → Runs caller (share_program room ds covers) events (Ok share)
         → (gathered : List Gathered) × GathersAll gathered (calls_of caller events) × IsShareOf room ds covers gathered share }
 {}
@@ -59,7 +59,7 @@ pub fn truncates_are_listed()
 /// between the caller's first call and its listing of truncates, and of the truncates of then, whatever others call.
 pub fn a_reader_opens()
     ensures { (caller : ℕ) (start : Moment) (events : List Event) (listing : Listing) (portions : List Portion) (truncs : List Trunc) (parts : Parts) (reader : OpenReader)
-        → IsLawful start.state events → IsSoundAt start → OpensAlone caller events listing portions truncs → All (λ (d : Listed). d.packed ≡ false) listing.droppings
+        → IsLawful start.state events → IsSoundAt start → OpensAlone caller events listing portions truncs
         → IsGatheredOf listing (shares_of portions) truncs parts → IsReaderOf parts reader
         → HasOpenedIn caller start events reader }
 {}
@@ -67,11 +67,11 @@ pub fn a_reader_opens()
 /// A law: the same where workers read the portions, and their shares were joined or not.
 pub fn a_reader_opens_by_workers()
     ensures each { (caller : ℕ) (start : Moment) (events : List Event) (listing : Listing) (works : List Work) (truncs : List Trunc) (parts : Parts) (reader : OpenReader)
-        → IsLawful start.state events → IsSoundAt start → OpensByWorkers caller events listing works truncs → All (λ (d : Listed). d.packed ≡ false) listing.droppings
+        → IsLawful start.state events → IsSoundAt start → OpensByWorkers caller events listing works truncs
         → IsGatheredOf listing (shares_of (portions_of works)) truncs parts → IsReaderOf parts reader
         → HasOpenedIn caller start events reader }
     ensures joined { (caller : ℕ) (start : Moment) (events : List Event) (listing : Listing) (works : List Work) (share : Share) (truncs : List Trunc) (parts : Parts) (reader : OpenReader)
-        → IsLawful start.state events → IsSoundAt start → OpensByWorkers caller events listing works truncs → All (λ (d : Listed). d.packed ≡ false) listing.droppings
+        → IsLawful start.state events → IsSoundAt start → OpensByWorkers caller events listing works truncs
         → IsJoinedOf (shares_of (portions_of works)) share → IsGatheredOf listing (share ∷ []) truncs parts → IsReaderOf parts reader
         → HasOpenedIn caller start events reader }
 {}
