@@ -84,7 +84,7 @@ above_head : (room : ℕ) (g h : Gathered) (cut : List Gathered) → WritersRise
 above_head room g h cut rise a = All-Among (λ (x : Gathered). g.dropping.writer < x.dropping.writer) cut h rise.1 a
 
 -- a cut has one dropping a writer
-one_gathered : (room : ℕ) (cut : List Gathered) (g h : Gathered) → WritersRise room cut → Among g cut → Among h cut → g.dropping.writer ≡ h.dropping.writer → g ≡ h
+pub one_gathered : (room : ℕ) (cut : List Gathered) (g h : Gathered) → WritersRise room cut → Among g cut → Among h cut → g.dropping.writer ≡ h.dropping.writer → g ≡ h
 one_gathered room [] g h rise a b same = absurd a
 one_gathered room (x ∷ cut) g h rise (inl p) (inl q) same = p ∙ sym q
 one_gathered room (x ∷ cut) g h rise (inl p) (inr b) same = absurd (omega (arith, above_head room x h cut rise b, ap (λ (y : Gathered). y.dropping.writer) p, same))
@@ -98,10 +98,10 @@ no_more a b c d x y z = omega (arith, x, y, z)
 
 module _ (m : Moment) (s : IsSoundAt m) (number : ℕ) (room : Room) (there : slice_get s.shape.tree.rooms number ≡ Some room) where
   -- the dropping whose entries it covers
-  abbrev of_cover : (c : Cover) → IsCovered room c → Dropping
+  abbrev pub of_cover : (c : Cover) → IsCovered room c → Dropping
   of_cover c is = record { room = number; host = is.host; writer = c.writer }
 
-  stood : (c : Cover) (is : IsCovered room c) → Stood m (of_cover c is)
+  pub stood : (c : Cover) (is : IsCovered room c) → Stood m (of_cover c is)
   stood c is = record {
     is_item = is.stands.is_item;
     bytes = is.content;
@@ -109,7 +109,7 @@ module _ (m : Moment) (s : IsSoundAt m) (number : ℕ) (room : Room) (there : sl
   }
 
   -- what it covers had landed
-  count_landed : (c : Cover) (is : IsCovered room c) → c.count ≤ landed m (of_cover c is)
+  pub count_landed : (c : Cover) (is : IsCovered room c) → c.count ≤ landed m (of_cover c is)
   unfolding stood
   count_landed c is =
       let w = (s.sound.rooms number room there).writers c.writer is.stands.is_item.widths.1 in
@@ -120,7 +120,7 @@ module _ (m : Moment) (s : IsSoundAt m) (number : ℕ) (room : Room) (there : sl
       no_more c.count (kept_in room is.host c.writer) w.landed (landed m (of_cover c is)) is.kept kept (had ∙ sym now)
 
   -- and is the first that its writer had issued then, and ever
-  front : (end : Moment) → Grows m end → (c : Cover) (is : IsCovered room c) → covered_entries room is.host c ≡ take c.count (entries_in (issued_by end (of_cover c is)))
+  pub front : (end : Moment) → Grows m end → (c : Cover) (is : IsCovered room c) → covered_entries room is.host c ≡ take c.count (entries_in (issued_by end (of_cover c is)))
   front end grows c is =
       let d : Dropping = of_cover c is in
       let count : c.count ≤ landed m d = count_landed c is in

@@ -76,12 +76,12 @@ above c (d ∷ covers) first are = (omega (arith, first), higher covers (above d
     higher (e ∷ es) all = (omega (arith, first, all.0), higher es all.1)
 
 -- covers of ascending writers in a range are few
-few_covers : (least : ℕ) (covers : List Cover) → least ≤ 2 ^ 64 → AreCovers covers → AllByRecursion (λ (c : Cover). least ≤ c.writer) covers → AllByRecursion (λ (c : Cover). c.writer < 2 ^ 64) covers → length covers + least ≤ 2 ^ 64
+pub few_covers : (least : ℕ) (covers : List Cover) → least ≤ 2 ^ 64 → AreCovers covers → AllByRecursion (λ (c : Cover). least ≤ c.writer) covers → AllByRecursion (λ (c : Cover). c.writer < 2 ^ 64) covers → length covers + least ≤ 2 ^ 64
 few_covers least [] fits are all small = omega (arith, fits)
 few_covers least (c ∷ covers) fits are all small =
     omega (arith, few_covers (suc c.writer) covers (omega (arith, small.0)) are.2 (above c covers are.1 are.2) small.1, all.0)
 
-its_writers : (m : Moment) (s : IsSoundAt m) (number : ℕ) (room : Room) → slice_get s.shape.tree.rooms number ≡ Some room → (covers : List Cover) (entries : List Entry) → AreCovered room covers entries
+pub its_writers : (m : Moment) (s : IsSoundAt m) (number : ℕ) (room : Room) → slice_get s.shape.tree.rooms number ≡ Some room → (covers : List Cover) (entries : List Entry) → AreCovered room covers entries
     → AllByRecursion (λ (c : Cover). 1 ≤ c.writer) covers × AllByRecursion (λ (c : Cover). c.writer < 2 ^ 64) covers
 its_writers m s number room there [] entries a = (tt, tt)
 its_writers m s number room there (c ∷ covers) entries a =

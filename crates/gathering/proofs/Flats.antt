@@ -52,7 +52,7 @@ from_tails end (g ∷ cut) x a = elim (among_either x (drop g.covered (own_entri
   | inr others ↦ from_mine end g cut x (inr (from_tails end cut x others))
 ]
 
-same_entries : (end : Moment) (cut : List Gathered) → SameElements (entries_in (writes_in end cut)) (covered_in end cut ++ tails_in end cut)
+pub same_entries : (end : Moment) (cut : List Gathered) → SameElements (entries_in (writes_in end cut)) (covered_in end cut ++ tails_in end cut)
 same_entries end cut = record {
   to = λ x a. elim (to_parts end cut x a) as (λ _. Among x (covered_in end cut ++ tails_in end cut)) [ inl front ↦ among_left x (covered_in end cut) (tails_in end cut) front | inr tail ↦ among_right x (covered_in end cut) (tails_in end cut) tail ];
   back = λ x a. elim (among_either x (covered_in end cut) (tails_in end cut) a) as (λ _. Among x (entries_in (writes_in end cut))) [ inl front ↦ from_covered end cut x front | inr tail ↦ from_tails end cut x tail ];

@@ -236,7 +236,7 @@ reads_told caller start end d log first stop (a ∷ rest) content named (next, c
     ]
 
 -- what had landed ends within the log
-landed_logged : (m : Moment) (s : IsSoundAt m) (d : Dropping) (index : List ℕ) → IsNamed d → index_then m d ≡ Some index → logged (take (landed m d) (entries_in (issued_by m d))) ≤ length (bytes_of (log_then m d))
+pub landed_logged : (m : Moment) (s : IsSoundAt m) (d : Dropping) (index : List ℕ) → IsNamed d → index_then m d ≡ Some index → logged (take (landed m d) (entries_in (issued_by m d))) ≤ length (bytes_of (log_then m d))
 landed_logged m s d index named e =
     let st = stands m s d index named e in
     let h = st.landed in

@@ -1,3 +1,4 @@
+pub mod Facts
 pub mod Members
 pub mod Growing
 pub mod Fronts

@@ -1,0 +1,6 @@
+pub mod Covering
+pub mod Sharing
+pub mod Failing
+pub mod Listing
+pub mod Opening
+pub mod Opened
