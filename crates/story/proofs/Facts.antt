@@ -10,4 +10,4 @@ pub use Rattle.story.proofs.Phases.{played_none, played_phase, played_sees, play
 pub use Rattle.story.proofs.Playing.{plays_after, plays_made}
 pub use Rattle.story.proofs.Safety.{others_of, process_lasts, safe_first}
 pub use Rattle.story.proofs.Sharing.{absent_made, safe_alone, safe_shares, safe_worker, took_more, took_none, went_alone, went_shares}
-pub use Rattle.story.proofs.WrittenTurns.{turns_made}
+pub use Rattle.story.proofs.WrittenTurns.{turns_made, turns_tell}

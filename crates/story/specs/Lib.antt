@@ -5,6 +5,7 @@ pub mod Moves
 pub mod Plays
 pub mod MakesCalls
 pub mod Turns
+pub mod Performers
 pub mod InTurns
 pub mod Safe
 pub mod Going

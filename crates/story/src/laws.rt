@@ -1,5 +1,5 @@
 //! The laws of stories, for any object.
-ghost use Rattle.std.specs.Prelude.{◌≡◌, ℕ, Bool, List, [], ◌∷◌, ◌++◌};
+ghost use Rattle.std.specs.Prelude.{◌≡◌, ℕ, Bool, List, [], ◌∷◌, ◌++◌, length};
 ghost use Rattle.std.specs.List.{All};
 ghost use Rattle.turn_object.specs.declared.history.Entry.{Entry};
 ghost use Rattle.turn_object.specs.declared.front.Front.{Front};
@@ -15,7 +15,8 @@ ghost use Rattle.story.specs.Safe.{PassSafe, PassSafeProcess};
 ghost use Rattle.story.specs.Going.{IsNewTo, HasJoined, HasMade, HasGone};
 ghost use Rattle.story.specs.Players.{Player, player, HasPlayed, processes_of, told_by};
 ghost use Rattle.story.specs.OneThread.{Differ, PlayAlone};
-ghost use Rattle.story.specs.InTurns.{WrittenOrder, Performer, numbers_of, left_of, InTurns};
+ghost use Rattle.story.specs.Performers.{Performer, NoneAhead, numbers_of, left_of, told_by_each};
+ghost use Rattle.story.specs.InTurns.{WrittenOrder, statements_of, InTurns};
 ghost use Rattle.story.specs.Closing.{HasAll};
 
 use turn_object::Object;
@@ -124,10 +125,14 @@ pub fn actors_on_one_thread_make_the_calls<O: Object, Share, Line>()
 {}
 
 /// A law: actors on one thread that take the written turns of each phase under different numbers, and then carry what is unfinished to its end in written order,
-/// make the calls of their processes. Calls that are free take no turn.
+/// make the calls of their processes, and each tells the lines of its statements: one line a statement. Calls that are free take no turn.
 pub fn written_turns_make_the_calls<O: Object, Share, Line>()
-    ensures { (is_free : O.Ask → Bool) (phases : List WrittenOrder) (actors : List (Performer O.Ask O.Reply Share Line)) (history : List (Entry O.Ask O.Reply O))
+    ensures calls { (is_free : O.Ask → Bool) (phases : List WrittenOrder) (actors : List (Performer O.Ask O.Reply Share Line)) (history : List (Entry O.Ask O.Reply O)) (lines : List Line)
         → Differ (numbers_of actors)
-        → InTurns is_free phases actors history
-        → (lines : List (List Line)) × MakesCalls (left_of actors) history lines }
+        → NoneAhead actors
+        → InTurns is_free phases actors history lines
+        → MakesCalls (left_of actors) history (told_by_each 0 actors (statements_of phases) lines) }
+    ensures long { (is_free : O.Ask → Bool) (phases : List WrittenOrder) (actors : List (Performer O.Ask O.Reply Share Line)) (history : List (Entry O.Ask O.Reply O)) (lines : List Line)
+        → InTurns is_free phases actors history lines
+        → length lines ≡ length (statements_of phases) }
 {}
