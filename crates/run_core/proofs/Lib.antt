@@ -1,0 +1,5 @@
+mod Leading
+mod Works
+mod Turning
+mod Ending
+mod Tables
