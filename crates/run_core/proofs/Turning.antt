@@ -1,5 +1,5 @@
 -- How a player takes its turn.
-use Rattle.std.proofs.Common.{◌≡◌, ◌≢◌, ℕ, ◌+◌, List, [], ◌∷◌, ◌++◌, length, Option, Some, None, Bool, true, false, refl, sym, ap, ◌∙◌, subst, append_assoc, append-nil, arith}
+use Rattle.std.proofs.Common.{◌≡◌, ◌≢◌, ℕ, ◌+◌, List, [], ◌∷◌, ◌++◌, length, None, Bool, true, false, refl, sym, ap, ◌∙◌, subst, append_assoc, append-nil, arith}
 use Rattle.std.specs.Prelude.{MatchBool, All}
 use Rattle.std.proofs.lemmas.List.{length-append}
 use Rattle.mount_model.specs.declared.call.Ask.{Ask}
@@ -15,13 +15,18 @@ use Rattle.actor_core.specs.declared.kept.Kept.{Kept}
 use Rattle.actor_core.specs.Progress.{Progress, idle, going, asked, told, ask_of, given, with_reply, waiting_line, line_taken, IsIdle}
 use Rattle.actor_core.specs.Standings.{progress_of}
 use Rattle.run_core.specs.declared.player.Player.{Player}
-use Rattle.run_core.specs.Course.{Course, one_by_one}
+use Rattle.run_core.specs.Course.{Course}
 use Rattle.run_core.specs.Written.{is_greeting}
-use Rattle.run_core.specs.Leading.{Leads, MadeCall, HadMemory}
+use Rattle.run_core.specs.Leading.{GoesOn, MadeCall}
 use Rattle.run_core.specs.Players.{course_at, course_left, IsUnowedProgress, IsMade, IsFit, in_progress, lines_left}
 use Rattle.run_core.specs.Moving.{Comes, Turns, Advances, IsDone, Begins}
-use Rattle.run_core.proofs.Leading.{leads_none, leads_both, memory_both}
-use Rattle.run_core.proofs.Works.{AsksNext, TellsNext}
+use Rattle.run_core.proofs.Leading.{leads_none, leads_both, memory_both, went, went_both}
+use Rattle.std.specs.Option.{option_to_list}
+use Rattle.std.proofs.lemmas.List.Elements.{All-head, All-tail}
+use Rattle.actor_core.specs.Progress.{begun as begun_at}
+use Rattle.actor_core.specs.Statements.{work_of}
+use Rattle.run_core.proofs.WorksUnowed.{work_unowed}
+use Rattle.run_core.proofs.Works.{AsksNext, TellsNext, rests, says, no_call, idle_kept}
 
 -- the player is the same but for its actor
 pub record Same (old new : Player) : Type 0 where
@@ -42,7 +47,7 @@ course_same old new progress later same is =
     let P : Progress × List Numbered → Course = λ z. course_at z.0 z.1 (λ kept. pauses (later kept)) in
     ap P (λ i. (is i, same.queue i))
 
-after_reply : (old : Progress) (question : Ask) (a : AsksNext old question) (new : Progress) (reply : Reply) → new ≡ with_reply (given old) reply → new ≡ going a.number (a.next reply)
+pub after_reply : (old : Progress) (question : Ask) (a : AsksNext old question) (new : Progress) (reply : Reply) → new ≡ with_reply (given old) reply → new ≡ going a.number (a.next reply)
 after_reply old question a new reply is = is ∙ ap (λ z. with_reply z reply) a.out
 
 -- ---- one after the other
@@ -136,9 +141,11 @@ called old new start end question reply fit a free made memory is same =
       changes = λ later.
           let next : Kept → Course = λ kept. pauses (later kept) in
           let there : Course = course_at (going a.number (a.next reply)) old.queue.items next in
-          a.turn old.number old.queue.items next e [] [] (course_left new later) refl refl
-          (subst (λ b. MatchBool b (TakesTurn is_greeting old.number there [] [] (course_left new later)) (([] ≡ []) × ([] ≡ []) × (course_left new later ≡ there))) (sym free)
-          (refl, refl, course_same old new (going a.number (a.next reply)) later same reached));
+          let none : List Event = [] in
+          let silence : List Line = [] in
+          let Goes : Bool → Type 0 = λ b. MatchBool b (TakesTurn is_greeting old.number there none silence (course_left new later)) ((none ≡ []) × (silence ≡ []) × (course_left new later ≡ there)) in
+          a.turn old.number old.queue.items next e none silence (course_left new later) refl refl
+          (subst Goes (sym free) (refl, refl, course_same old new (going a.number (a.next reply)) later same reached));
       ahead = same.ahead ∙ sym (append-nil old.ahead.items);
       number = same.number;
       fit = same_fit old new same (subst IsUnowedProgress (sym reached) (a.unowed reply)) fit;
@@ -203,13 +210,13 @@ begins old new now b = record {
 }
 
 -- with no statement left it takes no turn
-idle_turn : (n : ℕ) (progress : Progress) (queue : List Numbered) (later : Kept → Course) → IsIdle progress → queue ≡ [] → TakesTurn is_greeting n (course_at progress queue (λ kept. pauses (later kept))) [] [] (course_at progress queue (λ kept. pauses (later kept)))
-idle_turn n (idle kept) queue later rests none =
-    let P : List Numbered → Type 0 = λ z. TakesTurn is_greeting n (course_at (idle kept) z (λ k. pauses (later k))) [] [] (course_at (idle kept) z (λ k. pauses (later k))) in
+idle_turn : (n : ℕ) (progress : Progress) (queue : List Numbered) (later : Kept → Course) → IsIdle progress → queue ≡ [] → TakesTurn {S = State} is_greeting n (course_at progress queue (λ kept. pauses (later kept))) [] [] (course_at progress queue (λ kept. pauses (later kept)))
+idle_turn n (idle kept) queue later idles none =
+    let P : List Numbered → Type 0 = λ z. TakesTurn {S = State} is_greeting n (course_at (idle kept) z (λ k. pauses (later k))) [] [] (course_at (idle kept) z (λ k. pauses (later k))) in
     subst P (sym none) (refl, refl, refl)
-idle_turn n (going number work) queue later rests none = absurd rests
-idle_turn n (asked number k) queue later rests none = absurd rests
-idle_turn n (told line kept) queue later rests none = absurd rests
+idle_turn n (going number work) queue later idles none = absurd idles
+idle_turn n (asked number k) queue later idles none = absurd idles
+idle_turn n (told line kept) queue later idles none = absurd idles
 
 pub done_turn : (player : Player) (now : State) → IsFit player → IsDone player → Advances Turns player now player now
 done_turn player now fit done = record {
@@ -223,3 +230,68 @@ done_turn player now fit done = record {
   fit = fit;
   left = refl;
 }
+
+-- what the calls led to, where it came no further
+pub went_on : (old now : Player) (start mid end : State) → Advances Comes old start now mid → GoesOn mid end → GoesOn start end
+went_on old now start mid end a further_on = went_both start mid end (went start mid a.events a.leads) further_on
+
+pub went_turned : (old now : Player) (start mid : State) → Advances Turns old start now mid → GoesOn start mid
+went_turned old now start mid a = went start mid a.events a.leads
+
+-- the next statement was begun after its calls
+pub begun : (old now next new : Player) (start mid end : State) → Advances Comes old start now mid → Advances Comes now mid next end → Begins next new → Advances Comes old start new end
+begun old now next new start mid end a b is = further old next new start end end (further old now next start mid end a b) (begins next new end is)
+
+-- there was none
+pub all_done : (old now next new : Player) (start mid end : State) → Advances Comes old start now mid → Advances Comes now mid next end → Begins next new → IsDone new → Advances Turns old start new end
+all_done old now next new start mid end a b is done =
+    let so_far = begun old now next new start mid end a b is in
+    turned old new new start end end so_far (done_turn new end so_far.fit done)
+
+-- without a further call the turn goes on with no statement in progress
+pub record Ends (old new : Player) (now : State) : Type 0 where
+  pub comes : Advances Comes old now new now
+  pub idles : IsIdle (progress_of new.actor)
+
+idles_at : (progress : Progress) (kept : Kept) → progress ≡ idle kept → IsIdle progress
+idles_at progress kept is = let P : Progress → Type 0 = λ z. IsIdle z in subst P (sym is) tt
+
+pub no_further_call : (old new : Player) (mid : Progress) (now : State) → IsFit old → None ≡ ask_of (progress_of old.actor) → mid ≡ given (progress_of old.actor) → progress_of new.actor ≡ line_taken mid
+    → new.ahead.items ≡ old.ahead.items ++ option_to_list (waiting_line mid) → new.number ≡ old.number → new.queue.items ≡ old.queue.items → Ends old new now
+no_further_call old new mid now fit none given_is taken ahead number queue = elim (no_call (progress_of old.actor) fit.unowed none) as (λ _. Ends old new now) [
+  | rests kept same ↦
+      let mid_is : mid ≡ idle kept = given_is ∙ ap given same in
+      let new_is : progress_of new.actor ≡ idle kept = taken ∙ ap line_taken mid_is in
+      let no_more : new.ahead.items ≡ old.ahead.items = (ahead ∙ ap (λ z. old.ahead.items ++ option_to_list (waiting_line z)) mid_is) ∙ append-nil old.ahead.items in
+      record { comes = silent old new now kept fit same new_is (record { number = number; queue = queue; ahead = no_more }); idles = idles_at (progress_of new.actor) kept new_is }
+  | says line t ↦
+      let mid_is : mid ≡ told line t.kept = given_is ∙ t.out in
+      let new_is : progress_of new.actor ≡ idle t.kept = taken ∙ ap line_taken mid_is in
+      let one_more : new.ahead.items ≡ old.ahead.items ++ line ∷ [] = ahead ∙ ap (λ z. old.ahead.items ++ option_to_list (waiting_line z)) mid_is in
+      record { comes = said old new now line fit t new_is number queue one_more; idles = idles_at (progress_of new.actor) t.kept new_is }
+]
+
+-- the next statement is begun
+pub begins_next : (old new : Player) (next : Numbered) → IsFit old → IsIdle (progress_of old.actor) → old.queue.items ≡ next ∷ new.queue.items → new.number ≡ old.number → new.ahead.items ≡ old.ahead.items
+    → progress_of new.actor ≡ begun_at (progress_of old.actor) next.line next.statement → Begins old new
+begins_next old new next fit idles queue number ahead is =
+    let kept = idle_kept (progress_of old.actor) idles in
+    let new_is : progress_of new.actor ≡ going next.line (work_of kept.0 next.statement) = is ∙ ap (λ z. begun_at z next.line next.statement) kept.1 in
+    let made : All IsMade (next ∷ new.queue.items) = subst (λ (z : List Numbered). All IsMade z) queue fit.made in
+    let first : IsMade next = All-head IsMade next new.queue.items made in
+    let lines : length new.ahead.items ≡ length old.ahead.items = ap length ahead in
+    let shorter : length old.queue.items ≡ length (next ∷ new.queue.items) = ap length queue in
+    let was : in_progress (progress_of old.actor) ≡ 0 = ap in_progress kept.1 in
+    let now : in_progress (progress_of new.actor) ≡ 1 = ap in_progress new_is in
+    record {
+      same = λ later.
+          let after : Kept → Course = λ z. pauses (later z) in
+          let C : Progress × List Numbered → Course = λ z. course_at z.0 z.1 after in
+          let before : course_left old later ≡ course_at (idle kept.0) (next ∷ new.queue.items) after = ap C (λ i. (kept.1 i, queue i)) in
+          let then_on : course_left new later ≡ course_at (going next.line (work_of kept.0 next.statement)) new.queue.items after = ap (λ z. course_at z new.queue.items after) new_is in
+          then_on ∙ sym before;
+      ahead = ahead;
+      number = number;
+      fit = record { unowed = subst IsUnowedProgress (sym new_is) (work_unowed kept.0 next.statement first.1); made = All-tail IsMade next new.queue.items made };
+      left = omega (arith, lines, shorter, was, now);
+    }

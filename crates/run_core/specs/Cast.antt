@@ -1,5 +1,5 @@
 -- The actors of a script.
-use Rattle.std.specs.Prelude.{ℕ, ◌+◌, List, [], ◌∷◌, ◌++◌, Result, map}
+use Rattle.std.specs.Prelude.{ℕ, ◌+◌, List, [], ◌∷◌, ◌++◌, Result}
 use Rattle.mount_model.specs.declared.call.Ask.{Ask}
 use Rattle.mount_model.specs.declared.reply.Reply.{Reply}
 use Rattle.flow.specs.declared.trouble.Stuck.{Stuck}
@@ -9,7 +9,7 @@ use Rattle.script_lang.specs.declared.script.ActorDecl.{ActorDecl}
 use Rattle.script_lang.specs.declared.script.Numbered.{Numbered}
 use Rattle.script_lang.specs.declared.script.Phase.{Phase}
 use Rattle.script_lang.specs.declared.script.Script.{Script}
-use Rattle.story.specs.Performers.{Performer, performer, left_of}
+use Rattle.story.specs.Performers.{Performer, performer}
 use Rattle.run_core.specs.Course.{course_of}
 
 -- each actor calls under its place in the declarations; the first of these has this place

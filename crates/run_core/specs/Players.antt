@@ -1,11 +1,11 @@
 -- What the actors of the code have still to do.
-use Rattle.std.specs.Prelude.{◌≡◌, ℕ, ◌+◌, ⊤, true, All, List, [], length, Result, map}
+use Rattle.std.specs.Prelude.{◌≡◌, ℕ, ◌+◌, ⊤, true, All, List, length, Result}
 use Rattle.mount_model.specs.declared.call.Ask.{Ask}
 use Rattle.mount_model.specs.declared.reply.Reply.{Reply}
 use Rattle.flow.specs.declared.trouble.Stuck.{Stuck}
 use Rattle.index_reader.specs.declared.sharing.Share.{Share}
 use Rattle.mount_sound.specs.Owed.{OwesNothing}
-use Rattle.story.specs.Process.{Process, ends, pauses, tells, asks, shares}
+use Rattle.story.specs.Process.{ends, pauses, tells, asks, shares}
 use Rattle.story.specs.Performers.{Performer, performer}
 use Rattle.script_lang.specs.declared.line.Line.{Line}
 use Rattle.script_lang.specs.declared.script.Numbered.{Numbered}
@@ -13,7 +13,7 @@ use Rattle.script_lang.specs.declared.script.Phase.{Phase}
 use Rattle.script_lang.specs.Ranges.{FitsStatement}
 use Rattle.actor_core.specs.declared.kept.Kept.{Kept}
 use Rattle.actor_core.specs.Work.{Work}
-use Rattle.actor_core.specs.Progress.{Progress, idle, going, asked, told, IsReady}
+use Rattle.actor_core.specs.Progress.{Progress, idle, going, asked, told}
 use Rattle.actor_core.specs.Standings.{progress_of}
 use Rattle.actor_core.specs.Statements.{is_built_statement}
 use Rattle.run_core.specs.declared.player.Player.{Player}

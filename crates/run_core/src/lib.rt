@@ -6,9 +6,11 @@
 
 mod calling;
 mod ending;
+mod laws;
 mod phase;
 mod player;
 mod playing;
 mod turns;
 
+pub use laws::a_play_is_right;
 pub use playing::play;

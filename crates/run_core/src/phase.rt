@@ -3,7 +3,7 @@ ghost use Rattle.std.specs.Prelude.{◌≡◌, ◌<◌, [], OnOk, All, length};
 ghost use Rattle.script_lang.specs.Ranges.{FitsPhase};
 ghost use Rattle.run_core.specs.Conditions.{IsBuiltPhase};
 ghost use Rattle.run_core.specs.Leading.{GoesOn};
-ghost use Rattle.run_core.specs.World.{AllStand, Dealt, PlayedPhase};
+ghost use Rattle.run_core.specs.World.{AllStand, Dealt, PlayedPhase, PlayedSoFar};
 
 use crate::ending::finish;
 use crate::player::Player;
@@ -21,12 +21,14 @@ fn deal(alloc: Global, players: &mut [Player], statements: &[Numbered]) -> Resul
     ensures { OnOk result (Dealt statements.now players.old players.new) }
 {
     for statement in statements {
+        let made = statement.statement.copy(alloc)?;
         let copy = Numbered {
             line: statement.line,
             actor: statement.actor,
-            statement: statement.statement.copy(alloc)?,
+            statement: made,
         };
-        let player = &mut players[statement.actor as usize];
+        let place = statement.actor as usize;
+        let player = &mut players[place];
         player.give(copy)?;
     }
     Ok(())
@@ -48,7 +50,29 @@ pub(crate) fn play_phase<S: Store + Drop, C: Clock + Drop>(
 {
     let statements = phase.statements.as_slice();
     deal(alloc, players, statements)?;
-    take_turns(mount, players, phase.turns.as_slice())?;
+    let turns = phase.turns.as_slice();
+    take_turns(mount, players, turns)?;
     finish(mount, players, statements, lines)?;
+    Ok(())
+}
+
+/// Plays the phases, one after the other.
+pub(crate) fn play_all<S: Store + Drop, C: Clock + Drop>(
+    alloc: Global,
+    mount: &mut Mount<S, C>,
+    players: &mut [Player],
+    phases: &[Phase],
+    lines: &mut Lines,
+) -> Result<(), NoMemory>
+    requires fits { All (FitsPhase (length players.old)) phases.now }
+    requires built { All IsBuiltPhase phases.now }
+    requires stand { AllStand [] players.old }
+    requires empty { lines.old ≡ [] }
+    ensures played { OnOk result (PlayedSoFar phases.now lines.new players.old mount.old players.new mount.new) }
+    ensures goes_on { GoesOn mount.old mount.new }
+{
+    for phase in phases {
+        play_phase(alloc, mount, players, phase, lines)?;
+    }
     Ok(())
 }

@@ -196,6 +196,7 @@ impl Player {
             return Ok(line);
         }
         self.begin_due()?;
-        self.carry(mount)
+        let line = self.carry(mount)?;
+        Ok(line)
     }
 }

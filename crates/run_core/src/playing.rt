@@ -6,9 +6,10 @@ ghost use Rattle.run_core.specs.Conditions.{IsPlayable};
 ghost use Rattle.run_core.specs.Leading.{GoesOn};
 ghost use Rattle.run_core.specs.Play.{IsPlay};
 ghost use Rattle.run_core.specs.Faults.{HasFault};
+ghost use Rattle.run_core.specs.Listing.{ListNone};
 ghost use Rattle.run_core.specs.World.{IsCast};
 
-use crate::phase::play_phase;
+use crate::phase::play_all;
 use crate::player::Player;
 use edge_io::Clock;
 use mount_core::Mount;
@@ -25,7 +26,8 @@ fn cast_of(alloc: Global, actors: &[ActorDecl]) -> Result<Vec<Player>, NoMemory>
     let mut players = Vec::new(alloc);
     for declared in actors {
         let number = players.len() as u64;
-        players.push(Player::new(alloc, number, *declared))?;
+        let player = Player::new(alloc, number, *declared);
+        players.push(player)?;
     }
     Ok(players)
 }
@@ -40,12 +42,12 @@ pub fn play<S: Store + Drop, C: Clock + Drop>(
     requires { IsPlayable script.now }
     ensures plays { IfOk result (λ lines. IsPlay script.now mount.old lines mount.new) }
     ensures goes_on { GoesOn mount.old mount.new }
+    ensures names { IfOk result ListNone }
     ensures cause { IfOk result (λ lines. HasFault lines → HasRisen mount.old.store.faults mount.new.store.faults) }
 {
     let mut players = cast_of(alloc, script.actors.as_slice())?;
     let mut lines = Lines::new(alloc);
-    for phase in script.phases.as_slice() {
-        play_phase(alloc, mount, &mut players, phase, &mut lines)?;
-    }
+    let phases = script.phases.as_slice();
+    play_all(alloc, mount, &mut players, phases, &mut lines)?;
     Ok(lines)
 }

@@ -26,7 +26,8 @@ fn turn<S: Store + Drop, C: Clock + Drop>(
     ensures goes_on { GoesOn mount.old mount.new }
 {
     let player = &mut players[place];
-    player.take_turn(mount)
+    let called = player.take_turn(mount)?;
+    Ok(called)
 }
 
 /// So many turns of one player. A player with no statement left takes none.
