@@ -4,12 +4,15 @@ ghost use Rattle.flow.specs.Standing.{IsFresh, IsOver, rest_of};
 ghost use Rattle.index_reader.specs.Covered as covered;
 ghost use Rattle.index_reader.specs.Listing as listed;
 
+use flat_format::Flat;
 use flow::{Flow, Stuck};
 use index_entry::encode;
 use index_reader::{
-    Dropping, DroppingList, Gathered, OpenReader, Reading, Share, ShareRead, TruncRead,
+    Dropping, DroppingList, Listing, OpenRead, OpenReader, Reading, Share, ShareList, ShareRead,
+    TruncRead, gather,
 };
 use mount_model::{Call, Look, Reply};
+use plain_file::{PieceList, Pieces};
 use plfs_types::{Bytes, Cover, CoverList, Entry, Name, NameList, NoMemory, TruncList};
 use std::alloc::Global;
 use std::test::Fail;
@@ -101,6 +104,7 @@ fn droppings(alloc: Global) -> Result<DroppingList, NoMemory>
     let dropping = Dropping {
         host: 7,
         writer: WRITER,
+        packed: false,
     };
     Ok(DroppingList::from_vec(vec![in alloc; dropping]?))
 }
@@ -412,12 +416,20 @@ fn opened(alloc: Global) -> Result<Option<OpenReader>, NoMemory> {
     let Ok(share) = flow.out() else {
         return Ok(None);
     };
-    let gathered = Gathered {
+    let Ok(pieces) = Pieces::read(PieceList::new(alloc)) else {
+        return Ok(None);
+    };
+    let flat = Flat {
+        covers: CoverList::new(alloc),
+        pieces,
+    };
+    let listing = Listing {
         room: 1,
         droppings: droppings(alloc)?,
-        share,
-        truncs: TruncList::new(alloc),
+        flat,
     };
+    let shares = ShareList::from_vec(vec![in alloc; share]?);
+    let gathered = gather(alloc, listing, shares, TruncList::new(alloc))?;
     Ok(Some(OpenReader::new(alloc, gathered)?))
 }
 
@@ -450,5 +462,210 @@ fn a_read_asks_a_log_once_for_each_part(rt: HostRuntime) -> Result<(), Fail> {
     };
     assert!(rt; read.as_slice() == b"hellabc".as_slice());
     assert!(rt; read_back(alloc, b"a")?.err() == Some((b'd', b'l' as u64, 6)));
+    Ok(())
+}
+
+fn names(alloc: Global, list: &[&[u8]]) -> Result<Reply, NoMemory> {
+    let mut names = NameList::new(alloc);
+    for name in list {
+        names.push(named(name))?;
+    }
+    Ok(Reply::Looked(Answer::Names(names)))
+}
+
+// The flattened index of one writer, whose one entry has 4 bytes and the stamp 10.
+fn flattened(alloc: Global) -> Result<Vec<u8>, NoMemory> {
+    let mut all = Vec::new(alloc);
+    all.extend_from_slice(b"PLFSFLT1")?;
+    for number in [1, 1, WRITER, 1, 4, 10, 0, 4, 0, 10, WRITER] {
+        all.extend_from_slice(&number.to_le_bytes())?;
+    }
+    Ok(all)
+}
+
+const TOP: [&[u8]; 6] = [
+    b"access",
+    b"flats",
+    b"hostdir.0",
+    b"metadata",
+    b"openhosts",
+    b"truncs",
+];
+
+// `k` with how many droppings a listing has and how many covers, or its trouble.
+fn listed(alloc: Global, replies: Vec<Reply>) -> Result<(u8, u64, u64), NoMemory> {
+    let mut flow = OpenRead::at(alloc, 1);
+    if !is_played(&mut flow, replies, &mut Vec::new(alloc))? {
+        return Ok(NOT_PLAYED);
+    }
+    match flow.out() {
+        Ok(listing) => Ok((
+            b'k',
+            listing.droppings.as_slice().len() as u64,
+            listing.flat.covers.as_slice().len() as u64,
+        )),
+        Err(why) => Ok(trouble(why)),
+    }
+}
+
+// What comes of these names in the folder of flattened indices, of this flattened index, and of these in `hostdir.0`.
+fn with_flat(
+    alloc: Global,
+    flats: &[&[u8]],
+    flat: &[u8],
+    droppings: &[&[u8]],
+) -> Result<(u8, u64, u64), NoMemory> {
+    let replies = vec![in alloc;
+        names(alloc, flats)?,
+        number(flat.len() as u64),
+        bytes(alloc, flat)?,
+        names(alloc, &TOP)?,
+        names(alloc, droppings)?,
+    ]?;
+    listed(alloc, replies)
+}
+
+// What comes of these names at the top, where there is no flattened index.
+fn with_top(alloc: Global, top: &[&[u8]]) -> Result<(u8, u64, u64), NoMemory> {
+    listed(
+        alloc,
+        vec![in alloc; names(alloc, &[])?, names(alloc, top)?]?,
+    )
+}
+
+// What comes of these names in `hostdir.0`, where there is no flattened index.
+fn with_droppings(alloc: Global, droppings: &[&[u8]]) -> Result<(u8, u64, u64), NoMemory> {
+    listed(
+        alloc,
+        vec![in alloc;
+            names(alloc, &[])?,
+            names(alloc, &TOP)?,
+            names(alloc, droppings)?,
+        ]?,
+    )
+}
+
+#[test]
+fn the_first_damage_of_a_listing_is_told(rt: HostRuntime) -> Result<(), Fail> {
+    let alloc = rt.alloc();
+    let index = b"index.0.4294967297".as_slice();
+    let outcomes = [
+        listed(alloc, vec![in alloc; names(alloc, &[b"1", b"x"])?]?)?,
+        listed(
+            alloc,
+            vec![in alloc;
+                names(alloc, &[b"1"])?,
+                number(8),
+                bytes(alloc, b"PLFSFLT1")?,
+            ]?,
+        )?,
+        with_top(
+            alloc,
+            &[b"access", b"flats", b"hostdir.32", b"metadata", b"truncs"],
+        )?,
+        with_top(alloc, &[b"flats", b"metadata", b"truncs"])?,
+        with_top(alloc, &[b"access", b"metadata"])?,
+        with_droppings(alloc, &[index, b"index.0.4294967297x"])?,
+        with_droppings(alloc, &[index, b"index.1.4294967297"])?,
+        with_droppings(alloc, &[index, b"index.32.4294967297", b"log.0.1"])?,
+        with_droppings(alloc, &[index, b"index2.0.4294967298"])?,
+        with_droppings(alloc, &[index, b"index2.0.4294967297", b"tmp2.0.1"])?,
+    ];
+    let i = b'i' as u64;
+    assert!(rt;
+        outcomes
+            == [
+                (b'd', b'x' as u64, 0),
+                (b'd', b'1' as u64, 0),
+                (b'd', b'h' as u64, 0),
+                (b'd', b'a' as u64, 0),
+                (b'd', b'-' as u64, 0),
+                (b'd', i, 0),
+                (b'd', i, 0),
+                (b'd', i, 0),
+                (b'd', i, 0),
+                (b'k', 1, 0),
+            ]
+    );
+    Ok(())
+}
+
+#[test]
+fn the_newest_flattened_index_is_read(rt: HostRuntime) -> Result<(), Fail> {
+    let alloc = rt.alloc();
+    let flats: [&[u8]; 3] = [b"10", b"9", b"tmp.11"];
+    let flat = flattened(alloc)?;
+    let index = b"index.0.4294967297".as_slice();
+    let outcomes = [
+        with_flat(alloc, &flats, &flat, &[index])?,
+        // a covered writer without an index dropping is damage at its cover
+        with_flat(alloc, &flats, &flat, &[])?,
+    ];
+    assert!(rt; outcomes == [(b'k', 1, 1), (b'd', b'1' as u64, 24)]);
+    Ok(())
+}
+
+// The packed index of two entries of 5 bytes, with one number changed.
+fn packed(alloc: Global, place: usize, value: u64) -> Result<Vec<u8>, NoMemory> {
+    let mut numbers = [2, 1, 0, 5, 5, 2, 0, 11, 1, WRITER];
+    if let Some(changed) = numbers.get_mut(place) {
+        *changed = value;
+    }
+    let mut all = Vec::new(alloc);
+    all.extend_from_slice(b"PLFSIDX2")?;
+    for number in numbers {
+        all.extend_from_slice(&number.to_le_bytes())?;
+    }
+    Ok(all)
+}
+
+// What comes of this packed index, of which so many bytes are told.
+fn unpacked(alloc: Global, len: u64, all: &[u8]) -> Result<(u8, u64, u64), NoMemory> {
+    let dropping = Dropping {
+        host: 7,
+        writer: WRITER,
+        packed: true,
+    };
+    let droppings = DroppingList::from_vec(vec![in alloc; dropping]?);
+    let mut flow = ShareRead::new(alloc, 1, droppings, CoverList::new(alloc));
+    let mut replies = vec![in alloc; number(len)]?;
+    if all.len() < 24 {
+        return Ok(NOT_PLAYED);
+    }
+    replies.push(bytes(alloc, &all[..24])?)?;
+    if len == 88 {
+        replies.push(bytes(alloc, &all[24..])?)?;
+    }
+    if !is_played(&mut flow, replies, &mut Vec::new(alloc))? {
+        return Ok(NOT_PLAYED);
+    }
+    Ok(told(flow.out()))
+}
+
+#[test]
+fn a_packed_index_is_read_in_place_of_its_dropping(rt: HostRuntime) -> Result<(), Fail> {
+    let alloc = rt.alloc();
+    let outcomes = [
+        unpacked(alloc, 88, &packed(alloc, 10, 0)?)?,
+        // another length than the number of runs says
+        unpacked(alloc, 87, &packed(alloc, 10, 0)?)?,
+        // a run whose entries don't fit the number of entries
+        unpacked(alloc, 88, &packed(alloc, 0, 3)?)?,
+        // a run with a stride past the greatest size
+        unpacked(alloc, 88, &packed(alloc, 3, 1 << 41)?)?,
+        // another writer
+        unpacked(alloc, 88, &packed(alloc, 9, 9)?)?,
+    ];
+    let i = b'i' as u64;
+    assert!(rt;
+        outcomes
+            == [
+                (b'k', 2, 2),
+                (b'd', i, 16),
+                (b'd', i, 8),
+                (b'd', i, 24),
+                (b'd', i, 24)
+            ]
+    );
     Ok(())
 }

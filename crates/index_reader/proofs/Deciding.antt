@@ -1,9 +1,8 @@
 -- Tests that say what rules say, and the first item that breaks a rule of lists.
-use Rattle.std.proofs.Common.{◌≡◌, ◌<◌, ◌≤◌, ◌+◌, ◌⊎◌, inl, inr, ℕ, zero, suc, nat_le, Bool, true, false, ◌&&◌, if◌then◌else◌, List, [], ◌∷◌, length, take, Option, None, Some, refl, ap, ◌∙◌, sym, subst, arith}
+use Rattle.std.proofs.Common.{◌≡◌, ◌<◌, ◌≤◌, ◌+◌, ◌⊎◌, inl, inr, ℕ, zero, suc, nat_le, Bool, true, false, if◌then◌else◌, List, [], ◌∷◌, length, take, Option, None, Some, refl, ap, ◌∙◌, sym, subst, arith}
 use Rattle.std.specs.Bool.{Decides}
 use Rattle.std.proofs.lemmas.Bool.{cases_lt, leb-true, le-leb, cond-true, cond-false}
 use Rattle.std.proofs.lemmas.List.{take-take, take_all}
-use Rattle.plain_file.proofs.Facts.{cases_Option}
 use Rattle.flat_format.specs.Bad.{BreaksAt}
 use Rattle.index_reader.specs.Searching.{or_else, find_below, same_bytes}
 use Rattle.index_reader.specs.Breaks.{first_break}

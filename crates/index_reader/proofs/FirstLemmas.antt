@@ -1,5 +1,5 @@
 -- The first cover of each writer.
-use Rattle.std.proofs.Common.{◌≡◌, ◌<◌, ◌⊎◌, inl, inr, ℕ, nat_eq, Bool, true, false, List, [], ◌∷◌, ◌++◌, map, Option, None, Some, refl, ap, ◌∙◌, sym, subst, arith}
+use Rattle.std.proofs.Common.{◌≡◌, ◌<◌, inl, inr, ℕ, nat_eq, true, false, List, [], ◌∷◌, ◌++◌, map, Option, None, Some, refl, ap, ◌∙◌, sym, subst}
 use Rattle.std.specs.Prelude.{is_some, cond}
 use Rattle.std.specs.List.{All, AllByRecursion}
 use Rattle.std.specs.List.Sorted.{IsStrictlySortedBy}
@@ -7,14 +7,13 @@ use Rattle.std.specs.Map.{lookup, keys_of}
 use Rattle.std.specs.BTreeMap.{BTreeMap, is_at, insert_entry}
 use Rattle.std.specs.Ordering.{nat_cmp}
 use Rattle.std.proofs.Common.{Less, Equal, Greater}
-use Rattle.std.proofs.lemmas.Bool.Decides.{nat_tests}
 use Rattle.std.proofs.lemmas.List.Elements.{All-cons, All-nil}
 use Rattle.plfs_types.specs.declared.entries.Cover.{Cover}
 use Rattle.index_reader.specs.Searching.{or_else}
 use Rattle.index_reader.specs.Covered.{AreByWriter}
 use Rattle.index_reader.specs.Firsts.{first_in as cover_in, AreAtOwn, HasFirsts}
 use Rattle.index_reader.specs.Gathered.{AreFirstOf}
-use Rattle.index_reader.proofs.OwnerLemmas.{IsBelow, IsSame, IsAbove, compared}
+use Rattle.index_reader.proofs.OwnerLemmas.{compared}
 
 abbrev pub values : List (ℕ × Cover) → List Cover
 values es = map (λ (e : ℕ × Cover). e.1) es

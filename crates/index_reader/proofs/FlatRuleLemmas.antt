@@ -1,28 +1,26 @@
 -- What is told of the bytes of a flattened index.
-use Rattle.std.proofs.Common.{◌≡◌, ◌<◌, ◌≤◌, ◌+◌, ◌*◌, ◌^◌, ◌⊎◌, inl, inr, ℕ, zero, suc, nat_eq, nat_le, nat_lt, ◌==◌, ◌&&◌, Bool, true, false, if◌then◌else◌, List, [], ◌∷◌, length, take, Option, None, Some, Result, Ok, Err, refl, ap, ◌∙◌, sym, subst, arith}
+use Rattle.std.proofs.Common.{◌≡◌, ◌<◌, ◌≤◌, ◌+◌, ◌*◌, ◌^◌, inl, inr, ℕ, zero, suc, nat_le, nat_lt, ◌==◌, true, false, if◌then◌else◌, List, [], ◌∷◌, length, take, None, Some, Ok, Err, refl, ap, ◌∙◌, sym}
 use Rattle.std.specs.Bool.{Decides}
 use Rattle.std.specs.List.{AllByRecursion}
-use Rattle.std.proofs.lemmas.Bool.{cases_Bool, cond-true, cond-false}
-use Rattle.std.proofs.lemmas.Bool.Decides.{Decides-and, Decides-eqb, Decides-ltb, not_from_Decides}
+use Rattle.std.proofs.lemmas.Bool.{cond-true, cond-false}
+use Rattle.std.proofs.lemmas.Bool.Decides.{Decides-and, Decides-eqb, Decides-ltb}
 use Rattle.plfs_types.specs.declared.entries.Cover.{Cover}
 use Rattle.plfs_types.specs.declared.limits.TheConstants.{ENTRY_SIZE, MAX_LOG, MAX_SIZE, MAX_STAMP}
 use Rattle.plain_file.specs.declared.pieces.Piece.{Piece}
-use Rattle.plain_file.specs.Runs.{AreRuns, IsPiece, Follows, Joins}
-use Rattle.plain_file.proofs.Facts.{cases_Option}
-use Rattle.index_entry.specs.Records.{IsBytes}
+use Rattle.plain_file.specs.Runs.{AreRuns, Follows, Joins}
 use Rattle.index_entry.specs.Spelling.{number_in}
 use Rattle.flat_format.specs.declared.flat.TheConstants.{HEAD_SIZE, COVER_SIZE}
 use Rattle.flat_format.specs.declared.flat.Flat.{Flat}
-use Rattle.flat_format.specs.Bad.{HasHead, HasLength, BreaksAt, BreaksFirst, IsBadAt}
+use Rattle.flat_format.specs.Bad.{HasHead, HasLength, BreaksFirst, IsBadAt}
 use Rattle.flat_format.specs.Covers.{IsCover, Precedes, AreCovers, IsCoveredBy, AnyCovers, IsFlatPiece}
 use Rattle.flat_format.specs.Reading.{flat_in}
 use Rattle.flat_format.specs.Spelling.{letters, SpellsFlat}
 use Rattle.flat_format.specs.Valid.{AreFlatPieces, IsFlat}
-use Rattle.flat_format.proofs.Facts.{head_spelled, is_in, length_spelled, spelled_in}
+use Rattle.flat_format.proofs.Facts.{head_spelled, is_in, length_spelled}
 use Rattle.index_reader.specs.Searching.{same_bytes}
 use Rattle.index_reader.specs.Breaks.{first_break, unless_broken}
 use Rattle.index_reader.specs.FlatRules.{is_cover, precedes, are_covers, is_piece, counts, any_counts, joins, ends_before, are_pieces, has_head, has_length, judged, flat_told}
-use Rattle.index_reader.proofs.Deciding.{le_decides, bytes_decide, broken, not_decides, or_decides, unbroken, breaks_there, unbroken_means}
+use Rattle.index_reader.proofs.Deciding.{le_decides, bytes_decide, broken, not_decides, or_decides, unbroken, breaks_there}
 
 -- ---- covers
 
@@ -41,7 +39,7 @@ precedes_decides : (c : Cover) (covers : List Cover) → Decides (precedes c cov
 precedes_decides c [] = (λ t. tt, λ r. refl)
 precedes_decides c (d ∷ covers) = Decides-ltb c.writer d.writer
 
-covers_decide : (covers : List Cover) → Decides (are_covers covers) (AreCovers covers)
+pub covers_decide : (covers : List Cover) → Decides (are_covers covers) (AreCovers covers)
 covers_decide [] = (λ t. tt, λ r. refl)
 covers_decide (c ∷ covers) =
     let d : Decides (are_covers (c ∷ covers)) (IsCover c × (Precedes c covers × AreCovers covers)) =
@@ -99,7 +97,7 @@ ends_decides : (p : Piece) (pieces : List Piece) → Decides (ends_before p piec
 ends_decides p [] = (λ t. tt, λ r. refl)
 ends_decides p (q ∷ pieces) = Decides-and (nat_le (p.at + p.len) q.at) (if joins p q then false else true) (le_decides (p.at + p.len) q.at) (not_decides (joins p q) (joins_decides p q))
 
-pieces_decide : (covers : List Cover) (pieces : List Piece) → Decides (are_pieces covers pieces) (AreFlatPieces covers pieces)
+pub pieces_decide : (covers : List Cover) (pieces : List Piece) → Decides (are_pieces covers pieces) (AreFlatPieces covers pieces)
 pieces_decide covers [] = (λ t. record { runs = tt; covered = tt }, λ r. refl)
 pieces_decide covers (p ∷ pieces) =
     let d : Decides (are_pieces covers (p ∷ pieces)) (IsFormed p × (AnyCovers p covers × (Follows p pieces × AreFlatPieces covers pieces))) =
@@ -133,13 +131,13 @@ first_pieces covers count pieces are = record { runs = first_runs count pieces a
 
 -- ---- bytes
 
-head_decides : (bytes : List ℕ) → Decides (has_head bytes) (HasHead bytes)
+pub head_decides : (bytes : List ℕ) → Decides (has_head bytes) (HasHead bytes)
 head_decides bytes =
     let d : Decides (has_head bytes) ((HEAD_SIZE ≤ length bytes) × (take 8 bytes ≡ letters)) =
     Decides-and (nat_le HEAD_SIZE (length bytes)) (same_bytes (take 8 bytes) letters) (le_decides HEAD_SIZE (length bytes)) (bytes_decide (take 8 bytes) letters) in
     (λ t. (let h = d.0 t in record { long = h.0; lettered = h.1 }), λ r. d.1 (r.long, r.lettered))
 
-length_decides : (bytes : List ℕ) → Decides (has_length bytes) (HasLength bytes)
+pub length_decides : (bytes : List ℕ) → Decides (has_length bytes) (HasLength bytes)
 length_decides bytes = Decides-eqb (length bytes) (HEAD_SIZE + COVER_SIZE * number_in 8 bytes + ENTRY_SIZE * number_in 16 bytes)
 
 judged-valid : (flat : Flat) → IsFlat flat → judged flat ≡ Ok flat

@@ -1,5 +1,5 @@
 -- The item of a path.
-use Rattle.std.proofs.Common.{◌≡◌, ◌⊎◌, inl, inr, ℕ, ◌<◌, ◌^◌, Bool, true, false, List, Option, None, Some, refl, ap, ◌∙◌, sym, subst}
+use Rattle.std.proofs.Common.{◌≡◌, ◌⊎◌, inl, inr, ℕ, ◌<◌, ◌^◌, true, false, Option, None, Some, refl, ap, ◌∙◌, sym, subst}
 use Rattle.std.proofs.lemmas.Bool.{cases_Bool, and_from, and_parts, cond-true, cond-false}
 use Rattle.plfs_types.specs.declared.names.Path.{Path}
 use Rattle.plain_file.proofs.Facts.{cases_Option}
@@ -8,7 +8,7 @@ use Rattle.container_layout.specs.declared.items.Item.TheVariants as item
 use Rattle.container_layout.specs.Items.{IsItem}
 use Rattle.container_layout.specs.Paths.{path_of, IsAt}
 use Rattle.container_layout.proofs.Facts.{one_item}
-use Rattle.index_reader.specs.Searching.{or_else, find_below, same_bytes}
+use Rattle.index_reader.specs.Searching.{or_else, same_bytes}
 use Rattle.index_reader.specs.Items.{same_path, item_at, item_of_id, item_of_host, flat_item, hostdir_item, is_flats, is_of_hostdir}
 use Rattle.index_reader.proofs.Searching.{same_bytes-itself, same_bytes-eq, found_below, none_below}
 

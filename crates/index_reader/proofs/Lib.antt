@@ -1,16 +1,18 @@
 mod Deciding
 pub mod EntryLemmas
+pub mod Facts
 mod FileLemmas
 mod FirstLemmas
-pub mod FlatRuleLemmas
+mod FlatMeaning
+mod FlatRuleLemmas
 mod Found
-pub mod ItemLemmas
+mod ItemLemmas
 mod OpenLemmas
 mod OwnerLemmas
-pub mod PackRuleLemmas
+mod PackRuleLemmas
 mod PackedLemmas
 pub mod RunLemmas
-pub mod Searching
+mod Searching
 pub mod TailLemmas
 mod TopLemmas
 pub mod TruncLemmas

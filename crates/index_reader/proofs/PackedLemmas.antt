@@ -1,19 +1,17 @@
 -- The entries of a packed index, and the run that has one of them.
-use Rattle.std.proofs.Common.{◌≡◌, ◌<◌, ◌≤◌, ◌+◌, ◌-◌, ◌*◌, ◌^◌, ℕ, zero, suc, nat_lt, nat_le, min, Bool, true, false, List, [], ◌∷◌, length, take, drop, Option, None, Some, refl, ap, ◌∙◌, sym, subst, arith}
+use Rattle.std.proofs.Common.{◌≡◌, ◌<◌, ◌≤◌, ◌+◌, ◌-◌, ◌*◌, ℕ, zero, suc, nat_lt, false, List, [], ◌∷◌, length, take, drop, Some, refl, ap, ◌∙◌, sym, subst, arith}
 use Rattle.std.specs.Prelude.{slice_get}
 use Rattle.std.specs.List.{All}
-use Rattle.std.proofs.lemmas.Bool.{cond-true, cond-false, lt-ltb, le-leb}
+use Rattle.std.proofs.lemmas.Bool.{cond-true, cond-false, lt-ltb}
 use Rattle.std.proofs.lemmas.Bool.Decides.{nat_tests}
 use Rattle.std.proofs.lemmas.Option.{none-some, same_Some}
-use Rattle.std.proofs.lemmas.List.{drop_all}
 use Rattle.std.proofs.lemmas.List.Elements.{All-cons, All-nil, All-drop}
 use Rattle.plfs_types.specs.declared.entries.Entry.{Entry}
 use Rattle.plfs_types.specs.declared.limits.TheConstants.{MAX_LOG}
 use Rattle.interval_merge.specs.Writer.{HasPiece}
-use Rattle.index_entry.specs.Entries.{MayFollow, AreEntriesOf, logged, last_stamp}
+use Rattle.index_entry.specs.Entries.{AreEntriesOf, logged, last_stamp}
 use Rattle.index_entry.specs.Records.{records_in}
 use Rattle.index_entry.specs.Spelling.{number_in}
-use Rattle.index_pack.specs.declared.runs.Run.{Run}
 use Rattle.index_pack.specs.Bad.{HasLength}
 use Rattle.index_pack.proofs.Facts.{length_spelled}
 use Rattle.index_pack.specs.Reading.{run_in}

@@ -1,9 +1,9 @@
 -- What is found among numbers and names.
-use Rattle.std.proofs.Common.{◌≡◌, ℕ, zero, suc, ◌<◌, inl, inr, ◌==◌, nat_eq, Bool, true, false, List, [], ◌∷◌, Option, None, Some, refl, ap, ◌∙◌, sym, arith}
+use Rattle.std.proofs.Common.{◌≡◌, ℕ, zero, suc, ◌<◌, inl, inr, ◌==◌, true, List, [], ◌∷◌, Option, None, Some, refl, ap, ◌∙◌, sym, arith}
 use Rattle.std.proofs.lemmas.Bool.{cases_lt, and_from, and_parts}
 use Rattle.std.proofs.lemmas.Bool.Decides.{nat_tests}
 use Rattle.plain_file.proofs.Facts.{cases_Option}
-use Rattle.index_reader.specs.Searching.{or_else, find_below, same_bytes}
+use Rattle.index_reader.specs.Searching.{find_below, same_bytes}
 
 pub same_bytes-itself : (xs : List ℕ) → same_bytes xs xs ≡ true
 same_bytes-itself [] = refl

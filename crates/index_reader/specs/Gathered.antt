@@ -11,7 +11,6 @@ use Rattle.interval_merge.specs.Lists.{newest_source, ArePiecesOfEach, joined}
 use Rattle.index_reader.specs.declared.gathered.Gathered.{Gathered}
 use Rattle.index_reader.specs.declared.listing.Listing.{Listing}
 use Rattle.index_reader.specs.declared.sharing.Share.{Share}
-use Rattle.index_reader.specs.Searching.{or_else}
 use Rattle.index_reader.specs.Found.{item_of}
 use Rattle.index_reader.specs.Covered.{AreByWriter}
 

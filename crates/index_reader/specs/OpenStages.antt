@@ -1,5 +1,5 @@
 -- Where the listing of a container stands in its program.
-use Rattle.std.specs.Prelude.{◌≡◌, ℕ, ◌+◌, ◌^◌, List, [], ◌∷◌, length, Result, Ok, Err}
+use Rattle.std.specs.Prelude.{◌≡◌, ℕ, ◌+◌, ◌^◌, List, ◌∷◌, length, Result, Ok, Err}
 use Rattle.flat_format.specs.declared.flat.Flat.{Flat}
 use Rattle.flow.specs.declared.trouble.Stuck.{Stuck}
 use Rattle.story.specs.Program.{done, followed_by}

@@ -1,7 +1,6 @@
 -- The calls that read what a flattened index doesn't cover of one writer's index dropping: its length, its log's, and
 -- Reads of the whole entries.
-use Rattle.std.specs.Prelude.{ℕ, zero, suc, ◌+◌, ◌-◌, ◌*◌, ◌/◌, nat_le, nat_lt, min, Bool, true, false, if◌then◌else◌, List, [], length, Ok, Err}
-use Rattle.plfs_types.specs.declared.entries.Cover.{Cover}
+use Rattle.std.specs.Prelude.{ℕ, zero, suc, ◌+◌, ◌-◌, ◌*◌, ◌/◌, nat_le, nat_lt, min, Bool, true, false, if◌then◌else◌, List, length, Ok, Err}
 use Rattle.story.specs.Program.{done, ask}
 use Rattle.mount_model.specs.declared.call.Call.TheVariants.{Look}
 use Rattle.mount_model.specs.declared.call.Look.TheVariants.{Length, Read}

@@ -1,6 +1,7 @@
 pub mod Queues
 pub mod Entries
 pub mod Writers
+pub mod Words
 pub mod Steps
 pub mod Recovering
 pub mod Stages

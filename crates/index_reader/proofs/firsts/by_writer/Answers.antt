@@ -1,4 +1,4 @@
-use Rattle.std.proofs.Common.{◌≡◌, sym, subst, take}
+use Rattle.std.proofs.Common.{sym, subst, take}
 use Rattle.std.proofs.lemmas.List.{take_more}
 use Rattle.index_reader.specs.Firsts.{HasFirsts}
 use Rattle.index_reader.proofs.firsts.by_writer.Goals as goal

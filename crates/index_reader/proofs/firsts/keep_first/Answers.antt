@@ -1,4 +1,4 @@
-use Rattle.std.proofs.Common.{◌≡◌, ◌∙◌, ap, refl, sym, subst, Some}
+use Rattle.std.proofs.Common.{◌∙◌, ap, refl, sym, subst, Some}
 use Rattle.std.specs.Prelude.{is_some, cond}
 use Rattle.std.specs.BTreeMap.{is_at}
 use Rattle.std.specs.Ordering.{nat_cmp}

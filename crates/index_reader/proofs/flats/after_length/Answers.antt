@@ -1,4 +1,4 @@
-use Rattle.std.proofs.Common.{◌≡◌, ◌∙◌, sym}
+use Rattle.std.proofs.Common.{◌∙◌, sym}
 use Rattle.index_reader.specs.FileStages.{part_left}
 use Rattle.index_reader.specs.OpenStages.{after_flat}
 use Rattle.index_reader.proofs.FileLemmas.{flat_begins}

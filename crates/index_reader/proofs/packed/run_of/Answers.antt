@@ -1,4 +1,4 @@
-use Rattle.std.proofs.Common.{◌≡◌, ◌<◌, ◌≤◌, ◌-◌, ℕ, List, sym, subst, length-drop}
+use Rattle.std.proofs.Common.{◌<◌, ◌≤◌, ◌-◌, ℕ, List, sym, subst, length-drop}
 use Rattle.index_entry.specs.Spelling.{number_in}
 use Rattle.index_reader.proofs.PackedLemmas.{Seeking, sought_here, sought_further}
 use Rattle.index_reader.proofs.packed.run_of.Goals as goal

@@ -1,4 +1,3 @@
-use Rattle.std.proofs.Common.{ℕ}
 use Rattle.index_reader.proofs.PackedLemmas.{Seeking}
 use Rattle.index_reader.proofs.packed.run_of.Given as goal
 

@@ -1,4 +1,4 @@
-use Rattle.std.proofs.Common.{◌≡◌, ◌+◌, ◌*◌, ◌∙◌, ℕ, List, ap, drop}
+use Rattle.std.proofs.Common.{◌+◌, ◌*◌, ◌∙◌, ℕ, List, ap}
 use Rattle.index_entry.specs.Records.{records_in}
 use Rattle.index_entry.specs.Spelling.{number_in}
 use Rattle.index_pack.specs.Reading.{run_in}

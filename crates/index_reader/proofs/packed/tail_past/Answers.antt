@@ -1,4 +1,4 @@
-use Rattle.std.proofs.Common.{◌≡◌, ◌∙◌, ℕ, List, All, ap, drop, length, sym, subst}
+use Rattle.std.proofs.Common.{◌≡◌, ◌∙◌, List, All, ap, drop, sym, subst}
 use Rattle.plfs_types.specs.declared.entries.Entry.{Entry}
 use Rattle.interval_merge.specs.Writer.{HasPiece}
 use Rattle.index_reader.proofs.PackedLemmas.{pieces_of_one}

@@ -1,5 +1,4 @@
-use Rattle.std.proofs.Common.{◌≡◌, ap, sym, ◌∙◌}
-use Rattle.index_pack.proofs.Facts.{length_spelled}
+use Rattle.std.proofs.Common.{sym}
 use Rattle.index_reader.proofs.PackRuleLemmas.{pack_told-packs, pack_told-bad}
 use Rattle.index_reader.proofs.PackedLemmas.{packed_of_one, packed_whole}
 use Rattle.index_reader.proofs.packed.told.Goals as goal

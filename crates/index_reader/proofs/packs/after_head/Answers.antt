@@ -1,7 +1,4 @@
-use Rattle.std.proofs.Common.{◌∙◌, ap, sym, List, Ok, Err}
-use Rattle.plfs_types.specs.declared.entries.Entry.{Entry}
-use Rattle.flow.specs.declared.trouble.Stuck.{Stuck}
-use Rattle.story.specs.Program.{done}
+use Rattle.std.proofs.Common.{◌∙◌, ap, sym}
 use Rattle.index_reader.specs.Packed.{headed_program}
 use Rattle.index_reader.proofs.FileLemmas.{damaged_tail, whole_tail, headed_then}
 use Rattle.index_reader.proofs.packs.after_head.Goals as goal

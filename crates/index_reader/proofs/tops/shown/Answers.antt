@@ -1,4 +1,4 @@
-use Rattle.std.proofs.Common.{◌≡◌, ◌<◌, ◌≤◌, ◌+◌, ◌-◌, ◌++◌, ◌∙◌, ℕ, List, ap, length, arith, length-append}
+use Rattle.std.proofs.Common.{◌<◌, ◌+◌, ◌-◌, ◌++◌, ◌∙◌, ℕ, List, ap, length, arith, length-append}
 use Rattle.std.specs.List.{range_with_len}
 use Rattle.index_reader.specs.Tops.{shown}
 use Rattle.index_reader.proofs.TopLemmas.{one_shown, shown_step}

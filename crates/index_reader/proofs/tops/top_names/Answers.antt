@@ -1,4 +1,4 @@
-use Rattle.std.proofs.Common.{◌≡◌, ◌<◌, ◌+◌, ◌-◌, ◌++◌, [], ◌∷◌, ◌∙◌, ℕ, List, map, ap}
+use Rattle.std.proofs.Common.{◌<◌, ◌+◌, ◌-◌, ◌++◌, [], ◌∷◌, ◌∙◌, ℕ, List, map, ap}
 use Rattle.std.specs.List.{range_with_len}
 use Rattle.container_layout.specs.Paths.{hostdir_of}
 use Rattle.index_reader.proofs.TopLemmas.{names_step}

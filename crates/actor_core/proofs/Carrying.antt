@@ -1,0 +1,119 @@
+-- What an actor makes of its machine's calls and of their replies.
+use Rattle.std.proofs.Common.{◌≡◌, ℕ, List, length, nat_eq, arith, true, false, Option, Some, None, refl, sym, ap, ◌∙◌, subst}
+use Rattle.std.specs.Prelude.{option_map}
+use Rattle.std.proofs.lemmas.Bool.Decides.{nat_tests}
+use Rattle.std.proofs.lemmas.Option.{none-some}
+use Rattle.story.specs.Program.{done, ask}
+use Rattle.story.specs.Process.{asks}
+use Rattle.flow.specs.Running.{unbroken}
+use Rattle.mount_model.specs.declared.call.Call.TheVariants.{Greet}
+use Rattle.writer_flow.specs.declared.handle.WriterHandle.{WriterHandle}
+use Rattle.writer_flow.specs.declared.handle.WriterOut.{WriterOut}
+use Rattle.writer_flow.specs.Writing.{write_program}
+use Rattle.actor_core.specs.Endings.{wrote, stopped}
+use Rattle.actor_core.specs.Writers.{writes}
+use Rattle.flow.specs.Standing.{Standing, ready, asked as out, Rest, over, awaits, next_of, rest_of, replied, Awaits, IsOver}
+use Rattle.mount_model.specs.declared.call.Call.{Call}
+use Rattle.mount_model.specs.declared.call.Ask.{Ask}
+use Rattle.mount_model.specs.declared.reply.Reply.{Reply}
+use Rattle.actor_core.specs.declared.kept.Stop.{Stop}
+use Rattle.actor_core.specs.Stopping.{is_due, one_nearer, stoppable}
+use Rattle.actor_core.specs.Work.{Work, finishes}
+use Rattle.actor_core.specs.Progress.{Progress, going, IsReady, IsAsked, ask_of, given, with_reply}
+use Rattle.actor_core.specs.declared.kept.Kept.{Kept}
+use Rattle.actor_core.specs.declared.actor.Actor.{Actor}
+use Rattle.actor_core.specs.declared.actor.State.{State}
+use Rattle.actor_core.specs.Standings.{Underway, goes, waits, ready_of, asked_of, busy, greeting, progress_of, state_progress}
+
+-- a machine that has no next call is at its end
+pub at_end : {R : Type 0} (number : ℕ) (old new : Standing Call Reply R) (stop : Option Stop) (next : Option Stop → R → Work) (halted : Work)
+    → IsReady (busy number (ready_of old stop next halted)) → None ≡ option_map (stoppable stop) (next_of old) → rest_of new ≡ rest_of old → IsOver (rest_of new)
+at_end {R} number (ready (done result)) new stop next halted is_ready none same = let P : Rest Call Reply R → Type 0 = λ rest. IsOver rest in subst P (sym same) tt
+at_end number (ready (ask call k)) new stop next halted is_ready none same = absurd (none-some (stoppable stop call) none)
+at_end number (out k) new stop next halted is_ready none same = absurd is_ready
+
+abbrev over_of : {R : Type 0} → R → Rest Call Reply R
+over_of r = over r
+
+-- the result of a rest that is over
+abbrev result_or : {R : Type 0} → R → Rest Call Reply R → R
+result_or other (over r) = r
+result_or other (awaits k) = other
+
+same_result : {R : Type 0} (a b : R) → over_of a ≡ over_of b → a ≡ b
+same_result a b e = ap (λ rest. result_or a rest) e
+
+-- its result leads on
+pub ends_so : {R : Type 0} (number : ℕ) (old new : Standing Call Reply R) (stop : Option Stop) (next : Option Stop → R → Work) (halted : Work) (result : R)
+    → IsReady (busy number (ready_of old stop next halted)) → None ≡ option_map (stoppable stop) (next_of old) → rest_of new ≡ rest_of old → rest_of new ≡ over result
+    → busy number (ready_of old stop next halted) ≡ going number (next stop result)
+ends_so number (ready (done made)) new stop next halted result is_ready none same is =
+    ap (λ r. going number (next stop r)) (same_result made result (sym same ∙ is))
+ends_so number (ready (ask call k)) new stop next halted result is_ready none same is = absurd (none-some (stoppable stop call) none)
+ends_so number (out k) new stop next halted result is_ready none same is = absurd is_ready
+
+-- its next call is the actor's
+pub asks_so : {R : Type 0} (number : ℕ) (old new : Standing Call Reply R) (stop : Option Stop) (next : Option Stop → R → Work) (halted : Work) (question : Ask)
+    → IsReady (busy number (ready_of old stop next halted)) → Some question ≡ option_map (stoppable stop) (next_of old)
+    → Some question ≡ ask_of (busy number (ready_of old stop next halted))
+asks_so number (ready (done result)) new stop next halted question is_ready some = absurd (none-some question (sym some))
+asks_so number (ready (ask call k)) new stop next halted question is_ready some = some
+asks_so number (out k) new stop next halted question is_ready some = absurd is_ready
+
+-- and is out then
+pub is_out : {R : Type 0} (number : ℕ) (old new : Standing Call Reply R) (stop : Option Stop) (next : Option Stop → R → Work) (halted : Work) (question : Ask)
+    → IsReady (busy number (ready_of old stop next halted)) → Some question ≡ option_map (stoppable stop) (next_of old) → rest_of new ≡ rest_of old
+    → busy number (asked_of (rest_of new) stop next halted) ≡ given (busy number (ready_of old stop next halted))
+is_out number (ready (done result)) new stop next halted question is_ready some same = absurd (none-some question (sym some))
+is_out number (ready (ask call k)) new stop next halted question is_ready some same = ap (λ rest. busy number (asked_of rest stop next halted)) same
+is_out number (out k) new stop next halted question is_ready some same = absurd is_ready
+
+-- a call that is out has its reply to come
+pub awaited : {R : Type 0} (number : ℕ) (rest : Rest Call Reply R) (stop : Option Stop) (next : Option Stop → R → Work) (halted : Work)
+    → IsAsked (busy number (asked_of rest stop next halted)) → Awaits rest
+awaited number (over result) stop next halted is_asked = absurd is_asked
+awaited number (awaits k) stop next halted is_asked = tt
+
+-- a reply that the actor doesn't stop at goes to the machine
+pub replied_so : {R : Type 0} (number : ℕ) (rest : Rest Call Reply R) (new : Standing Call Reply R) (stop : Option Stop) (next : Option Stop → R → Work) (halted : Work) (reply : Reply)
+    → Awaits rest → new ≡ ready (replied rest reply) → is_due stop ≡ false
+    → busy number (ready_of new (one_nearer stop) next halted) ≡ with_reply (busy number (asked_of rest stop next halted)) reply
+replied_so number (over result) new stop next halted reply awaits_it so_goes not_due = absurd awaits_it
+replied_so number (awaits k) new stop next halted reply awaits_it so_goes not_due = rw (so_goes, not_due) refl
+
+-- a reply that the actor stops at ends the statement
+pub stops_so : {R : Type 0} (number : ℕ) (rest : Rest Call Reply R) (stop : Option Stop) (next : Option Stop → R → Work) (halted : Work) (reply : Reply)
+    → IsAsked (busy number (asked_of rest stop next halted)) → is_due stop ≡ true
+    → going number halted ≡ with_reply (busy number (asked_of rest stop next halted)) reply
+stops_so number (over result) stop next halted reply is_asked due = absurd is_asked
+stops_so number (awaits k) stop next halted reply is_asked due = rw due refl
+
+-- an actor whose fields are these
+pub placed : (a : Actor) (number : ℕ) (kept : Kept) (stop : Option Stop) (state : State)
+    → a.state ≡ state → a.kept ≡ kept → a.number ≡ number → a.stop ≡ stop → progress_of a ≡ state_progress number kept stop state
+placed a number kept stop state is_state is_kept is_number is_stop = λ i. state_progress (is_number i) (is_kept i) (is_stop i) (is_state i)
+
+-- a machine that was taken for one without a call, and has one out
+pub out_same : {R : Type 0} (number : ℕ) (s : Standing Call Reply R) (stop : Option Stop) (next : Option Stop → R → Work) (halted : Work)
+    → IsAsked (busy number (ready_of s stop next halted)) → busy number (ready_of s stop next halted) ≡ busy number (asked_of (rest_of s) stop next halted)
+out_same number (ready p) stop next halted is_asked = absurd is_asked
+out_same number (out k) stop next halted is_asked = refl
+
+pub greeting_same : (number : ℕ) (u : Underway) → IsAsked (greeting number u) → greeting number u ≡ busy number u
+greeting_same number (goes work) is_asked = absurd is_asked
+greeting_same number (waits k) is_asked = refl
+
+-- its next call is the actor's, and is out then: both at once
+pub asked_along : (a b : Progress) → a ≡ b → IsAsked a → IsAsked b
+asked_along a b e is_asked = let P : Progress → Type 0 = λ p. IsAsked p in subst P e is_asked
+
+pub greets_so : (number : ℕ) (u : Underway) (work : Work) → u ≡ goes work → greeting number u ≡ going number (asks (unbroken Greet) (λ reply. work))
+greets_so number u work is = ap (greeting number) is
+
+-- a write of some bytes begins with its machine's program
+pub written : (kept : Kept) (stop : Option Stop) (at len : ℕ) (bytes : List ℕ) (handle : WriterHandle) (s : Standing Call Reply WriterOut) (writer : Option WriterHandle)
+    → s ≡ ready (write_program handle at bytes) → writer ≡ Some handle → handle.closing ≡ false → len ≡ length bytes → (len ≡ 0 → ⊥)
+    → ready_of s stop (λ left out. finishes (wrote kept at len out)) (finishes (stopped kept)) ≡ goes (writes kept stop at bytes writer)
+written kept stop at len bytes handle s writer is some may_write counted some_bytes =
+    let none : nat_eq (length bytes) 0 ≡ false = grind (arith, nat_tests, counted, some_bytes) in
+    rw (is, some, may_write, counted, none) refl

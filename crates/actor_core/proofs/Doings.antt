@@ -1,0 +1,51 @@
+-- What holds of each statement at work.
+use Rattle.std.proofs.Common.{◌≡◌, ◌<◌, ℕ, arith, true, Option}
+use Rattle.flow.specs.Standing.{rest_of}
+use Rattle.mount_model.specs.declared.reply.Reply.{Reply}
+use Rattle.writer_flow.specs.OpeningStages.{open_standing}
+use Rattle.writer_flow.specs.WritingStages.{write_standing}
+use Rattle.writer_flow.specs.SyncingStages.{sync_standing}
+use Rattle.writer_flow.specs.ClosingStages.{close_standing}
+use Rattle.index_reader.specs.ReadingStages.{read_standing}
+use Rattle.actor_core.specs.declared.kept.Stop.{Stop}
+use Rattle.actor_core.specs.declared.kept.Kept.{Kept}
+use Rattle.actor_core.specs.declared.doing.Doing.{Doing}
+use Rattle.actor_core.specs.declared.doing.Doing.TheVariants.{Known, Opening, Writing, Syncing, Closing, Reading, Verifying}
+use Rattle.actor_core.specs.Stopping.{is_due}
+use Rattle.actor_core.specs.Endings.{stopped, opened, wrote, synced, closed, read_from, verified}
+use Rattle.actor_core.specs.Work.{finishes}
+use Rattle.actor_core.specs.Progress.{going, IsAsked, with_reply}
+use Rattle.actor_core.specs.Standings.{busy, doing_asked, doing_left, AwaitsReply}
+use Rattle.actor_core.proofs.Carrying.{awaited, stops_so}
+
+-- a statement whose call is out has its reply to come
+pub has_call_out : (number : ℕ) (kept : Kept) (stop : Option Stop) (doing : Doing) → IsAsked (busy number (doing_asked kept stop doing)) → AwaitsReply doing
+has_call_out number kept stop (Known outcome) is_asked = absurd is_asked
+has_call_out number kept stop (Opening flow) is_asked = awaited number (rest_of (open_standing flow)) stop (λ left result. finishes (opened kept result)) (finishes (stopped kept)) is_asked
+has_call_out number kept stop (Writing flow at len) is_asked = awaited number (rest_of (write_standing flow)) stop (λ left out. finishes (wrote kept at len out)) (finishes (stopped kept)) is_asked
+has_call_out number kept stop (Syncing flow) is_asked = awaited number (rest_of (sync_standing flow)) stop (λ left out. finishes (synced kept out)) (finishes (stopped kept)) is_asked
+has_call_out number kept stop (Closing flow) is_asked = awaited number (rest_of (close_standing flow)) stop (λ left out. finishes (closed kept out)) (finishes (stopped kept)) is_asked
+has_call_out number kept stop (Reading flow at) is_asked = awaited number (rest_of (read_standing flow)) stop (λ left result. finishes (read_from kept at result)) (finishes (stopped kept)) is_asked
+has_call_out number kept stop (Verifying flow at content) is_asked = awaited number (rest_of (read_standing flow)) stop (λ left result. finishes (verified kept at content result)) (finishes (stopped kept)) is_asked
+
+-- a statement ends where its actor stops within its call
+pub stops_there : (number : ℕ) (kept : Kept) (stop : Option Stop) (doing : Doing) (reply : Reply)
+    → IsAsked (busy number (doing_asked kept stop doing)) → is_due stop ≡ true
+    → going number (finishes (stopped kept)) ≡ with_reply (busy number (doing_asked kept stop doing)) reply
+stops_there number kept stop (Known outcome) reply is_asked due = absurd is_asked
+stops_there number kept stop (Opening flow) reply is_asked due = stops_so number (rest_of (open_standing flow)) stop (λ left result. finishes (opened kept result)) (finishes (stopped kept)) reply is_asked due
+stops_there number kept stop (Writing flow at len) reply is_asked due = stops_so number (rest_of (write_standing flow)) stop (λ left out. finishes (wrote kept at len out)) (finishes (stopped kept)) reply is_asked due
+stops_there number kept stop (Syncing flow) reply is_asked due = stops_so number (rest_of (sync_standing flow)) stop (λ left out. finishes (synced kept out)) (finishes (stopped kept)) reply is_asked due
+stops_there number kept stop (Closing flow) reply is_asked due = stops_so number (rest_of (close_standing flow)) stop (λ left out. finishes (closed kept out)) (finishes (stopped kept)) reply is_asked due
+stops_there number kept stop (Reading flow at) reply is_asked due = stops_so number (rest_of (read_standing flow)) stop (λ left result. finishes (read_from kept at result)) (finishes (stopped kept)) reply is_asked due
+stops_there number kept stop (Verifying flow at content) reply is_asked due = stops_so number (rest_of (read_standing flow)) stop (λ left result. finishes (verified kept at content result)) (finishes (stopped kept)) reply is_asked due
+
+-- and it may still make a call
+pub some_left : (doing : Doing) → AwaitsReply doing → 0 < doing_left doing
+some_left (Known outcome) is_out = absurd is_out
+some_left (Opening flow) is_out = omega arith
+some_left (Writing flow at len) is_out = omega arith
+some_left (Syncing flow) is_out = omega arith
+some_left (Closing flow) is_out = omega arith
+some_left (Reading flow at) is_out = omega arith
+some_left (Verifying flow at content) is_out = omega arith

@@ -1,0 +1,6 @@
+mod Carrying
+mod WriterOwing
+mod ReaderOwing
+mod Owing
+mod DataLemmas
+mod Doings

@@ -1,0 +1,14 @@
+pub mod Stopping
+pub mod Data
+pub mod Outcomes
+pub mod Endings
+pub mod Work
+pub mod Dealing
+pub mod Sharing
+pub mod Opened
+pub mod Writers
+pub mod Readers
+pub mod Statements
+pub mod Progress
+pub mod Standings
+pub mod Owed

@@ -1,0 +1,57 @@
+-- What each statement does.
+use Rattle.std.specs.Prelude.{Bool, true, false, if◌then◌else◌, Option, None}
+use Rattle.story.specs.Process.{asks}
+use Rattle.flow.specs.Running.{unbroken}
+use Rattle.mount_model.specs.declared.call.Call.TheVariants.{Greet}
+use Rattle.script_lang.specs.declared.script.Statement.{Statement}
+use Rattle.script_lang.specs.declared.script.Statement.TheVariants.{Open, Write, Sync, Close, Ropen, Read, Verify, Map, Rclose, Stat, Flatten, Recover, Trunc, Rename, Ls, Stop as Arms}
+use Rattle.actor_core.specs.declared.kept.Stop.{Stop}
+use Rattle.actor_core.specs.declared.kept.Kept.{Kept}
+use Rattle.actor_core.specs.Data.{bytes_of}
+use Rattle.actor_core.specs.Endings.{gone, armed}
+use Rattle.actor_core.specs.Work.{Work, finishes}
+use Rattle.actor_core.specs.Writers.{opens, writes, syncs, closes}
+use Rattle.actor_core.specs.Readers.{opens_reader, reads, verifies, maps, closes_reader}
+
+-- the statements that an actor makes; the others are to come
+abbrev pub is_built_statement : Statement → Bool
+is_built_statement (Ropen name workers) = false
+is_built_statement (Stat name) = false
+is_built_statement (Flatten name) = false
+is_built_statement (Recover name) = false
+is_built_statement (Trunc name size) = false
+is_built_statement (Rename name new) = false
+is_built_statement Ls = false
+is_built_statement other = true
+
+-- the statement of an actor that keeps this, where a stop may be armed for it
+abbrev pub does : Kept → Option Stop → Statement → Work
+does kept stop (Open name) = opens kept stop name kept.writer
+does kept stop (Write at content) = writes kept stop at (bytes_of content) kept.writer
+does kept stop Sync = syncs kept stop kept.writer
+does kept stop Close = closes kept stop kept.writer
+does kept stop (Ropen name workers) = opens_reader kept stop name workers kept.reader
+does kept stop (Read at len) = reads kept stop at len kept.reader
+does kept stop (Verify at content) = verifies kept stop at content kept.reader
+does kept stop Map = maps kept kept.reader
+does kept stop Rclose = closes_reader kept kept.reader
+does kept stop (Arms call bytes) = finishes (armed kept (record { call = call; bytes = bytes }))
+does kept stop other = finishes (gone kept)
+
+-- an armed stop serves one statement
+abbrev pub disarmed : Kept → Kept
+disarmed kept = record kept { armed = None }
+
+-- a statement of an actor that has greeted: one that was stopped makes no call
+abbrev pub greeted_work : Kept → Statement → Work
+greeted_work kept statement = if kept.gone then finishes (gone kept) else does (disarmed kept) kept.armed statement
+
+abbrev pub greeted : Kept → Kept
+greeted kept = record kept { greeted = true }
+
+-- an actor greets before its first statement
+abbrev pub work_of : Kept → Statement → Work
+work_of kept statement =
+    if kept.greeted
+    then greeted_work kept statement
+    else asks (unbroken Greet) (λ reply. greeted_work (greeted kept) statement)

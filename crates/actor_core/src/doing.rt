@@ -1,0 +1,28 @@
+//! The statement that an actor is at work on.
+use index_reader::Reading;
+use script_lang::{Data, Outcome};
+use writer_flow::{CloseFlow, OpenWrite, SyncFlow, WriteFlow};
+
+/// How far the statement at work is: its machine, and what its line tells of the statement itself.
+#[derive(Drop)]
+pub(crate) enum Doing {
+    /// It makes no further call, and this is what comes of it.
+    Known(Outcome),
+    Opening(OpenWrite),
+    Writing {
+        flow: WriteFlow,
+        at: u64,
+        len: u64,
+    },
+    Syncing(SyncFlow),
+    Closing(CloseFlow),
+    Reading {
+        flow: Reading,
+        at: u64,
+    },
+    Verifying {
+        flow: Reading,
+        at: u64,
+        content: Data,
+    },
+}

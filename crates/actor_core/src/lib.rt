@@ -1,0 +1,25 @@
+//! An actor of a script: its statements become calls of the mount, and the replies become their lines.
+//!
+//! The crate owns what each statement does: which machines make its calls, when it is refused, within which call an armed
+//! stop ends it, and what its one line says. An actor keeps at most one writer and one reader between its statements. It
+//! stands on the machines of writers and readers, and needs no mount: who drives an actor makes its calls wherever it likes.
+#![tactic(auto)]
+
+mod actor;
+mod data;
+mod doing;
+mod kept;
+mod laws;
+mod machines;
+mod outcomes;
+mod reading;
+mod starting;
+mod stepping;
+mod stopping;
+mod taking;
+
+pub use actor::Actor;
+pub use kept::{Kept, Stop};
+pub use laws::statements_owe_nothing;
+pub use outcomes::why_of;
+pub use starting::is_built_statement;

@@ -1,0 +1,160 @@
+//! The machine of the statement at work.
+ghost use Rattle.std.specs.Prelude.{◌≡◌, ◌≤◌, IfOk, IfSome, OnOk, option_map};
+ghost use Rattle.mount_model.specs.Step.{IsOwed};
+ghost use Rattle.flow.specs.Standing.{next_of, rest_of};
+ghost use Rattle.actor_core.specs.Stopping.{stoppable as stoppable_of};
+ghost use Rattle.actor_core.specs.declared.actor.State.TheVariants.{Idle};
+ghost use Rattle.actor_core.specs.Progress.{IsReady, ask_of, given, line_of, told};
+ghost use Rattle.actor_core.specs.Endings.{ending};
+ghost use Rattle.actor_core.specs.Standings.{progress_of, calls_left, busy, doing_ready, doing_left};
+
+use crate::actor::{Actor, State};
+use crate::doing::Doing;
+use crate::kept::Stop;
+use crate::outcomes::{close_outcome, stuck_outcome, sync_outcome, write_outcome};
+use crate::stopping::stoppable;
+use flow::Flow;
+use mount_model::Ask;
+use plfs_types::NoMemory;
+use script_lang::{Line, Outcome};
+use writer_flow::{CloseFlow, OpenWrite, SyncFlow, WriteFlow};
+
+/// The next call of the machine, broken off where the stop is within it.
+pub(crate) fn next_ask<F: Flow>(flow: &mut F, stop: Option<Stop>) -> Result<Option<Ask>, NoMemory>
+    ensures ask { IfOk result (λ ask. ask ≡ option_map (stoppable_of stop) (next_of (F.standing flow.old))) }
+    ensures owed { IfOk result (λ ask. IfSome ask IsOwed) }
+    ensures rest { OnOk result (rest_of (F.standing flow.new) ≡ rest_of (F.standing flow.old)) }
+    ensures left { OnOk result (F.left flow.new ≡ F.left flow.old) }
+{
+    match flow.next()? {
+        Some(call) => Ok(Some(stoppable(stop, call))),
+        None => Ok(None),
+    }
+}
+
+impl Actor {
+    /// The next call of the statement at work, or its end.
+    pub(crate) fn next_call(&mut self, doing: Doing) -> Result<Option<Ask>, NoMemory>
+        requires idle { self.old.state ≡ Idle }
+        requires ready { IsReady (busy self.old.number (doing_ready self.old.kept self.old.stop doing)) }
+        ensures ask { IfOk result (λ ask. ask ≡ ask_of (busy self.old.number (doing_ready self.old.kept self.old.stop doing))) }
+        ensures owed { IfOk result (λ ask. IfSome ask IsOwed) }
+        ensures goes_on { OnOk result (progress_of self.new ≡ given (busy self.old.number (doing_ready self.old.kept self.old.stop doing))) }
+        ensures left { OnOk result (calls_left self.new ≤ doing_left doing) }
+    {
+        match doing {
+            Doing::Known(outcome) => {
+                self.tell(outcome);
+                Ok(None)
+            }
+            Doing::Opening(flow) => self.next_opening(flow),
+            Doing::Writing { flow, at, len } => self.next_writing(flow, at, len),
+            Doing::Syncing(flow) => self.next_syncing(flow),
+            Doing::Closing(flow) => self.next_closing(flow),
+            Doing::Reading { flow, at } => self.next_reading(flow, at),
+            Doing::Verifying { flow, at, content } => self.next_verifying(flow, at, content),
+        }
+    }
+
+    /// The statement is at its end.
+    pub(crate) fn tell(&mut self, outcome: Outcome)
+        requires { self.old.state ≡ Idle }
+        ensures told { progress_of self.new ≡ told (line_of self.old.number (ending outcome self.old.kept)) self.old.kept }
+        ensures left { calls_left self.new ≡ 0 }
+    {
+        let number = self.number;
+        self.set(State::Told(Line { number, outcome }));
+    }
+
+    fn next_opening(&mut self, mut flow: OpenWrite) -> Result<Option<Ask>, NoMemory>
+        requires idle { self.old.state ≡ Idle }
+        requires ready { IsReady (busy self.old.number (doing_ready self.old.kept self.old.stop (Doing.Opening flow))) }
+        ensures ask { IfOk result (λ ask. ask ≡ ask_of (busy self.old.number (doing_ready self.old.kept self.old.stop (Doing.Opening flow)))) }
+        ensures owed { IfOk result (λ ask. IfSome ask IsOwed) }
+        ensures goes_on { OnOk result (progress_of self.new ≡ given (busy self.old.number (doing_ready self.old.kept self.old.stop (Doing.Opening flow)))) }
+        ensures left { OnOk result (calls_left self.new ≤ doing_left (Doing.Opening flow)) }
+    {
+        if let Some(ask) = next_ask(&mut flow, self.stop)? {
+            self.set(State::Asked(Doing::Opening(flow)));
+            return Ok(Some(ask));
+        }
+        match flow.out() {
+            Ok(handle) => {
+                self.kept.writer = Some(handle);
+                self.tell(Outcome::Opened {
+                    writer: handle.writer,
+                });
+            }
+            Err(because) => {
+                self.kept.writer = None;
+                self.tell(stuck_outcome(because));
+            }
+        }
+        Ok(None)
+    }
+}
+
+impl Actor {
+    fn next_writing(
+        &mut self,
+        mut flow: WriteFlow,
+        at: u64,
+        len: u64,
+    ) -> Result<Option<Ask>, NoMemory>
+        requires idle { self.old.state ≡ Idle }
+        requires ready { IsReady (busy self.old.number (doing_ready self.old.kept self.old.stop (Doing.Writing flow at len))) }
+        ensures ask { IfOk result (λ ask. ask ≡ ask_of (busy self.old.number (doing_ready self.old.kept self.old.stop (Doing.Writing flow at len)))) }
+        ensures owed { IfOk result (λ ask. IfSome ask IsOwed) }
+        ensures goes_on { OnOk result (progress_of self.new ≡ given (busy self.old.number (doing_ready self.old.kept self.old.stop (Doing.Writing flow at len)))) }
+        ensures left { OnOk result (calls_left self.new ≤ doing_left (Doing.Writing flow at len)) }
+    {
+        if let Some(ask) = next_ask(&mut flow, self.stop)? {
+            self.set(State::Asked(Doing::Writing { flow, at, len }));
+            return Ok(Some(ask));
+        }
+        let out = flow.out();
+        self.kept.writer = out.handle;
+        self.tell(write_outcome(at, len, out.result));
+        Ok(None)
+    }
+}
+
+impl Actor {
+    fn next_syncing(&mut self, mut flow: SyncFlow) -> Result<Option<Ask>, NoMemory>
+        requires idle { self.old.state ≡ Idle }
+        requires ready { IsReady (busy self.old.number (doing_ready self.old.kept self.old.stop (Doing.Syncing flow))) }
+        ensures ask { IfOk result (λ ask. ask ≡ ask_of (busy self.old.number (doing_ready self.old.kept self.old.stop (Doing.Syncing flow)))) }
+        ensures owed { IfOk result (λ ask. IfSome ask IsOwed) }
+        ensures goes_on { OnOk result (progress_of self.new ≡ given (busy self.old.number (doing_ready self.old.kept self.old.stop (Doing.Syncing flow)))) }
+        ensures left { OnOk result (calls_left self.new ≤ doing_left (Doing.Syncing flow)) }
+    {
+        if let Some(ask) = next_ask(&mut flow, self.stop)? {
+            self.set(State::Asked(Doing::Syncing(flow)));
+            return Ok(Some(ask));
+        }
+        let out = flow.out();
+        self.kept.writer = out.handle;
+        self.tell(sync_outcome(out.result));
+        Ok(None)
+    }
+}
+
+impl Actor {
+    fn next_closing(&mut self, mut flow: CloseFlow) -> Result<Option<Ask>, NoMemory>
+        requires idle { self.old.state ≡ Idle }
+        requires ready { IsReady (busy self.old.number (doing_ready self.old.kept self.old.stop (Doing.Closing flow))) }
+        ensures ask { IfOk result (λ ask. ask ≡ ask_of (busy self.old.number (doing_ready self.old.kept self.old.stop (Doing.Closing flow)))) }
+        ensures owed { IfOk result (λ ask. IfSome ask IsOwed) }
+        ensures goes_on { OnOk result (progress_of self.new ≡ given (busy self.old.number (doing_ready self.old.kept self.old.stop (Doing.Closing flow)))) }
+        ensures left { OnOk result (calls_left self.new ≤ doing_left (Doing.Closing flow)) }
+    {
+        if let Some(ask) = next_ask(&mut flow, self.stop)? {
+            self.set(State::Asked(Doing::Closing(flow)));
+            return Ok(Some(ask));
+        }
+        let out = flow.out();
+        self.kept.writer = out.handle;
+        self.tell(close_outcome(out.result));
+        Ok(None)
+    }
+}

@@ -1,0 +1,184 @@
+//! How a statement begins.
+ghost use Rattle.std.specs.Prelude.{◌≡◌, ◌≤◌, ◌^◌, true, IfOk, OnOk};
+ghost use Rattle.script_lang.specs.Ranges.{FitsData, FitsStatement};
+ghost use Rattle.actor_core.specs.Data.{bytes_of};
+ghost use Rattle.actor_core.specs.Endings.{armed};
+ghost use Rattle.actor_core.specs.Work.{finishes};
+ghost use Rattle.actor_core.specs.Writers.{opens, writes, syncs, closes};
+ghost use Rattle.actor_core.specs.Readers.{reads, verifies, maps, closes_reader};
+ghost use Rattle.actor_core.specs.Statements.{is_built_statement as built, greeted_work};
+ghost use Rattle.actor_core.specs.Standings.{goes, doing_ready};
+
+use crate::actor::Actor;
+use crate::data::{block, length};
+use crate::doing::Doing;
+use crate::kept::Stop;
+use crate::outcomes::map_text;
+use index_reader::Reading;
+use plfs_types::{LogicalName, NoMemory};
+use script_lang::{Data, Outcome, Statement, Why};
+use writer_flow::{CloseFlow, OpenWrite, SyncFlow, WriteFlow};
+
+fn refuse(why: Why) -> Doing
+    ensures { result ≡ Doing.Known (Outcome.Refused why) }
+{
+    Doing::Known(Outcome::Refused { why })
+}
+
+/// Whether an actor makes this statement; the others are to come.
+pub fn is_built_statement(statement: &Statement) -> bool
+    ensures { result ≡ built statement.now }
+{
+    match statement {
+        Statement::Ropen { .. }
+        | Statement::Stat { .. }
+        | Statement::Flatten { .. }
+        | Statement::Recover { .. }
+        | Statement::Trunc { .. }
+        | Statement::Rename { .. }
+        | Statement::Ls => false,
+        _ => true,
+    }
+}
+
+impl Actor {
+    /// The statement's beginning, of an actor that has greeted or is to.
+    pub(crate) fn start(&mut self, statement: Statement) -> Result<Doing, NoMemory>
+        requires fits { FitsStatement statement }
+        requires built { built statement ≡ true }
+        ensures goes { IfOk result (λ doing. doing_ready self.new.kept self.new.stop doing ≡ goes (greeted_work self.old.kept statement)) }
+        ensures number { self.new.number ≡ self.old.number }
+        ensures state { self.new.state ≡ self.old.state }
+    {
+        if self.kept.gone {
+            return Ok(Doing::Known(Outcome::Gone));
+        }
+        self.stop = self.kept.armed;
+        self.kept.armed = None;
+        match statement {
+            Statement::Open { name } => Ok(self.open(name)),
+            Statement::Write { at, content } => self.write(at, content),
+            Statement::Sync => Ok(self.sync()),
+            Statement::Close => Ok(self.close()),
+            Statement::Read { at, len } => self.read(at, len),
+            Statement::Verify { at, content } => self.verify(at, content),
+            Statement::Map => self.map(),
+            Statement::Rclose => Ok(self.close_reader()),
+            Statement::Stop { call, bytes } => Ok(self.arm(call, bytes)),
+            _ => unreachable!(),
+        }
+    }
+
+    fn open(&self, name: LogicalName) -> Doing
+        ensures { doing_ready self.now.kept self.now.stop result ≡ goes (opens self.now.kept self.now.stop name self.now.kept.writer) }
+    {
+        match self.kept.writer {
+            Some(_) => refuse(Why::AlreadyOpen),
+            None => Doing::Opening(OpenWrite::new(name, self.kept.host, self.kept.cap)),
+        }
+    }
+
+    fn write(&self, at: u64, content: Data) -> Result<Doing, NoMemory>
+        requires { FitsData content }
+        ensures { IfOk result (λ doing. doing_ready self.now.kept self.now.stop doing
+            ≡ goes (writes self.now.kept self.now.stop at (bytes_of content) self.now.kept.writer)) }
+    {
+        let Some(handle) = self.kept.writer else {
+            return Ok(refuse(Why::NotOpen));
+        };
+        if handle.closing {
+            return Ok(refuse(Why::NotOpen));
+        }
+        let len = length(&content);
+        if len == 0 {
+            return Ok(Doing::Known(Outcome::Wrote {
+                at,
+                len: 0,
+                stamp: None,
+            }));
+        }
+        let block = block(self.alloc, content)?;
+        let flow = WriteFlow::new(handle, at, block);
+        Ok(Doing::Writing { flow, at, len })
+    }
+
+    fn sync(&self) -> Doing
+        ensures { doing_ready self.now.kept self.now.stop result ≡ goes (syncs self.now.kept self.now.stop self.now.kept.writer) }
+    {
+        match self.kept.writer {
+            None => refuse(Why::NotOpen),
+            Some(handle) => {
+                if handle.closing {
+                    refuse(Why::NotOpen)
+                } else {
+                    Doing::Syncing(SyncFlow::new(handle))
+                }
+            }
+        }
+    }
+
+    fn close(&self) -> Doing
+        ensures { doing_ready self.now.kept self.now.stop result ≡ goes (closes self.now.kept self.now.stop self.now.kept.writer) }
+    {
+        match self.kept.writer {
+            None => refuse(Why::NotOpen),
+            Some(handle) => Doing::Closing(CloseFlow::new(handle)),
+        }
+    }
+}
+
+impl Actor {
+    fn read(&self, at: u64, len: u64) -> Result<Doing, NoMemory>
+        requires { len ≤ 2 ^ 24 }
+        ensures { IfOk result (λ doing. doing_ready self.now.kept self.now.stop doing
+            ≡ goes (reads self.now.kept self.now.stop at len self.now.kept.reader)) }
+    {
+        let Some(reader) = &self.kept.reader else {
+            return Ok(refuse(Why::NotOpen));
+        };
+        let flow = Reading::new(self.alloc, reader, at, len)?;
+        Ok(Doing::Reading { flow, at })
+    }
+
+    fn verify(&self, at: u64, content: Data) -> Result<Doing, NoMemory>
+        requires { FitsData content }
+        ensures { IfOk result (λ doing. doing_ready self.now.kept self.now.stop doing
+            ≡ goes (verifies self.now.kept self.now.stop at content self.now.kept.reader)) }
+    {
+        let Some(reader) = &self.kept.reader else {
+            return Ok(refuse(Why::NotOpen));
+        };
+        let flow = Reading::new(self.alloc, reader, at, length(&content))?;
+        Ok(Doing::Verifying { flow, at, content })
+    }
+
+    fn map(&self) -> Result<Doing, NoMemory>
+        ensures { IfOk result (λ doing. doing_ready self.now.kept self.now.stop doing ≡ goes (maps self.now.kept self.now.kept.reader)) }
+    {
+        let Some(reader) = &self.kept.reader else {
+            return Ok(refuse(Why::NotOpen));
+        };
+        let pieces = map_text(self.alloc, reader.pieces())?;
+        Ok(Doing::Known(Outcome::Map { pieces }))
+    }
+
+    fn close_reader(&mut self) -> Doing
+        ensures goes { doing_ready self.new.kept self.new.stop result ≡ goes (closes_reader self.old.kept self.old.kept.reader) }
+        ensures number { self.new.number ≡ self.old.number }
+        ensures state { self.new.state ≡ self.old.state }
+    {
+        match self.kept.reader.take() {
+            None => refuse(Why::NotOpen),
+            Some(_) => Doing::Known(Outcome::ReaderClosed),
+        }
+    }
+
+    fn arm(&mut self, call: u64, bytes: u64) -> Doing
+        ensures goes { doing_ready self.new.kept self.new.stop result ≡ goes (finishes (armed self.old.kept (record { call = call; bytes = bytes }))) }
+        ensures number { self.new.number ≡ self.old.number }
+        ensures state { self.new.state ≡ self.old.state }
+    {
+        self.kept.armed = Some(Stop { call, bytes });
+        Doing::Known(Outcome::Armed)
+    }
+}

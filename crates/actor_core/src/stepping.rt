@@ -1,0 +1,188 @@
+//! How an actor goes on.
+ghost use Rattle.std.specs.Prelude.{◌≡◌, ◌<◌, ◌≤◌, ◌↔◌, true, IfOk, IfSome, OnOk, IsErr, IsTrue};
+ghost use Rattle.mount_model.specs.declared.reply.Reply.TheVariants.{NoMemory as WantsMemory};
+ghost use Rattle.mount_model.specs.Step.{IsOwed};
+ghost use Rattle.script_lang.specs.Ranges.{FitsActor, FitsStatement};
+ghost use Rattle.story.specs.Process.{asks};
+ghost use Rattle.flow.specs.Running.{unbroken};
+ghost use Rattle.mount_model.specs.declared.call.Call.TheVariants.{Greet};
+ghost use Rattle.actor_core.specs.declared.actor.State.TheVariants.{Idle};
+ghost use Rattle.actor_core.specs.Statements.{is_built_statement, greeted_work};
+ghost use Rattle.actor_core.specs.Progress.{idle, going, fresh, IsIdle, IsReady, IsAsked, begun, ask_of, given, with_reply, waiting_line, line_taken};
+ghost use Rattle.actor_core.specs.Standings.{progress_of, calls_left};
+
+use crate::actor::{Actor, State};
+use crate::kept::Kept;
+use mount_model::{Ask, Call, Reply};
+use plfs_types::NoMemory;
+use script_lang::{ActorDecl, Line, Statement};
+use std::alloc::Global;
+use std::mem;
+
+impl Actor {
+    /// An actor that has done nothing yet. Its capacity is 1 to 4096 entries.
+    pub fn new(alloc: Global, declared: ActorDecl) -> Actor
+        requires { FitsActor declared }
+        ensures { progress_of result ≡ idle (fresh declared.host declared.cap) }
+    {
+        Actor {
+            alloc,
+            kept: Kept {
+                host: declared.host,
+                cap: declared.cap,
+                greeted: false,
+                writer: None,
+                reader: None,
+                armed: None,
+                gone: false,
+            },
+            number: 0,
+            stop: None,
+            state: State::Idle,
+        }
+    }
+
+    /// Begins a statement, of which the line has this number. An actor that answered `NoMemory` is at its end.
+    pub fn begin(&mut self, number: u64, statement: Statement) -> Result<(), NoMemory>
+        requires idle { IsIdle (progress_of self.old) }
+        requires fits { FitsStatement statement }
+        requires built { is_built_statement statement ≡ true }
+        ensures { OnOk result (progress_of self.new ≡ begun (progress_of self.old) number statement) }
+    {
+        self.number = number;
+        if self.kept.greeted {
+            self.enter(statement)
+        } else {
+            self.kept.greeted = true;
+            self.enter_greeting(statement)
+        }
+    }
+
+    fn enter(&mut self, statement: Statement) -> Result<(), NoMemory>
+        requires fits { FitsStatement statement }
+        requires built { is_built_statement statement ≡ true }
+        requires idle { self.old.state ≡ Idle }
+        ensures { OnOk result (progress_of self.new ≡ going self.old.number (greeted_work self.old.kept statement)) }
+    {
+        let doing = self.start(statement)?;
+        self.set(State::Ready(doing));
+        Ok(())
+    }
+
+    fn enter_greeting(&mut self, statement: Statement) -> Result<(), NoMemory>
+        requires fits { FitsStatement statement }
+        requires built { is_built_statement statement ≡ true }
+        requires idle { self.old.state ≡ Idle }
+        ensures { OnOk result (progress_of self.new ≡ going self.old.number (asks (unbroken Greet) (λ reply. greeted_work self.old.kept statement))) }
+    {
+        let doing = self.start(statement)?;
+        self.set(State::Greeting(doing));
+        Ok(())
+    }
+
+    /// Puts the actor in this state, where its state was taken out.
+    pub(crate) fn set(&mut self, state: State)
+        requires { self.old.state ≡ Idle }
+        ensures state { self.new.state ≡ state }
+        ensures kept { self.new.kept ≡ self.old.kept }
+        ensures number { self.new.number ≡ self.old.number }
+        ensures stop { self.new.stop ≡ self.old.stop }
+    {
+        match mem::replace(&mut self.state, state) {
+            State::Idle => {}
+            _ => unreachable!(),
+        }
+    }
+
+    /// Takes the state out, and leaves the idle one.
+    fn state_taken(&mut self) -> State
+        ensures state { result ≡ self.old.state }
+        ensures kept { self.new.kept ≡ self.old.kept }
+        ensures number { self.new.number ≡ self.old.number }
+        ensures stop { self.new.stop ≡ self.old.stop }
+        ensures idle { self.new.state ≡ Idle }
+    {
+        mem::replace(&mut self.state, State::Idle)
+    }
+}
+
+impl Actor {
+    /// The next call of its statement, its greeting before the first one; or None exactly where no statement is in progress or
+    /// it has no further call. Then its line is ready.
+    pub fn next(&mut self) -> Result<Option<Ask>, NoMemory>
+        requires { IsReady (progress_of self.old) }
+        ensures ask { IfOk result (λ ask. ask ≡ ask_of (progress_of self.old)) }
+        ensures owed { IfOk result (λ ask. IfSome ask IsOwed) }
+        ensures goes_on { OnOk result (progress_of self.new ≡ given (progress_of self.old)) }
+        ensures left { OnOk result (calls_left self.new ≤ calls_left self.old) }
+    {
+        match self.state_taken() {
+            State::Idle => Ok(None),
+            State::Told(line) => {
+                self.set(State::Told(line));
+                Ok(None)
+            }
+            State::Ready(doing) => self.next_call(doing),
+            State::Greeting(doing) => {
+                self.set(State::Greeted(doing));
+                Ok(Some(Ask {
+                    call: Call::Greet,
+                    stop: None,
+                }))
+            }
+            // Where a call is out, nobody asks for a further one.
+            State::Asked(doing) => {
+                self.set(State::Asked(doing));
+                Ok(None)
+            }
+            State::Greeted(doing) => {
+                self.set(State::Greeted(doing));
+                Ok(None)
+            }
+        }
+    }
+
+    /// Takes the reply to the call that `next` gave. A reply of `NoMemory` is answered so.
+    pub fn take(&mut self, reply: Reply) -> Result<(), NoMemory>
+        requires { IsAsked (progress_of self.old) }
+        ensures goes_on { OnOk result (progress_of self.new ≡ with_reply (progress_of self.old) reply) }
+        ensures left { OnOk result (calls_left self.new < calls_left self.old) }
+        ensures no_memory { reply ≡ WantsMemory → IsErr result }
+    {
+        if let Reply::NoMemory = reply {
+            return Err(NoMemory);
+        }
+        match self.state_taken() {
+            // In each of these a call of the statement's machine is out.
+            State::Asked(doing) => self.take_reply(doing, reply),
+            State::Ready(doing) => self.take_reply(doing, reply),
+            State::Greeting(doing) => self.take_reply(doing, reply),
+            State::Greeted(doing) => {
+                self.set(State::Ready(doing));
+                Ok(())
+            }
+            State::Idle | State::Told(_) => unreachable!(),
+        }
+    }
+
+    /// Whether no statement is in progress and no line waits.
+    pub fn is_idle(&self) -> bool
+        ensures { IsTrue result ↔ IsIdle (progress_of self.now) }
+    {
+        matches!(self.state, State::Idle)
+    }
+
+    /// The line of the statement that came to its end, or None exactly where one is in progress or none was begun.
+    pub fn line(&mut self) -> Option<Line>
+        ensures line { result ≡ waiting_line (progress_of self.old) }
+        ensures taken { progress_of self.new ≡ line_taken (progress_of self.old) }
+    {
+        match self.state_taken() {
+            State::Told(line) => Some(line),
+            other => {
+                self.set(other);
+                None
+            }
+        }
+    }
+}

@@ -1,0 +1,76 @@
+//! How the statement at work goes on with a reply.
+ghost use Rattle.std.specs.Prelude.{◌≡◌, ◌<◌, ℕ, false, Option, IfOk, OnOk};
+ghost use Rattle.actor_core.specs.declared.kept.Kept.{Kept as AKept};
+ghost use Rattle.actor_core.specs.declared.kept.Stop.{Stop as AStop};
+ghost use Rattle.actor_core.specs.Stopping.{is_due as due_test, one_nearer as nearer};
+ghost use Rattle.actor_core.specs.declared.actor.State.TheVariants.{Idle};
+ghost use Rattle.actor_core.specs.Progress.{IsAsked, with_reply};
+ghost use Rattle.actor_core.specs.Standings.{AwaitsReply, progress_of, calls_left, busy, doing_ready, doing_asked, doing_left};
+
+use crate::actor::{Actor, State};
+use crate::doing::Doing;
+use crate::stopping::{is_due, one_nearer};
+use flow::Flow;
+use mount_model::Reply;
+use plfs_types::NoMemory;
+use script_lang::Outcome;
+
+impl Actor {
+    /// Goes on with the reply to the call of the statement at work, or stops.
+    pub(crate) fn take_reply(&mut self, doing: Doing, reply: Reply) -> Result<(), NoMemory>
+        requires idle { self.old.state ≡ Idle }
+        requires asked { IsAsked (busy self.old.number (doing_asked self.old.kept self.old.stop doing)) }
+        ensures goes_on { OnOk result (progress_of self.new ≡ with_reply (busy self.old.number (doing_asked self.old.kept self.old.stop doing)) reply) }
+        ensures left { OnOk result (calls_left self.new < doing_left doing) }
+    {
+        if is_due(self.stop) {
+            self.kept.gone = true;
+            self.set(State::Ready(Doing::Known(Outcome::Stopped)));
+            return Ok(());
+        }
+        let doing = after_reply(doing, reply)?;
+        self.stop = one_nearer(self.stop);
+        self.set(State::Ready(doing));
+        Ok(())
+    }
+}
+
+/// The machine once it took the reply to its call.
+fn after_reply(doing: Doing, reply: Reply) -> Result<Doing, NoMemory>
+    requires { AwaitsReply doing }
+    ensures goes_on { IfOk result (λ next. (number : ℕ) (kept : AKept) (stop : Option AStop) → due_test stop ≡ false
+        → busy number (doing_ready kept (nearer stop) next) ≡ with_reply (busy number (doing_asked kept stop doing)) reply) }
+    ensures left { IfOk result (λ next. doing_left next < doing_left doing) }
+{
+    Ok(match doing {
+        Doing::Known(_) => unreachable!(),
+        Doing::Opening(mut flow) => {
+            flow.take(reply)?;
+            Doing::Opening(flow)
+        }
+        Doing::Writing { mut flow, at, len } => {
+            flow.take(reply)?;
+            Doing::Writing { flow, at, len }
+        }
+        Doing::Syncing(mut flow) => {
+            flow.take(reply)?;
+            Doing::Syncing(flow)
+        }
+        Doing::Closing(mut flow) => {
+            flow.take(reply)?;
+            Doing::Closing(flow)
+        }
+        Doing::Reading { mut flow, at } => {
+            flow.take(reply)?;
+            Doing::Reading { flow, at }
+        }
+        Doing::Verifying {
+            mut flow,
+            at,
+            content,
+        } => {
+            flow.take(reply)?;
+            Doing::Verifying { flow, at, content }
+        }
+    })
+}

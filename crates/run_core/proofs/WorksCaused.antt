@@ -1,0 +1,181 @@
+-- The line of a statement tells of a fault only where a fault was answered.
+use Rattle.std.proofs.Common.{◌≡◌, ◌≢◌, ◌⊎◌, inl, inr, ℕ, List, length, Bool, true, false, Option, Some, None, Result, Ok, Err, refl, ap, subst}
+use Rattle.std.specs.Prelude.{if◌then◌else◌, ◌==◌, MatchOption}
+use Rattle.story.specs.Program.{Program, done, ask}
+use Rattle.mount_model.specs.declared.call.Ask.{Ask}
+use Rattle.mount_model.specs.declared.call.Call.{Call}
+use Rattle.mount_model.specs.declared.reply.Reply.{Reply}
+use Rattle.mount_model.specs.declared.reply.Reply.TheVariants.{Fault as Faulted, NoMemory, Stopped as WasStopped}
+use Rattle.mount_model.specs.Replies.{FitsCall, FitsAsk}
+use Rattle.flow.specs.declared.trouble.Stuck.{Stuck}
+use Rattle.flow.specs.declared.trouble.Stuck.TheVariants as stuck
+use Rattle.read_plan.specs.Plan.{plan_of}
+use Rattle.writer_flow.specs.declared.handle.WriterHandle.{WriterHandle}
+use Rattle.writer_flow.specs.Opening.{open_program}
+use Rattle.writer_flow.specs.Writing.{write_program}
+use Rattle.writer_flow.specs.Syncing.{sync_program}
+use Rattle.writer_flow.specs.Closing.{close_program}
+use Rattle.index_reader.specs.Reading.{read_program}
+use Rattle.index_reader.specs.declared.opened.OpenReader.{OpenReader}
+use Rattle.script_lang.specs.declared.line.Outcome.{Outcome}
+use Rattle.script_lang.specs.declared.line.Outcome.TheVariants as of
+use Rattle.script_lang.specs.declared.line.Why.TheVariants.{NotOpen}
+use Rattle.script_lang.specs.declared.script.Data.{Data}
+use Rattle.script_lang.specs.declared.script.Statement.{Statement}
+use Rattle.script_lang.specs.declared.script.Statement.TheVariants.{Open, Write, Sync, Close, Ropen, Read, Verify, Map, Rclose, Stat, Flatten, Recover, Trunc as Truncs, Rename, Ls, Stop as Arms}
+use Rattle.actor_core.specs.declared.kept.Kept.{Kept}
+use Rattle.actor_core.specs.declared.kept.Stop.{Stop}
+use Rattle.actor_core.specs.Data.{bytes_of, length_of, first_difference}
+use Rattle.actor_core.specs.Endings.{gone, refused, stopped, opened, wrote_nothing, wrote, synced, closed, read_from, verified}
+use Rattle.actor_core.specs.Outcomes.{stuck_outcome, or_stuck, difference}
+use Rattle.actor_core.specs.Readers.{reads, verifies, maps, closes_reader}
+use Rattle.actor_core.specs.Statements.{is_built_statement, does, greeted, greeted_work, disarmed, work_of}
+use Rattle.actor_core.specs.Stopping.{carried, is_due, due_bytes, stoppable, one_nearer}
+use Rattle.actor_core.specs.Work.{Work, finishes}
+use Rattle.actor_core.specs.Writers.{opens, writes, writes_bytes, syncs, closes}
+use Rattle.run_core.proofs.GoodLines.{EndsGood}
+use Rattle.run_core.proofs.EndsWell.{EndsIn, is_no_fault, ends_well, open_well, write_well, sync_well, close_well}
+use Rattle.run_core.proofs.ReaderEndsWell.{read_well}
+
+-- the reply fits, is no fault, and was not for want of memory
+abbrev pub IsWell : Ask → Reply → Type 0
+IsWell question reply = (reply ≢ Faulted) × (reply ≢ NoMemory) × FitsAsk question reply
+
+abbrev pub NoFault : Outcome → Type 0
+NoFault outcome = outcome ≢ of.Fault
+
+-- while its calls are answered so, it doesn't end in a fault
+abbrev pub IsCaused : Work → Type 0
+IsCaused work = EndsGood IsWell NoFault work
+
+either_caused : (b : Bool) (p q : Work) → (b ≡ true → IsCaused p) → (b ≡ false → IsCaused q) → IsCaused (if b then p else q)
+either_caused true p q x y = x refl
+either_caused false p q x y = y refl
+
+-- ---- a program
+
+not_broken : (stop : Option Stop) → is_due stop ≡ false → due_bytes stop ≡ None
+not_broken None later = refl
+not_broken (Some stop) later = ap (λ b. if b then Some stop.bytes else None) later
+
+fits_unbroken : (call : Call) (stop : Option Stop) (reply : Reply) → is_due stop ≡ false → FitsAsk (stoppable stop call) reply → FitsCall call reply
+fits_unbroken call stop reply later fits = subst (λ (bytes : Option ℕ). MatchOption bytes (FitsCall call reply) (λ k. (reply ≡ WasStopped) ⊎ (reply ≡ NoMemory))) (not_broken stop later) fits
+
+carried_caused : {R : Type 0} (fine : R → Bool) (p : Program Call Reply R) (stop : Option Stop) (next : Option Stop → R → Work) (halted : Work) → EndsIn fine p → ((left : Option Stop) (r : R) → fine r ≡ true → IsCaused (next left r)) → IsCaused halted → IsCaused (carried p stop next halted)
+carried_caused fine (done r) stop next halted well goes stops = goes stop r well
+carried_caused fine (ask call k) stop next halted well goes stops = λ reply is.
+    either_caused (is_due stop) halted (carried (k reply) (one_nearer stop) next halted) (λ _. stops) (λ later.
+    elim (well reply (fits_unbroken call stop reply later is.2)) as (λ _. IsCaused (carried (k reply) (one_nearer stop) next halted)) [
+      | inl none ↦ absurd (is.1 none)
+      | inr rest ↦ elim rest as (λ _. IsCaused (carried (k reply) (one_nearer stop) next halted)) [
+        | inl bad ↦ absurd (is.0 bad)
+        | inr more ↦ carried_caused fine (k reply) (one_nearer stop) next halted more goes stops
+      ]
+    ])
+
+-- ---- what lines say
+
+stuck_is_none : (A : Type 0) (why : Stuck) → is_no_fault {A = A} (Err why) ≡ true → stuck_outcome why ≢ of.Fault
+stuck_is_none A stuck.Fault fine is = absurd (cc)
+stuck_is_none A (stuck.Damaged folder file place) fine is = absurd (cc)
+stuck_is_none A (stuck.Refused why) fine is = absurd (cc)
+
+or_stuck_none : {A : Type 0} (says : A → Outcome) (result : Result A Stuck) → ((a : A) → says a ≢ of.Fault) → is_no_fault result ≡ true → or_stuck says result ≢ of.Fault
+or_stuck_none says (Ok a) good fine = good a
+or_stuck_none {A} says (Err why) good fine = stuck_is_none A why fine
+
+difference_none : (at : ℕ) (place : Option ℕ) → difference at place ≢ of.Fault
+difference_none at None is = absurd (cc)
+difference_none at (Some j) is = absurd (cc)
+
+-- ---- a writer
+
+stops_none : (kept : Kept) → IsCaused (finishes (stopped kept))
+stops_none kept = λ is. absurd (cc)
+
+refused_none : (kept : Kept) → IsCaused (finishes (refused kept NotOpen))
+refused_none kept = λ is. absurd (cc)
+
+opens_caused : (kept : Kept) (stop : Option Stop) (name : List ℕ) (writer : Option WriterHandle) → IsCaused (opens kept stop name writer)
+opens_caused kept stop name (Some handle) = λ is. absurd (cc)
+opens_caused kept stop name None =
+    carried_caused is_no_fault (open_program name kept.host kept.cap) stop (λ left result. finishes (opened kept result)) (finishes (stopped kept)) (open_well name kept.host kept.cap)
+    (λ left result fine. or_stuck_none (λ handle. of.Opened handle.writer) result (λ handle is. absurd (cc)) fine) (stops_none kept)
+
+wrote_caused : (kept : Kept) (stop : Option Stop) (at : ℕ) (bytes : List ℕ) (handle : WriterHandle) → IsCaused (writes_bytes kept stop at bytes handle)
+wrote_caused kept stop at bytes handle =
+    either_caused (length bytes == 0) (finishes (wrote_nothing kept at)) (carried (write_program handle at bytes) stop (λ left out. finishes (wrote kept at (length bytes) out)) (finishes (stopped kept))) (λ none is. absurd (cc))
+    (λ some. carried_caused ends_well (write_program handle at bytes) stop (λ left out. finishes (wrote kept at (length bytes) out)) (finishes (stopped kept)) (write_well handle at bytes)
+    (λ left out fine. or_stuck_none (λ stamp. of.Wrote at (length bytes) (Some stamp)) out.result (λ stamp is. absurd (cc)) fine) (stops_none kept))
+
+writes_caused : (kept : Kept) (stop : Option Stop) (at : ℕ) (bytes : List ℕ) (writer : Option WriterHandle) → IsCaused (writes kept stop at bytes writer)
+writes_caused kept stop at bytes None = refused_none kept
+writes_caused kept stop at bytes (Some handle) =
+    either_caused handle.closing (finishes (refused kept NotOpen)) (writes_bytes kept stop at bytes handle) (λ _. refused_none kept) (λ _. wrote_caused kept stop at bytes handle)
+
+syncs_caused : (kept : Kept) (stop : Option Stop) (writer : Option WriterHandle) → IsCaused (syncs kept stop writer)
+syncs_caused kept stop None = refused_none kept
+syncs_caused kept stop (Some handle) =
+    either_caused handle.closing (finishes (refused kept NotOpen)) (carried (sync_program handle) stop (λ left out. finishes (synced kept out)) (finishes (stopped kept))) (λ _. refused_none kept)
+    (λ _. carried_caused ends_well (sync_program handle) stop (λ left out. finishes (synced kept out)) (finishes (stopped kept)) (sync_well handle)
+    (λ left out fine. or_stuck_none (λ landed. of.Synced landed) out.result (λ landed is. absurd (cc)) fine) (stops_none kept))
+
+closes_caused : (kept : Kept) (stop : Option Stop) (writer : Option WriterHandle) → IsCaused (closes kept stop writer)
+closes_caused kept stop None = refused_none kept
+closes_caused kept stop (Some handle) =
+    carried_caused ends_well (close_program handle) stop (λ left out. finishes (closed kept out)) (finishes (stopped kept)) (close_well handle)
+    (λ left out fine. or_stuck_none (λ landed. of.Closed landed) out.result (λ landed is. absurd (cc)) fine) (stops_none kept)
+
+-- ---- a reader
+
+reads_caused : (kept : Kept) (stop : Option Stop) (at len : ℕ) (reader : Option OpenReader) → IsCaused (reads kept stop at len reader)
+reads_caused kept stop at len None = refused_none kept
+reads_caused kept stop at len (Some reader) =
+    let plan = plan_of reader.pieces reader.size at len in
+    carried_caused is_no_fault (read_program reader.room reader.droppings plan) stop (λ left result. finishes (read_from kept at result)) (finishes (stopped kept)) (read_well reader.room reader.droppings plan)
+    (λ left result fine. or_stuck_none (λ content. of.Read at content) result (λ content is. absurd (cc)) fine) (stops_none kept)
+
+verifies_caused : (kept : Kept) (stop : Option Stop) (at : ℕ) (content : Data) (reader : Option OpenReader) → IsCaused (verifies kept stop at content reader)
+verifies_caused kept stop at content None = refused_none kept
+verifies_caused kept stop at content (Some reader) =
+    let plan = plan_of reader.pieces reader.size at (length_of content) in
+    carried_caused is_no_fault (read_program reader.room reader.droppings plan) stop (λ left result. finishes (verified kept at content result)) (finishes (stopped kept)) (read_well reader.room reader.droppings plan)
+    (λ left result fine. or_stuck_none (λ found. difference at (first_difference 0 (bytes_of content) found)) result (λ found. difference_none at (first_difference 0 (bytes_of content) found)) fine) (stops_none kept)
+
+maps_caused : (kept : Kept) (reader : Option OpenReader) → IsCaused (maps kept reader)
+maps_caused kept None = refused_none kept
+maps_caused kept (Some reader) = λ is. absurd (cc)
+
+closes_reader_caused : (kept : Kept) (reader : Option OpenReader) → IsCaused (closes_reader kept reader)
+closes_reader_caused kept None = refused_none kept
+closes_reader_caused kept (Some reader) = λ is. absurd (cc)
+
+-- ---- a statement
+
+gone_none : (kept : Kept) → IsCaused (finishes (gone kept))
+gone_none kept = λ is. absurd (cc)
+
+does_caused : (kept : Kept) (stop : Option Stop) (statement : Statement) → is_built_statement statement ≡ true → IsCaused (does kept stop statement)
+does_caused kept stop (Open name) built = opens_caused kept stop name kept.writer
+does_caused kept stop (Write at content) built = writes_caused kept stop at (bytes_of content) kept.writer
+does_caused kept stop Sync built = syncs_caused kept stop kept.writer
+does_caused kept stop Close built = closes_caused kept stop kept.writer
+does_caused kept stop (Ropen name workers) built = absurd (cc)
+does_caused kept stop (Read at len) built = reads_caused kept stop at len kept.reader
+does_caused kept stop (Verify at content) built = verifies_caused kept stop at content kept.reader
+does_caused kept stop Map built = maps_caused kept kept.reader
+does_caused kept stop Rclose built = closes_reader_caused kept kept.reader
+does_caused kept stop (Arms call bytes) built = λ is. absurd (cc)
+does_caused kept stop (Stat name) built = gone_none kept
+does_caused kept stop (Flatten name) built = gone_none kept
+does_caused kept stop (Recover name) built = gone_none kept
+does_caused kept stop (Truncs name size) built = gone_none kept
+does_caused kept stop (Rename name new) built = gone_none kept
+does_caused kept stop Ls built = gone_none kept
+
+greeted_caused : (kept : Kept) (statement : Statement) → is_built_statement statement ≡ true → IsCaused (greeted_work kept statement)
+greeted_caused kept statement built = either_caused kept.gone (finishes (gone kept)) (does (disarmed kept) kept.armed statement) (λ _. gone_none kept) (λ _. does_caused (disarmed kept) kept.armed statement built)
+
+-- whatever the actor keeps
+pub work_caused : (kept : Kept) (statement : Statement) → is_built_statement statement ≡ true → IsCaused (work_of kept statement)
+work_caused kept statement built = either_caused kept.greeted (greeted_work kept statement) _ (λ _. greeted_caused kept statement built) (λ _ reply is. greeted_caused (greeted kept) statement built)

@@ -1,0 +1,27 @@
+use Rattle.std.proofs.Common.{◌+◌, List, subst, take, drop}
+use Rattle.script_lang.specs.declared.script.Numbered.{Numbered}
+use Rattle.run_core.specs.Written.{whose}
+use Rattle.run_core.specs.World.{AllStand}
+use Rattle.run_core.proofs.Tables.{taken_item, left_item}
+use Rattle.run_core.proofs.Finishing.{tells_none, tells_more, has_line, went_told}
+use Rattle.run_core.proofs.ending.finish.Goals as goal
+
+pub loop-statement-init : goal.loop-statement-init
+loop-statement-init g c = tells_none c.args.statements.now c.args.lines.now c.args.players.now c.args.mount.now c.requires.stand
+
+pub pass-requires-clause-fit : goal.pass-requires-clause-fit
+pass-requires-clause-fit g c = λ player here. (c.loop-statement.invariant.came.stand _ player here).fit
+
+pub pass-requires-clause-some : goal.pass-requires-clause-some
+pass-requires-clause-some g c = λ player here.
+    has_line c.statement-item.result (drop (c.loop-statement.statement-index + 1) c.args.statements.now) c.loop-statement.players player
+    (subst (λ (z : List Numbered). AllStand z c.loop-statement.players) (left_item c.args.statements.now c.loop-statement.statement-index c.statement-item.result c.loop-statement-test.true c.statement-item.is) c.loop-statement.invariant.came.stand) here
+
+pub returns-in_err-pass-clause-goes_on : goal.returns-in_err-pass-clause-goes_on
+returns-in_err-pass-clause-goes_on g c =
+    went_told (whose (take c.loop-statement.statement-index c.args.statements.now)) (drop c.loop-statement.statement-index c.args.statements.now) c.args.lines.now c.loop-statement.lines c.args.players.now c.loop-statement.players c.args.mount.now c.loop-statement.mount c.pass.new.mount c.loop-statement.invariant c.in_err-pass.ensures.goes_on
+
+pub loop-statement-preserved : goal.loop-statement-preserved
+loop-statement-preserved g c =
+    tells_more c.args.statements.now c.loop-statement.statement-index c.statement-item.result c.args.lines.now c.loop-statement.lines c.pass.new.lines c.args.players.now c.loop-statement.players c.pass.new.players c.args.mount.now c.loop-statement.mount c.pass.new.mount
+    (taken_item c.args.statements.now c.loop-statement.statement-index c.statement-item.result c.loop-statement-test.true c.statement-item.is) (left_item c.args.statements.now c.loop-statement.statement-index c.statement-item.result c.loop-statement-test.true c.statement-item.is) c.loop-statement.invariant c.in_ok-pass.ensures.passes

@@ -1,0 +1,5 @@
+use Rattle.run_core.proofs.Rightness.{play_right}
+use Rattle.run_core.proofs.laws.a_play_is_right.Goals as goal
+
+pub returns : goal.returns
+returns c = λ script start lines end play. play_right script start lines end play

@@ -1,0 +1,26 @@
+use Rattle.std.proofs.Common.{◌≡◌, ◌<◌, [], ◌∷◌, length, refl, sym, subst, get_or, arith}
+use Rattle.std.proofs.lemmas.Option.{slice_get-get_or}
+use Rattle.script_lang.specs.declared.script.Numbered.{Numbered}
+use Rattle.script_lang.specs.declared.script.Statement.{Statement}
+use Rattle.run_core.specs.World.{IsDealt}
+use Rattle.run_core.proofs.Tables.{taken_item}
+use Rattle.run_core.proofs.Dealing.{dealt_none, dealt_more}
+use Rattle.run_core.proofs.phase.deal.Goals as goal
+
+pub loop-statement-init : goal.loop-statement-init
+loop-statement-init c = dealt_none c.args.players.now
+
+pub loop-statement-preserved : goal.loop-statement-preserved
+loop-statement-preserved c =
+    let s = c.statement-item.result in
+    let there : s.actor < length c.args.players.now = subst (λ (z : Numbered). z.actor < length c.args.players.now) (sym c.statement-item.is) (c.requires c.loop-statement.statement-index s c.loop-statement-test.true) in
+    let long : length c.loop-statement.players ≡ length c.args.players.now = c.loop-statement.invariant.long in
+    let within : s.actor < length c.loop-statement.players = omega (arith, there, long) in
+    dealt_more c.args.statements.now c.loop-statement.statement-index s c.args.players.now c.loop-statement.players _ (taken_item c.args.statements.now c.loop-statement.statement-index s c.loop-statement-test.true c.statement-item.is) c.loop-statement.invariant
+    (record {
+      before = get_or c.loop-statement.players s.actor c.index-players-place.result;
+      after = c.give.new.self;
+      here = slice_get-get_or c.loop-statement.players s.actor c.index-players-place.result within;
+      does = subst (λ (z : Statement). IsDealt (record { line = s.line; actor = s.actor; statement = z } ∷ []) (get_or c.loop-statement.players s.actor c.index-players-place.result) c.give.new.self) c.in_ok-made.ensures c.in_ok-give.ensures;
+      new_is = refl;
+    })

@@ -1,0 +1,11 @@
+pub mod Course
+pub mod Written
+pub mod Cast
+pub mod Leading
+pub mod Play
+pub mod Conditions
+pub mod Faults
+pub mod Listing
+pub mod Players
+pub mod Moving
+pub mod World

@@ -1,0 +1,77 @@
+-- What the actors of the code have still to do.
+use Rattle.std.specs.Prelude.{◌≡◌, ℕ, ◌+◌, ⊤, true, All, List, length, Result}
+use Rattle.mount_model.specs.declared.call.Ask.{Ask}
+use Rattle.mount_model.specs.declared.reply.Reply.{Reply}
+use Rattle.flow.specs.declared.trouble.Stuck.{Stuck}
+use Rattle.index_reader.specs.declared.sharing.Share.{Share}
+use Rattle.mount_sound.specs.Owed.{OwesNothing}
+use Rattle.story.specs.Process.{ends, pauses, tells, asks, shares}
+use Rattle.story.specs.Performers.{Performer, performer}
+use Rattle.script_lang.specs.declared.line.Line.{Line}
+use Rattle.script_lang.specs.declared.script.Numbered.{Numbered}
+use Rattle.script_lang.specs.declared.script.Phase.{Phase}
+use Rattle.script_lang.specs.Ranges.{FitsStatement}
+use Rattle.actor_core.specs.declared.kept.Kept.{Kept}
+use Rattle.actor_core.specs.Work.{Work}
+use Rattle.actor_core.specs.Progress.{Progress, idle, going, asked, told}
+use Rattle.actor_core.specs.Standings.{progress_of}
+use Rattle.actor_core.specs.Statements.{is_built_statement}
+use Rattle.run_core.specs.declared.player.Player.{Player}
+use Rattle.run_core.specs.Course.{Course, then_line, one_by_one, own, through}
+
+-- the rest of the statement in progress, and then these statements
+abbrev pub course_at : Progress → List Numbered → (Kept → Course) → Course
+course_at (idle kept) statements next = one_by_one statements next kept
+course_at (going number work) statements next = then_line number (λ kept. one_by_one statements next kept) work
+course_at (asked number k) statements next = ends
+course_at (told line kept) statements next = tells line (one_by_one statements next kept)
+
+-- what the player has still to do in this phase, and this after the pause
+abbrev pub course_left : Player → (Kept → Course) → Course
+course_left player later = course_at (progress_of player.actor) player.queue.items (λ kept. pauses (later kept))
+
+-- a player in a phase, with these phases to come; and one between phases
+abbrev pub playing : List Phase → Player → Performer Ask Reply (Result Share Stuck) Line
+playing later player = performer player.number (course_left player (through player.number later)) player.ahead.items
+
+abbrev pub resting : List Phase → Player → Performer Ask Reply (Result Share Stuck) Line
+resting later player = performer player.number (course_at (progress_of player.actor) player.queue.items (through player.number later)) player.ahead.items
+
+-- for none of its calls anything is owed of the mount's state, and it ends with a line
+abbrev pub IsUnowed : Work → Type 0
+IsUnowed ends = ⊥
+IsUnowed (pauses work) = ⊥
+IsUnowed (tells ending work) = ⊤
+IsUnowed (asks question k) = OwesNothing question.call × ((reply : Reply) → IsUnowed (k reply))
+IsUnowed (shares programs k alone) = IsUnowed alone
+
+-- between two calls; so is the rest of the statement in progress
+abbrev pub IsUnowedProgress : Progress → Type 0
+IsUnowedProgress (idle kept) = ⊤
+IsUnowedProgress (going number work) = IsUnowed work
+IsUnowedProgress (asked number k) = ⊥
+IsUnowedProgress (told line kept) = ⊤
+
+-- a statement that an actor makes
+abbrev pub IsMade : Numbered → Type 0
+IsMade s = FitsStatement s.statement × (is_built_statement s.statement ≡ true)
+
+-- the player may go on
+pub record IsFit (player : Player) : Type 0 where
+  pub unowed : IsUnowedProgress (progress_of player.actor)
+  pub made : All IsMade player.queue.items
+
+-- one where a statement is in progress, or its line waits
+abbrev pub in_progress : Progress → ℕ
+in_progress (idle kept) = 0
+in_progress _ = 1
+
+-- how many of its lines in this phase are not passed in writing
+abbrev pub lines_left : Player → ℕ
+lines_left player = length player.ahead.items + in_progress (progress_of player.actor) + length player.queue.items
+
+-- the player of this place, where in this phase these statements are not passed in writing
+pub record Stands (statements : List Numbered) (place : ℕ) (player : Player) : Type 0 where
+  pub number : player.number ≡ place
+  pub fit : IsFit player
+  pub left : lines_left player ≡ length (own place statements)

@@ -1,0 +1,16 @@
+//! Playing a script: its actors make their calls on one mount, by written turns.
+//!
+//! The crate owns what each actor does in a whole run, in which order the written turns have the actors call, and which lines are right for a script. It stands on
+//! the actors of `actor_core`, the mount, and the histories of `story`. Each actor calls under a number of its own, its place in the declarations.
+#![tactic(auto)]
+
+mod calling;
+mod ending;
+mod laws;
+mod phase;
+mod player;
+mod playing;
+mod turns;
+
+pub use laws::a_play_is_right;
+pub use playing::play;

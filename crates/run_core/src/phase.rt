@@ -1,0 +1,78 @@
+//! One phase.
+ghost use Rattle.std.specs.Prelude.{◌≡◌, ◌<◌, [], OnOk, All, length};
+ghost use Rattle.script_lang.specs.Ranges.{FitsPhase};
+ghost use Rattle.run_core.specs.Conditions.{IsBuiltPhase};
+ghost use Rattle.run_core.specs.Leading.{GoesOn};
+ghost use Rattle.run_core.specs.World.{AllStand, Dealt, PlayedPhase, PlayedSoFar};
+
+use crate::ending::finish;
+use crate::player::Player;
+use crate::turns::take_turns;
+use edge_io::Clock;
+use mount_core::Mount;
+use plfs_types::NoMemory;
+use script_lang::{Lines, Numbered, Phase};
+use std::alloc::Global;
+use store_api::Store;
+
+/// Gives each player its own of these statements, as copies.
+fn deal(alloc: Global, players: &mut [Player], statements: &[Numbered]) -> Result<(), NoMemory>
+    requires { All (λ statement. statement.actor < length players.old) statements.now }
+    ensures { OnOk result (Dealt statements.now players.old players.new) }
+{
+    for statement in statements {
+        let made = statement.statement.copy(alloc)?;
+        let copy = Numbered {
+            line: statement.line,
+            actor: statement.actor,
+            statement: made,
+        };
+        let place = statement.actor as usize;
+        let player = &mut players[place];
+        player.give(copy)?;
+    }
+    Ok(())
+}
+
+/// Plays a phase: the written turns, and then what they left unfinished.
+pub(crate) fn play_phase<S: Store + Drop, C: Clock + Drop>(
+    alloc: Global,
+    mount: &mut Mount<S, C>,
+    players: &mut [Player],
+    phase: &Phase,
+    lines: &mut Lines,
+) -> Result<(), NoMemory>
+    requires fits { FitsPhase (length players.old) phase.now }
+    requires built { IsBuiltPhase phase.now }
+    requires stand { AllStand [] players.old }
+    ensures plays { OnOk result (PlayedPhase phase.now lines.old players.old mount.old lines.new players.new mount.new) }
+    ensures goes_on { GoesOn mount.old mount.new }
+{
+    let statements = phase.statements.as_slice();
+    deal(alloc, players, statements)?;
+    let turns = phase.turns.as_slice();
+    take_turns(mount, players, turns)?;
+    finish(mount, players, statements, lines)?;
+    Ok(())
+}
+
+/// Plays the phases, one after the other.
+pub(crate) fn play_all<S: Store + Drop, C: Clock + Drop>(
+    alloc: Global,
+    mount: &mut Mount<S, C>,
+    players: &mut [Player],
+    phases: &[Phase],
+    lines: &mut Lines,
+) -> Result<(), NoMemory>
+    requires fits { All (FitsPhase (length players.old)) phases.now }
+    requires built { All IsBuiltPhase phases.now }
+    requires stand { AllStand [] players.old }
+    requires empty { lines.old ≡ [] }
+    ensures played { OnOk result (PlayedSoFar phases.now lines.new players.old mount.old players.new mount.new) }
+    ensures goes_on { GoesOn mount.old mount.new }
+{
+    for phase in phases {
+        play_phase(alloc, mount, players, phase, lines)?;
+    }
+    Ok(())
+}

@@ -1,0 +1,53 @@
+//! Playing a script.
+ghost use Rattle.std.specs.Prelude.{◌≡◌, [], IfOk, All, length};
+ghost use Rattle.plfs_types.specs.Counts.{HasRisen};
+ghost use Rattle.script_lang.specs.Ranges.{FitsActor};
+ghost use Rattle.run_core.specs.Conditions.{IsPlayable};
+ghost use Rattle.run_core.specs.Leading.{GoesOn};
+ghost use Rattle.run_core.specs.Play.{IsPlay};
+ghost use Rattle.run_core.specs.Faults.{HasFault};
+ghost use Rattle.run_core.specs.Listing.{ListNone};
+ghost use Rattle.run_core.specs.World.{IsCast};
+
+use crate::phase::play_all;
+use crate::player::Player;
+use edge_io::Clock;
+use mount_core::Mount;
+use plfs_types::NoMemory;
+use script_lang::{ActorDecl, Lines, Script};
+use std::alloc::Global;
+use store_api::Store;
+
+/// The declared actors, which have done nothing yet.
+fn cast_of(alloc: Global, actors: &[ActorDecl]) -> Result<Vec<Player>, NoMemory>
+    requires { All FitsActor actors.now }
+    ensures { IfOk result (λ players. IsCast actors.now players.items) }
+{
+    let mut players = Vec::new(alloc);
+    for declared in actors {
+        let number = players.len() as u64;
+        let player = Player::new(alloc, number, *declared);
+        players.push(player)?;
+    }
+    Ok(players)
+}
+
+/// Plays the script's actors by their written turns, each under its place in the declarations, and tells one line a statement, in the order in which the script has
+/// the statements. Statements go on after a fault or damage. Want of memory ends it.
+pub fn play<S: Store + Drop, C: Clock + Drop>(
+    alloc: Global,
+    mount: &mut Mount<S, C>,
+    script: &Script,
+) -> Result<Lines, NoMemory>
+    requires { IsPlayable script.now }
+    ensures plays { IfOk result (λ lines. IsPlay script.now mount.old lines mount.new) }
+    ensures goes_on { GoesOn mount.old mount.new }
+    ensures names { IfOk result ListNone }
+    ensures cause { IfOk result (λ lines. HasFault lines → HasRisen mount.old.store.faults mount.new.store.faults) }
+{
+    let mut players = cast_of(alloc, script.actors.as_slice())?;
+    let mut lines = Lines::new(alloc);
+    let phases = script.phases.as_slice();
+    play_all(alloc, mount, &mut players, phases, &mut lines)?;
+    Ok(lines)
+}
