@@ -31,8 +31,7 @@ use Rattle.index_reader.specs.FlatRules.{flat_told}
 use Rattle.index_reader.specs.Items.{flat_item}
 use Rattle.index_reader.specs.Newest.{flats_path, greater_id, if_flat, newest_in}
 use Rattle.index_reader.specs.Opening.{flat_or_damage, flat_program}
-use Rattle.index_reader.proofs.FlatRuleLemmas.{flat_told-valid}
-use Rattle.index_reader.proofs.ItemLemmas.{flat_item-at, flat_item-here}
+use Rattle.index_reader.proofs.Facts.{flat_item-at, flat_item-here, flat_told-valid}
 use Rattle.gathering.specs.Moments.{Moment, IsSoundAt, file_then}
 use Rattle.gathering.specs.Seen.{asked_in, calls_of, IsSeen, IsSeenCall}
 use Rattle.gathering.specs.Files.{AreFileReads, ReadsFile}

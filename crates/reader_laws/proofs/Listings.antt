@@ -26,7 +26,7 @@ use Rattle.index_reader.specs.Replies.{Tries, damage, on_ok, names_in, room_in}
 use Rattle.index_reader.specs.Scanning.{file_in, nothing_found, unless_foreign, scanned}
 use Rattle.index_reader.specs.Searching.{same_bytes, has_name}
 use Rattle.index_reader.specs.Tops.{access, hostdirs, foreign_at_top, required, shown, top_shows}
-use Rattle.index_reader.proofs.Searching.{same_bytes-itself, same_bytes-eq}
+use Rattle.index_reader.proofs.Facts.{same_bytes-itself, same_bytes-eq}
 use Rattle.gathering.specs.Moments.{Moment, IsSoundAt, Dropping, IsNamed, moment_after, next_moment}
 use Rattle.gathering.specs.Seen.{Asked, asked_in, calls_of}
 use Rattle.gathering.specs.Flats.{IsFlatName, ReadsFlat, covers_of, pieces_of}

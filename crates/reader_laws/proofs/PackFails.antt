@@ -31,7 +31,7 @@ use Rattle.index_reader.specs.FileReads.{next_part, parts_of, parts, bytes_left}
 use Rattle.index_reader.specs.PackRules.{pack_told}
 use Rattle.index_reader.specs.Packs.{no_tail, packed_path, head_fault, begins_covered, tail_past, writer_of, pack_tail, pack_rest, if_headed, head_then, pack_program, run_place}
 use Rattle.index_reader.specs.Replies.{Tries, given, on_ok, damage, number_in, bytes_in, trouble}
-use Rattle.index_reader.proofs.PackRuleLemmas.{pack_told-packs}
+use Rattle.index_reader.proofs.Facts.{pack_told-packs}
 use Rattle.gathering.specs.Moments.{Moment, IsSoundAt, Dropping, IsNamed, Stood, Grows, HadItem, file_in_room, file_told, file_then, landed_by, landed, issued_by, moment_after, next_moment}
 use Rattle.gathering.specs.Seen.{IsSeen}
 use Rattle.gathering.specs.Packs.{pack_of}
