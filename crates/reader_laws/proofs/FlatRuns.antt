@@ -1,10 +1,9 @@
 -- Who runs the program of a flattened index has read it whole.
-use Rattle.std.proofs.Common.{◌≡◌, ℕ, zero, suc, ◌+◌, ◌-◌, ◌≤◌, ◌<◌, ◌^◌, max, nat_le, true, List, [], ◌∷◌, ◌++◌, length, take, drop, Option, Some, None, refl, ap, sym, ◌∙◌, ◌⊎◌, inl, inr, subst, arith, append_assoc}
+use Rattle.std.proofs.Common.{◌≡◌, ℕ, ◌+◌, ◌-◌, ◌≤◌, ◌<◌, ◌^◌, max, List, [], ◌∷◌, ◌++◌, length, drop, Option, Some, None, refl, ap, sym, ◌∙◌, ◌⊎◌, inl, inr, subst, arith}
 use Rattle.std.specs.Prelude.{Result, Ok, Err, slice_get}
 use Rattle.std.specs.List.{Any}
-use Rattle.std.proofs.lemmas.Bool.{cases_lt, cond-true}
-use Rattle.std.proofs.lemmas.Bool.Decides.{nat_tests}
-use Rattle.std.proofs.lemmas.List.{append-nil, drop-drop, length-take, length-drop, take-append-drop}
+use Rattle.std.proofs.lemmas.Bool.{cases_lt}
+use Rattle.std.proofs.lemmas.List.{append-nil}
 use Rattle.plfs_types.specs.declared.names.Path.{Path}
 use Rattle.plain_file.proofs.Facts.{Among, cases_Option}
 use Rattle.container_layout.specs.declared.items.Item.{Item}
@@ -26,22 +25,21 @@ use Rattle.story.specs.Calls.{AreCallsOf}
 use Rattle.flow.specs.declared.trouble.Stuck.{Stuck}
 use Rattle.flow.specs.Running.{asking, Runs}
 use Rattle.flow.proofs.Facts.{runs_in_two}
-use Rattle.index_reader.specs.Replies.{Tries, on_ok, bytes_in, number_in}
-use Rattle.index_reader.specs.FileReads.{next_part, parts_of, parts, bytes_left}
+use Rattle.index_reader.specs.Replies.{Tries, on_ok, number_in}
+use Rattle.index_reader.specs.FileReads.{parts_of, bytes_left}
 use Rattle.index_reader.specs.FlatRules.{flat_told}
 use Rattle.index_reader.specs.Items.{flat_item}
 use Rattle.index_reader.specs.Newest.{flats_path, greater_id, if_flat, newest_in}
 use Rattle.index_reader.specs.Opening.{flat_or_damage, flat_program}
-use Rattle.index_reader.proofs.FlatRuleLemmas.{flat_told-valid}
-use Rattle.index_reader.proofs.ItemLemmas.{flat_item-at, flat_item-here}
+use Rattle.index_reader.proofs.Facts.{flat_item-at, flat_item-here, flat_told-valid}
 use Rattle.gathering.specs.Moments.{Moment, IsSoundAt, file_then}
 use Rattle.gathering.specs.Seen.{asked_in, calls_of, IsSeen, IsSeenCall}
 use Rattle.gathering.specs.Files.{AreFileReads, ReadsFile}
 use Rattle.gathering.specs.Flats.{IsFlatName, IsNewest}
-use Rattle.gathering.proofs.Facts.{answers_as, any_found, few_covers, found_any, in_a_room, in_tree, its_writers, length_told, read_told}
+use Rattle.gathering.proofs.Facts.{answers_as, any_found, few_covers, found_any, in_a_room, in_tree, its_writers, length_told}
 use Rattle.reader_laws.proofs.FileRuns.{parts_run}
 use Rattle.reader_laws.proofs.Histories.{first_of, calls_from}
-use Rattle.reader_laws.proofs.Calling.{asked_all, calls_are, calls_append, given_so, same_ok, number_given, bytes_given}
+use Rattle.reader_laws.proofs.Calling.{asked_all, calls_are, calls_append, given_so, same_ok, number_given}
 
 -- ---- the newest of the names
 

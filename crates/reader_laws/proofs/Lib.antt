@@ -27,4 +27,5 @@ mod Failing
 mod TruncFails
 mod NoBreaks
 mod TailFails
+mod PackFails
 mod ShareFails

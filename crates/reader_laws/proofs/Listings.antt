@@ -1,20 +1,14 @@
 -- Who runs the program of a listing has read the newest flattened index and scanned the container.
-use Rattle.std.proofs.Common.{◌≡◌, ℕ, zero, suc, ◌+◌, ◌<◌, nat_eq, true, false, List, [], ◌∷◌, ◌++◌, map, Option, Some, None, refl, ap, sym, ◌∙◌, ◌⊎◌, inl, inr, subst, arith}
-use Rattle.std.specs.Prelude.{Result, Ok, Err, if◌then◌else◌, is_some}
+use Rattle.std.proofs.Common.{◌≡◌, ℕ, zero, suc, ◌+◌, ◌<◌, true, false, List, [], ◌∷◌, ◌++◌, map, Option, Some, None, refl, ap, sym, ◌∙◌, ◌⊎◌, inl, inr, subst, arith}
+use Rattle.std.specs.Prelude.{Result, Ok, Err, if◌then◌else◌}
 use Rattle.std.specs.List.{All, Any, AllByRecursion, range_with_len}
 use Rattle.std.proofs.lemmas.Bool.{cases_Bool, cond-true, cond-false}
-use Rattle.std.proofs.lemmas.Bool.Decides.{nat_tests}
 use Rattle.std.proofs.lemmas.List.Elements.{All-from_recursion}
 use Rattle.plfs_types.specs.declared.names.Path.{Path}
 use Rattle.plain_file.proofs.Facts.{Among, All-Among}
-use Rattle.container_layout.specs.declared.items.Item.TheVariants as item
-use Rattle.container_layout.specs.Items.{IsItem}
-use Rattle.container_layout.specs.Paths.{hostdir_of, path_of}
-use Rattle.store_api.specs.declared.step.Answer.TheVariants.{Names}
+use Rattle.container_layout.specs.Paths.{hostdir_of}
 use Rattle.flat_format.specs.declared.flat.Flat.{Flat}
 use Rattle.mount_model.specs.declared.call.Ask.{Ask}
-use Rattle.mount_model.specs.declared.call.Call.TheVariants.{Look}
-use Rattle.mount_model.specs.declared.reply.Reply.TheVariants.{Looked}
 use Rattle.mount_model.specs.Paths.{Name, flats, metadata, truncs}
 use Rattle.mount_model.specs.History.{Event}
 use Rattle.mount_sound.specs.Owed.{IsLawful}
@@ -27,23 +21,23 @@ use Rattle.index_reader.specs.declared.listing.Listing.{Listing}
 use Rattle.index_reader.specs.declared.scanning.Scan.{Scan}
 use Rattle.index_reader.specs.Listing.{AreByWriter}
 use Rattle.index_reader.specs.Newest.{newest_in}
-use Rattle.index_reader.specs.Opening.{no_flat, flat_program, uncovered, is_of_host, has_owner, lone_pack, dropping_of, listing_of, unless_uncovered, unless_lone, listed, scans, top_program, if_newest, open_at_program, open_read_program}
+use Rattle.index_reader.specs.Opening.{no_flat, flat_program, uncovered, lone_pack, dropping_of, listing_of, unless_uncovered, unless_lone, listed, scans, top_program, if_newest, open_at_program, open_read_program}
 use Rattle.index_reader.specs.Replies.{Tries, damage, on_ok, names_in, room_in}
-use Rattle.index_reader.specs.Scanning.{file_in, owner, owner_of, has_writer, nothing_found, unless_foreign, scanned}
+use Rattle.index_reader.specs.Scanning.{file_in, nothing_found, unless_foreign, scanned}
 use Rattle.index_reader.specs.Searching.{same_bytes, has_name}
 use Rattle.index_reader.specs.Tops.{access, hostdirs, foreign_at_top, required, shown, top_shows}
-use Rattle.index_reader.proofs.Searching.{same_bytes-itself, same_bytes-eq}
+use Rattle.index_reader.proofs.Facts.{same_bytes-itself, same_bytes-eq}
 use Rattle.gathering.specs.Moments.{Moment, IsSoundAt, Dropping, IsNamed, moment_after, next_moment}
 use Rattle.gathering.specs.Seen.{Asked, asked_in, calls_of}
 use Rattle.gathering.specs.Flats.{IsFlatName, ReadsFlat, covers_of, pieces_of}
-use Rattle.mount_model.specs.declared.call.Look.TheVariants.{List as ListFolder, Top}
-use Rattle.gathering.specs.Listing.{IsAmong, IsListed, ListsHostdirs, IsScan, NamesPack}
-use Rattle.gathering.proofs.Facts.{All-append, alike, among, any_found, found_any, is_among, legal_first, legal_rest, seen, sound_after}
+use Rattle.mount_model.specs.declared.call.Look.TheVariants.{List as ListFolder}
+use Rattle.gathering.specs.Listing.{IsAmong, IsListed, ListsHostdirs, IsScan}
+use Rattle.gathering.proofs.Facts.{All-append, among, any_found, found_any, is_among, legal_first, legal_rest, seen, sound_after}
 use Rattle.reader_laws.specs.Listing.{AreListed, HasListed, IsPackedAs}
 use Rattle.reader_laws.specs.Opening.{Lists}
 use Rattle.reader_laws.specs.Sharing.{in_room}
 use Rattle.reader_laws.proofs.Calling.{asked_all, calls_append, calls_are, given_so, same_ok, names_given}
-use Rattle.reader_laws.proofs.Cuts.{all_by, map_among, among_map}
+use Rattle.reader_laws.proofs.Cuts.{map_among, among_map}
 use Rattle.reader_laws.proofs.FlatRuns.{part_so, none_named, newest_named, HasFlat, flat_run}
 use Rattle.reader_laws.proofs.NamedPacks.{NamedIn, none_named_in, named_now, named_later, named_then, not_named, all_members, were_packed}
 use Rattle.reader_laws.proofs.Histories.{first_of, calls_from}

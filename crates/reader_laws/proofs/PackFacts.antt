@@ -1,7 +1,6 @@
 -- What a packed index that stands tells: its head, and the entries behind a cover.
-use Rattle.std.proofs.Common.{◌≡◌, ℕ, ◌+◌, ◌*◌, ◌≤◌, ◌<◌, ◌^◌, nat_le, nat_lt, nat_eq, Bool, true, false, List, [], ◌∷◌, ◌++◌, length, take, drop, Option, Some, None, refl, ap, sym, ◌∙◌, subst, arith, length-drop}
-use Rattle.std.specs.Prelude.{Result, Ok, Err, if◌then◌else◌, ◌&&◌, ◌==◌, slice_get}
-use Rattle.std.specs.Int.{w64, to_le_bytes}
+use Rattle.std.proofs.Common.{◌≡◌, ℕ, ◌+◌, ◌*◌, ◌≤◌, ◌^◌, nat_le, nat_lt, nat_eq, Bool, true, false, List, [], ◌∷◌, ◌++◌, length, take, drop, Option, Some, None, refl, ap, sym, ◌∙◌, subst, arith, length-drop}
+use Rattle.std.specs.Prelude.{if◌then◌else◌, ◌&&◌, slice_get}
 use Rattle.std.specs.List.{AllByRecursion}
 use Rattle.std.proofs.lemmas.Bool.{and_from}
 use Rattle.std.proofs.lemmas.Bool.Decides.{nat_tests}
@@ -13,13 +12,12 @@ use Rattle.container_layout.specs.declared.items.Item.TheVariants.{Packed}
 use Rattle.container_layout.specs.Items.{IsItem}
 use Rattle.index_entry.specs.Entries.{AreEntriesOf, logged, last_stamp}
 use Rattle.index_entry.specs.Spelling.{number_in}
-use Rattle.index_pack.specs.Spelling.{letters, Packs}
+use Rattle.index_pack.specs.Spelling.{Packs}
 use Rattle.index_pack.proofs.Facts.{length_spelled}
 use Rattle.interval_merge.specs.Writer.{HasPiece}
 use Rattle.mount_model.specs.declared.row.Making.TheVariants as making
 use Rattle.mount_sound.specs.Flats.{IsRightPack}
 use Rattle.mount_sound.proofs.Facts.{logged_append, order_drop}
-use Rattle.index_reader.specs.declared.entries.Tail.{Tail}
 use Rattle.index_reader.specs.PackRules.{has_head, has_count, has_length}
 use Rattle.index_reader.specs.Packs.{no_tail, head_fault, tail_past}
 use Rattle.gathering.specs.Moments.{Moment, IsSoundAt, Dropping, IsNamed, file_then, landed_by}

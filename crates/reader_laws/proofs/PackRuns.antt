@@ -1,5 +1,5 @@
 -- Who runs the program of a packed index has gathered its writer.
-use Rattle.std.proofs.Common.{◌≡◌, ◌≢◌, ℕ, ◌+◌, ◌-◌, ◌≤◌, nat_lt, nat_eq, true, false, List, [], ◌∷◌, ◌++◌, length, take, drop, Option, Some, None, refl, ap, sym, ◌∙◌, inl, inr, subst, arith}
+use Rattle.std.proofs.Common.{◌≡◌, ◌≢◌, ℕ, ◌+◌, ◌-◌, ◌≤◌, nat_lt, nat_eq, true, false, List, [], ◌∷◌, ◌++◌, length, take, drop, Option, Some, refl, ap, sym, ◌∙◌, inl, inr, subst, arith}
 use Rattle.std.specs.Prelude.{Result, Ok, Err, if◌then◌else◌}
 use Rattle.std.proofs.lemmas.Bool.{and_parts, cases_Bool, cond-true, cond-false}
 use Rattle.std.proofs.lemmas.Bool.Decides.{nat_tests}
@@ -17,10 +17,9 @@ use Rattle.mount_model.specs.declared.call.Ask.{Ask}
 use Rattle.mount_model.specs.declared.row.Making.TheVariants as making
 use Rattle.mount_model.specs.History.{Event}
 use Rattle.story.specs.Program.{done}
-use Rattle.story.specs.Calls.{AreCallsOf}
 use Rattle.turn_object.specs.Callers.{made_by}
 use Rattle.flow.specs.declared.trouble.Stuck.{Stuck}
-use Rattle.flow.specs.Running.{asking, Runs}
+use Rattle.flow.specs.Running.{Runs}
 use Rattle.flow.proofs.Facts.{runs_in_two}
 use Rattle.index_reader.specs.declared.listing.Dropping.{Dropping as Listed}
 use Rattle.index_reader.specs.declared.entries.Tail.{Tail}
@@ -28,7 +27,7 @@ use Rattle.index_reader.specs.FileReads.{parts_of, bytes_left}
 use Rattle.index_reader.specs.PackRules.{pack_told}
 use Rattle.index_reader.specs.Packs.{no_tail, packed_path, head_fault, begins_covered, tail_past, writer_of, pack_tail, pack_rest, if_headed, pack_program, run_place}
 use Rattle.index_reader.specs.Replies.{Tries, on_ok, damage, number_in, bytes_in}
-use Rattle.index_reader.proofs.PackRuleLemmas.{pack_told-packs}
+use Rattle.index_reader.proofs.Facts.{pack_told-packs}
 use Rattle.gathering.specs.Moments.{Moment, Dropping, IsNamed, file_then, landed_by}
 use Rattle.gathering.specs.Seen.{Asked, asked_in, calls_of, IsSeen, IsSeenCall}
 use Rattle.gathering.specs.Files.{AreFileReads}
@@ -131,9 +130,13 @@ module _ (caller room : ℕ) (d : Listed) (cover : Cover) (named : IsNamed (in_r
         tells = subst (λ h. TellsCount h (length entries)) (sym is) (tells bytes entries packs);
         rest = inr (
           unlike (number_at 8 head) cover.count (length entries) some (ap (number_at 8) is ∙ count_told bytes entries packs),
-          (drop 24 bytes, entries,
+          (
+            drop 24 bytes,
+            entries,
             subst (λ a. AreFileReads room path 24 told_ a (drop 24 bytes)) (sym calls) (subst (λ n. AreFileReads room path n told_ (asked_all (made_by caller two.first)) (drop n bytes)) begins read.reads),
-            subst (λ b. Packs b entries) (sym whole_) packs, refl),
+            subst (λ b. Packs b entries) (sym whole_) packs,
+            refl,
+          ),
         );
         longer = past_longer packs.valid.owner cover entries few past.sum past.latest packs.valid.in_order packs.valid.near;
       } in

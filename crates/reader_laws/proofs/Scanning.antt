@@ -19,7 +19,7 @@ use Rattle.index_reader.specs.declared.scanning.Scan.{Scan}
 use Rattle.index_reader.specs.Items.{hostdir_item}
 use Rattle.index_reader.specs.Replies.{damage}
 use Rattle.index_reader.specs.Scanning.{file_in, nothing_found, owner, has_writer, placed, taken, taken_all, foreign_in, unless_foreign, scanned, owner_of}
-use Rattle.index_reader.proofs.ItemLemmas.{hostdir_item-at, hostdir_item-here}
+use Rattle.index_reader.proofs.Facts.{hostdir_item-at, hostdir_item-here}
 use Rattle.gathering.specs.Moments.{Dropping, IsNamed}
 use Rattle.gathering.specs.Listing.{AreDroppingsOf}
 use Rattle.reader_laws.proofs.Calling.{same_ok}

@@ -1,13 +1,19 @@
 -- The program of a share of listed droppings fails only by the store.
-use Rattle.std.proofs.Common.{◌≡◌, ℕ, false, List, [], ◌∷◌, ◌++◌, map, get_or, refl, ap, sym, ◌∙◌, ◌⊎◌, inl, inr, subst, arith}
+use Rattle.std.proofs.Common.{◌≡◌, ℕ, true, Some, List, [], ◌∷◌, ◌++◌, map, get_or, refl, ap, sym, ◌∙◌, ◌⊎◌, inl, inr, subst, arith}
 use Rattle.std.specs.Prelude.{Result, Ok, Err}
 use Rattle.std.specs.List.{All, Any, AllByRecursion}
-use Rattle.std.proofs.lemmas.Bool.{cond-false}
-use Rattle.std.proofs.lemmas.List.Elements.{All-from_recursion, recursion_from_All}
+use Rattle.std.proofs.lemmas.Bool.{cases_Bool, cond-true, cond-false}
+use Rattle.std.proofs.lemmas.List.Elements.{All-from_recursion}
 use Rattle.plfs_types.specs.declared.entries.Cover.{Cover}
 use Rattle.plain_file.proofs.Facts.{Among, All-Among}
+use Rattle.plfs_types.specs.declared.names.Path.{Path}
+use Rattle.container_layout.specs.declared.items.Item.TheVariants.{Packed}
+use Rattle.container_layout.specs.Items.{IsItem}
+use Rattle.container_layout.specs.Paths.{hostdir_of, path_of}
 use Rattle.container_layout.proofs.Facts.{elsewhere}
-use Rattle.mount_model.specs.Paths.{access_path, flats, marks_folder}
+use Rattle.mount_model.specs.declared.call.Look.TheVariants.{List as ListFolder}
+use Rattle.mount_model.specs.declared.row.Making.TheVariants as making
+use Rattle.mount_model.specs.Paths.{Name, access_path, flats, marks_folder}
 use Rattle.mount_model.specs.History.{Event, state_after}
 use Rattle.mount_sound.specs.Owed.{IsLawful}
 use Rattle.flow.specs.declared.trouble.Stuck.{Stuck}
@@ -24,15 +30,15 @@ use Rattle.index_reader.specs.Replies.{Tries, on_ok}
 use Rattle.index_reader.specs.Sharing.{nothing, added, share_of, dropping_program, gathers, share_program}
 use Rattle.index_reader.specs.Tails.{tail_program}
 use Rattle.index_reader.specs.Truncs.{trunc_program}
-use Rattle.gathering.specs.Moments.{Moment, IsSoundAt, Dropping, IsNamed, Stood, Grows, file_in_room, file_told, moment_after}
-use Rattle.gathering.specs.Seen.{calls_of, IsSeen, IsSeenCall}
+use Rattle.gathering.specs.Moments.{Moment, IsSoundAt, Dropping, IsNamed, Stood, HadItem, Grows, file_in_room, file_then, file_told, moment_after}
+use Rattle.gathering.specs.Seen.{Asked, calls_of, IsSeen, IsSeenCall}
 use Rattle.gathering.specs.Flats.{IsCoveredSo, covered_count, covers_of}
 use Rattle.gathering.specs.Gathering.{Gathered, CoversLanded}
-use Rattle.gathering.specs.Listing.{IsAmong, AreFound}
+use Rattle.gathering.specs.Listing.{IsAmong, IsListed, NamesPack, AreFound}
 use Rattle.gathering.specs.Opening.{IsCutOf}
-use Rattle.gathering.proofs.Facts.{IsTaken, all_at, among, answers_as, any_found, flat_taken, folder_listed, follows, found_any, grows_after, grows_refl, grows_trans, legal_first, legal_rest, moment-append, scan_finds, scan_found, seen, seen_grows, seen_split, sound_after, stood_grows}
+use Rattle.gathering.proofs.Facts.{IsTaken, all_at, among, answers_as, any_found, flat_taken, folder_listed, follows, found_any, grows_after, grows_refl, grows_trans, legal_first, legal_rest, moment-append, named_file, not_top, scan_finds, scan_found, seen, seen_grows, seen_split, sound_after, stood_grows}
 use Rattle.reader_laws.specs.Failing.{FailsByStore, IsContainerAt}
-use Rattle.reader_laws.specs.Listing.{HasListed}
+use Rattle.reader_laws.specs.Listing.{HasListed, IsPackedAs}
 use Rattle.reader_laws.specs.Opening.{Lists}
 use Rattle.reader_laws.specs.Sharing.{in_room}
 use Rattle.reader_laws.proofs.Counts.{AreRightFor}
@@ -40,6 +46,7 @@ use Rattle.reader_laws.proofs.Cuts.{all_by, among_map, cut_rises, dropping_of, m
 use Rattle.reader_laws.proofs.Listings.{listing_run}
 use Rattle.reader_laws.proofs.LookEnds.{container_later}
 use Rattle.reader_laws.proofs.Openings.{count_is}
+use Rattle.reader_laws.proofs.PackFails.{pack_fails}
 use Rattle.reader_laws.proofs.Readers.{listing_right}
 use Rattle.reader_laws.proofs.TailFails.{IsCoverOf, cover_later, tail_fails}
 use Rattle.reader_laws.proofs.TruncFails.{truncs_fail}
@@ -47,18 +54,23 @@ use Rattle.reader_laws.proofs.Troubles.{fails_first, fails_rest}
 
 -- ---- a share
 
--- the dropping stands, and its cover is right
+-- the dropping stands, and its packed index where it has one, and its cover is right
 pub record IsSafe (m : Moment) (room : ℕ) (covers : List Cover) (d : Listed) : Type 0 where
   pub named : IsNamed (in_room room d)
   pub stood : Stood m (in_room room d)
+  pub pack : d.packed ≡ true → HadItem m room (Packed d.host d.writer)
   pub cover : IsCoverOf m (in_room room d) (cover_of d.writer covers)
 
 safe_later : (a b : Moment) (s : IsSoundAt a) (room : ℕ) (covers : List Cover) (d : Listed) → Grows a b → IsSafe a room covers d → IsSafe b room covers d
 safe_later a b s room covers d grows safe = record {
   named = safe.named;
   stood = stood_grows a b (in_room room d) grows safe.stood;
+  pack = λ has. pack_later (safe.pack has);
   cover = cover_later a b s (in_room room d) (cover_of d.writer covers) safe.named grows safe.cover;
 }
+  where
+    pack_later : HadItem a room (Packed d.host d.writer) → HadItem b room (Packed d.host d.writer)
+    pack_later had = record { is_item = had.is_item; bytes = had.bytes; there = grows.indices (making.Pack d.host d.writer) room 0 had.bytes had.is_item had.there }
 
 all_later : (a b : Moment) (s : IsSoundAt a) (room : ℕ) (covers : List Cover) (ds : List Listed) → Grows a b → AllByRecursion (IsSafe a room covers) ds → AllByRecursion (IsSafe b room covers) ds
 all_later a b s room covers [] grows all = tt
@@ -70,14 +82,19 @@ no_ok x why e = cc
 same_trouble : {R : Type 0} (a b : Stuck) → ◌≡◌ {A = Result R Stuck} (Err a) (Err b) → a ≡ b
 same_trouble a b e = cc
 
-one_fails : (caller room : ℕ) (covers : List Cover) (d : Listed) (m : Moment) (events : List Event) (why : Stuck) → d.packed ≡ false → IsSoundAt m → IsLawful m.state events → IsSafe m room covers d → Runs caller (dropping_program room d (cover_of d.writer covers)) events (Err why) → FailsByStore caller m.state events why
-one_fails caller room covers d m events why unpacked s lawful safe runs =
-    tail_fails caller room d safe.named m (cover_of d.writer covers) events why s safe.stood lawful safe.cover
-    (subst (λ p. Runs caller p events (Err why)) (cond-false d.packed (pack_program room (packed_path d.host d.writer) (cover_of d.writer covers)) (tail_program room d (no_tail (cover_of d.writer covers))) unpacked) runs)
+one_fails : (caller room : ℕ) (covers : List Cover) (d : Listed) (m : Moment) (events : List Event) (why : Stuck) → IsSoundAt m → IsLawful m.state events → IsSafe m room covers d → Runs caller (dropping_program room d (cover_of d.writer covers)) events (Err why) → FailsByStore caller m.state events why
+one_fails caller room covers d m events why s lawful safe runs =
+    let cover : Cover = cover_of d.writer covers in
+    elim (cases_Bool d.packed) as (λ _. FailsByStore caller m.state events why) [
+      | inl packed ↦ pack_fails caller room d safe.named m cover events why s safe.stood (safe.pack packed) lawful safe.cover
+          (subst (λ p. Runs caller p events (Err why)) (cond-true d.packed (pack_program room (packed_path d.host d.writer) cover) (tail_program room d (no_tail cover)) packed) runs)
+      | inr unpacked ↦ tail_fails caller room d safe.named m cover events why s safe.stood lawful safe.cover
+          (subst (λ p. Runs caller p events (Err why)) (cond-false d.packed (pack_program room (packed_path d.host d.writer) cover) (tail_program room d (no_tail cover)) unpacked) runs)
+    ]
 
-gathers_fail : (caller room : ℕ) (covers : List Cover) (ds : List Listed) (m : Moment) (events : List Event) (old : Sofar) (why : Stuck) → AllByRecursion (λ (d : Listed). d.packed ≡ false) ds → IsSoundAt m → IsLawful m.state events → AllByRecursion (IsSafe m room covers) ds → Runs caller (gathers room covers ds old) events (Err why) → FailsByStore caller m.state events why
-gathers_fail caller room covers [] m events old why unpacked s lawful safe runs = absurd (no_ok (share_of old) why runs.1)
-gathers_fail caller room covers (d ∷ ds) m events old why unpacked s lawful safe runs =
+gathers_fail : (caller room : ℕ) (covers : List Cover) (ds : List Listed) (m : Moment) (events : List Event) (old : Sofar) (why : Stuck) → IsSoundAt m → IsLawful m.state events → AllByRecursion (IsSafe m room covers) ds → Runs caller (gathers room covers ds old) events (Err why) → FailsByStore caller m.state events why
+gathers_fail caller room covers [] m events old why s lawful safe runs = absurd (no_ok (share_of old) why runs.1)
+gathers_fail caller room covers (d ∷ ds) m events old why s lawful safe runs =
     let next = on_ok (λ tail. gathers room covers ds (added tail old)) in
     let two = runs_in_two caller (dropping_program room d (cover_of d.writer covers)) next events (Err why) runs in
     let both : IsLawful m.state (two.first ++ two.rest) = subst (IsLawful m.state) two.all lawful in
@@ -87,16 +104,35 @@ gathers_fail caller room covers (d ∷ ds) m events old why unpacked s lawful sa
     subst (λ es. FailsByStore caller m.state es why) (sym two.all)
     (by_value two.value two.first two.rest both l1 two.runs two.then_runs
     (λ tail then_runs. subst (λ st. FailsByStore caller st two.rest why) state_is
-    (gathers_fail caller room covers ds (moment_after m two.first) two.rest (added tail old) why unpacked.1 s1 (legal_rest m two.first two.rest both) (all_later m (moment_after m two.first) s room covers ds (grows_after m two.first l1 s) safe.1) then_runs)))
+    (gathers_fail caller room covers ds (moment_after m two.first) two.rest (added tail old) why s1 (legal_rest m two.first two.rest both) (all_later m (moment_after m two.first) s room covers ds (grows_after m two.first l1 s) safe.1) then_runs)))
   where
     by_value : (value : Result Tail Stuck) (first rest : List Event) → IsLawful m.state (first ++ rest) → IsLawful m.state first → Runs caller (dropping_program room d (cover_of d.writer covers)) first value → Runs caller (on_ok (λ tail. gathers room covers ds (added tail old)) value) rest (Err why)
         → ((tail : Tail) → Runs caller (gathers room covers ds (added tail old)) rest (Err why) → FailsByStore caller (state_after m.state first) rest why) → FailsByStore caller m.state (first ++ rest) why
     by_value (Err other) first rest both l1 mine then_runs later =
         let same : other ≡ why = same_trouble {R = Share} other why then_runs.1 in
-        fails_first caller m.state first rest why both (one_fails caller room covers d m first why unpacked.0 s l1 safe.0 (subst (λ x. Runs caller (dropping_program room d (cover_of d.writer covers)) first (Err x)) same mine))
+        fails_first caller m.state first rest why both (one_fails caller room covers d m first why s l1 safe.0 (subst (λ x. Runs caller (dropping_program room d (cover_of d.writer covers)) first (Err x)) same mine))
     by_value (Ok tail) first rest both l1 mine then_runs later = fails_rest caller m.state first rest why both (later tail then_runs)
 
 -- ---- the droppings of a listing
+
+-- a packed index that was named in a scan stands from then on
+pack_stands : (caller : ℕ) (start end : Moment) (scan : List Asked) (d : Dropping) → IsNamed d → IsSeen caller start scan end → NamesPack scan d → HadItem end d.room (Packed d.host d.writer)
+pack_stands caller start end scan d named seen names =
+    let (x, a, (told, listed, within)) = any_found (λ (asked : Asked). (names : List Name) × IsListed d.room (ListFolder (hostdir_of d.host)) names asked × IsAmong (path_of (Packed d.host d.writer)).file names) scan names in
+    from start scan x told seen a listed (among told (path_of (Packed d.host d.writer)).file within)
+  where
+    from : (start : Moment) (scan : List Asked) (x : Asked) (names : List Name) → IsSeen caller start scan end → Among x scan → IsListed d.room (ListFolder (hostdir_of d.host)) names x → Among (path_of (Packed d.host d.writer)).file names → HadItem end d.room (Packed d.host d.writer)
+    from start [] x names seen a listed within = absurd a
+    from start (y ∷ scan) x names (next, call, seen) (inl same) listed within =
+        let m : Moment = call.before in
+        let path : Path = path_of (Packed d.host d.writer) in
+        let here : IsListed d.room (ListFolder (hostdir_of d.host)) names y = subst (IsListed d.room (ListFolder (hostdir_of d.host)) names) same listed in
+        let l = folder_listed m call.sound caller d.room (hostdir_of d.host) names next.state (answers_as m.state caller y.ask _ y.reply _ next.state here.call here.reply refl call.answers) in
+        let f = named_file l.room (hostdir_of d.host) path.file names (not_top d.host) l.entries within in
+        let is : IsItem (Packed d.host d.writer) = record { in_range = tt; widths = (named.widths.0, named.widths.1) } in
+        let there : file_then m d.room path ≡ Some f.0 = ap (λ o. file_told o d.room path) call.sound.shape.told ∙ ap (λ o. file_in_room o path) l.has_room ∙ f.1 in
+        record { is_item = is; bytes = f.0; there = (grows_trans m next end call.goes (seen_grows caller next end scan seen)).indices (making.Pack d.host d.writer) d.room 0 f.0 is there }
+    from start (y ∷ scan) x names (next, call, seen) (inr a) listed within = from next scan x names seen a listed within
 
 -- as they are listed, before anything of them is gathered
 ungathered : ℕ → List Cover → Listed → Gathered
@@ -146,6 +182,7 @@ listed_safe caller start scanning listing h lawful sound =
     record {
       named = named;
       stood = (all_at (λ (x : Dropping). (x.room ≡ room) × Stood middle x) h.found (in_room room d) found.stood (among h.found (in_room room d) its)).1;
+      pack = λ has. pack_stands caller f.0 middle h.scan (in_room room d) named f.2 ((all_at (IsPackedAs room h.scan) ds d h.packs a).of_named has);
       cover = record { tells = right.right g in_cut; had = omega (arith, All-Among (CoversLanded taken.m) cut g taken.landed in_cut, goes.landed (in_room room d) named) };
     })
 
@@ -176,15 +213,15 @@ after_listing start scanning between reading lawful sound =
     }
 
 pub shares_fail : (lister caller : ℕ) (program : Tries Listing) (start : Moment) (scanning between reading : List Event) (listing : Listing) (ds : List Listed) (why : Stuck) → IsLawful start.state (scanning ++ (between ++ reading)) → IsSoundAt start → Lists program → Runs lister program scanning (Ok listing)
-    → All (λ (d : Listed). IsAmong d listing.droppings) ds → All (λ (d : Listed). d.packed ≡ false) ds → Runs caller (share_program listing.room ds listing.flat.covers) reading (Err why) → FailsByStore caller (state_after start.state (scanning ++ between)) reading why
-shares_fail lister caller program start scanning between reading listing ds why lawful sound lists lister_runs within unpacked runs =
+    → All (λ (d : Listed). IsAmong d listing.droppings) ds → Runs caller (share_program listing.room ds listing.flat.covers) reading (Err why) → FailsByStore caller (state_after start.state (scanning ++ between)) reading why
+shares_fail lister caller program start scanning between reading listing ds why lawful sound lists lister_runs within runs =
     let a = after_listing start scanning between reading lawful sound in
     let h = listing_run lister program start scanning listing a.first sound lists lister_runs in
     let safe = listed_safe lister start scanning listing h a.first sound in
     let these : AllByRecursion (IsSafe (moment_after start scanning) listing.room listing.flat.covers) ds = all_by (IsSafe (moment_after start scanning) listing.room listing.flat.covers) ds (λ d b.
     All-Among (IsSafe (moment_after start scanning) listing.room listing.flat.covers) listing.droppings d safe (among listing.droppings d (all_at (λ (x : Listed). IsAmong x listing.droppings) ds d within b))) in
     subst (λ st. FailsByStore caller st reading why) (follows start (scanning ++ between)).0
-    (gathers_fail caller listing.room listing.flat.covers ds (moment_after start (scanning ++ between)) reading nothing why (recursion_from_All (λ (d : Listed). d.packed ≡ false) ds unpacked) a.then_ a.rest (all_later (moment_after start scanning) (moment_after start (scanning ++ between)) a.sound listing.room listing.flat.covers ds a.goes these) runs)
+    (gathers_fail caller listing.room listing.flat.covers ds (moment_after start (scanning ++ between)) reading nothing why a.then_ a.rest (all_later (moment_after start scanning) (moment_after start (scanning ++ between)) a.sound listing.room listing.flat.covers ds a.goes these) runs)
 
 -- ---- truncates
 

@@ -67,7 +67,7 @@ one_room : (a b : Room) (o : Option Room) → o ≡ Some a → o ≡ Some b → 
 one_room a b o p q = cc
 
 -- its folder is there
-housed : (m : Moment) (s : IsSoundAt m) (d : Dropping) (stood : Stood m d) (c : HasContainer m s d.room) → (has_folder c.room (index_path d.host d.writer).folder ≡ true) × (file_at c.room (index_path d.host d.writer) ≡ Some stood.bytes)
+pub housed : (m : Moment) (s : IsSoundAt m) (d : Dropping) (stood : Stood m d) (c : HasContainer m s d.room) → (has_folder c.room (index_path d.host d.writer).folder ≡ true) × (file_at c.room (index_path d.host d.writer) ≡ Some stood.bytes)
 housed m s d stood c =
     let f = in_a_room (slice_get s.shape.tree.rooms d.room) (index_path d.host d.writer) stood.bytes (in_tree m s d.room (index_path d.host d.writer) stood.bytes stood.there) in
     let same : f.0 ≡ c.room = one_room f.0 c.room (slice_get s.shape.tree.rooms d.room) f.1 c.there in

@@ -23,7 +23,7 @@ use Rattle.flow.specs.declared.trouble.Stuck.{Stuck}
 use Rattle.flow.specs.Running.{Runs}
 use Rattle.index_reader.specs.Replies.{given, names_in, trouble}
 use Rattle.index_reader.specs.Truncs.{if_trunc, inserted, trunc_in, truncs_of, truncs_path, trunc_program}
-use Rattle.index_reader.proofs.TruncLemmas.{trunc_in-is}
+use Rattle.index_reader.proofs.Facts.{trunc_in-is}
 use Rattle.gathering.specs.Moments.{Moment, IsSoundAt, moment_after}
 use Rattle.gathering.proofs.Facts.{file_of, grows_after, legal_first, named_file}
 use Rattle.reader_laws.specs.Failing.{FailsByStore, IsContainerAt}

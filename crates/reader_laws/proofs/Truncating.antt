@@ -26,7 +26,7 @@ use Rattle.flow.specs.declared.trouble.Stuck.{Stuck}
 use Rattle.flow.specs.Running.{unbroken}
 use Rattle.index_reader.specs.Replies.{damage, names_in}
 use Rattle.index_reader.specs.Truncs.{trunc_in, is_before, place_of, inserted, truncs_path, truncs_of, if_trunc}
-use Rattle.index_reader.proofs.TruncLemmas.{trunc_in-found, trunc_in-is}
+use Rattle.index_reader.proofs.Facts.{trunc_in-found, trunc_in-is}
 use Rattle.gathering.specs.Moments.{Moment, IsSoundAt}
 use Rattle.gathering.specs.Seen.{asked_in}
 use Rattle.gathering.specs.Listing.{IsTruncName, StampsRise, AreTruncsOf}

@@ -1,5 +1,5 @@
 //! The laws of a reader's machines.
-ghost use Rattle.std.specs.Prelude.{◌≡◌, ◌++◌, ◌∷◌, [], ℕ, List, Ok, Err, false};
+ghost use Rattle.std.specs.Prelude.{◌≡◌, ◌++◌, ◌∷◌, [], ℕ, List, Ok, Err};
 ghost use Rattle.std.specs.List.{All};
 ghost use Rattle.plfs_types.specs.declared.entries.Cover.{Cover};
 ghost use Rattle.plfs_types.specs.declared.entries.Trunc.{Trunc};
@@ -94,7 +94,7 @@ pub fn an_open_reader_reads_its_file()
 pub fn shares_and_truncates_fail_by_store()
     ensures shares { (lister caller : ℕ) (program : Tries Listing) (start : Moment) (scanning between reading : List Event) (listing : Listing) (ds : List Listed) (why : Stuck)
         → IsLawful start.state (scanning ++ (between ++ reading)) → IsSoundAt start → Lists program → Runs lister program scanning (Ok listing)
-        → All (λ (d : Listed). IsAmong d listing.droppings) ds → All (λ (d : Listed). d.packed ≡ false) ds → Runs caller (share_program listing.room ds listing.flat.covers) reading (Err why)
+        → All (λ (d : Listed). IsAmong d listing.droppings) ds → Runs caller (share_program listing.room ds listing.flat.covers) reading (Err why)
         → FailsByStore caller (state_after start.state (scanning ++ between)) reading why }
     ensures truncates { (lister caller : ℕ) (program : Tries Listing) (start : Moment) (scanning between reading : List Event) (listing : Listing) (why : Stuck)
         → IsLawful start.state (scanning ++ (between ++ reading)) → IsSoundAt start → Lists program → Runs lister program scanning (Ok listing)
