@@ -1,22 +1,29 @@
 -- What holds of each statement at work.
-use Rattle.std.proofs.Common.{◌≡◌, ◌<◌, ℕ, arith, true, Option}
+use Rattle.std.proofs.Common.{◌≡◌, ◌<◌, ◌+◌, ℕ, arith, true, Option, Result, Ok, Err}
+use Rattle.std.specs.Prelude.{OnOk}
 use Rattle.flow.specs.Standing.{rest_of}
 use Rattle.mount_model.specs.declared.reply.Reply.{Reply}
 use Rattle.writer_flow.specs.OpeningStages.{open_standing}
 use Rattle.writer_flow.specs.WritingStages.{write_standing}
 use Rattle.writer_flow.specs.SyncingStages.{sync_standing}
 use Rattle.writer_flow.specs.ClosingStages.{close_standing}
+use Rattle.index_reader.specs.OpenStages.{open_standing as list_standing}
 use Rattle.index_reader.specs.ReadingStages.{read_standing}
 use Rattle.actor_core.specs.declared.kept.Stop.{Stop}
 use Rattle.actor_core.specs.declared.kept.Kept.{Kept}
 use Rattle.actor_core.specs.declared.doing.Doing.{Doing}
-use Rattle.actor_core.specs.declared.doing.Doing.TheVariants.{Known, Opening, Writing, Syncing, Closing, Reading, Verifying}
+use Rattle.actor_core.specs.declared.doing.Doing.TheVariants.{Known, Opening, Writing, Syncing, Closing, Listing, Gathering, Reading, Verifying}
+use Rattle.actor_core.specs.declared.gathering.Gathering.{Gathering as Gathers}
+use Rattle.actor_core.specs.declared.gathering.Gathering.TheVariants.{Shares, Truncs, Ended}
 use Rattle.actor_core.specs.Stopping.{is_due}
 use Rattle.actor_core.specs.Endings.{stopped, opened, wrote, synced, closed, read_from, verified}
+use Rattle.actor_core.specs.Opened.{reader_opened}
+use Rattle.actor_core.specs.Readers.{if_listed}
+use Rattle.actor_core.specs.Gathering.{gather_rest}
 use Rattle.actor_core.specs.Work.{finishes}
 use Rattle.actor_core.specs.Progress.{going, IsAsked, with_reply}
-use Rattle.actor_core.specs.Standings.{busy, doing_asked, doing_left, AwaitsReply}
-use Rattle.actor_core.proofs.Carrying.{awaited, stops_so}
+use Rattle.actor_core.specs.Standings.{busy, doing_ready, doing_asked, doing_left, AwaitsReply}
+use Rattle.actor_core.proofs.Carrying.{awaited, stops_so, out_same}
 
 -- a statement whose call is out has its reply to come
 pub has_call_out : (number : ℕ) (kept : Kept) (stop : Option Stop) (doing : Doing) → IsAsked (busy number (doing_asked kept stop doing)) → AwaitsReply doing
@@ -25,6 +32,8 @@ has_call_out number kept stop (Opening flow) is_asked = awaited number (rest_of 
 has_call_out number kept stop (Writing flow at len) is_asked = awaited number (rest_of (write_standing flow)) stop (λ left out. finishes (wrote kept at len out)) (finishes (stopped kept)) is_asked
 has_call_out number kept stop (Syncing flow) is_asked = awaited number (rest_of (sync_standing flow)) stop (λ left out. finishes (synced kept out)) (finishes (stopped kept)) is_asked
 has_call_out number kept stop (Closing flow) is_asked = awaited number (rest_of (close_standing flow)) stop (λ left out. finishes (closed kept out)) (finishes (stopped kept)) is_asked
+has_call_out number kept stop (Listing flow workers) is_asked = awaited number (rest_of (list_standing flow)) stop (if_listed kept workers) (finishes (stopped kept)) is_asked
+has_call_out number kept stop (Gathering flow) is_asked = awaited number (gather_rest flow) stop (λ left result. finishes (reader_opened kept result)) (finishes (stopped kept)) is_asked
 has_call_out number kept stop (Reading flow at) is_asked = awaited number (rest_of (read_standing flow)) stop (λ left result. finishes (read_from kept at result)) (finishes (stopped kept)) is_asked
 has_call_out number kept stop (Verifying flow at content) is_asked = awaited number (rest_of (read_standing flow)) stop (λ left result. finishes (verified kept at content result)) (finishes (stopped kept)) is_asked
 
@@ -37,6 +46,8 @@ stops_there number kept stop (Opening flow) reply is_asked due = stops_so number
 stops_there number kept stop (Writing flow at len) reply is_asked due = stops_so number (rest_of (write_standing flow)) stop (λ left out. finishes (wrote kept at len out)) (finishes (stopped kept)) reply is_asked due
 stops_there number kept stop (Syncing flow) reply is_asked due = stops_so number (rest_of (sync_standing flow)) stop (λ left out. finishes (synced kept out)) (finishes (stopped kept)) reply is_asked due
 stops_there number kept stop (Closing flow) reply is_asked due = stops_so number (rest_of (close_standing flow)) stop (λ left out. finishes (closed kept out)) (finishes (stopped kept)) reply is_asked due
+stops_there number kept stop (Listing flow workers) reply is_asked due = stops_so number (rest_of (list_standing flow)) stop (if_listed kept workers) (finishes (stopped kept)) reply is_asked due
+stops_there number kept stop (Gathering flow) reply is_asked due = stops_so number (gather_rest flow) stop (λ left result. finishes (reader_opened kept result)) (finishes (stopped kept)) reply is_asked due
 stops_there number kept stop (Reading flow at) reply is_asked due = stops_so number (rest_of (read_standing flow)) stop (λ left result. finishes (read_from kept at result)) (finishes (stopped kept)) reply is_asked due
 stops_there number kept stop (Verifying flow at content) reply is_asked due = stops_so number (rest_of (read_standing flow)) stop (λ left result. finishes (verified kept at content result)) (finishes (stopped kept)) reply is_asked due
 
@@ -47,5 +58,29 @@ some_left (Opening flow) is_out = omega arith
 some_left (Writing flow at len) is_out = omega arith
 some_left (Syncing flow) is_out = omega arith
 some_left (Closing flow) is_out = omega arith
+some_left (Listing flow workers) is_out = omega arith
+some_left (Gathering flow) is_out = omega arith
 some_left (Reading flow at) is_out = omega arith
 some_left (Verifying flow at content) is_out = omega arith
+
+-- a statement that was taken for one without a call, and has one out
+gather_out : (number : ℕ) (kept : Kept) (stop : Option Stop) (flow : Gathers) → IsAsked (busy number (doing_ready kept stop (Gathering flow))) → busy number (doing_ready kept stop (Gathering flow)) ≡ busy number (doing_asked kept stop (Gathering flow))
+gather_out number kept stop (Shares flow listed workers worker sofar) is_asked = absurd is_asked
+gather_out number kept stop (Truncs flow listed shares) is_asked = absurd is_asked
+gather_out number kept stop (Ended result) is_asked = absurd is_asked
+
+pub same_out : (number : ℕ) (kept : Kept) (stop : Option Stop) (doing : Doing) → IsAsked (busy number (doing_ready kept stop doing)) → busy number (doing_ready kept stop doing) ≡ busy number (doing_asked kept stop doing)
+same_out number kept stop (Known outcome) is_asked = absurd is_asked
+same_out number kept stop (Opening flow) is_asked = out_same number (open_standing flow) stop (λ left result. finishes (opened kept result)) (finishes (stopped kept)) is_asked
+same_out number kept stop (Writing flow at len) is_asked = out_same number (write_standing flow) stop (λ left out. finishes (wrote kept at len out)) (finishes (stopped kept)) is_asked
+same_out number kept stop (Syncing flow) is_asked = out_same number (sync_standing flow) stop (λ left out. finishes (synced kept out)) (finishes (stopped kept)) is_asked
+same_out number kept stop (Closing flow) is_asked = out_same number (close_standing flow) stop (λ left out. finishes (closed kept out)) (finishes (stopped kept)) is_asked
+same_out number kept stop (Listing flow workers) is_asked = out_same number (list_standing flow) stop (if_listed kept workers) (finishes (stopped kept)) is_asked
+same_out number kept stop (Reading flow at) is_asked = out_same number (read_standing flow) stop (λ left result. finishes (read_from kept at result)) (finishes (stopped kept)) is_asked
+same_out number kept stop (Verifying flow at content) is_asked = out_same number (read_standing flow) stop (λ left result. finishes (verified kept at content result)) (finishes (stopped kept)) is_asked
+same_out number kept stop (Gathering flow) is_asked = gather_out number kept stop flow is_asked
+
+-- a bound and one more
+pub more_left : {A E : Type 0} (result : Result A E) (calls bound : ℕ) → OnOk result (calls < bound) → OnOk result (calls < bound + 1)
+more_left (Ok a) calls bound fewer = omega (arith, fewer)
+more_left (Err because) calls bound fewer = tt

@@ -1,6 +1,10 @@
 mod Carrying
+mod Doings
+mod Throughs
+mod Gatherings
+mod CoverLemmas
+mod ReaderLemmas
 mod WriterOwing
 mod ReaderOwing
 mod Owing
 mod DataLemmas
-mod Doings

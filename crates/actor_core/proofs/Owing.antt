@@ -1,36 +1,47 @@
 -- The calls of a statement owe nothing of the state, and their numbers are in range.
-use Rattle.std.proofs.Common.{◌≡◌, ◌≤◌, ℕ, Bool, subst, true, false, List, Option, Some, None, length, nat_eq}
+use Rattle.std.proofs.Common.{◌≡◌, ◌≤◌, ℕ, ◌-◌, Bool, true, false, List, [], ◌∷◌, ◌++◌, map, Option, Some, None, Result, Ok, Err, length, nat_eq}
 use Rattle.std.specs.Prelude.{if◌then◌else◌}
-use Rattle.story.specs.Program.{Program, done, ask}
+use Rattle.std.specs.List.{range_with_len}
+use Rattle.story.specs.Program.{Program, AsksOnly, done, ask}
 use Rattle.story.specs.Process.{asks}
-use Rattle.flow.specs.Running.{unbroken}
+use Rattle.flow.specs.declared.trouble.Stuck.{Stuck}
+use Rattle.flow.specs.Running.{asking, unbroken}
 use Rattle.mount_model.specs.declared.call.Call.TheVariants.{Greet}
 use Rattle.script_lang.specs.declared.line.Why.TheVariants.{NotOpen}
 use Rattle.writer_flow.specs.Opening.{open_program}
 use Rattle.writer_flow.specs.Writing.{write_program}
 use Rattle.writer_flow.specs.Closing.{close_program}
+use Rattle.index_reader.specs.Opening.{open_read_program}
 use Rattle.index_reader.specs.Reading.{read_program}
 use Rattle.writer_flow.specs.Syncing.{sync_program}
 use Rattle.read_plan.specs.Plan.{plan_of}
+use Rattle.index_reader.specs.Truncs.{trunc_program}
 use Rattle.mount_model.specs.declared.call.Call.{Call}
+use Rattle.mount_model.specs.declared.call.Ask.{Ask}
 use Rattle.mount_model.specs.declared.reply.Reply.{Reply}
 use Rattle.writer_flow.specs.declared.handle.WriterHandle.{WriterHandle}
+use Rattle.index_reader.specs.declared.listing.Listing.{Listing}
 use Rattle.index_reader.specs.declared.opened.OpenReader.{OpenReader}
+use Rattle.index_reader.specs.declared.sharing.Share.{Share}
+use Rattle.index_reader.specs.Replies.{Tries, on_ok}
 use Rattle.script_lang.specs.declared.script.Data.{Data}
 use Rattle.script_lang.specs.declared.script.Statement.{Statement}
 use Rattle.script_lang.specs.declared.script.Statement.TheVariants.{Open, Write, Sync, Close, Ropen, Read, Verify, Map, Rclose, Stop as Arms}
 use Rattle.actor_core.specs.declared.kept.Stop.{Stop}
 use Rattle.actor_core.specs.declared.kept.Kept.{Kept}
 use Rattle.actor_core.specs.Stopping.{carried, is_due, one_nearer}
+use Rattle.actor_core.specs.Dealing.{dealt_to}
 use Rattle.actor_core.specs.Endings.{refused, stopped, gone, wrote_nothing, opened, wrote, synced, closed, read_from, verified}
 use Rattle.actor_core.specs.Data.{bytes_of, length_of}
 use Rattle.actor_core.specs.Work.{Work, finishes}
+use Rattle.actor_core.specs.Sharing.{by_itself, shared, all_of}
+use Rattle.actor_core.specs.Opened.{opens as opens_after, if_truncs, reader_opened}
 use Rattle.actor_core.specs.Writers.{opens, writes, writes_bytes, syncs, closes}
-use Rattle.actor_core.specs.Readers.{reads, verifies, maps, closes_reader}
-use Rattle.actor_core.specs.Statements.{is_built_statement, does, disarmed, greeted, greeted_work, work_of}
-use Rattle.actor_core.specs.Owed.{IsHarmless, WorkAsksOnly}
-use Rattle.actor_core.proofs.WriterOwing.{IsUnowed, open_unowed, write_unowed, sync_unowed, close_unowed}
-use Rattle.actor_core.proofs.ReaderOwing.{read_unowed}
+use Rattle.actor_core.specs.Readers.{opens_reader, if_listed, programs_from, worker_program, reads, verifies, maps, closes_reader}
+use Rattle.actor_core.specs.Statements.{does, disarmed, greeted, greeted_work, work_of}
+use Rattle.actor_core.specs.Owed.{IsHarmless, IsHarmlessCall, WorkAsksOnly, EachAsksOnly}
+use Rattle.actor_core.proofs.WriterOwing.{IsUnowed, open_unowed, write_unowed, sync_unowed, close_unowed, then_unowed}
+use Rattle.actor_core.proofs.ReaderOwing.{on_ok_unowed, listing_unowed, share_unowed, truncs_unowed, read_unowed}
 
 abbrev Unowed : Work → Type 0
 Unowed work = WorkAsksOnly IsHarmless work
@@ -46,6 +57,11 @@ carries (ask call k) stop next halted unowed goes stops = (
     | false ↦ carries (k reply) (one_nearer stop) next halted (unowed.1 reply) goes stops
   ],
 )
+
+-- with calls of which none is broken off
+asking_unowed : {R : Type 0} (program : Program Call Reply R) → IsUnowed program → AsksOnly IsHarmless (asking program)
+asking_unowed (done result) unowed = tt
+asking_unowed (ask call k) unowed = (unowed.0, λ reply. asking_unowed (k reply) (unowed.1 reply))
 
 -- ---- writers
 
@@ -79,6 +95,38 @@ closes_unowed kept stop (Some handle) = carries (close_program handle) stop (λ 
 
 -- ---- readers
 
+each_unowed : (workers : ℕ) (listing : Listing) (numbers : List ℕ) → EachAsksOnly IsHarmless (map asking (map (worker_program workers listing) numbers))
+each_unowed workers listing [] = tt
+each_unowed workers listing (worker ∷ numbers) = (asking_unowed (worker_program workers listing worker) (share_unowed listing.room (dealt_to workers worker 0 listing.droppings) listing.flat.covers), each_unowed workers listing numbers)
+
+itself_unowed : (workers : ℕ) (listing : Listing) (numbers : List ℕ) (sofar : List Share) (next : List Share → Tries OpenReader)
+    → ((shares : List Share) → IsUnowed (next shares)) → IsUnowed (by_itself (map (worker_program workers listing) numbers) sofar next)
+itself_unowed workers listing [] sofar next goes = goes sofar
+itself_unowed workers listing (worker ∷ numbers) sofar next goes =
+    then_unowed (worker_program workers listing worker) (on_ok (λ share. by_itself (map (worker_program workers listing) numbers) (sofar ++ share ∷ []) next))
+    (λ result. on_ok_unowed (λ share. by_itself (map (worker_program workers listing) numbers) (sofar ++ share ∷ []) next) (λ share. itself_unowed workers listing numbers (sofar ++ share ∷ []) next goes) result)
+    (share_unowed listing.room (dealt_to workers worker 0 listing.droppings) listing.flat.covers)
+
+after_unowed : (listing : Listing) (shares : List Share) → IsUnowed (opens_after listing shares)
+after_unowed listing shares = then_unowed (trunc_program listing.room) (on_ok (if_truncs listing shares)) (λ result. on_ok_unowed (if_truncs listing shares) (λ truncs. tt) result) (truncs_unowed listing.room)
+
+shared_unowed : (kept : Kept) (stop : Option Stop) (workers : ℕ) (listing : Listing) → Unowed (if_listed kept workers stop (Ok listing))
+shared_unowed kept None workers listing = (
+  each_unowed workers listing (range_with_len 0 (workers - 0)),
+  λ results. carries (on_ok (opens_after listing) (all_of results)) None (λ left result. finishes (reader_opened kept result)) (finishes (stopped kept)) (on_ok_unowed (opens_after listing) (after_unowed listing) (all_of results)) (λ left result. tt) tt,
+  carries (by_itself (programs_from workers listing 0) [] (opens_after listing)) None (λ left result. finishes (reader_opened kept result)) (finishes (stopped kept)) (itself_unowed workers listing (range_with_len 0 (workers - 0)) [] (opens_after listing) (after_unowed listing)) (λ left result. tt) tt,
+)
+shared_unowed kept (Some stop) workers listing =
+    carries (by_itself (programs_from workers listing 0) [] (opens_after listing)) (Some stop) (λ left result. finishes (reader_opened kept result)) (finishes (stopped kept)) (itself_unowed workers listing (range_with_len 0 (workers - 0)) [] (opens_after listing) (after_unowed listing)) (λ left result. tt) tt
+
+listed_unowed : (kept : Kept) (workers : ℕ) (stop : Option Stop) (result : Result Listing Stuck) → Unowed (if_listed kept workers stop result)
+listed_unowed kept workers stop (Ok listing) = shared_unowed kept stop workers listing
+listed_unowed kept workers stop (Err because) = tt
+
+opens_reader_unowed : (kept : Kept) (stop : Option Stop) (name : List ℕ) (workers : ℕ) (reader : Option OpenReader) → Unowed (opens_reader kept stop name workers reader)
+opens_reader_unowed kept stop name workers (Some reader) = tt
+opens_reader_unowed kept stop name workers None = carries (open_read_program name) stop (if_listed kept workers) (finishes (stopped kept)) (listing_unowed name) (λ left result. listed_unowed kept workers left result) tt
+
 reads_unowed : (kept : Kept) (stop : Option Stop) (at len : ℕ) (reader : Option OpenReader) → Unowed (reads kept stop at len reader)
 reads_unowed kept stop at len None = tt
 reads_unowed kept stop at len (Some reader) = carries (read_program reader.room reader.droppings (plan_of reader.pieces reader.size at len)) stop (λ left result. finishes (read_from kept at result)) (finishes (stopped kept)) (read_unowed reader.room reader.droppings (plan_of reader.pieces reader.size at len)) (λ left result. tt) tt
@@ -97,30 +145,27 @@ closes_reader_unowed kept (Some reader) = tt
 
 -- ---- statements
 
-not_so : false ≡ true → ⊥
-not_so e = let P : Bool → Type 0 = λ b. elim b [ true ↦ ⊥ | false ↦ Unit {0} ] in subst P e tt
+does_unowed : (kept : Kept) (stop : Option Stop) (statement : Statement) → 1 ≤ kept.cap → kept.cap ≤ 4096 → Unowed (does kept stop statement)
+does_unowed kept stop (Open name) some few = opens_unowed kept stop name kept.writer some few
+does_unowed kept stop (Write at content) some few = writes_unowed kept stop at (bytes_of content) kept.writer
+does_unowed kept stop Sync some few = syncs_unowed kept stop kept.writer
+does_unowed kept stop Close some few = closes_unowed kept stop kept.writer
+does_unowed kept stop (Ropen name workers) some few = opens_reader_unowed kept stop name workers kept.reader
+does_unowed kept stop (Read at len) some few = reads_unowed kept stop at len kept.reader
+does_unowed kept stop (Verify at content) some few = verifies_unowed kept stop at content kept.reader
+does_unowed kept stop Map some few = maps_unowed kept kept.reader
+does_unowed kept stop Rclose some few = closes_reader_unowed kept kept.reader
+does_unowed kept stop (Arms call bytes) some few = tt
+does_unowed kept stop other some few = tt
 
-does_unowed : (kept : Kept) (stop : Option Stop) (statement : Statement) → 1 ≤ kept.cap → kept.cap ≤ 4096 → is_built_statement statement ≡ true → Unowed (does kept stop statement)
-does_unowed kept stop (Open name) some few built = opens_unowed kept stop name kept.writer some few
-does_unowed kept stop (Write at content) some few built = writes_unowed kept stop at (bytes_of content) kept.writer
-does_unowed kept stop Sync some few built = syncs_unowed kept stop kept.writer
-does_unowed kept stop Close some few built = closes_unowed kept stop kept.writer
-does_unowed kept stop (Ropen name workers) some few built = absurd (not_so built)
-does_unowed kept stop (Read at len) some few built = reads_unowed kept stop at len kept.reader
-does_unowed kept stop (Verify at content) some few built = verifies_unowed kept stop at content kept.reader
-does_unowed kept stop Map some few built = maps_unowed kept kept.reader
-does_unowed kept stop Rclose some few built = closes_reader_unowed kept kept.reader
-does_unowed kept stop (Arms call bytes) some few built = tt
-does_unowed kept stop other some few built = tt
-
-greeted_unowed : (kept : Kept) (statement : Statement) → 1 ≤ kept.cap → kept.cap ≤ 4096 → is_built_statement statement ≡ true → Unowed (greeted_work kept statement)
-greeted_unowed kept statement some few built = elim kept.gone as (λ b. Unowed (if b then finishes (gone kept) else does (disarmed kept) kept.armed statement)) [
+greeted_unowed : (kept : Kept) (statement : Statement) → 1 ≤ kept.cap → kept.cap ≤ 4096 → Unowed (greeted_work kept statement)
+greeted_unowed kept statement some few = elim kept.gone as (λ b. Unowed (if b then finishes (gone kept) else does (disarmed kept) kept.armed statement)) [
   | true ↦ tt
-  | false ↦ does_unowed (disarmed kept) kept.armed statement some few built
+  | false ↦ does_unowed (disarmed kept) kept.armed statement some few
 ]
 
-pub work_unowed : (kept : Kept) (statement : Statement) → 1 ≤ kept.cap → kept.cap ≤ 4096 → is_built_statement statement ≡ true → WorkAsksOnly IsHarmless (work_of kept statement)
-work_unowed kept statement some few built = elim kept.greeted as (λ b. Unowed (if b then greeted_work kept statement else asks (unbroken Greet) (λ reply. greeted_work (greeted kept) statement))) [
-  | true ↦ greeted_unowed kept statement some few built
-  | false ↦ ((tt, tt), λ reply. greeted_unowed (greeted kept) statement some few built)
+pub work_unowed : (kept : Kept) (statement : Statement) → 1 ≤ kept.cap → kept.cap ≤ 4096 → WorkAsksOnly IsHarmless (work_of kept statement)
+work_unowed kept statement some few = elim kept.greeted as (λ b. Unowed (if b then greeted_work kept statement else asks (unbroken Greet) (λ reply. greeted_work (greeted kept) statement))) [
+  | true ↦ greeted_unowed kept statement some few
+  | false ↦ ((tt, tt), λ reply. greeted_unowed (greeted kept) statement some few)
 ]

@@ -8,6 +8,8 @@ pub mod Sharing
 pub mod Opened
 pub mod Writers
 pub mod Readers
+pub mod Gathering
+pub mod Called
 pub mod Statements
 pub mod Progress
 pub mod Standings

@@ -1,5 +1,6 @@
 -- Where an actor's fields stand in what it does.
-use Rattle.std.specs.Prelude.{ℕ, ◌+◌, Option}
+use Rattle.std.specs.Prelude.{ℕ, ◌+◌, Bool, true, false, if◌then◌else◌, Option, Some, None}
+use Rattle.story.specs.Program.{Program}
 use Rattle.story.specs.Process.{asks, ends}
 use Rattle.flow.specs.Standing.{Standing, ready, asked as out, Rest, over, awaits, rest_of, Awaits}
 use Rattle.flow.specs.Running.{unbroken}
@@ -10,16 +11,20 @@ use Rattle.writer_flow.specs.OpeningStages.{open_standing, open_left}
 use Rattle.writer_flow.specs.WritingStages.{write_standing, write_left}
 use Rattle.writer_flow.specs.SyncingStages.{sync_standing, sync_left}
 use Rattle.writer_flow.specs.ClosingStages.{close_standing, close_left}
+use Rattle.index_reader.specs.OpenStages.{open_standing as list_standing, open_calls_left}
 use Rattle.index_reader.specs.ReadingStages.{read_standing, read_left}
 use Rattle.actor_core.specs.declared.kept.Stop.{Stop}
 use Rattle.actor_core.specs.declared.kept.Kept.{Kept}
 use Rattle.actor_core.specs.declared.doing.Doing.{Doing}
-use Rattle.actor_core.specs.declared.doing.Doing.TheVariants.{Known, Opening, Writing, Syncing, Closing, Reading, Verifying}
+use Rattle.actor_core.specs.declared.doing.Doing.TheVariants.{Known, Opening, Writing, Syncing, Closing, Listing, Gathering, Reading, Verifying}
 use Rattle.actor_core.specs.declared.actor.State.{State}
 use Rattle.actor_core.specs.declared.actor.State.TheVariants.{Idle, Told, Ready, Asked, Greeting, Greeted}
 use Rattle.actor_core.specs.declared.actor.Actor.{Actor}
 use Rattle.actor_core.specs.Stopping.{carried, carried_on}
 use Rattle.actor_core.specs.Endings.{ending, stopped, opened, wrote, synced, closed, read_from, verified}
+use Rattle.actor_core.specs.Opened.{reader_opened}
+use Rattle.actor_core.specs.Readers.{if_listed}
+use Rattle.actor_core.specs.Gathering.{gather_standing, gather_rest, gather_left, shares_bound}
 use Rattle.actor_core.specs.Work.{Work, finishes}
 use Rattle.actor_core.specs.Progress.{Progress, idle, going, asked, told}
 
@@ -30,6 +35,8 @@ AwaitsReply (Opening flow) = Awaits (rest_of (open_standing flow))
 AwaitsReply (Writing flow at len) = Awaits (rest_of (write_standing flow))
 AwaitsReply (Syncing flow) = Awaits (rest_of (sync_standing flow))
 AwaitsReply (Closing flow) = Awaits (rest_of (close_standing flow))
+AwaitsReply (Listing flow workers) = Awaits (rest_of (list_standing flow))
+AwaitsReply (Gathering flow) = Awaits (gather_rest flow)
 AwaitsReply (Reading flow at) = Awaits (rest_of (read_standing flow))
 AwaitsReply (Verifying flow at content) = Awaits (rest_of (read_standing flow))
 
@@ -56,6 +63,8 @@ doing_ready kept stop (Opening flow) = ready_of (open_standing flow) stop (λ le
 doing_ready kept stop (Writing flow at len) = ready_of (write_standing flow) stop (λ left out. finishes (wrote kept at len out)) (finishes (stopped kept))
 doing_ready kept stop (Syncing flow) = ready_of (sync_standing flow) stop (λ left out. finishes (synced kept out)) (finishes (stopped kept))
 doing_ready kept stop (Closing flow) = ready_of (close_standing flow) stop (λ left out. finishes (closed kept out)) (finishes (stopped kept))
+doing_ready kept stop (Listing flow workers) = ready_of (list_standing flow) stop (if_listed kept workers) (finishes (stopped kept))
+doing_ready kept stop (Gathering flow) = ready_of (gather_standing flow) stop (λ left result. finishes (reader_opened kept result)) (finishes (stopped kept))
 doing_ready kept stop (Reading flow at) = ready_of (read_standing flow) stop (λ left result. finishes (read_from kept at result)) (finishes (stopped kept))
 doing_ready kept stop (Verifying flow at content) = ready_of (read_standing flow) stop (λ left result. finishes (verified kept at content result)) (finishes (stopped kept))
 
@@ -66,6 +75,8 @@ doing_asked kept stop (Opening flow) = asked_of (rest_of (open_standing flow)) s
 doing_asked kept stop (Writing flow at len) = asked_of (rest_of (write_standing flow)) stop (λ left out. finishes (wrote kept at len out)) (finishes (stopped kept))
 doing_asked kept stop (Syncing flow) = asked_of (rest_of (sync_standing flow)) stop (λ left out. finishes (synced kept out)) (finishes (stopped kept))
 doing_asked kept stop (Closing flow) = asked_of (rest_of (close_standing flow)) stop (λ left out. finishes (closed kept out)) (finishes (stopped kept))
+doing_asked kept stop (Listing flow workers) = asked_of (rest_of (list_standing flow)) stop (if_listed kept workers) (finishes (stopped kept))
+doing_asked kept stop (Gathering flow) = asked_of (gather_rest flow) stop (λ left result. finishes (reader_opened kept result)) (finishes (stopped kept))
 doing_asked kept stop (Reading flow at) = asked_of (rest_of (read_standing flow)) stop (λ left result. finishes (read_from kept at result)) (finishes (stopped kept))
 doing_asked kept stop (Verifying flow at content) = asked_of (rest_of (read_standing flow)) stop (λ left result. finishes (verified kept at content result)) (finishes (stopped kept))
 
@@ -101,6 +112,8 @@ doing_left (Opening flow) = open_left flow + 1
 doing_left (Writing flow at len) = write_left flow + 1
 doing_left (Syncing flow) = sync_left flow + 1
 doing_left (Closing flow) = close_left flow + 1
+doing_left (Listing flow workers) = open_calls_left flow + shares_bound workers + 1
+doing_left (Gathering flow) = gather_left flow + 1
 doing_left (Reading flow at) = read_left flow + 1
 doing_left (Verifying flow at content) = read_left flow + 1
 

@@ -1,5 +1,5 @@
 -- What each statement does.
-use Rattle.std.specs.Prelude.{Bool, true, false, if◌then◌else◌, Option, None}
+use Rattle.std.specs.Prelude.{ℕ, Bool, true, false, if◌then◌else◌, Option, Some, None}
 use Rattle.story.specs.Process.{asks}
 use Rattle.flow.specs.Running.{unbroken}
 use Rattle.mount_model.specs.declared.call.Call.TheVariants.{Greet}
@@ -15,7 +15,6 @@ use Rattle.actor_core.specs.Readers.{opens_reader, reads, verifies, maps, closes
 
 -- the statements that an actor makes; the others are to come
 abbrev pub is_built_statement : Statement → Bool
-is_built_statement (Ropen name workers) = false
 is_built_statement (Stat name) = false
 is_built_statement (Flatten name) = false
 is_built_statement (Recover name) = false

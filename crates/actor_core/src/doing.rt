@@ -1,5 +1,6 @@
 //! The statement that an actor is at work on.
-use index_reader::Reading;
+use crate::gathering::Gathering;
+use index_reader::{OpenRead, Reading};
 use script_lang::{Data, Outcome};
 use writer_flow::{CloseFlow, OpenWrite, SyncFlow, WriteFlow};
 
@@ -16,6 +17,12 @@ pub(crate) enum Doing {
     },
     Syncing(SyncFlow),
     Closing(CloseFlow),
+    /// A container is listed, of which so many workers are to read the droppings.
+    Listing {
+        flow: OpenRead,
+        workers: u32,
+    },
+    Gathering(Gathering),
     Reading {
         flow: Reading,
         at: u64,

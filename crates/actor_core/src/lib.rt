@@ -7,10 +7,14 @@
 
 mod actor;
 mod data;
+mod dealing;
 mod doing;
+mod gathering;
 mod kept;
 mod laws;
+mod listed;
 mod machines;
+mod opening;
 mod outcomes;
 mod reading;
 mod starting;

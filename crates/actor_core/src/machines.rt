@@ -51,6 +51,8 @@ impl Actor {
             Doing::Writing { flow, at, len } => self.next_writing(flow, at, len),
             Doing::Syncing(flow) => self.next_syncing(flow),
             Doing::Closing(flow) => self.next_closing(flow),
+            Doing::Listing { flow, workers } => self.next_listing(flow, workers),
+            Doing::Gathering(flow) => self.next_gathering(flow),
             Doing::Reading { flow, at } => self.next_reading(flow, at),
             Doing::Verifying { flow, at, content } => self.next_verifying(flow, at, content),
         }

@@ -5,7 +5,7 @@ ghost use Rattle.actor_core.specs.Data.{bytes_of};
 ghost use Rattle.actor_core.specs.Endings.{armed};
 ghost use Rattle.actor_core.specs.Work.{finishes};
 ghost use Rattle.actor_core.specs.Writers.{opens, writes, syncs, closes};
-ghost use Rattle.actor_core.specs.Readers.{reads, verifies, maps, closes_reader};
+ghost use Rattle.actor_core.specs.Readers.{opens_reader, reads, verifies, maps, closes_reader};
 ghost use Rattle.actor_core.specs.Statements.{is_built_statement as built, greeted_work};
 ghost use Rattle.actor_core.specs.Standings.{goes, doing_ready};
 
@@ -14,7 +14,7 @@ use crate::data::{block, length};
 use crate::doing::Doing;
 use crate::kept::Stop;
 use crate::outcomes::map_text;
-use index_reader::Reading;
+use index_reader::{OpenRead, Reading};
 use plfs_types::{LogicalName, NoMemory};
 use script_lang::{Data, Outcome, Statement, Why};
 use writer_flow::{CloseFlow, OpenWrite, SyncFlow, WriteFlow};
@@ -30,8 +30,7 @@ pub fn is_built_statement(statement: &Statement) -> bool
     ensures { result ≡ built statement.now }
 {
     match statement {
-        Statement::Ropen { .. }
-        | Statement::Stat { .. }
+        Statement::Stat { .. }
         | Statement::Flatten { .. }
         | Statement::Recover { .. }
         | Statement::Trunc { .. }
@@ -60,6 +59,7 @@ impl Actor {
             Statement::Write { at, content } => self.write(at, content),
             Statement::Sync => Ok(self.sync()),
             Statement::Close => Ok(self.close()),
+            Statement::Ropen { name, workers } => Ok(self.open_reader(name, workers)),
             Statement::Read { at, len } => self.read(at, len),
             Statement::Verify { at, content } => self.verify(at, content),
             Statement::Map => self.map(),
@@ -128,6 +128,19 @@ impl Actor {
 }
 
 impl Actor {
+    fn open_reader(&self, name: LogicalName, workers: u32) -> Doing
+        ensures { doing_ready self.now.kept self.now.stop result
+            ≡ goes (opens_reader self.now.kept self.now.stop name workers self.now.kept.reader) }
+    {
+        match &self.kept.reader {
+            Some(_) => refuse(Why::AlreadyOpen),
+            None => Doing::Listing {
+                flow: OpenRead::new(self.alloc, name),
+                workers,
+            },
+        }
+    }
+
     fn read(&self, at: u64, len: u64) -> Result<Doing, NoMemory>
         requires { len ≤ 2 ^ 24 }
         ensures { IfOk result (λ doing. doing_ready self.now.kept self.now.stop doing

@@ -4,11 +4,14 @@ ghost use Rattle.actor_core.specs.declared.kept.Kept.{Kept as AKept};
 ghost use Rattle.actor_core.specs.declared.kept.Stop.{Stop as AStop};
 ghost use Rattle.actor_core.specs.Stopping.{is_due as due_test, one_nearer as nearer};
 ghost use Rattle.actor_core.specs.declared.actor.State.TheVariants.{Idle};
+ghost use Rattle.flow.specs.Standing.{Awaits};
+ghost use Rattle.actor_core.specs.Gathering.{gather_rest};
 ghost use Rattle.actor_core.specs.Progress.{IsAsked, with_reply};
 ghost use Rattle.actor_core.specs.Standings.{AwaitsReply, progress_of, calls_left, busy, doing_ready, doing_asked, doing_left};
 
 use crate::actor::{Actor, State};
 use crate::doing::Doing;
+use crate::gathering::Gathering;
 use crate::stopping::{is_due, one_nearer};
 use flow::Flow;
 use mount_model::Reply;
@@ -33,6 +36,17 @@ impl Actor {
         self.set(State::Ready(doing));
         Ok(())
     }
+}
+
+/// The shares and truncates of a reader once they took the reply to their call.
+fn gathering_after(flow: Gathering, reply: Reply) -> Result<Doing, NoMemory>
+    requires { Awaits (gather_rest flow) }
+    ensures goes_on { IfOk result (λ next. (number : ℕ) (kept : AKept) (stop : Option AStop) → due_test stop ≡ false
+        → busy number (doing_ready kept (nearer stop) next) ≡ with_reply (busy number (doing_asked kept stop (Doing.Gathering flow))) reply) }
+    ensures left { IfOk result (λ next. doing_left next < doing_left (Doing.Gathering flow)) }
+{
+    let taken = flow.take(reply)?;
+    Ok(Doing::Gathering(taken))
 }
 
 /// The machine once it took the reply to its call.
@@ -60,6 +74,11 @@ fn after_reply(doing: Doing, reply: Reply) -> Result<Doing, NoMemory>
             flow.take(reply)?;
             Doing::Closing(flow)
         }
+        Doing::Listing { mut flow, workers } => {
+            flow.take(reply)?;
+            Doing::Listing { flow, workers }
+        }
+        Doing::Gathering(flow) => gathering_after(flow, reply)?,
         Doing::Reading { mut flow, at } => {
             flow.take(reply)?;
             Doing::Reading { flow, at }

@@ -1,3 +1,4 @@
+mod CoverOrder
 mod Deciding
 pub mod EntryLemmas
 pub mod Facts
@@ -7,6 +8,7 @@ mod FlatMeaning
 mod FlatRuleLemmas
 mod Found
 mod ItemLemmas
+pub mod Looking
 mod OpenLemmas
 mod OwnerLemmas
 mod PackRuleLemmas

@@ -10,10 +10,11 @@ ghost use Rattle.index_reader.specs.Opening.{flat_program, flat_or_damage};
 ghost use Rattle.index_reader.specs.OpenStages.{flat_left, flat_step, after_flat, flat_calls, after_flat_calls, IsOfFlat};
 
 use crate::bytes::{AfterPart, read_on};
+use crate::flattened::Flattened;
 use crate::parts::FileRead;
 use crate::replies::{damage, number_in, trouble};
 use container_layout::{Item, print};
-use flat_format::{Flat, FlatTrouble, decode};
+use flat_format::{FlatTrouble, decode};
 use flow::Stuck;
 use mount_model::{Call, Look, Reply};
 use plfs_types::{Bytes, NoMemory, Path};
@@ -38,7 +39,7 @@ pub(crate) enum FlatStep {
 #[derive(Drop)]
 pub(crate) enum AfterFlat {
     GoesOn(FlatRead),
-    Is(Result<Flat, Stuck>),
+    Is(Result<Flattened, Stuck>),
 }
 
 pub(crate) fn flat_path(id: u64) -> Path
@@ -48,11 +49,12 @@ pub(crate) fn flat_path(id: u64) -> Path
 }
 
 /// The flattened index that the bytes are, or the place of the first fault.
-fn told(alloc: Global, bytes: &[u8]) -> Result<Result<Flat, u64>, NoMemory>
+#[tactic(auto, using(crate::proofs::CoverOrder::flat_rises))]
+fn told(alloc: Global, bytes: &[u8]) -> Result<Result<Flattened, u64>, NoMemory>
     ensures { IfOk result (λ told. told ≡ flat_told bytes.now) }
 {
     match decode(alloc, bytes) {
-        Ok(flat) => Ok(Ok(flat)),
+        Ok(flat) => Ok(Ok(Flattened::of(flat))),
         Err(FlatTrouble::Bad { place }) => Ok(Err(place)),
         Err(FlatTrouble::NoMemory) => Err(NoMemory),
     }

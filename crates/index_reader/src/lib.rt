@@ -11,6 +11,7 @@ mod droppings;
 mod entries;
 mod firsts;
 mod flats;
+mod flattened;
 mod gathered;
 mod listed;
 mod listing;

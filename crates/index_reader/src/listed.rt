@@ -8,6 +8,7 @@ ghost use Rattle.index_reader.specs.Opening.{no_flat as flat_of_nothing, uncover
 
 use crate::droppings::Droppings;
 use crate::flats::flat_path;
+use crate::flattened::Flattened;
 use crate::owners::Owners;
 use crate::packs::packed_path;
 use crate::replies::damage;
@@ -19,17 +20,17 @@ use plfs_types::{Cover, CoverList, NoMemory};
 use std::alloc::Global;
 
 /// The flattened index of nothing.
-pub(crate) fn no_flat(alloc: Global) -> Flat
+pub(crate) fn no_flat(alloc: Global) -> Flattened
     ensures { result ≡ flat_of_nothing }
 {
     let pieces = match Pieces::read(PieceList::new(alloc)) {
         Ok(pieces) => pieces,
         Err(_) => unreachable!(),
     };
-    Flat {
+    Flattened::of(Flat {
         covers: CoverList::new(alloc),
         pieces,
-    }
+    })
 }
 
 /// The damage of the first cover of the flattened index of this id whose writer has no index dropping.

@@ -4,12 +4,14 @@ ghost use Rattle.story.specs.Program.{followed_by};
 ghost use Rattle.index_reader.specs.Replies.{on_ok};
 ghost use Rattle.flow.specs.Standing.{ready, next_of, rest_of, replied, Awaits, IsOver, over};
 ghost use Rattle.index_reader.specs.Listing.{AreByWriter};
+ghost use Rattle.index_reader.specs.Covered.{AreByWriter as AreCoversByWriter};
 ghost use Rattle.index_reader.specs.Scanning.{nothing_found};
 ghost use Rattle.index_reader.specs.Opening.{top_program, scans, open_at_program, open_read_program};
 ghost use Rattle.index_reader.specs.OpenStages.{after_flat, after_flat_calls, IsOfFlat, open_left, open_calls, open_standing, open_calls_left};
 
 use crate::droppings::Droppings;
 use crate::flats::{AfterFlat, FlatRead};
+use crate::flattened::Flattened;
 use crate::listed::{listed, no_flat};
 use crate::listing::Listing;
 use crate::newest::{flats_path, newest_in};
@@ -18,7 +20,6 @@ use crate::replies::{names_in, room_in, trouble};
 use crate::scanning::{Scan, file_in};
 use crate::tops::folders;
 use container_layout::{flats, hostdir};
-use flat_format::Flat;
 use flow::{Flow, Stuck};
 use mount_model::{Call, Look, Reply};
 use plfs_types::{LogicalName, Name, NoMemory, Sequence};
@@ -52,12 +53,12 @@ pub(crate) enum Stage {
     Top {
         room: u64,
         id: u64,
-        flat: Flat,
+        flat: Flattened,
     },
     Scans {
         room: u64,
         id: u64,
-        flat: Flat,
+        flat: Flattened,
         folder: u32,
         rest: Queue<u32>,
         scan: Scan,
@@ -65,7 +66,7 @@ pub(crate) enum Stage {
     Listed {
         room: u64,
         droppings: Droppings,
-        flat: Flat,
+        flat: Flattened,
     },
     Failed(Stuck),
 }
@@ -184,7 +185,7 @@ fn next_folder(
     alloc: Global,
     room: u64,
     id: u64,
-    flat: Flat,
+    flat: Flattened,
     rest: Queue<u32>,
     scan: Scan,
 ) -> Result<Stage, NoMemory>
@@ -201,7 +202,7 @@ fn next_folder(
             rest,
             scan,
         }),
-        None => match listed(alloc, id, &flat, &scan)? {
+        None => match listed(alloc, id, flat.get(), &scan)? {
             Ok(droppings) => Ok(Stage::Listed {
                 room,
                 droppings,
@@ -213,7 +214,13 @@ fn next_folder(
 }
 
 /// What comes after the listing of the top.
-fn after_top(alloc: Global, room: u64, id: u64, flat: Flat, reply: Reply) -> Result<Stage, NoMemory>
+fn after_top(
+    alloc: Global,
+    room: u64,
+    id: u64,
+    flat: Flattened,
+    reply: Reply,
+) -> Result<Stage, NoMemory>
     ensures goes_on { IfOk result (λ stage. open_left stage ≡ replied (rest_of (ready (top_program room id flat))) reply) }
     ensures fewer { IfOk result (λ stage. open_calls stage < 40) }
 {
@@ -231,7 +238,7 @@ fn begin_scan(
     alloc: Global,
     room: u64,
     id: u64,
-    flat: Flat,
+    flat: Flattened,
     shown: Result<Sequence<u32>, Stuck>,
 ) -> Result<Stage, NoMemory>
     requires { IfOk shown (λ ks. length ks ≤ 32) }
@@ -249,7 +256,7 @@ fn after_folder(
     alloc: Global,
     room: u64,
     id: u64,
-    flat: Flat,
+    flat: Flattened,
     folder: u32,
     rest: Queue<u32>,
     scan: Scan,
@@ -318,6 +325,8 @@ impl Flow for OpenRead {
         ensures is { rest_of (open_standing self) ≡ over result }
         // The droppings stand by ascending writer.
         ensures ascends { IfOk result (λ listing. AreByWriter listing.droppings) }
+        // So do the covers of the flattened index.
+        ensures covers { IfOk result (λ listing. AreCoversByWriter listing.flat.covers) }
     {
         match self.stage {
             Stage::Listed {
@@ -327,7 +336,7 @@ impl Flow for OpenRead {
             } => Ok(Listing {
                 room,
                 droppings: droppings.into_list(),
-                flat,
+                flat: flat.into_flat(),
             }),
             Stage::Failed(why) => Err(why),
             _ => unreachable!(),

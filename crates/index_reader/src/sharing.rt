@@ -132,7 +132,8 @@ impl ShareRead {
     /// ascending writer.
     pub fn new(alloc: Global, room: u64, share: DroppingList, covers: CoverList) -> Self
         requires { AreByWriter covers }
-        ensures { share_standing result ≡ ready (share_program room share covers) }
+        ensures starts { share_standing result ≡ ready (share_program room share covers) }
+        ensures left { share_left result ≤ length share * (2 ^ 64 + 3) }
     {
         let covers = Covers::of(covers);
         let mut rest = Queue::of(share);
@@ -213,7 +214,8 @@ fn begin(alloc: Global, covers: &Covers, dropping: Dropping) -> DroppingRead
 
 /// Begins with the first of the droppings, where nothing was read.
 fn first_stage(alloc: Global, covers: &Covers, rest: &mut Queue<Dropping>) -> Stage
-    ensures { (room : ℕ) → stage_left room covers.now rest.new nothing result ≡ gathers room covers.now rest.old nothing }
+    ensures starts { (room : ℕ) → stage_left room covers.now rest.new nothing result ≡ gathers room covers.now rest.old nothing }
+    ensures few { stage_calls rest.new result ≤ length rest.old * (2 ^ 64 + 3) }
 {
     let Some(dropping) = rest.pop() else {
         return Stage::Ended(Ok(Share {

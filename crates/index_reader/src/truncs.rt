@@ -93,7 +93,8 @@ fn truncs_in(alloc: Global, names: &[Name]) -> Result<Result<TruncList, Stuck>, 
 impl TruncRead {
     /// Lists the truncates of this room.
     pub fn new(alloc: Global, room: u64) -> Self
-        ensures { trunc_standing result ≡ ready (trunc_program room) }
+        ensures starts { trunc_standing result ≡ ready (trunc_program room) }
+        ensures left { trunc_left result ≡ 1 }
     {
         TruncRead {
             alloc,

@@ -5,9 +5,10 @@ mod EndsWell
 mod Finishing
 mod GoodLines
 mod Leading
+mod Looking
+mod OpeningLooks
 mod Phases
-mod ReaderEndsWell
-mod ReaderUnowed
+mod ReaderLooks
 mod Rightness
 mod Rounds
 mod Tables

@@ -1,6 +1,6 @@
 -- The line of a statement tells of a fault only where a fault was answered.
-use Rattle.std.proofs.Common.{◌≡◌, ◌≢◌, ◌⊎◌, inl, inr, ℕ, List, length, Bool, true, false, Option, Some, None, Result, Ok, Err, refl, ap, subst}
-use Rattle.std.specs.Prelude.{if◌then◌else◌, ◌==◌, MatchOption}
+use Rattle.std.proofs.Common.{◌≡◌, ◌≢◌, ◌⊎◌, inl, inr, ℕ, List, [], length, Bool, true, false, Option, Some, None, Result, Ok, Err, refl, ap, subst}
+use Rattle.std.specs.Prelude.{⊤, if◌then◌else◌, ◌==◌, MatchOption}
 use Rattle.story.specs.Program.{Program, done, ask}
 use Rattle.mount_model.specs.declared.call.Ask.{Ask}
 use Rattle.mount_model.specs.declared.call.Call.{Call}
@@ -15,7 +15,9 @@ use Rattle.writer_flow.specs.Opening.{open_program}
 use Rattle.writer_flow.specs.Writing.{write_program}
 use Rattle.writer_flow.specs.Syncing.{sync_program}
 use Rattle.writer_flow.specs.Closing.{close_program}
+use Rattle.index_reader.specs.Opening.{open_read_program}
 use Rattle.index_reader.specs.Reading.{read_program}
+use Rattle.index_reader.specs.declared.listing.Listing.{Listing}
 use Rattle.index_reader.specs.declared.opened.OpenReader.{OpenReader}
 use Rattle.script_lang.specs.declared.line.Outcome.{Outcome}
 use Rattle.script_lang.specs.declared.line.Outcome.TheVariants as of
@@ -28,14 +30,18 @@ use Rattle.actor_core.specs.declared.kept.Stop.{Stop}
 use Rattle.actor_core.specs.Data.{bytes_of, length_of, first_difference}
 use Rattle.actor_core.specs.Endings.{gone, refused, stopped, opened, wrote_nothing, wrote, synced, closed, read_from, verified}
 use Rattle.actor_core.specs.Outcomes.{stuck_outcome, or_stuck, difference}
-use Rattle.actor_core.specs.Readers.{reads, verifies, maps, closes_reader}
+use Rattle.actor_core.specs.Opened.{opens as opens_after, reader_opened}
+use Rattle.actor_core.specs.Readers.{opens_reader, if_listed, programs_from, reads, verifies, maps, closes_reader}
+use Rattle.actor_core.specs.Sharing.{by_itself}
 use Rattle.actor_core.specs.Statements.{is_built_statement, does, greeted, greeted_work, disarmed, work_of}
 use Rattle.actor_core.specs.Stopping.{carried, is_due, due_bytes, stoppable, one_nearer}
 use Rattle.actor_core.specs.Work.{Work, finishes}
 use Rattle.actor_core.specs.Writers.{opens, writes, writes_bytes, syncs, closes}
 use Rattle.run_core.proofs.GoodLines.{EndsGood}
 use Rattle.run_core.proofs.EndsWell.{EndsIn, is_no_fault, ends_well, open_well, write_well, sync_well, close_well}
-use Rattle.run_core.proofs.ReaderEndsWell.{read_well}
+use Rattle.run_core.proofs.Looking.{IsAnswered, Looks}
+use Rattle.run_core.proofs.ReaderLooks.{listing_looks, read_looks}
+use Rattle.run_core.proofs.OpeningLooks.{opening_looks}
 
 -- the reply fits, is no fault, and was not for want of memory
 abbrev pub IsWell : Ask → Reply → Type 0
@@ -72,6 +78,14 @@ carried_caused fine (ask call k) stop next halted well goes stops = λ reply is.
         | inr more ↦ carried_caused fine (k reply) (one_nearer stop) next halted more goes stops
       ]
     ])
+
+-- the same of a program that looks
+looked_caused : {R : Type 0} (well : Type 0) (p : Program Call Reply (Result R Stuck)) (stop : Option Stop) (next : Option Stop → Result R Stuck → Work) (halted : Work) → well → Looks well p → ((left : Option Stop) (r : Result R Stuck) → is_no_fault r ≡ true → IsCaused (next left r)) → IsCaused halted → IsCaused (carried p stop next halted)
+looked_caused well (done r) stop next halted sofar looks goes stops = goes stop r (looks sofar)
+looked_caused well (ask call k) stop next halted sofar looks goes stops = λ reply is.
+    either_caused (is_due stop) halted (carried (k reply) (one_nearer stop) next halted) (λ _. stops) (λ later.
+    let answered : IsAnswered call reply = record { fits = fits_unbroken call stop reply later is.2; has_memory = is.1; is_good = is.0 } in
+    looked_caused (well × IsAnswered call reply) (k reply) (one_nearer stop) next halted (sofar, answered) (looks.1 reply) goes stops)
 
 -- ---- what lines say
 
@@ -128,18 +142,37 @@ closes_caused kept stop (Some handle) =
 
 -- ---- a reader
 
+reader_none : (kept : Kept) (result : Result OpenReader Stuck) → is_no_fault result ≡ true → IsCaused (finishes (reader_opened kept result))
+reader_none kept (Ok reader) fine = λ is. absurd (cc)
+reader_none kept (Err why) fine = stuck_is_none OpenReader why fine
+
+itself_caused : (kept : Kept) (workers : ℕ) (stop : Option Stop) (listing : Listing) → IsCaused (carried (by_itself (programs_from workers listing 0) [] (opens_after listing)) stop (λ left result. finishes (reader_opened kept result)) (finishes (stopped kept)))
+itself_caused kept workers stop listing =
+    looked_caused ⊤ (by_itself (programs_from workers listing 0) [] (opens_after listing)) stop (λ left result. finishes (reader_opened kept result)) (finishes (stopped kept)) tt (opening_looks workers listing ⊤)
+    (λ left result fine. reader_none kept result fine) (stops_none kept)
+
+listed_caused : (kept : Kept) (workers : ℕ) (stop : Option Stop) (result : Result Listing Stuck) → is_no_fault result ≡ true → IsCaused (if_listed kept workers stop result)
+listed_caused kept workers stop (Err why) fine = stuck_is_none Listing why fine
+listed_caused kept workers None (Ok listing) fine = itself_caused kept workers None listing
+listed_caused kept workers (Some stop) (Ok listing) fine = itself_caused kept workers (Some stop) listing
+
+opens_reader_caused : (kept : Kept) (stop : Option Stop) (name : List ℕ) (workers : ℕ) (reader : Option OpenReader) → IsCaused (opens_reader kept stop name workers reader)
+opens_reader_caused kept stop name workers (Some reader) = λ is. absurd (cc)
+opens_reader_caused kept stop name workers None =
+    looked_caused ⊤ (open_read_program name) stop (if_listed kept workers) (finishes (stopped kept)) tt (listing_looks name ⊤) (λ left result fine. listed_caused kept workers left result fine) (stops_none kept)
+
 reads_caused : (kept : Kept) (stop : Option Stop) (at len : ℕ) (reader : Option OpenReader) → IsCaused (reads kept stop at len reader)
 reads_caused kept stop at len None = refused_none kept
 reads_caused kept stop at len (Some reader) =
     let plan = plan_of reader.pieces reader.size at len in
-    carried_caused is_no_fault (read_program reader.room reader.droppings plan) stop (λ left result. finishes (read_from kept at result)) (finishes (stopped kept)) (read_well reader.room reader.droppings plan)
+    looked_caused ⊤ (read_program reader.room reader.droppings plan) stop (λ left result. finishes (read_from kept at result)) (finishes (stopped kept)) tt (read_looks reader.room reader.droppings plan ⊤)
     (λ left result fine. or_stuck_none (λ content. of.Read at content) result (λ content is. absurd (cc)) fine) (stops_none kept)
 
 verifies_caused : (kept : Kept) (stop : Option Stop) (at : ℕ) (content : Data) (reader : Option OpenReader) → IsCaused (verifies kept stop at content reader)
 verifies_caused kept stop at content None = refused_none kept
 verifies_caused kept stop at content (Some reader) =
     let plan = plan_of reader.pieces reader.size at (length_of content) in
-    carried_caused is_no_fault (read_program reader.room reader.droppings plan) stop (λ left result. finishes (verified kept at content result)) (finishes (stopped kept)) (read_well reader.room reader.droppings plan)
+    looked_caused ⊤ (read_program reader.room reader.droppings plan) stop (λ left result. finishes (verified kept at content result)) (finishes (stopped kept)) tt (read_looks reader.room reader.droppings plan ⊤)
     (λ left result fine. or_stuck_none (λ found. difference at (first_difference 0 (bytes_of content) found)) result (λ found. difference_none at (first_difference 0 (bytes_of content) found)) fine) (stops_none kept)
 
 maps_caused : (kept : Kept) (reader : Option OpenReader) → IsCaused (maps kept reader)
@@ -160,7 +193,7 @@ does_caused kept stop (Open name) built = opens_caused kept stop name kept.write
 does_caused kept stop (Write at content) built = writes_caused kept stop at (bytes_of content) kept.writer
 does_caused kept stop Sync built = syncs_caused kept stop kept.writer
 does_caused kept stop Close built = closes_caused kept stop kept.writer
-does_caused kept stop (Ropen name workers) built = absurd (cc)
+does_caused kept stop (Ropen name workers) built = opens_reader_caused kept stop name workers kept.reader
 does_caused kept stop (Read at len) built = reads_caused kept stop at len kept.reader
 does_caused kept stop (Verify at content) built = verifies_caused kept stop at content kept.reader
 does_caused kept stop Map built = maps_caused kept kept.reader

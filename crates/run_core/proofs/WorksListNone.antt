@@ -16,7 +16,9 @@ use Rattle.writer_flow.specs.Opening.{open_program}
 use Rattle.writer_flow.specs.Writing.{write_program}
 use Rattle.writer_flow.specs.Syncing.{sync_program}
 use Rattle.writer_flow.specs.Closing.{close_program}
+use Rattle.index_reader.specs.Opening.{open_read_program}
 use Rattle.index_reader.specs.Reading.{read_program}
+use Rattle.index_reader.specs.declared.listing.Listing.{Listing}
 use Rattle.index_reader.specs.declared.opened.OpenReader.{OpenReader}
 use Rattle.script_lang.specs.declared.line.Line.{Line}
 use Rattle.script_lang.specs.declared.line.Outcome.{Outcome}
@@ -31,7 +33,9 @@ use Rattle.actor_core.specs.declared.kept.Stop.{Stop}
 use Rattle.actor_core.specs.Data.{bytes_of, length_of, first_difference}
 use Rattle.actor_core.specs.Endings.{gone, refused, stopped, opened, wrote_nothing, wrote, synced, closed, read_from, verified}
 use Rattle.actor_core.specs.Outcomes.{stuck_outcome, or_stuck, difference}
-use Rattle.actor_core.specs.Readers.{reads, verifies, maps, closes_reader}
+use Rattle.actor_core.specs.Opened.{opens as opens_after, reader_opened}
+use Rattle.actor_core.specs.Readers.{opens_reader, if_listed, programs_from, reads, verifies, maps, closes_reader}
+use Rattle.actor_core.specs.Sharing.{by_itself}
 use Rattle.actor_core.specs.Statements.{is_built_statement, does, greeted, greeted_work, disarmed, work_of}
 use Rattle.actor_core.specs.Stopping.{carried, is_due, one_nearer}
 use Rattle.actor_core.specs.Work.{Work, finishes}
@@ -88,6 +92,23 @@ closes_silent : (kept : Kept) (stop : Option Stop) (writer : Option WriterHandle
 closes_silent kept stop None = tt
 closes_silent kept stop (Some handle) = carried_silent (close_program handle) stop (λ left out. finishes (closed kept out)) (finishes (stopped kept)) (λ left out. or_stuck_silent (λ landed. of.Closed landed) out.result (λ landed. tt)) tt
 
+reader_silent : (kept : Kept) (result : Result OpenReader Stuck) → Silent (finishes (reader_opened kept result))
+reader_silent kept (Ok reader) = tt
+reader_silent kept (Err why) = stuck_silent why
+
+itself_silent : (kept : Kept) (workers : ℕ) (stop : Option Stop) (listing : Listing) → Silent (carried (by_itself (programs_from workers listing 0) [] (opens_after listing)) stop (λ left result. finishes (reader_opened kept result)) (finishes (stopped kept)))
+itself_silent kept workers stop listing =
+    carried_silent (by_itself (programs_from workers listing 0) [] (opens_after listing)) stop (λ left result. finishes (reader_opened kept result)) (finishes (stopped kept)) (λ left result. reader_silent kept result) tt
+
+listed_silent : (kept : Kept) (workers : ℕ) (stop : Option Stop) (result : Result Listing Stuck) → Silent (if_listed kept workers stop result)
+listed_silent kept workers stop (Err why) = stuck_silent why
+listed_silent kept workers None (Ok listing) = itself_silent kept workers None listing
+listed_silent kept workers (Some stop) (Ok listing) = itself_silent kept workers (Some stop) listing
+
+opens_reader_silent : (kept : Kept) (stop : Option Stop) (name : List ℕ) (workers : ℕ) (reader : Option OpenReader) → Silent (opens_reader kept stop name workers reader)
+opens_reader_silent kept stop name workers (Some reader) = tt
+opens_reader_silent kept stop name workers None = carried_silent (open_read_program name) stop (if_listed kept workers) (finishes (stopped kept)) (λ left result. listed_silent kept workers left result) tt
+
 reads_silent : (kept : Kept) (stop : Option Stop) (at len : ℕ) (reader : Option OpenReader) → Silent (reads kept stop at len reader)
 reads_silent kept stop at len None = tt
 reads_silent kept stop at len (Some reader) = carried_silent (read_program reader.room reader.droppings (plan_of reader.pieces reader.size at len)) stop (λ left result. finishes (read_from kept at result)) (finishes (stopped kept)) (λ left result. or_stuck_silent (λ content. of.Read at content) result (λ content. tt)) tt
@@ -110,7 +131,7 @@ does_silent kept stop (Open name) built = opens_silent kept stop name kept.write
 does_silent kept stop (Write at content) built = writes_silent kept stop at (bytes_of content) kept.writer
 does_silent kept stop Sync built = syncs_silent kept stop kept.writer
 does_silent kept stop Close built = closes_silent kept stop kept.writer
-does_silent kept stop (Ropen name workers) built = absurd (cc)
+does_silent kept stop (Ropen name workers) built = opens_reader_silent kept stop name workers kept.reader
 does_silent kept stop (Read at len) built = reads_silent kept stop at len kept.reader
 does_silent kept stop (Verify at content) built = verifies_silent kept stop at content kept.reader
 does_silent kept stop Map built = maps_silent kept kept.reader

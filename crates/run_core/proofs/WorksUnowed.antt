@@ -1,16 +1,19 @@
 -- For no call of the statements that actors make anything is owed of the state, and each ends with a line.
-use Rattle.std.proofs.Common.{◌≡◌, ℕ, List, length, Bool, true, false, Option, Some, None}
-use Rattle.std.specs.Prelude.{if◌then◌else◌, ◌==◌}
+use Rattle.std.proofs.Common.{◌≡◌, ℕ, List, [], length, Bool, true, false, Option, Some, None, Result, Ok, Err}
+use Rattle.std.specs.Prelude.{⊤, if◌then◌else◌, ◌==◌}
 use Rattle.story.specs.Program.{Program, done, ask}
 use Rattle.mount_model.specs.declared.call.Call.{Call}
 use Rattle.mount_model.specs.declared.reply.Reply.{Reply}
+use Rattle.flow.specs.declared.trouble.Stuck.{Stuck}
 use Rattle.read_plan.specs.Plan.{plan_of}
 use Rattle.writer_flow.specs.declared.handle.WriterHandle.{WriterHandle}
 use Rattle.writer_flow.specs.Opening.{open_program}
 use Rattle.writer_flow.specs.Writing.{write_program}
 use Rattle.writer_flow.specs.Syncing.{sync_program}
 use Rattle.writer_flow.specs.Closing.{close_program}
+use Rattle.index_reader.specs.Opening.{open_read_program}
 use Rattle.index_reader.specs.Reading.{read_program}
+use Rattle.index_reader.specs.declared.listing.Listing.{Listing}
 use Rattle.index_reader.specs.declared.opened.OpenReader.{OpenReader}
 use Rattle.script_lang.specs.declared.script.Data.{Data}
 use Rattle.script_lang.specs.declared.script.Statement.{Statement}
@@ -20,14 +23,18 @@ use Rattle.actor_core.specs.declared.kept.Stop.{Stop}
 use Rattle.actor_core.specs.Data.{bytes_of, length_of}
 use Rattle.script_lang.specs.declared.line.Why.TheVariants.{NotOpen}
 use Rattle.actor_core.specs.Endings.{gone, refused, stopped, opened, wrote_nothing, wrote, synced, closed, read_from, verified}
-use Rattle.actor_core.specs.Readers.{reads, verifies, maps, closes_reader}
+use Rattle.actor_core.specs.Opened.{opens as opens_after, reader_opened}
+use Rattle.actor_core.specs.Readers.{opens_reader, if_listed, programs_from, reads, verifies, maps, closes_reader}
+use Rattle.actor_core.specs.Sharing.{by_itself}
 use Rattle.actor_core.specs.Statements.{is_built_statement, does, greeted, greeted_work, disarmed, work_of}
 use Rattle.actor_core.specs.Stopping.{carried, is_due, one_nearer}
 use Rattle.actor_core.specs.Work.{Work, finishes}
 use Rattle.actor_core.specs.Writers.{opens, writes, writes_bytes, syncs, closes}
 use Rattle.run_core.specs.Players.{IsUnowed}
 use Rattle.run_core.proofs.Unowed.{AsksNothing, open_unowed, write_unowed, sync_unowed, close_unowed}
-use Rattle.run_core.proofs.ReaderUnowed.{read_asks}
+use Rattle.run_core.proofs.Looking.{looks_unowed}
+use Rattle.run_core.proofs.ReaderLooks.{listing_looks, read_looks}
+use Rattle.run_core.proofs.OpeningLooks.{opening_looks}
 
 either_unowed : (b : Bool) (p q : Work) → IsUnowed p → IsUnowed q → IsUnowed (if b then p else q)
 either_unowed true p q x y = x
@@ -63,17 +70,32 @@ closes_unowed kept stop (Some handle) = carried_unowed (close_program handle) st
 
 -- ---- a reader
 
+itself_unowed : (kept : Kept) (workers : ℕ) (stop : Option Stop) (listing : Listing) → IsUnowed (carried (by_itself (programs_from workers listing 0) [] (opens_after listing)) stop (λ left result. finishes (reader_opened kept result)) (finishes (stopped kept)))
+itself_unowed kept workers stop listing =
+    let program = by_itself (programs_from workers listing 0) [] (opens_after listing) in
+    carried_unowed program stop (λ left result. finishes (reader_opened kept result)) (finishes (stopped kept)) (looks_unowed ⊤ program (opening_looks workers listing ⊤)) (λ left result. tt) tt
+
+listed_unowed : (kept : Kept) (workers : ℕ) (stop : Option Stop) (result : Result Listing Stuck) → IsUnowed (if_listed kept workers stop result)
+listed_unowed kept workers stop (Err because) = tt
+listed_unowed kept workers None (Ok listing) = itself_unowed kept workers None listing
+listed_unowed kept workers (Some stop) (Ok listing) = itself_unowed kept workers (Some stop) listing
+
+opens_reader_unowed : (kept : Kept) (stop : Option Stop) (name : List ℕ) (workers : ℕ) (reader : Option OpenReader) → IsUnowed (opens_reader kept stop name workers reader)
+opens_reader_unowed kept stop name workers (Some reader) = tt
+opens_reader_unowed kept stop name workers None =
+    carried_unowed (open_read_program name) stop (if_listed kept workers) (finishes (stopped kept)) (looks_unowed ⊤ (open_read_program name) (listing_looks name ⊤)) (λ left result. listed_unowed kept workers left result) tt
+
 reads_unowed : (kept : Kept) (stop : Option Stop) (at len : ℕ) (reader : Option OpenReader) → IsUnowed (reads kept stop at len reader)
 reads_unowed kept stop at len None = tt
 reads_unowed kept stop at len (Some reader) =
     let plan = plan_of reader.pieces reader.size at len in
-    carried_unowed (read_program reader.room reader.droppings plan) stop (λ left result. finishes (read_from kept at result)) (finishes (stopped kept)) (read_asks reader.room reader.droppings plan) (λ left result. tt) tt
+    carried_unowed (read_program reader.room reader.droppings plan) stop (λ left result. finishes (read_from kept at result)) (finishes (stopped kept)) (looks_unowed ⊤ (read_program reader.room reader.droppings plan) (read_looks reader.room reader.droppings plan ⊤)) (λ left result. tt) tt
 
 verifies_unowed : (kept : Kept) (stop : Option Stop) (at : ℕ) (content : Data) (reader : Option OpenReader) → IsUnowed (verifies kept stop at content reader)
 verifies_unowed kept stop at content None = tt
 verifies_unowed kept stop at content (Some reader) =
     let plan = plan_of reader.pieces reader.size at (length_of content) in
-    carried_unowed (read_program reader.room reader.droppings plan) stop (λ left result. finishes (verified kept at content result)) (finishes (stopped kept)) (read_asks reader.room reader.droppings plan) (λ left result. tt) tt
+    carried_unowed (read_program reader.room reader.droppings plan) stop (λ left result. finishes (verified kept at content result)) (finishes (stopped kept)) (looks_unowed ⊤ (read_program reader.room reader.droppings plan) (read_looks reader.room reader.droppings plan ⊤)) (λ left result. tt) tt
 
 maps_unowed : (kept : Kept) (reader : Option OpenReader) → IsUnowed (maps kept reader)
 maps_unowed kept None = tt
@@ -90,7 +112,7 @@ does_unowed kept stop (Open name) built = opens_unowed kept stop name kept.write
 does_unowed kept stop (Write at content) built = writes_unowed kept stop at (bytes_of content) kept.writer
 does_unowed kept stop Sync built = syncs_unowed kept stop kept.writer
 does_unowed kept stop Close built = closes_unowed kept stop kept.writer
-does_unowed kept stop (Ropen name workers) built = absurd (cc)
+does_unowed kept stop (Ropen name workers) built = opens_reader_unowed kept stop name workers kept.reader
 does_unowed kept stop (Read at len) built = reads_unowed kept stop at len kept.reader
 does_unowed kept stop (Verify at content) built = verifies_unowed kept stop at content kept.reader
 does_unowed kept stop Map built = maps_unowed kept kept.reader
