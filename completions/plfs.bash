@@ -19,7 +19,7 @@ _plfs() {
         fi
         ;;
     2)
-        mapfile -t COMPREPLY < <(compgen -W 'play' -- "$word")
+        mapfile -t COMPREPLY < <(compgen -W 'play map' -- "$word")
         ;;
     esac
 }

@@ -38,7 +38,7 @@ def a_folder_of_a_container_without_permission_is_a_fault_of_its_statement(trial
     folder = trial.root / "f" / "openhosts"
     folder.chmod(0o500)
     try:
-        trial.ends(4, WORK, lines="2 fault\n")
+        trial.ends(4, WORK, lines="2 fault\n3 refused not-open\n4 refused not-open\n5 refused not-open\n")
     finally:
         folder.chmod(0o700)
     trial.holds()

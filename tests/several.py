@@ -33,10 +33,21 @@ def containers_of_several_folders_lie_where_their_names_say(trial):
         same(f"what is read back of {name}", shown, f"3 read 0 {name.encode().hex() * 2}")
 
 
+# What a stop left torn is mended; files are told of, cut and renamed beside open readers, and listed.
+TORN = (
+    "actor a\nactor b\na open f\na write 0 text:A\na write 1 text:B\na write 2 text:C\na stop 2 85\na sync\na close\n"
+    "b ropen f\nb read 0 9\nb trunc f 0\nb recover f\nb trunc f 0\nb stat f\n"
+)
+RENAMED = (
+    "actor a\nactor b\na open g\na write 0 text:hi\na close\na open h\na close\nb ropen g\na rename g k\nb read 0 2\nb rclose\n"
+    "b ropen g\nb ropen k\na rename k h\na rename k k\na ls\na stat k\na trunc k 1\na stat k\n"
+)
+
+
 @check
 def lines_over_several_folders_are_those_over_one(trial):
     _, root = made(trial)
-    for script in (WORK, READ, THREE, "actor a\na read 0 1\na open f\na open f\n", "actor a\na spoil f\n", ""):
+    for script in (WORK, TORN, RENAMED, READ, THREE, "actor a\na read 0 1\na open f\na open f\n", "actor a\na spoil f\n", ""):
         one, several = trial.run(script), trial.run(script, root)
         same(f"the end of {script!r}", (several.status, several.out, several.err), (one.status, one.out, one.err))
 
@@ -58,7 +69,7 @@ def a_folder_among_several_that_is_read_only_is_a_fault_which_names_it(trial):
         ended = trial.ends(4, THREE.replace("open f", "open g", 1), root)
     finally:
         folders[2].chmod(0o700)
-    same("the last line", ended.out.splitlines()[-1], "10 fault")
+    same("the last lines", ended.out.splitlines()[-4:], ["10 fault", "11 refused not-open", "12 refused not-open", "13 refused not-open"])
     says(ended, f"{folders[2]}/h: make the folder: Permission denied")
     trial.holds(root=root)
 
@@ -102,10 +113,20 @@ def one_to_eight_folders_with_names_are_served(trial):
 
 
 @check
-def damage_in_one_of_several_folders_names_it(trial):
+def damage_in_one_of_several_folders_names_the_line_of_the_script(trial):
     folders, root = made(trial)
     trial.ends(0, THREE, root)
     index = next((folders[1] / "g" / "hostdir.0").glob("index.*"))
     index.write_bytes(bytes(40))
-    ended = trial.ends(7, "actor a\na ropen g\na read 0 1\n", root, lines=f"2 damaged hostdir.0/{index.name} 0\n")
+    ended = trial.ends(7, "actor a\na ropen g\na read 0 1\n", root, lines=f"2 damaged hostdir.0/{index.name} 0\n3 refused not-open\n")
+    says(ended, f"{root}: line 2: damaged hostdir.0/{index.name} 0: restore it from a copy")
+
+
+@check
+def damage_that_a_command_finds_in_one_of_several_folders_names_it(trial):
+    folders, root = made(trial)
+    trial.ends(0, THREE, root)
+    index = next((folders[1] / "g" / "hostdir.0").glob("index.*"))
+    index.write_bytes(bytes(40))
+    ended = trial.ends(7, "", root, words=["map", "g"], lines=f"0 damaged hostdir.0/{index.name} 0\n")
     says(ended, f"{folders[1]}/g: damaged hostdir.0/{index.name} 0: restore it from a copy")

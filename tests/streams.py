@@ -88,6 +88,28 @@ def a_refused_statement_is_status_1_and_the_rest_is_made(trial):
 
 
 @check
+def actors_share_a_file_by_written_turns(trial):
+    script = (
+        "actor a\nactor b 1 2\na open f\nb open f\na write 0 text:AA\nb write 1 text:B\na close\nb close\n"
+        "phase\na ropen f 2\na read 0 9\na verify 1 text:A\n"
+    )
+    trial.ends(
+        0,
+        script,
+        lines="3 open 4294967297\n4 open 4294967298\n5 wrote 0 2 STAMP\n6 wrote 1 1 STAMP\n7 closed 1\n8 closed 1\n"
+        "10 reader 2 cut 4294967297:1,4294967298:1 trunc -\n11 read 0 4142\n12 differs 1\n",
+    )
+
+
+@check
+def a_file_is_mapped_without_a_script(trial):
+    trial.ends(0, WORK)
+    trial.ends(1, "", words=["map", "g"], lines="0 refused no-file\n")
+    mapped = trial.ends(0, "", words=["map", "f"]).out.split()
+    true(f"it printed {mapped}", mapped[:2] == ["0", "map"] and mapped[2].startswith("0+5=") and mapped[2].endswith(".4294967297@0") and len(mapped) == 3)
+
+
+@check
 def other_words_print_the_usage_line_and_do_nothing(trial):
     for words in ([], ["fly"], ["play", "twice"], ["-v"]):
         ended = trial.ends(2, WORK, words=words)
@@ -107,7 +129,10 @@ def damage_is_status_7_and_says_where(trial):
     trial.ends(0, WORK)
     index = trial.root / "f" / "hostdir.0" / "index.0.4294967297"
     index.write_bytes(bytes(40))
-    trial.ends(7, READ, lines="2 damaged hostdir.0/index.0.4294967297 0\n")
+    ended = trial.ends(7, READ, lines="2 damaged hostdir.0/index.0.4294967297 0\n3 refused not-open\n")
+    same("standard error", ended.err, f"plfs: {trial.root}: line 2: damaged hostdir.0/index.0.4294967297 0: restore it from a copy\n")
+    ended = trial.ends(7, "", words=["map", "f"], lines="0 damaged hostdir.0/index.0.4294967297 0\n")
+    same("standard error", ended.err, f"plfs: {trial.root}/f: damaged hostdir.0/index.0.4294967297 0: restore it from a copy\n")
 
 
 @check

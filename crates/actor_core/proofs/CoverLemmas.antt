@@ -1,12 +1,11 @@
 -- The covers of a reader are one list.
-use Rattle.std.proofs.Common.{◌≡◌, ℕ, ◌<◌, ◌≤◌, Bool, true, false, cond, inl, inr, List, [], ◌∷◌, map, Option, Some, None, refl, ap, sym, ◌∙◌, subst, arith, nat_eq, nat_lt}
+use Rattle.std.proofs.Common.{◌≡◌, ℕ, ◌<◌, ◌≤◌, true, false, inl, inr, List, [], ◌∷◌, map, Option, Some, None, refl, ap, sym, ◌∙◌, subst, arith, nat_eq, nat_lt}
 use Rattle.std.specs.List.{All}
 use Rattle.std.proofs.lemmas.Bool.{cases_Bool, cases_order}
 use Rattle.std.proofs.lemmas.Bool.Decides.{nat_tests}
 use Rattle.std.proofs.lemmas.Option.{none-some, same_Some}
 use Rattle.std.proofs.lemmas.List.Elements.{All-head, All-tail, All-cons, All-nil}
 use Rattle.plfs_types.specs.declared.entries.Cover.{Cover}
-use Rattle.mount_model.specs.Regular.{Ascend}
 use Rattle.index_reader.specs.Found.{item_of}
 use Rattle.index_reader.specs.Covered.{AreByWriter}
 use Rattle.index_reader.specs.Gathered.{AreFirstOf}
@@ -142,11 +141,11 @@ with_is c (d ∷ covers) n = elim (cases_order c.writer d.writer) [
 
 -- ---- the first covers
 
-first_rise : (told : List Cover) → AreByWriter (first_covers told)
+pub first_rise : (told : List Cover) → AreByWriter (first_covers told)
 first_rise [] = tt
 first_rise (c ∷ told) = rises_with c (first_covers told) (first_rise told)
 
-first_is : (told : List Cover) (n : ℕ) → cover_in n (first_covers told) ≡ cover_in n told
+pub first_is : (told : List Cover) (n : ℕ) → cover_in n (first_covers told) ≡ cover_in n told
 first_is [] n = refl
 first_is (c ∷ told) n = with_is c (first_covers told) n ∙ (elim (cases_Bool (nat_eq c.writer n)) [
   | inl here ↦ rw here refl

@@ -1,5 +1,5 @@
 -- What holds of each statement at work.
-use Rattle.std.proofs.Common.{◌≡◌, ◌<◌, ◌+◌, ℕ, arith, true, Option, Result, Ok, Err}
+use Rattle.std.proofs.Common.{◌≡◌, ◌<◌, ◌+◌, ℕ, arith, true, Option, Result, Ok, Err, sym, ap, ◌∙◌}
 use Rattle.std.specs.Prelude.{OnOk}
 use Rattle.flow.specs.Standing.{rest_of}
 use Rattle.mount_model.specs.declared.reply.Reply.{Reply}
@@ -9,16 +9,22 @@ use Rattle.writer_flow.specs.SyncingStages.{sync_standing}
 use Rattle.writer_flow.specs.ClosingStages.{close_standing}
 use Rattle.index_reader.specs.OpenStages.{open_standing as list_standing}
 use Rattle.index_reader.specs.ReadingStages.{read_standing}
+use Rattle.attr_flow.specs.Stages.{attr_standing}
+use Rattle.trunc_rename.specs.TruncateStages.{truncate_standing}
+use Rattle.trunc_rename.specs.RenameStages.{rename_standing}
+use Rattle.torn_tail.specs.Stages.{recover_standing}
 use Rattle.actor_core.specs.declared.kept.Stop.{Stop}
 use Rattle.actor_core.specs.declared.kept.Kept.{Kept}
 use Rattle.actor_core.specs.declared.doing.Doing.{Doing}
-use Rattle.actor_core.specs.declared.doing.Doing.TheVariants.{Known, Opening, Writing, Syncing, Closing, Listing, Gathering, Reading, Verifying}
+use Rattle.actor_core.specs.declared.doing.Doing.TheVariants.{Known, Opening, Writing, Syncing, Closing, Listing, Gathering, Reading, Verifying, Telling, Truncating, Renaming, Recovering, Naming}
 use Rattle.actor_core.specs.declared.gathering.Gathering.{Gathering as Gathers}
 use Rattle.actor_core.specs.declared.gathering.Gathering.TheVariants.{Shares, Truncs, Ended}
-use Rattle.actor_core.specs.Stopping.{is_due}
-use Rattle.actor_core.specs.Endings.{stopped, opened, wrote, synced, closed, read_from, verified}
-use Rattle.actor_core.specs.Opened.{reader_opened}
-use Rattle.actor_core.specs.Readers.{if_listed}
+use Rattle.actor_core.specs.Stopping.{is_due, one_nearer}
+use Rattle.actor_core.specs.declared.purpose.Purpose.{Purpose}
+use Rattle.actor_core.specs.Endings.{stopped, opened, wrote, synced, closed, read_from, verified, truncated, renamed, recovered, names_listed}
+use Rattle.actor_core.specs.Telling.{if_asked}
+use Rattle.actor_core.specs.Purposes.{if_listed_for, ended_for}
+use Rattle.actor_core.specs.Naming.{names_standing}
 use Rattle.actor_core.specs.Gathering.{gather_rest}
 use Rattle.actor_core.specs.Work.{finishes}
 use Rattle.actor_core.specs.Progress.{going, IsAsked, with_reply}
@@ -32,10 +38,15 @@ has_call_out number kept stop (Opening flow) is_asked = awaited number (rest_of 
 has_call_out number kept stop (Writing flow at len) is_asked = awaited number (rest_of (write_standing flow)) stop (λ left out. finishes (wrote kept at len out)) (finishes (stopped kept)) is_asked
 has_call_out number kept stop (Syncing flow) is_asked = awaited number (rest_of (sync_standing flow)) stop (λ left out. finishes (synced kept out)) (finishes (stopped kept)) is_asked
 has_call_out number kept stop (Closing flow) is_asked = awaited number (rest_of (close_standing flow)) stop (λ left out. finishes (closed kept out)) (finishes (stopped kept)) is_asked
-has_call_out number kept stop (Listing flow workers) is_asked = awaited number (rest_of (list_standing flow)) stop (if_listed kept workers) (finishes (stopped kept)) is_asked
-has_call_out number kept stop (Gathering flow) is_asked = awaited number (gather_rest flow) stop (λ left result. finishes (reader_opened kept result)) (finishes (stopped kept)) is_asked
+has_call_out number kept stop (Listing flow purpose) is_asked = awaited number (rest_of (list_standing flow)) stop (if_listed_for purpose kept) (finishes (stopped kept)) is_asked
+has_call_out number kept stop (Gathering flow purpose) is_asked = awaited number (gather_rest flow) stop (λ left result. finishes (ended_for purpose kept result)) (finishes (stopped kept)) is_asked
 has_call_out number kept stop (Reading flow at) is_asked = awaited number (rest_of (read_standing flow)) stop (λ left result. finishes (read_from kept at result)) (finishes (stopped kept)) is_asked
 has_call_out number kept stop (Verifying flow at content) is_asked = awaited number (rest_of (read_standing flow)) stop (λ left result. finishes (verified kept at content result)) (finishes (stopped kept)) is_asked
+has_call_out number kept stop (Telling flow) is_asked = awaited number (rest_of (attr_standing flow)) stop (if_asked kept) (finishes (stopped kept)) is_asked
+has_call_out number kept stop (Truncating flow) is_asked = awaited number (rest_of (truncate_standing flow)) stop (λ left result. finishes (truncated kept result)) (finishes (stopped kept)) is_asked
+has_call_out number kept stop (Renaming flow) is_asked = awaited number (rest_of (rename_standing flow)) stop (λ left result. finishes (renamed kept result)) (finishes (stopped kept)) is_asked
+has_call_out number kept stop (Recovering flow) is_asked = awaited number (rest_of (recover_standing flow)) stop (λ left result. finishes (recovered kept result)) (finishes (stopped kept)) is_asked
+has_call_out number kept stop (Naming flow) is_asked = awaited number (rest_of (names_standing flow)) stop (λ left result. finishes (names_listed kept result)) (finishes (stopped kept)) is_asked
 
 -- a statement ends where its actor stops within its call
 pub stops_there : (number : ℕ) (kept : Kept) (stop : Option Stop) (doing : Doing) (reply : Reply)
@@ -46,10 +57,15 @@ stops_there number kept stop (Opening flow) reply is_asked due = stops_so number
 stops_there number kept stop (Writing flow at len) reply is_asked due = stops_so number (rest_of (write_standing flow)) stop (λ left out. finishes (wrote kept at len out)) (finishes (stopped kept)) reply is_asked due
 stops_there number kept stop (Syncing flow) reply is_asked due = stops_so number (rest_of (sync_standing flow)) stop (λ left out. finishes (synced kept out)) (finishes (stopped kept)) reply is_asked due
 stops_there number kept stop (Closing flow) reply is_asked due = stops_so number (rest_of (close_standing flow)) stop (λ left out. finishes (closed kept out)) (finishes (stopped kept)) reply is_asked due
-stops_there number kept stop (Listing flow workers) reply is_asked due = stops_so number (rest_of (list_standing flow)) stop (if_listed kept workers) (finishes (stopped kept)) reply is_asked due
-stops_there number kept stop (Gathering flow) reply is_asked due = stops_so number (gather_rest flow) stop (λ left result. finishes (reader_opened kept result)) (finishes (stopped kept)) reply is_asked due
+stops_there number kept stop (Listing flow purpose) reply is_asked due = stops_so number (rest_of (list_standing flow)) stop (if_listed_for purpose kept) (finishes (stopped kept)) reply is_asked due
+stops_there number kept stop (Gathering flow purpose) reply is_asked due = stops_so number (gather_rest flow) stop (λ left result. finishes (ended_for purpose kept result)) (finishes (stopped kept)) reply is_asked due
 stops_there number kept stop (Reading flow at) reply is_asked due = stops_so number (rest_of (read_standing flow)) stop (λ left result. finishes (read_from kept at result)) (finishes (stopped kept)) reply is_asked due
 stops_there number kept stop (Verifying flow at content) reply is_asked due = stops_so number (rest_of (read_standing flow)) stop (λ left result. finishes (verified kept at content result)) (finishes (stopped kept)) reply is_asked due
+stops_there number kept stop (Telling flow) reply is_asked due = stops_so number (rest_of (attr_standing flow)) stop (if_asked kept) (finishes (stopped kept)) reply is_asked due
+stops_there number kept stop (Truncating flow) reply is_asked due = stops_so number (rest_of (truncate_standing flow)) stop (λ left result. finishes (truncated kept result)) (finishes (stopped kept)) reply is_asked due
+stops_there number kept stop (Renaming flow) reply is_asked due = stops_so number (rest_of (rename_standing flow)) stop (λ left result. finishes (renamed kept result)) (finishes (stopped kept)) reply is_asked due
+stops_there number kept stop (Recovering flow) reply is_asked due = stops_so number (rest_of (recover_standing flow)) stop (λ left result. finishes (recovered kept result)) (finishes (stopped kept)) reply is_asked due
+stops_there number kept stop (Naming flow) reply is_asked due = stops_so number (rest_of (names_standing flow)) stop (λ left result. finishes (names_listed kept result)) (finishes (stopped kept)) reply is_asked due
 
 -- and it may still make a call
 pub some_left : (doing : Doing) → AwaitsReply doing → 0 < doing_left doing
@@ -58,16 +74,21 @@ some_left (Opening flow) is_out = omega arith
 some_left (Writing flow at len) is_out = omega arith
 some_left (Syncing flow) is_out = omega arith
 some_left (Closing flow) is_out = omega arith
-some_left (Listing flow workers) is_out = omega arith
-some_left (Gathering flow) is_out = omega arith
+some_left (Listing flow purpose) is_out = omega arith
+some_left (Gathering flow purpose) is_out = omega arith
 some_left (Reading flow at) is_out = omega arith
 some_left (Verifying flow at content) is_out = omega arith
+some_left (Telling flow) is_out = omega arith
+some_left (Truncating flow) is_out = omega arith
+some_left (Renaming flow) is_out = omega arith
+some_left (Recovering flow) is_out = omega arith
+some_left (Naming flow) is_out = omega arith
 
 -- a statement that was taken for one without a call, and has one out
-gather_out : (number : ℕ) (kept : Kept) (stop : Option Stop) (flow : Gathers) → IsAsked (busy number (doing_ready kept stop (Gathering flow))) → busy number (doing_ready kept stop (Gathering flow)) ≡ busy number (doing_asked kept stop (Gathering flow))
-gather_out number kept stop (Shares flow listed workers worker sofar) is_asked = absurd is_asked
-gather_out number kept stop (Truncs flow listed shares) is_asked = absurd is_asked
-gather_out number kept stop (Ended result) is_asked = absurd is_asked
+gather_out : (number : ℕ) (kept : Kept) (stop : Option Stop) (flow : Gathers) (purpose : Purpose) → IsAsked (busy number (doing_ready kept stop (Gathering flow purpose))) → busy number (doing_ready kept stop (Gathering flow purpose)) ≡ busy number (doing_asked kept stop (Gathering flow purpose))
+gather_out number kept stop (Shares flow listed workers worker sofar) purpose is_asked = absurd is_asked
+gather_out number kept stop (Truncs flow listed shares) purpose is_asked = absurd is_asked
+gather_out number kept stop (Ended result) purpose is_asked = absurd is_asked
 
 pub same_out : (number : ℕ) (kept : Kept) (stop : Option Stop) (doing : Doing) → IsAsked (busy number (doing_ready kept stop doing)) → busy number (doing_ready kept stop doing) ≡ busy number (doing_asked kept stop doing)
 same_out number kept stop (Known outcome) is_asked = absurd is_asked
@@ -75,12 +96,24 @@ same_out number kept stop (Opening flow) is_asked = out_same number (open_standi
 same_out number kept stop (Writing flow at len) is_asked = out_same number (write_standing flow) stop (λ left out. finishes (wrote kept at len out)) (finishes (stopped kept)) is_asked
 same_out number kept stop (Syncing flow) is_asked = out_same number (sync_standing flow) stop (λ left out. finishes (synced kept out)) (finishes (stopped kept)) is_asked
 same_out number kept stop (Closing flow) is_asked = out_same number (close_standing flow) stop (λ left out. finishes (closed kept out)) (finishes (stopped kept)) is_asked
-same_out number kept stop (Listing flow workers) is_asked = out_same number (list_standing flow) stop (if_listed kept workers) (finishes (stopped kept)) is_asked
+same_out number kept stop (Listing flow purpose) is_asked = out_same number (list_standing flow) stop (if_listed_for purpose kept) (finishes (stopped kept)) is_asked
 same_out number kept stop (Reading flow at) is_asked = out_same number (read_standing flow) stop (λ left result. finishes (read_from kept at result)) (finishes (stopped kept)) is_asked
 same_out number kept stop (Verifying flow at content) is_asked = out_same number (read_standing flow) stop (λ left result. finishes (verified kept at content result)) (finishes (stopped kept)) is_asked
-same_out number kept stop (Gathering flow) is_asked = gather_out number kept stop flow is_asked
+same_out number kept stop (Telling flow) is_asked = out_same number (attr_standing flow) stop (if_asked kept) (finishes (stopped kept)) is_asked
+same_out number kept stop (Truncating flow) is_asked = out_same number (truncate_standing flow) stop (λ left result. finishes (truncated kept result)) (finishes (stopped kept)) is_asked
+same_out number kept stop (Renaming flow) is_asked = out_same number (rename_standing flow) stop (λ left result. finishes (renamed kept result)) (finishes (stopped kept)) is_asked
+same_out number kept stop (Recovering flow) is_asked = out_same number (recover_standing flow) stop (λ left result. finishes (recovered kept result)) (finishes (stopped kept)) is_asked
+same_out number kept stop (Naming flow) is_asked = out_same number (names_standing flow) stop (λ left result. finishes (names_listed kept result)) (finishes (stopped kept)) is_asked
+same_out number kept stop (Gathering flow purpose) is_asked = gather_out number kept stop flow purpose is_asked
 
 -- a bound and one more
 pub more_left : {A E : Type 0} (result : Result A E) (calls bound : ℕ) → OnOk result (calls < bound) → OnOk result (calls < bound + 1)
 more_left (Ok a) calls bound fewer = omega (arith, fewer)
 more_left (Err because) calls bound fewer = tt
+
+-- what is so of a statement's machines before and after a reply is so of the statement
+pub taken_so : (number : ℕ) (kept : Kept) (stop : Option Stop) (doing old next new : Doing) (reply : Reply) → doing ≡ old → next ≡ new
+    → busy number (doing_ready kept (one_nearer stop) new) ≡ with_reply (busy number (doing_asked kept stop old)) reply
+    → busy number (doing_ready kept (one_nearer stop) next) ≡ with_reply (busy number (doing_asked kept stop doing)) reply
+taken_so number kept stop doing old next new reply was is goes =
+    ap (λ d. busy number (doing_ready kept (one_nearer stop) d)) is ∙ goes ∙ sym (ap (λ d. with_reply (busy number (doing_asked kept stop d)) reply) was)

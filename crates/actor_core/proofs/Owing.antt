@@ -1,6 +1,7 @@
 -- The calls of a statement owe nothing of the state, and their numbers are in range.
-use Rattle.std.proofs.Common.{◌≡◌, ◌≤◌, ℕ, ◌-◌, Bool, true, false, List, [], ◌∷◌, ◌++◌, map, Option, Some, None, Result, Ok, Err, length, nat_eq}
+use Rattle.std.proofs.Common.{◌≡◌, ◌≤◌, ℕ, ◌-◌, true, false, List, [], ◌∷◌, ◌++◌, map, Option, Some, None, Result, Ok, Err, length, nat_eq}
 use Rattle.std.specs.Prelude.{if◌then◌else◌}
+use Rattle.std.proofs.lemmas.Bool.{false≢true}
 use Rattle.std.specs.List.{range_with_len}
 use Rattle.story.specs.Program.{Program, AsksOnly, done, ask}
 use Rattle.story.specs.Process.{asks}
@@ -11,13 +12,16 @@ use Rattle.script_lang.specs.declared.line.Why.TheVariants.{NotOpen}
 use Rattle.writer_flow.specs.Opening.{open_program}
 use Rattle.writer_flow.specs.Writing.{write_program}
 use Rattle.writer_flow.specs.Closing.{close_program}
-use Rattle.index_reader.specs.Opening.{open_read_program}
+use Rattle.index_reader.specs.Opening.{open_at_program, open_read_program}
+use Rattle.attr_flow.specs.declared.attr_flow.AttrOut.{AttrOut}
+use Rattle.attr_flow.specs.declared.attr_flow.AttrOut.TheVariants.{Cached, MustMerge}
+use Rattle.attr_flow.specs.Asking.{attr_program}
+use Rattle.trunc_rename.specs.Renaming.{rename_program}
 use Rattle.index_reader.specs.Reading.{read_program}
 use Rattle.writer_flow.specs.Syncing.{sync_program}
 use Rattle.read_plan.specs.Plan.{plan_of}
 use Rattle.index_reader.specs.Truncs.{trunc_program}
 use Rattle.mount_model.specs.declared.call.Call.{Call}
-use Rattle.mount_model.specs.declared.call.Ask.{Ask}
 use Rattle.mount_model.specs.declared.reply.Reply.{Reply}
 use Rattle.writer_flow.specs.declared.handle.WriterHandle.{WriterHandle}
 use Rattle.index_reader.specs.declared.listing.Listing.{Listing}
@@ -26,22 +30,26 @@ use Rattle.index_reader.specs.declared.sharing.Share.{Share}
 use Rattle.index_reader.specs.Replies.{Tries, on_ok}
 use Rattle.script_lang.specs.declared.script.Data.{Data}
 use Rattle.script_lang.specs.declared.script.Statement.{Statement}
-use Rattle.script_lang.specs.declared.script.Statement.TheVariants.{Open, Write, Sync, Close, Ropen, Read, Verify, Map, Rclose, Stop as Arms}
+use Rattle.script_lang.specs.declared.script.Statement.TheVariants.{Open, Write, Sync, Close, Ropen, Read, Verify, Map, Rclose, Stat, Flatten, Recover, Trunc, Rename, Ls, Stop as Arms}
 use Rattle.actor_core.specs.declared.kept.Stop.{Stop}
 use Rattle.actor_core.specs.declared.kept.Kept.{Kept}
 use Rattle.actor_core.specs.Stopping.{carried, is_due, one_nearer}
 use Rattle.actor_core.specs.Dealing.{dealt_to}
-use Rattle.actor_core.specs.Endings.{refused, stopped, gone, wrote_nothing, opened, wrote, synced, closed, read_from, verified}
+use Rattle.actor_core.specs.Endings.{refused, stopped, gone, wrote_nothing, opened, wrote, synced, closed, read_from, verified, told_of, renamed, names_listed}
 use Rattle.actor_core.specs.Data.{bytes_of, length_of}
 use Rattle.actor_core.specs.Work.{Work, finishes}
-use Rattle.actor_core.specs.Sharing.{by_itself, shared, all_of}
+use Rattle.actor_core.specs.Sharing.{by_itself, all_of}
 use Rattle.actor_core.specs.Opened.{opens as opens_after, if_truncs, reader_opened}
 use Rattle.actor_core.specs.Writers.{opens, writes, writes_bytes, syncs, closes}
 use Rattle.actor_core.specs.Readers.{opens_reader, if_listed, programs_from, worker_program, reads, verifies, maps, closes_reader}
-use Rattle.actor_core.specs.Statements.{does, disarmed, greeted, greeted_work, work_of}
-use Rattle.actor_core.specs.Owed.{IsHarmless, IsHarmlessCall, WorkAsksOnly, EachAsksOnly}
+use Rattle.actor_core.specs.Names.{names_program}
+use Rattle.actor_core.specs.Telling.{attr_of, tells_by, if_relisted, if_asked, tells_of_file}
+use Rattle.actor_core.specs.ByName.{renames_file, lists_names}
+use Rattle.actor_core.specs.Statements.{is_harmless_statement, does, disarmed, greeted, greeted_work, work_of}
+use Rattle.actor_core.specs.Owed.{IsHarmless, WorkAsksOnly, EachAsksOnly}
 use Rattle.actor_core.proofs.WriterOwing.{IsUnowed, open_unowed, write_unowed, sync_unowed, close_unowed, then_unowed}
-use Rattle.actor_core.proofs.ReaderOwing.{on_ok_unowed, listing_unowed, share_unowed, truncs_unowed, read_unowed}
+use Rattle.actor_core.proofs.ReaderOwing.{on_ok_unowed, listing_unowed, listing_at_unowed, share_unowed, truncs_unowed, read_unowed}
+use Rattle.actor_core.proofs.NameOwing.{attr_unowed, rename_unowed, names_unowed}
 
 abbrev Unowed : Work → Type 0
 Unowed work = WorkAsksOnly IsHarmless work
@@ -99,7 +107,7 @@ each_unowed : (workers : ℕ) (listing : Listing) (numbers : List ℕ) → EachA
 each_unowed workers listing [] = tt
 each_unowed workers listing (worker ∷ numbers) = (asking_unowed (worker_program workers listing worker) (share_unowed listing.room (dealt_to workers worker 0 listing.droppings) listing.flat.covers), each_unowed workers listing numbers)
 
-itself_unowed : (workers : ℕ) (listing : Listing) (numbers : List ℕ) (sofar : List Share) (next : List Share → Tries OpenReader)
+itself_unowed : {R : Type 0} (workers : ℕ) (listing : Listing) (numbers : List ℕ) (sofar : List Share) (next : List Share → Tries R)
     → ((shares : List Share) → IsUnowed (next shares)) → IsUnowed (by_itself (map (worker_program workers listing) numbers) sofar next)
 itself_unowed workers listing [] sofar next goes = goes sofar
 itself_unowed workers listing (worker ∷ numbers) sofar next goes =
@@ -143,29 +151,61 @@ closes_reader_unowed : (kept : Kept) (reader : Option OpenReader) → Unowed (cl
 closes_reader_unowed kept None = tt
 closes_reader_unowed kept (Some reader) = tt
 
+-- ---- files by their names
+
+telling_unowed : (listing : Listing) (shares : List Share) → IsUnowed (tells_by listing shares)
+telling_unowed listing shares =
+    then_unowed (trunc_program listing.room) (on_ok (λ truncs. done (Ok (attr_of listing shares truncs)))) (λ result. on_ok_unowed (λ truncs. done (Ok (attr_of listing shares truncs))) (λ truncs. tt) result) (truncs_unowed listing.room)
+
+relisted_unowed : (kept : Kept) (stop : Option Stop) (result : Result Listing Stuck) → Unowed (if_relisted kept stop result)
+relisted_unowed kept stop (Err because) = tt
+relisted_unowed kept stop (Ok listing) =
+    carries (by_itself (programs_from 1 listing 0) [] (tells_by listing)) stop (λ left result. finishes (told_of kept result)) (finishes (stopped kept))
+    (itself_unowed 1 listing (range_with_len 0 1) [] (tells_by listing) (telling_unowed listing)) (λ left result. tt) tt
+
+asked_unowed : (kept : Kept) (stop : Option Stop) (result : Result AttrOut Stuck) → Unowed (if_asked kept stop result)
+asked_unowed kept stop (Err because) = tt
+asked_unowed kept stop (Ok (Cached attr)) = tt
+asked_unowed kept stop (Ok (MustMerge room)) =
+    carries (open_at_program room) stop (if_relisted kept) (finishes (stopped kept)) (listing_at_unowed room) (λ left result. relisted_unowed kept left result) tt
+
+tells_unowed : (kept : Kept) (stop : Option Stop) (name : List ℕ) → Unowed (tells_of_file kept stop name)
+tells_unowed kept stop name = carries (attr_program name) stop (if_asked kept) (finishes (stopped kept)) (attr_unowed name) (λ left result. asked_unowed kept left result) tt
+
+renames_unowed : (kept : Kept) (stop : Option Stop) (name to : List ℕ) → Unowed (renames_file kept stop name to)
+renames_unowed kept stop name to = carries (rename_program name to) stop (λ left result. finishes (renamed kept result)) (finishes (stopped kept)) (rename_unowed name to) (λ left result. tt) tt
+
+lists_unowed : (kept : Kept) (stop : Option Stop) → Unowed (lists_names kept stop)
+lists_unowed kept stop = carries names_program stop (λ left result. finishes (names_listed kept result)) (finishes (stopped kept)) names_unowed (λ left result. tt) tt
+
 -- ---- statements
 
-does_unowed : (kept : Kept) (stop : Option Stop) (statement : Statement) → 1 ≤ kept.cap → kept.cap ≤ 4096 → Unowed (does kept stop statement)
-does_unowed kept stop (Open name) some few = opens_unowed kept stop name kept.writer some few
-does_unowed kept stop (Write at content) some few = writes_unowed kept stop at (bytes_of content) kept.writer
-does_unowed kept stop Sync some few = syncs_unowed kept stop kept.writer
-does_unowed kept stop Close some few = closes_unowed kept stop kept.writer
-does_unowed kept stop (Ropen name workers) some few = opens_reader_unowed kept stop name workers kept.reader
-does_unowed kept stop (Read at len) some few = reads_unowed kept stop at len kept.reader
-does_unowed kept stop (Verify at content) some few = verifies_unowed kept stop at content kept.reader
-does_unowed kept stop Map some few = maps_unowed kept kept.reader
-does_unowed kept stop Rclose some few = closes_reader_unowed kept kept.reader
-does_unowed kept stop (Arms call bytes) some few = tt
-does_unowed kept stop other some few = tt
+does_unowed : (kept : Kept) (stop : Option Stop) (statement : Statement) → 1 ≤ kept.cap → kept.cap ≤ 4096 → is_harmless_statement statement ≡ true → Unowed (does kept stop statement)
+does_unowed kept stop (Open name) some few harmless = opens_unowed kept stop name kept.writer some few
+does_unowed kept stop (Write at content) some few harmless = writes_unowed kept stop at (bytes_of content) kept.writer
+does_unowed kept stop Sync some few harmless = syncs_unowed kept stop kept.writer
+does_unowed kept stop Close some few harmless = closes_unowed kept stop kept.writer
+does_unowed kept stop (Ropen name workers) some few harmless = opens_reader_unowed kept stop name workers kept.reader
+does_unowed kept stop (Read at len) some few harmless = reads_unowed kept stop at len kept.reader
+does_unowed kept stop (Verify at content) some few harmless = verifies_unowed kept stop at content kept.reader
+does_unowed kept stop Map some few harmless = maps_unowed kept kept.reader
+does_unowed kept stop Rclose some few harmless = closes_reader_unowed kept kept.reader
+does_unowed kept stop (Arms call bytes) some few harmless = tt
+does_unowed kept stop (Stat name) some few harmless = tells_unowed kept stop name
+does_unowed kept stop (Rename name to) some few harmless = renames_unowed kept stop name to
+does_unowed kept stop Ls some few harmless = lists_unowed kept stop
+does_unowed kept stop (Flatten name) some few harmless = absurd (false≢true harmless)
+does_unowed kept stop (Recover name) some few harmless = absurd (false≢true harmless)
+does_unowed kept stop (Trunc name size) some few harmless = absurd (false≢true harmless)
 
-greeted_unowed : (kept : Kept) (statement : Statement) → 1 ≤ kept.cap → kept.cap ≤ 4096 → Unowed (greeted_work kept statement)
-greeted_unowed kept statement some few = elim kept.gone as (λ b. Unowed (if b then finishes (gone kept) else does (disarmed kept) kept.armed statement)) [
+greeted_unowed : (kept : Kept) (statement : Statement) → 1 ≤ kept.cap → kept.cap ≤ 4096 → is_harmless_statement statement ≡ true → Unowed (greeted_work kept statement)
+greeted_unowed kept statement some few harmless = elim kept.gone as (λ b. Unowed (if b then finishes (gone kept) else does (disarmed kept) kept.armed statement)) [
   | true ↦ tt
-  | false ↦ does_unowed (disarmed kept) kept.armed statement some few
+  | false ↦ does_unowed (disarmed kept) kept.armed statement some few harmless
 ]
 
-pub work_unowed : (kept : Kept) (statement : Statement) → 1 ≤ kept.cap → kept.cap ≤ 4096 → WorkAsksOnly IsHarmless (work_of kept statement)
-work_unowed kept statement some few = elim kept.greeted as (λ b. Unowed (if b then greeted_work kept statement else asks (unbroken Greet) (λ reply. greeted_work (greeted kept) statement))) [
-  | true ↦ greeted_unowed kept statement some few
-  | false ↦ ((tt, tt), λ reply. greeted_unowed (greeted kept) statement some few)
+pub work_unowed : (kept : Kept) (statement : Statement) → 1 ≤ kept.cap → kept.cap ≤ 4096 → is_harmless_statement statement ≡ true → WorkAsksOnly IsHarmless (work_of kept statement)
+work_unowed kept statement some few harmless = elim kept.greeted as (λ b. Unowed (if b then greeted_work kept statement else asks (unbroken Greet) (λ reply. greeted_work (greeted kept) statement))) [
+  | true ↦ greeted_unowed kept statement some few harmless
+  | false ↦ ((tt, tt), λ reply. greeted_unowed (greeted kept) statement some few harmless)
 ]

@@ -1,12 +1,13 @@
--- The reader that is opened is the one of what was read.
-use Rattle.std.proofs.Common.{◌≡◌, ℕ, ◌+◌, ◌-◌, ◌<◌, ◌≤◌, zero, suc, Option, List, [], ◌∷◌, ◌++◌, map, refl, sym, ap, ◌∙◌, subst, arith}
+-- The reader that is opened, and what is told of a file, are those of what was read.
+use Rattle.std.proofs.Common.{◌≡◌, ℕ, ◌+◌, ◌-◌, ◌<◌, ◌≤◌, suc, List, [], ◌∷◌, ◌++◌, map, sym, ap, ◌∙◌, arith}
 use Rattle.std.specs.List.{range_with_len}
 use Rattle.plfs_types.specs.declared.entries.Trunc.{Trunc}
-use Rattle.plain_file.specs.declared.pieces.Piece.{Piece}
 use Rattle.plain_file.specs.Size.{size_from}
-use Rattle.plain_file.specs.Sources.{Source, source_at, kept_source}
+use Rattle.plain_file.specs.Sources.{source_at, kept_source}
 use Rattle.plain_file.specs.Runs.{AreRuns}
 use Rattle.interval_merge.specs.Lists.{newest_source}
+use Rattle.attr_flow.specs.declared.attr.Attr.{Attr}
+use Rattle.attr_flow.specs.Attributes.{gathered as told_by}
 use Rattle.index_reader.specs.declared.gathered.Gathered.{Gathered}
 use Rattle.index_reader.specs.declared.listing.Listing.{Listing}
 use Rattle.index_reader.specs.declared.opened.OpenReader.{OpenReader}
@@ -21,9 +22,10 @@ use Rattle.index_reader.specs.Replies.{on_ok}
 use Rattle.index_reader.specs.Runs.{merged_of}
 use Rattle.index_reader.specs.Gathered.{IsGatheredOf, pieces_of_each, covers_of}
 use Rattle.index_reader.proofs.RunLemmas.{runs_of-is, merged_of-is}
-use Rattle.actor_core.specs.Opened.{reader_of, opens, if_truncs}
+use Rattle.actor_core.specs.Opened.{reader_of}
+use Rattle.actor_core.specs.Telling.{attr_of}
 use Rattle.actor_core.specs.Sharing.{by_itself}
-use Rattle.actor_core.specs.Gathering.{then_on, after_share, shares_from}
+use Rattle.actor_core.specs.Gathering.{if_truncs_listed, reads_truncs, then_on, after_share, shares_from}
 use Rattle.actor_core.specs.Readers.{worker_program, programs_from}
 use Rattle.actor_core.proofs.CoverLemmas.{covers_are}
 
@@ -55,6 +57,15 @@ reader_is listing shares truncs gathered reader are runs opened clipped =
       truncs = (opened.truncs ∙ are.truncates) i;
     }
 
+-- what is told of the file
+pub attr_is : (listing : Listing) (shares : List Share) (truncs : List Trunc) (gathered : Gathered) (attr : Attr)
+    → IsGatheredOf listing shares truncs gathered → AreRuns gathered.flat.pieces → attr ≡ told_by gathered.flat gathered.truncs
+    → attr ≡ attr_of listing shares truncs
+attr_is listing shares truncs gathered attr are runs told =
+    let merged : gathered.flat.pieces ≡ merged_of (listing.flat.pieces ∷ pieces_of_each shares) = merged_of-is (listing.flat.pieces ∷ pieces_of_each shares) gathered.flat.pieces runs are.pieces.newest in
+    let covers = covers_are (covers_of shares ++ listing.flat.covers) gathered.flat.covers are.covers in
+    told ∙ (λ i. told_by (record { covers = covers i; pieces = merged i }) (are.truncates i))
+
 -- the programs of the workers from one on
 one_more : (a n : ℕ) → a < n → range_with_len a (n - a) ≡ a ∷ range_with_len (a + 1) (n - (a + 1))
 one_more a n lt = let e : n - a ≡ suc (n - (a + 1)) = omega arith in ap (λ k. range_with_len a k) e
@@ -73,12 +84,12 @@ pub begins_share : (workers : ℕ) (listing : Listing) (worker : ℕ) (sofar : L
     → then_on s (after_share workers listing (worker + 1) sofar) ≡ ready (shares_from workers listing worker sofar)
 begins_share workers listing worker sofar s lt is =
     ap (λ t. then_on t (after_share workers listing (worker + 1) sofar)) is
-    ∙ sym (ap (λ programs. ready (by_itself programs sofar (opens listing))) (programs_on workers listing worker lt))
+    ∙ sym (ap (λ programs. ready (by_itself programs sofar (reads_truncs listing))) (programs_on workers listing worker lt))
 
 -- no share is left, and the truncates follow
 pub begins_truncs : (workers : ℕ) (listing : Listing) (worker : ℕ) (sofar : List Share) (s : Standing Call Reply (Result (List Trunc) Stuck))
     → workers ≤ worker → s ≡ ready (trunc_program listing.room)
-    → then_on s (on_ok (if_truncs listing sofar)) ≡ ready (shares_from workers listing worker sofar)
+    → then_on s (on_ok (if_truncs_listed listing sofar)) ≡ ready (shares_from workers listing worker sofar)
 begins_truncs workers listing worker sofar s le is =
-    ap (λ t. then_on t (on_ok (if_truncs listing sofar))) is
-    ∙ sym (ap (λ programs. ready (by_itself programs sofar (opens listing))) (no_programs workers listing worker le))
+    ap (λ t. then_on t (on_ok (if_truncs_listed listing sofar))) is
+    ∙ sym (ap (λ programs. ready (by_itself programs sofar (reads_truncs listing))) (no_programs workers listing worker le))

@@ -8,12 +8,13 @@ use Rattle.mount_model.specs.Paths.{log_path}
 use Rattle.mount_model.specs.declared.call.Call.{Call}
 use Rattle.mount_model.specs.declared.call.Call.TheVariants.{Find, Look}
 use Rattle.mount_model.specs.declared.reply.Reply.{Reply}
+use Rattle.mount_model.specs.declared.reply.Reply.TheVariants.{Room}
 use Rattle.read_plan.specs.declared.part.Part.{Part}
 use Rattle.index_reader.specs.declared.listing.Dropping.{Dropping}
 use Rattle.index_reader.specs.declared.placing.Placed.{Placed}
 use Rattle.index_reader.specs.declared.placing.Placed.TheVariants.{Zeros, Logged}
 use Rattle.index_reader.specs.Replies.{Tries, given, on_ok, bytes_in, damage, trouble}
-use Rattle.index_reader.specs.Opening.{open_read_program}
+use Rattle.index_reader.specs.Opening.{open_at_program, open_read_program}
 use Rattle.index_reader.specs.Reading.{placed_all, ends_at, spells, read_program}
 use Rattle.index_reader.specs.Sharing.{share_program}
 use Rattle.index_reader.specs.Truncs.{trunc_program}
@@ -32,6 +33,9 @@ looks_unowed (ask call k) looks = (look_unowed call looks.0, λ reply. looks_uno
 
 pub listing_unowed : (name : List ℕ) → IsUnowed (open_read_program name)
 listing_unowed name = looks_unowed (open_read_program name) (listing_looks name)
+
+pub listing_at_unowed : (room : ℕ) → IsUnowed (open_at_program room)
+listing_at_unowed room = looks_unowed (open_at_program room) ((listing_looks []).1 (Room room))
 
 pub share_unowed : (room : ℕ) (share : List Dropping) (covers : List Cover) → IsUnowed (share_program room share covers)
 share_unowed room share covers = looks_unowed (share_program room share covers) (share_looks room share covers)

@@ -1,8 +1,7 @@
 -- A machine, and then what its result leads to.
-use Rattle.std.proofs.Common.{◌≡◌, Option, Some, None, Result, Ok, Err, refl, sym, ap, ◌∙◌, subst}
+use Rattle.std.proofs.Common.{◌≡◌, Some, None, refl, sym, ap, ◌∙◌, subst}
 use Rattle.std.proofs.lemmas.Option.{none-some}
-use Rattle.story.specs.Program.{Program, done, ask, followed_by}
-use Rattle.flow.specs.declared.trouble.Stuck.{Stuck}
+use Rattle.story.specs.Program.{done, ask}
 use Rattle.flow.specs.Standing.{Standing, ready, asked, Rest, over, awaits, next_of, rest_of, replied, Awaits, IsOver, IsFresh}
 use Rattle.mount_model.specs.declared.call.Call.{Call}
 use Rattle.mount_model.specs.declared.reply.Reply.{Reply}

@@ -1,4 +1,4 @@
--- What is said to whether a reader that is opened has a further call.
+-- What is said to whether a gathering has a further call.
 use Rattle.std.specs.Prelude.{◌≡◌, ◌≤◌, Some}
 use Rattle.story.specs.Program.{done}
 use Rattle.flow.specs.Standing.{ready, next_of, rest_of}

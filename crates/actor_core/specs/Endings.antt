@@ -4,13 +4,16 @@ use Rattle.plain_file.specs.declared.pieces.Piece.{Piece}
 use Rattle.flow.specs.declared.trouble.Stuck.{Stuck}
 use Rattle.writer_flow.specs.declared.handle.WriterHandle.{WriterHandle}
 use Rattle.writer_flow.specs.declared.handle.WriterOut.{WriterOut}
+use Rattle.attr_flow.specs.declared.attr.Attr.{Attr}
+use Rattle.torn_tail.specs.declared.recovering.Recovered.{Recovered}
+use Rattle.mount_model.specs.Paths.{Name}
 use Rattle.script_lang.specs.declared.script.Data.{Data}
 use Rattle.script_lang.specs.declared.line.Outcome.{Outcome}
 use Rattle.script_lang.specs.declared.line.Outcome.TheVariants.{Wrote, Map, ReaderClosed, Armed, Stopped, Gone, Refused}
 use Rattle.script_lang.specs.declared.line.Why.{Why}
 use Rattle.actor_core.specs.declared.kept.Stop.{Stop}
 use Rattle.actor_core.specs.declared.kept.Kept.{Kept}
-use Rattle.actor_core.specs.Outcomes.{open_outcome, write_outcome, sync_outcome, close_outcome, read_outcome, verify_outcome, map_text}
+use Rattle.actor_core.specs.Outcomes.{open_outcome, write_outcome, sync_outcome, close_outcome, read_outcome, verify_outcome, map_text, stat_outcome, truncate_outcome, rename_outcome, recover_outcome, list_outcome}
 
 pub record Ending : Type 0 where
   pub outcome : Outcome
@@ -71,3 +74,20 @@ reader_closed kept = ending ReaderClosed (record kept { reader = None })
 
 abbrev pub armed : Kept → Stop → Ending
 armed kept stop = ending Armed (record kept { armed = Some stop })
+
+-- ---- what the actor keeps is as it was
+
+abbrev pub told_of : Kept → Result Attr Stuck → Ending
+told_of kept result = ending (stat_outcome result) kept
+
+abbrev pub truncated : Kept → Result ℕ Stuck → Ending
+truncated kept result = ending (truncate_outcome result) kept
+
+abbrev pub renamed : Kept → Result (Unit {0}) Stuck → Ending
+renamed kept result = ending (rename_outcome result) kept
+
+abbrev pub recovered : Kept → Result Recovered Stuck → Ending
+recovered kept result = ending (recover_outcome result) kept
+
+abbrev pub names_listed : Kept → Result (List Name) Stuck → Ending
+names_listed kept result = ending (list_outcome result) kept

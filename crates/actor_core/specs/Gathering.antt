@@ -1,5 +1,6 @@
--- Where the shares and the truncates of a reader that is opened stand.
+-- Where the shares and the truncates of a container that is gathered stand.
 use Rattle.std.specs.Prelude.{ℕ, ◌+◌, ◌-◌, ◌*◌, ◌^◌, List, [], ◌∷◌, ◌++◌, Result, Ok, Err}
+use Rattle.plfs_types.specs.declared.entries.Trunc.{Trunc}
 use Rattle.story.specs.Program.{Program, done, followed_by}
 use Rattle.flow.specs.declared.trouble.Stuck.{Stuck}
 use Rattle.flow.specs.declared.trouble.Stuck.TheVariants.{Fault}
@@ -7,15 +8,15 @@ use Rattle.flow.specs.Standing.{Standing, ready, asked, Rest, over, awaits, rest
 use Rattle.mount_model.specs.declared.call.Call.{Call}
 use Rattle.mount_model.specs.declared.reply.Reply.{Reply}
 use Rattle.index_reader.specs.declared.listing.Listing.{Listing}
-use Rattle.index_reader.specs.declared.opened.OpenReader.{OpenReader}
 use Rattle.index_reader.specs.declared.sharing.Share.{Share}
 use Rattle.index_reader.specs.Replies.{Tries, on_ok}
 use Rattle.index_reader.specs.Stages.{share_standing, share_left}
+use Rattle.index_reader.specs.Truncs.{trunc_program}
 use Rattle.index_reader.specs.TruncStages.{trunc_standing, trunc_left}
+use Rattle.actor_core.specs.declared.all_read.AllRead.{AllRead}
 use Rattle.actor_core.specs.declared.gathering.Gathering.{Gathering}
 use Rattle.actor_core.specs.declared.gathering.Gathering.TheVariants.{Shares, Truncs, Ended}
 use Rattle.actor_core.specs.Sharing.{by_itself}
-use Rattle.actor_core.specs.Opened.{opens, if_truncs}
 use Rattle.actor_core.specs.Readers.{programs_from}
 
 module _ {R S : Type 0} where
@@ -29,23 +30,31 @@ abbrev pub rest_then : {R S : Type 0} → Rest Call Reply R → (R → Tries S) 
 rest_then (over result) next = over (Err Fault)
 rest_then (awaits k) next = awaits (λ reply. followed_by (k reply) next)
 
+-- once the truncates are listed
+abbrev pub if_truncs_listed : Listing → List Share → List Trunc → Tries AllRead
+if_truncs_listed listing shares truncs = done (Ok (record { listed = listing; shares = shares; truncs = truncs }))
+
+-- the truncates are listed behind the shares
+abbrev pub reads_truncs : Listing → List Share → Tries AllRead
+reads_truncs listing shares = followed_by (trunc_program listing.room) (on_ok (if_truncs_listed listing shares))
+
 -- the shares from this worker's on, behind those so far, and then the truncates
-abbrev pub shares_from : ℕ → Listing → ℕ → List Share → Tries OpenReader
-shares_from workers listing worker sofar = by_itself (programs_from workers listing worker) sofar (opens listing)
+abbrev pub shares_from : ℕ → Listing → ℕ → List Share → Tries AllRead
+shares_from workers listing worker sofar = by_itself (programs_from workers listing worker) sofar (reads_truncs listing)
 
 -- with one share more
-abbrev pub after_share : ℕ → Listing → ℕ → List Share → Result Share Stuck → Tries OpenReader
+abbrev pub after_share : ℕ → Listing → ℕ → List Share → Result Share Stuck → Tries AllRead
 after_share workers listing worker sofar = on_ok (λ share. shares_from workers listing worker (sofar ++ share ∷ []))
 
-abbrev pub gather_standing : Gathering → Standing Call Reply (Result OpenReader Stuck)
+abbrev pub gather_standing : Gathering → Standing Call Reply (Result AllRead Stuck)
 gather_standing (Shares flow listed workers worker sofar) = then_on (share_standing flow) (after_share workers listed worker sofar)
-gather_standing (Truncs flow listed shares) = then_on (trunc_standing flow) (on_ok (if_truncs listed shares))
+gather_standing (Truncs flow listed shares) = then_on (trunc_standing flow) (on_ok (if_truncs_listed listed shares))
 gather_standing (Ended result) = ready (done result)
 
 -- what follows the reply to the call that is out
-abbrev pub gather_rest : Gathering → Rest Call Reply (Result OpenReader Stuck)
+abbrev pub gather_rest : Gathering → Rest Call Reply (Result AllRead Stuck)
 gather_rest (Shares flow listed workers worker sofar) = rest_then (rest_of (share_standing flow)) (after_share workers listed worker sofar)
-gather_rest (Truncs flow listed shares) = rest_then (rest_of (trunc_standing flow)) (on_ok (if_truncs listed shares))
+gather_rest (Truncs flow listed shares) = rest_then (rest_of (trunc_standing flow)) (on_ok (if_truncs_listed listed shares))
 gather_rest (Ended result) = over result
 
 -- the machine at work has no further call

@@ -1,5 +1,6 @@
 pub mod Stopping
 pub mod Data
+pub mod Names
 pub mod Outcomes
 pub mod Endings
 pub mod Work
@@ -8,9 +9,14 @@ pub mod Sharing
 pub mod Opened
 pub mod Writers
 pub mod Readers
+pub mod Telling
+pub mod ByName
+pub mod Purposes
+pub mod Naming
 pub mod Gathering
 pub mod Called
 pub mod Statements
 pub mod Progress
 pub mod Standings
 pub mod Owed
+pub mod Along

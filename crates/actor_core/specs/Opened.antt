@@ -1,5 +1,5 @@
 -- The reader that is opened.
-use Rattle.std.specs.Prelude.{ℕ, ◌==◌, nat_lt, if◌then◌else◌, List, [], ◌∷◌, ◌++◌, map, filter, Option, Some, Result, Ok, Err}
+use Rattle.std.specs.Prelude.{◌==◌, nat_lt, if◌then◌else◌, List, [], ◌∷◌, ◌++◌, map, filter, Some, Result, Ok, Err}
 use Rattle.plfs_types.specs.declared.entries.Cover.{Cover}
 use Rattle.plfs_types.specs.declared.entries.Trunc.{Trunc}
 use Rattle.plfs_types.specs.declared.entries.WriterCount.{WriterCount}

@@ -4,7 +4,7 @@ use Rattle.plfs_types.specs.declared.entries.Entry.{Entry}
 use Rattle.plain_file.specs.declared.pieces.Piece.{Piece}
 use Rattle.script_lang.specs.declared.script.Data.{Data}
 use Rattle.script_lang.specs.declared.line.Outcome.{Outcome}
-use Rattle.script_lang.specs.declared.line.Outcome.TheVariants.{Opened, Wrote, Synced, Closed, Read, Same, Differs, Refused, Fault, Damaged}
+use Rattle.script_lang.specs.declared.line.Outcome.TheVariants.{Opened, Wrote, Synced, Closed, Read, Same, Differs, Stat, Truncated, Renamed, Recovered, Listed, Refused, Fault, Damaged}
 use Rattle.script_lang.specs.declared.line.Why.{Why}
 use Rattle.script_lang.specs.declared.line.Why.TheVariants as why
 use Rattle.mount_model.specs.declared.reply.Refusal.{Refusal}
@@ -12,6 +12,9 @@ use Rattle.mount_model.specs.declared.reply.Refusal.TheVariants as refusal
 use Rattle.flow.specs.declared.trouble.Stuck.{Stuck}
 use Rattle.flow.specs.declared.trouble.Stuck.TheVariants as stuck
 use Rattle.writer_flow.specs.declared.handle.WriterHandle.{WriterHandle}
+use Rattle.attr_flow.specs.declared.attr.Attr.{Attr}
+use Rattle.torn_tail.specs.declared.recovering.Recovered.{Recovered as WasRecovered}
+use Rattle.mount_model.specs.Paths.{Name}
 use Rattle.actor_core.specs.Data.{bytes_of, first_difference, place_past}
 
 -- what a line says of a refusal; the last five come of no call that an actor makes
@@ -71,3 +74,18 @@ entry_of p = record { at = p.at; len = p.len; physical = p.physical; stamp = p.s
 
 abbrev pub map_text : List Piece → List Entry
 map_text pieces = map entry_of pieces
+
+abbrev pub stat_outcome : Result Attr Stuck → Outcome
+stat_outcome result = or_stuck (λ (attr : Attr). Stat attr.size attr.stored attr.shares attr.truncs) result
+
+abbrev pub truncate_outcome : Result ℕ Stuck → Outcome
+truncate_outcome result = or_stuck (λ stamp. Truncated stamp) result
+
+abbrev pub rename_outcome : Result (Unit {0}) Stuck → Outcome
+rename_outcome result = or_stuck (λ done. Renamed) result
+
+abbrev pub recover_outcome : Result WasRecovered Stuck → Outcome
+recover_outcome result = or_stuck (λ (r : WasRecovered). Recovered r.buried r.alive r.hold) result
+
+abbrev pub list_outcome : Result (List Name) Stuck → Outcome
+list_outcome result = or_stuck (λ names. Listed names) result

@@ -22,7 +22,7 @@ all_of (Ok share ∷ results) = and_share share (all_of results)
 all_of (Err because ∷ results) = Err because
 
 -- the actor reads the shares by itself, one after the other, behind those so far; the first trouble ends it
-abbrev pub by_itself : List (Tries Share) → List Share → (List Share → Tries OpenReader) → Tries OpenReader
+abbrev pub by_itself : {R : Type 0} → List (Tries Share) → List Share → (List Share → Tries R) → Tries R
 by_itself [] sofar opens = opens sofar
 by_itself (program ∷ programs) sofar opens = followed_by program (on_ok (λ share. by_itself programs (sofar ++ share ∷ []) opens))
 

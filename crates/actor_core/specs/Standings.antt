@@ -1,6 +1,5 @@
 -- Where an actor's fields stand in what it does.
-use Rattle.std.specs.Prelude.{ℕ, ◌+◌, Bool, true, false, if◌then◌else◌, Option, Some, None}
-use Rattle.story.specs.Program.{Program}
+use Rattle.std.specs.Prelude.{ℕ, ◌+◌, ◌^◌, Option}
 use Rattle.story.specs.Process.{asks, ends}
 use Rattle.flow.specs.Standing.{Standing, ready, asked as out, Rest, over, awaits, rest_of, Awaits}
 use Rattle.flow.specs.Running.{unbroken}
@@ -13,17 +12,22 @@ use Rattle.writer_flow.specs.SyncingStages.{sync_standing, sync_left}
 use Rattle.writer_flow.specs.ClosingStages.{close_standing, close_left}
 use Rattle.index_reader.specs.OpenStages.{open_standing as list_standing, open_calls_left}
 use Rattle.index_reader.specs.ReadingStages.{read_standing, read_left}
+use Rattle.attr_flow.specs.Stages.{attr_standing, attr_left}
+use Rattle.trunc_rename.specs.TruncateStages.{truncate_standing, truncate_left}
+use Rattle.trunc_rename.specs.RenameStages.{rename_standing, rename_left}
+use Rattle.torn_tail.specs.Stages.{recover_standing, recover_left}
 use Rattle.actor_core.specs.declared.kept.Stop.{Stop}
 use Rattle.actor_core.specs.declared.kept.Kept.{Kept}
 use Rattle.actor_core.specs.declared.doing.Doing.{Doing}
-use Rattle.actor_core.specs.declared.doing.Doing.TheVariants.{Known, Opening, Writing, Syncing, Closing, Listing, Gathering, Reading, Verifying}
+use Rattle.actor_core.specs.declared.doing.Doing.TheVariants.{Known, Opening, Writing, Syncing, Closing, Listing, Gathering, Reading, Verifying, Telling, Truncating, Renaming, Recovering, Naming}
 use Rattle.actor_core.specs.declared.actor.State.{State}
 use Rattle.actor_core.specs.declared.actor.State.TheVariants.{Idle, Told, Ready, Asked, Greeting, Greeted}
 use Rattle.actor_core.specs.declared.actor.Actor.{Actor}
 use Rattle.actor_core.specs.Stopping.{carried, carried_on}
-use Rattle.actor_core.specs.Endings.{ending, stopped, opened, wrote, synced, closed, read_from, verified}
-use Rattle.actor_core.specs.Opened.{reader_opened}
-use Rattle.actor_core.specs.Readers.{if_listed}
+use Rattle.actor_core.specs.Endings.{ending, stopped, opened, wrote, synced, closed, read_from, verified, truncated, renamed, recovered, names_listed}
+use Rattle.actor_core.specs.Telling.{if_asked}
+use Rattle.actor_core.specs.Purposes.{workers_of, if_listed_for, ended_for}
+use Rattle.actor_core.specs.Naming.{names_standing, names_left}
 use Rattle.actor_core.specs.Gathering.{gather_standing, gather_rest, gather_left, shares_bound}
 use Rattle.actor_core.specs.Work.{Work, finishes}
 use Rattle.actor_core.specs.Progress.{Progress, idle, going, asked, told}
@@ -35,10 +39,15 @@ AwaitsReply (Opening flow) = Awaits (rest_of (open_standing flow))
 AwaitsReply (Writing flow at len) = Awaits (rest_of (write_standing flow))
 AwaitsReply (Syncing flow) = Awaits (rest_of (sync_standing flow))
 AwaitsReply (Closing flow) = Awaits (rest_of (close_standing flow))
-AwaitsReply (Listing flow workers) = Awaits (rest_of (list_standing flow))
-AwaitsReply (Gathering flow) = Awaits (gather_rest flow)
+AwaitsReply (Listing flow purpose) = Awaits (rest_of (list_standing flow))
+AwaitsReply (Gathering flow purpose) = Awaits (gather_rest flow)
 AwaitsReply (Reading flow at) = Awaits (rest_of (read_standing flow))
 AwaitsReply (Verifying flow at content) = Awaits (rest_of (read_standing flow))
+AwaitsReply (Telling flow) = Awaits (rest_of (attr_standing flow))
+AwaitsReply (Truncating flow) = Awaits (rest_of (truncate_standing flow))
+AwaitsReply (Renaming flow) = Awaits (rest_of (rename_standing flow))
+AwaitsReply (Recovering flow) = Awaits (rest_of (recover_standing flow))
+AwaitsReply (Naming flow) = Awaits (rest_of (names_standing flow))
 
 -- It goes on so, or so with the reply to a call that is out.
 pub data Underway : Type 0 where
@@ -63,10 +72,15 @@ doing_ready kept stop (Opening flow) = ready_of (open_standing flow) stop (λ le
 doing_ready kept stop (Writing flow at len) = ready_of (write_standing flow) stop (λ left out. finishes (wrote kept at len out)) (finishes (stopped kept))
 doing_ready kept stop (Syncing flow) = ready_of (sync_standing flow) stop (λ left out. finishes (synced kept out)) (finishes (stopped kept))
 doing_ready kept stop (Closing flow) = ready_of (close_standing flow) stop (λ left out. finishes (closed kept out)) (finishes (stopped kept))
-doing_ready kept stop (Listing flow workers) = ready_of (list_standing flow) stop (if_listed kept workers) (finishes (stopped kept))
-doing_ready kept stop (Gathering flow) = ready_of (gather_standing flow) stop (λ left result. finishes (reader_opened kept result)) (finishes (stopped kept))
+doing_ready kept stop (Listing flow purpose) = ready_of (list_standing flow) stop (if_listed_for purpose kept) (finishes (stopped kept))
+doing_ready kept stop (Gathering flow purpose) = ready_of (gather_standing flow) stop (λ left result. finishes (ended_for purpose kept result)) (finishes (stopped kept))
 doing_ready kept stop (Reading flow at) = ready_of (read_standing flow) stop (λ left result. finishes (read_from kept at result)) (finishes (stopped kept))
 doing_ready kept stop (Verifying flow at content) = ready_of (read_standing flow) stop (λ left result. finishes (verified kept at content result)) (finishes (stopped kept))
+doing_ready kept stop (Telling flow) = ready_of (attr_standing flow) stop (if_asked kept) (finishes (stopped kept))
+doing_ready kept stop (Truncating flow) = ready_of (truncate_standing flow) stop (λ left result. finishes (truncated kept result)) (finishes (stopped kept))
+doing_ready kept stop (Renaming flow) = ready_of (rename_standing flow) stop (λ left result. finishes (renamed kept result)) (finishes (stopped kept))
+doing_ready kept stop (Recovering flow) = ready_of (recover_standing flow) stop (λ left result. finishes (recovered kept result)) (finishes (stopped kept))
+doing_ready kept stop (Naming flow) = ready_of (names_standing flow) stop (λ left result. finishes (names_listed kept result)) (finishes (stopped kept))
 
 -- the same, where its call is out
 abbrev pub doing_asked : Kept → Option Stop → Doing → Underway
@@ -75,10 +89,15 @@ doing_asked kept stop (Opening flow) = asked_of (rest_of (open_standing flow)) s
 doing_asked kept stop (Writing flow at len) = asked_of (rest_of (write_standing flow)) stop (λ left out. finishes (wrote kept at len out)) (finishes (stopped kept))
 doing_asked kept stop (Syncing flow) = asked_of (rest_of (sync_standing flow)) stop (λ left out. finishes (synced kept out)) (finishes (stopped kept))
 doing_asked kept stop (Closing flow) = asked_of (rest_of (close_standing flow)) stop (λ left out. finishes (closed kept out)) (finishes (stopped kept))
-doing_asked kept stop (Listing flow workers) = asked_of (rest_of (list_standing flow)) stop (if_listed kept workers) (finishes (stopped kept))
-doing_asked kept stop (Gathering flow) = asked_of (gather_rest flow) stop (λ left result. finishes (reader_opened kept result)) (finishes (stopped kept))
+doing_asked kept stop (Listing flow purpose) = asked_of (rest_of (list_standing flow)) stop (if_listed_for purpose kept) (finishes (stopped kept))
+doing_asked kept stop (Gathering flow purpose) = asked_of (gather_rest flow) stop (λ left result. finishes (ended_for purpose kept result)) (finishes (stopped kept))
 doing_asked kept stop (Reading flow at) = asked_of (rest_of (read_standing flow)) stop (λ left result. finishes (read_from kept at result)) (finishes (stopped kept))
 doing_asked kept stop (Verifying flow at content) = asked_of (rest_of (read_standing flow)) stop (λ left result. finishes (verified kept at content result)) (finishes (stopped kept))
+doing_asked kept stop (Telling flow) = asked_of (rest_of (attr_standing flow)) stop (if_asked kept) (finishes (stopped kept))
+doing_asked kept stop (Truncating flow) = asked_of (rest_of (truncate_standing flow)) stop (λ left result. finishes (truncated kept result)) (finishes (stopped kept))
+doing_asked kept stop (Renaming flow) = asked_of (rest_of (rename_standing flow)) stop (λ left result. finishes (renamed kept result)) (finishes (stopped kept))
+doing_asked kept stop (Recovering flow) = asked_of (rest_of (recover_standing flow)) stop (λ left result. finishes (recovered kept result)) (finishes (stopped kept))
+doing_asked kept stop (Naming flow) = asked_of (rest_of (names_standing flow)) stop (λ left result. finishes (names_listed kept result)) (finishes (stopped kept))
 
 abbrev pub busy : ℕ → Underway → Progress
 busy number (goes work) = going number work
@@ -105,6 +124,10 @@ state_progress number kept stop (Greeted doing) = greeting_out number (doing_rea
 abbrev pub progress_of : Actor → Progress
 progress_of actor = state_progress actor.number actor.kept actor.stop actor.state
 
+-- a bound on the calls that list a container of a known room
+abbrev pub list_bound : ℕ
+list_bound = 2 ^ 64 + 50
+
 -- bounds on the calls that are left
 abbrev pub doing_left : Doing → ℕ
 doing_left (Known outcome) = 0
@@ -112,10 +135,15 @@ doing_left (Opening flow) = open_left flow + 1
 doing_left (Writing flow at len) = write_left flow + 1
 doing_left (Syncing flow) = sync_left flow + 1
 doing_left (Closing flow) = close_left flow + 1
-doing_left (Listing flow workers) = open_calls_left flow + shares_bound workers + 1
-doing_left (Gathering flow) = gather_left flow + 1
+doing_left (Listing flow purpose) = open_calls_left flow + shares_bound (workers_of purpose) + 1
+doing_left (Gathering flow purpose) = gather_left flow + 1
 doing_left (Reading flow at) = read_left flow + 1
 doing_left (Verifying flow at content) = read_left flow + 1
+doing_left (Telling flow) = attr_left flow + (list_bound + shares_bound 1) + 1
+doing_left (Truncating flow) = truncate_left flow + 1
+doing_left (Renaming flow) = rename_left flow + 1
+doing_left (Recovering flow) = recover_left flow + 1
+doing_left (Naming flow) = names_left flow + 1
 
 abbrev pub state_left : State → ℕ
 state_left Idle = 0

@@ -1,5 +1,5 @@
 -- What each statement does.
-use Rattle.std.specs.Prelude.{ℕ, Bool, true, false, if◌then◌else◌, Option, Some, None}
+use Rattle.std.specs.Prelude.{Bool, true, false, if◌then◌else◌, Option, None}
 use Rattle.story.specs.Process.{asks}
 use Rattle.flow.specs.Running.{unbroken}
 use Rattle.mount_model.specs.declared.call.Call.TheVariants.{Greet}
@@ -12,16 +12,20 @@ use Rattle.actor_core.specs.Endings.{gone, armed}
 use Rattle.actor_core.specs.Work.{Work, finishes}
 use Rattle.actor_core.specs.Writers.{opens, writes, syncs, closes}
 use Rattle.actor_core.specs.Readers.{opens_reader, reads, verifies, maps, closes_reader}
+use Rattle.actor_core.specs.Telling.{tells_of_file}
+use Rattle.actor_core.specs.ByName.{truncates_file, renames_file, recovers_file, lists_names}
 
--- the statements that an actor makes; the others are to come
+-- the statements that an actor makes; a flattening is to come
 abbrev pub is_built_statement : Statement → Bool
-is_built_statement (Stat name) = false
 is_built_statement (Flatten name) = false
-is_built_statement (Recover name) = false
-is_built_statement (Trunc name size) = false
-is_built_statement (Rename name new) = false
-is_built_statement Ls = false
 is_built_statement other = true
+
+-- the statements whose calls owe nothing of the mount's state
+abbrev pub is_harmless_statement : Statement → Bool
+is_harmless_statement (Flatten name) = false
+is_harmless_statement (Recover name) = false
+is_harmless_statement (Trunc name size) = false
+is_harmless_statement other = true
 
 -- the statement of an actor that keeps this, where a stop may be armed for it
 abbrev pub does : Kept → Option Stop → Statement → Work
@@ -34,8 +38,13 @@ does kept stop (Read at len) = reads kept stop at len kept.reader
 does kept stop (Verify at content) = verifies kept stop at content kept.reader
 does kept stop Map = maps kept kept.reader
 does kept stop Rclose = closes_reader kept kept.reader
+does kept stop (Stat name) = tells_of_file kept stop name
+does kept stop (Trunc name size) = truncates_file kept stop name size
+does kept stop (Rename name to) = renames_file kept stop name to
+does kept stop (Recover name) = recovers_file kept stop name
+does kept stop Ls = lists_names kept stop
 does kept stop (Arms call bytes) = finishes (armed kept (record { call = call; bytes = bytes }))
-does kept stop other = finishes (gone kept)
+does kept stop (Flatten name) = finishes (gone kept)
 
 -- an armed stop serves one statement
 abbrev pub disarmed : Kept → Kept

@@ -1,7 +1,12 @@
 //! The statement that an actor is at work on.
 use crate::gathering::Gathering;
+use crate::names::NamesRead;
+use crate::purpose::Purpose;
+use attr_flow::AttrFlow;
 use index_reader::{OpenRead, Reading};
 use script_lang::{Data, Outcome};
+use torn_tail::RecoverFlow;
+use trunc_rename::{RenameFlow, TruncFlow};
 use writer_flow::{CloseFlow, OpenWrite, SyncFlow, WriteFlow};
 
 /// How far the statement at work is: its machine, and what its line tells of the statement itself.
@@ -17,12 +22,15 @@ pub(crate) enum Doing {
     },
     Syncing(SyncFlow),
     Closing(CloseFlow),
-    /// A container is listed, of which so many workers are to read the droppings.
+    /// A container is listed that is to be gathered.
     Listing {
         flow: OpenRead,
-        workers: u32,
+        purpose: Purpose,
     },
-    Gathering(Gathering),
+    Gathering {
+        flow: Gathering,
+        purpose: Purpose,
+    },
     Reading {
         flow: Reading,
         at: u64,
@@ -32,4 +40,9 @@ pub(crate) enum Doing {
         at: u64,
         content: Data,
     },
+    Telling(AttrFlow),
+    Truncating(TruncFlow),
+    Renaming(RenameFlow),
+    Recovering(RecoverFlow),
+    Naming(NamesRead),
 }

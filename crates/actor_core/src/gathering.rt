@@ -1,19 +1,20 @@
-//! The shares and the truncates of a reader that is opened.
+//! The shares and the truncates of a container that is gathered.
 ghost use Rattle.std.specs.Prelude.{◌≡◌, ◌<◌, ◌≤◌, ◌+◌, ◌-◌, [], IfOk};
 ghost use Rattle.flow.specs.Standing.{ready, replied, Awaits};
-ghost use Rattle.actor_core.specs.Opened.{reader_of};
 ghost use Rattle.actor_core.specs.Gathering.{shares_from, shares_bound, gather_standing, gather_rest, gather_left, machines_left, IsThrough};
 ghost use Rattle.actor_core.specs.Called.{IsTried, IsCalled};
 
+use crate::all_read::AllRead;
+use crate::copying::copied;
 use crate::dealing::dealt;
 use crate::listed::Listed;
 use flow::{Flow, Stuck};
-use index_reader::{Gathered, OpenReader, ShareList, ShareRead, TruncRead, gather};
+use index_reader::{ShareList, ShareRead, TruncRead};
 use mount_model::{Call, Reply};
-use plfs_types::{Cover, CoverList, NoMemory, TruncList};
+use plfs_types::NoMemory;
 use std::alloc::Global;
 
-/// How far the opening of a reader is, once its container is listed.
+/// How far the gathering of a container is, once it is listed.
 #[derive(Drop)]
 pub(crate) enum Gathering {
     /// A worker's share is read; those from number `worker` on are to come, behind those so far.
@@ -29,7 +30,7 @@ pub(crate) enum Gathering {
         listed: Listed,
         shares: ShareList,
     },
-    Ended(Result<OpenReader, Stuck>),
+    Ended(Result<AllRead, Stuck>),
 }
 
 /// What the machine at work says to whether it has a call.
@@ -37,37 +38,14 @@ pub(crate) enum Gathering {
 pub(crate) enum Tried {
     Asks(Call, Gathering),
     Through(Gathering),
-    Over(Result<OpenReader, Stuck>),
+    Over(Result<AllRead, Stuck>),
 }
 
 /// The next call, or the end.
 #[derive(Drop)]
 pub(crate) enum Called {
     Asks(Call, Gathering),
-    Over(Result<OpenReader, Stuck>),
-}
-
-/// A copy of these covers.
-fn copied(alloc: Global, covers: &[Cover]) -> Result<CoverList, NoMemory>
-    ensures { IfOk result (λ copy. copy ≡ covers.now) }
-{
-    Ok(CoverList::from_vec(Vec::from_slice(alloc, covers)?))
-}
-
-/// The reader of all that was read.
-fn opened(
-    alloc: Global,
-    listed: Listed,
-    shares: ShareList,
-    truncs: TruncList,
-) -> Result<OpenReader, NoMemory>
-    ensures { IfOk result (λ reader. reader ≡ reader_of listed shares truncs) }
-{
-    let gathered = gather(alloc, listed.take(), shares, truncs)?;
-    let _merged = gathered.flat.pieces.as_slice();
-    let reader = OpenReader::new(alloc, gathered)?;
-    let _clipped = reader.pieces().as_slice();
-    Ok(reader)
+    Over(Result<AllRead, Stuck>),
 }
 
 impl Gathering {
@@ -141,10 +119,11 @@ impl Gathering {
                 listed,
                 shares,
             } => match flow.out() {
-                Ok(truncs) => {
-                    let reader = opened(alloc, listed, shares, truncs)?;
-                    Ok(Gathering::Ended(Ok(reader)))
-                }
+                Ok(truncs) => Ok(Gathering::Ended(Ok(AllRead {
+                    listed,
+                    shares,
+                    truncs,
+                }))),
                 Err(because) => Ok(Gathering::Ended(Err(because))),
             },
             Gathering::Ended(_) => unreachable!(),

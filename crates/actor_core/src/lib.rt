@@ -2,10 +2,13 @@
 //!
 //! The crate owns what each statement does: which machines make its calls, when it is refused, within which call an armed
 //! stop ends it, and what its one line says. An actor keeps at most one writer and one reader between its statements. It
-//! stands on the machines of writers and readers, and needs no mount: who drives an actor makes its calls wherever it likes.
+//! stands on the machines of each statement, and needs no mount: who drives an actor makes its calls wherever it likes.
 #![tactic(auto)]
 
 mod actor;
+mod all_read;
+mod by_name;
+mod copying;
 mod data;
 mod dealing;
 mod doing;
@@ -14,16 +17,21 @@ mod kept;
 mod laws;
 mod listed;
 mod machines;
+mod names;
 mod opening;
 mod outcomes;
+mod purpose;
 mod reading;
 mod starting;
 mod stepping;
 mod stopping;
 mod taking;
+mod telling;
 
 pub use actor::Actor;
 pub use kept::{Kept, Stop};
-pub use laws::statements_owe_nothing;
+pub use laws::{
+    listed_names_are_logical, statements_owe_nothing, truncates_and_recoveries_ask_along,
+};
 pub use outcomes::why_of;
-pub use starting::is_built_statement;
+pub use starting::{is_built_statement, is_harmless_statement};

@@ -51,10 +51,15 @@ impl Actor {
             Doing::Writing { flow, at, len } => self.next_writing(flow, at, len),
             Doing::Syncing(flow) => self.next_syncing(flow),
             Doing::Closing(flow) => self.next_closing(flow),
-            Doing::Listing { flow, workers } => self.next_listing(flow, workers),
-            Doing::Gathering(flow) => self.next_gathering(flow),
+            Doing::Listing { flow, purpose } => self.next_listing(flow, purpose),
+            Doing::Gathering { flow, purpose } => self.next_gathering(flow, purpose),
             Doing::Reading { flow, at } => self.next_reading(flow, at),
             Doing::Verifying { flow, at, content } => self.next_verifying(flow, at, content),
+            Doing::Telling(flow) => self.next_telling(flow),
+            Doing::Truncating(flow) => self.next_truncating(flow),
+            Doing::Renaming(flow) => self.next_renaming(flow),
+            Doing::Recovering(flow) => self.next_recovering(flow),
+            Doing::Naming(flow) => self.next_naming(flow),
         }
     }
 

@@ -1,14 +1,16 @@
 //! What a line says of a statement that came to its end.
-ghost use Rattle.std.specs.Prelude.{◌≡◌, map, IfOk};
+ghost use Rattle.std.specs.Prelude.{◌≡◌, map, IfOk, Ok};
 ghost use Rattle.actor_core.specs.Outcomes as of;
 
 use crate::data::first_difference;
+use attr_flow::Attr;
 use flow::Stuck;
 use mount_model::Refusal;
 use plain_file::{Piece, Pieces};
-use plfs_types::{Bytes, Entry, NoMemory};
+use plfs_types::{Bytes, Entry, NameList, NoMemory};
 use script_lang::{Data, MapText, Outcome, Why};
 use std::alloc::{AllocError, Global};
+use torn_tail::Recovered;
 
 /// Why a line says that a call was refused. The last five come of no call that an actor makes.
 pub fn why_of(refusal: Refusal) -> Why
@@ -105,6 +107,58 @@ pub(crate) fn verify_outcome(at: u64, content: &Data, made: Result<Bytes, Stuck>
 {
     match made {
         Ok(found) => difference(at, first_difference(content, found.as_slice())),
+        Err(because) => stuck_outcome(because),
+    }
+}
+
+/// What is told of a file.
+pub(crate) fn stat_outcome(attr: Attr) -> Outcome
+    ensures { result ≡ of.stat_outcome (Ok attr) }
+{
+    Outcome::Stat {
+        size: attr.size,
+        stored: attr.stored,
+        shares: attr.shares,
+        truncs: attr.truncs,
+    }
+}
+
+pub(crate) fn truncate_outcome(made: Result<u64, Stuck>) -> Outcome
+    ensures { result ≡ of.truncate_outcome made }
+{
+    match made {
+        Ok(stamp) => Outcome::Truncated { stamp },
+        Err(because) => stuck_outcome(because),
+    }
+}
+
+pub(crate) fn rename_outcome(made: Result<(), Stuck>) -> Outcome
+    ensures { result ≡ of.rename_outcome made }
+{
+    match made {
+        Ok(()) => Outcome::Renamed,
+        Err(because) => stuck_outcome(because),
+    }
+}
+
+pub(crate) fn recover_outcome(made: Result<Recovered, Stuck>) -> Outcome
+    ensures { result ≡ of.recover_outcome made }
+{
+    match made {
+        Ok(recovered) => Outcome::Recovered {
+            buried: recovered.buried,
+            alive: recovered.alive,
+            hold: recovered.hold,
+        },
+        Err(because) => stuck_outcome(because),
+    }
+}
+
+pub(crate) fn list_outcome(made: Result<NameList, Stuck>) -> Outcome
+    ensures { result ≡ of.list_outcome made }
+{
+    match made {
+        Ok(names) => Outcome::Listed { names },
         Err(because) => stuck_outcome(because),
     }
 }

@@ -6,17 +6,22 @@ ghost use Rattle.actor_core.specs.Endings.{armed};
 ghost use Rattle.actor_core.specs.Work.{finishes};
 ghost use Rattle.actor_core.specs.Writers.{opens, writes, syncs, closes};
 ghost use Rattle.actor_core.specs.Readers.{opens_reader, reads, verifies, maps, closes_reader};
-ghost use Rattle.actor_core.specs.Statements.{is_built_statement as built, greeted_work};
+ghost use Rattle.actor_core.specs.Statements.{is_built_statement as built, is_harmless_statement as harmless, greeted_work};
 ghost use Rattle.actor_core.specs.Standings.{goes, doing_ready};
 
 use crate::actor::Actor;
 use crate::data::{block, length};
 use crate::doing::Doing;
 use crate::kept::Stop;
+use crate::names::NamesRead;
 use crate::outcomes::map_text;
+use crate::purpose::Purpose;
+use attr_flow::AttrFlow;
 use index_reader::{OpenRead, Reading};
 use plfs_types::{LogicalName, NoMemory};
 use script_lang::{Data, Outcome, Statement, Why};
+use torn_tail::RecoverFlow;
+use trunc_rename::{RenameFlow, TruncFlow};
 use writer_flow::{CloseFlow, OpenWrite, SyncFlow, WriteFlow};
 
 fn refuse(why: Why) -> Doing
@@ -25,19 +30,22 @@ fn refuse(why: Why) -> Doing
     Doing::Known(Outcome::Refused { why })
 }
 
-/// Whether an actor makes this statement; the others are to come.
+/// Whether an actor makes this statement; a flattening is to come.
 pub fn is_built_statement(statement: &Statement) -> bool
     ensures { result ≡ built statement.now }
 {
-    match statement {
-        Statement::Stat { .. }
-        | Statement::Flatten { .. }
-        | Statement::Recover { .. }
-        | Statement::Trunc { .. }
-        | Statement::Rename { .. }
-        | Statement::Ls => false,
-        _ => true,
-    }
+    !matches!(statement, Statement::Flatten { .. })
+}
+
+/// Whether no call of the statement owes anything of the mount's state: all but a truncate's, a recovery's and a
+/// flattening's.
+pub fn is_harmless_statement(statement: &Statement) -> bool
+    ensures { result ≡ harmless statement.now }
+{
+    !matches!(
+        statement,
+        Statement::Flatten { .. } | Statement::Recover { .. } | Statement::Trunc { .. }
+    )
 }
 
 impl Actor {
@@ -64,8 +72,15 @@ impl Actor {
             Statement::Verify { at, content } => self.verify(at, content),
             Statement::Map => self.map(),
             Statement::Rclose => Ok(self.close_reader()),
+            Statement::Stat { name } => Ok(Doing::Telling(AttrFlow::new(self.alloc, name))),
+            Statement::Trunc { name, size } => Ok(Doing::Truncating(TruncFlow::new(name, size))),
+            Statement::Rename { name, to } => Ok(Doing::Renaming(RenameFlow::new(name, to))),
+            Statement::Recover { name } => {
+                Ok(Doing::Recovering(RecoverFlow::new(self.alloc, name)))
+            }
+            Statement::Ls => Ok(Doing::Naming(NamesRead::Asking)),
             Statement::Stop { call, bytes } => Ok(self.arm(call, bytes)),
-            _ => unreachable!(),
+            Statement::Flatten { .. } => unreachable!(),
         }
     }
 
@@ -136,7 +151,7 @@ impl Actor {
             Some(_) => refuse(Why::AlreadyOpen),
             None => Doing::Listing {
                 flow: OpenRead::new(self.alloc, name),
-                workers,
+                purpose: Purpose::Opens { workers },
             },
         }
     }

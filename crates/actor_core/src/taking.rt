@@ -12,6 +12,7 @@ ghost use Rattle.actor_core.specs.Standings.{AwaitsReply, progress_of, calls_lef
 use crate::actor::{Actor, State};
 use crate::doing::Doing;
 use crate::gathering::Gathering;
+use crate::purpose::Purpose;
 use crate::stopping::{is_due, one_nearer};
 use flow::Flow;
 use mount_model::Reply;
@@ -38,15 +39,18 @@ impl Actor {
     }
 }
 
-/// The shares and truncates of a reader once they took the reply to their call.
-fn gathering_after(flow: Gathering, reply: Reply) -> Result<Doing, NoMemory>
+/// The shares and truncates of a container once they took the reply to their call.
+fn gathering_after(flow: Gathering, purpose: Purpose, reply: Reply) -> Result<Doing, NoMemory>
     requires { Awaits (gather_rest flow) }
     ensures goes_on { IfOk result (λ next. (number : ℕ) (kept : AKept) (stop : Option AStop) → due_test stop ≡ false
-        → busy number (doing_ready kept (nearer stop) next) ≡ with_reply (busy number (doing_asked kept stop (Doing.Gathering flow))) reply) }
-    ensures left { IfOk result (λ next. doing_left next < doing_left (Doing.Gathering flow)) }
+        → busy number (doing_ready kept (nearer stop) next) ≡ with_reply (busy number (doing_asked kept stop (Doing.Gathering flow purpose))) reply) }
+    ensures left { IfOk result (λ next. doing_left next < doing_left (Doing.Gathering flow purpose)) }
 {
     let taken = flow.take(reply)?;
-    Ok(Doing::Gathering(taken))
+    Ok(Doing::Gathering {
+        flow: taken,
+        purpose,
+    })
 }
 
 /// The machine once it took the reply to its call.
@@ -74,11 +78,11 @@ fn after_reply(doing: Doing, reply: Reply) -> Result<Doing, NoMemory>
             flow.take(reply)?;
             Doing::Closing(flow)
         }
-        Doing::Listing { mut flow, workers } => {
+        Doing::Listing { mut flow, purpose } => {
             flow.take(reply)?;
-            Doing::Listing { flow, workers }
+            Doing::Listing { flow, purpose }
         }
-        Doing::Gathering(flow) => gathering_after(flow, reply)?,
+        Doing::Gathering { flow, purpose } => gathering_after(flow, purpose, reply)?,
         Doing::Reading { mut flow, at } => {
             flow.take(reply)?;
             Doing::Reading { flow, at }
@@ -90,6 +94,26 @@ fn after_reply(doing: Doing, reply: Reply) -> Result<Doing, NoMemory>
         } => {
             flow.take(reply)?;
             Doing::Verifying { flow, at, content }
+        }
+        Doing::Telling(mut flow) => {
+            flow.take(reply)?;
+            Doing::Telling(flow)
+        }
+        Doing::Truncating(mut flow) => {
+            flow.take(reply)?;
+            Doing::Truncating(flow)
+        }
+        Doing::Renaming(mut flow) => {
+            flow.take(reply)?;
+            Doing::Renaming(flow)
+        }
+        Doing::Recovering(mut flow) => {
+            flow.take(reply)?;
+            Doing::Recovering(flow)
+        }
+        Doing::Naming(mut flow) => {
+            flow.take(reply)?;
+            Doing::Naming(flow)
         }
     })
 }

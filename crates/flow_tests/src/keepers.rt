@@ -1,478 +1,313 @@
 //! The calls of who truncates, renames, looks at or recovers a file, and what comes of the replies to them.
-ghost use Rattle.std.specs.Prelude.{IfOk, IsTrue};
-ghost use Rattle.flow.specs.Standing.{IsFresh, IsOver, rest_of};
-
-use attr_flow::{AttrFlow, AttrOut};
-use flow::{Flow, Stuck};
-use index_entry::encode;
-use mount_model::{Call, Look, Refusal, Reply};
-use plfs_types::{Bytes, Entry, LogicalName, Name, NameList, NoMemory};
+use crate::cases::{Case, Machine, all_hold};
+use crate::playing::{Shown, Tell, is_played, show};
+use crate::replies::Told;
+use crate::spelling::{pair, say};
+use attr_flow::{Attr, AttrFlow, AttrOut};
+use flow::Flow;
+use mount_model::Refusal;
+use plfs_types::{LogicalName, NoMemory};
 use std::alloc::Global;
 use std::test::Fail;
-use store_api::Answer;
 use torn_tail::{RecoverFlow, Recovered};
 use trunc_rename::{RenameFlow, TruncFlow};
 
-const WRITER: u64 = 4294967297;
-
-fn first(name: &Name) -> u8 {
-    match name.bytes().first() {
-        Some(byte) => *byte,
-        None => b'-',
-    }
-}
-
-// A letter for each call, and the number that it has: for a listing and a length the first letter of the folder or file.
-fn sign(call: &Call) -> (u8, u64) {
-    match call {
-        Call::Find { .. } => (b'F', 0),
-        Call::Look { look, .. } => match look {
-            Look::Top => (b'?', 0),
-            Look::List { folder } => (first(folder), 0),
-            Look::Length { path } => (first(&path.file), 0),
-            Look::Read { at, .. } => (b'R', *at),
-        },
-        Call::Hold { room } => (b'H', *room),
-        Call::Mark { top, .. } => (b'M', *top),
-        Call::Move { holder, .. } => (b'N', *holder),
-        Call::Release { holder } => (b'X', *holder),
-        Call::Inspect { writer } => (b'I', *writer),
-        Call::Mend { whole, .. } => (b'C', *whole),
-        Call::SyncDropping { log, .. } => (b'S', *log as u64),
-        Call::MendMeta { last, .. } => (b'P', *last),
-        Call::Bury { writer, .. } => (b'B', *writer),
-        Call::MendHold { room } => (b'h', *room),
-        _ => (b'?', 0),
-    }
-}
-
-// Takes the machine through these replies, and says whether it then has an outcome: not where it asks for fewer or
-// more. Its calls are put behind `calls`.
-fn is_played<F: Flow>(
-    flow: &mut F,
-    replies: Vec<Reply>,
-    calls: &mut Vec<(u8, u64)>,
-) -> Result<bool, NoMemory>
-    requires { IsFresh (F.standing flow.old) }
-    ensures { IfOk result (λ over. IsTrue over → IsOver (rest_of (F.standing flow.new))) }
-{
-    for reply in replies {
-        match flow.next()? {
-            Some(call) => {
-                calls.push(sign(&call))?;
-                flow.take(reply)?;
-            }
-            None => return Ok(false),
-        }
-    }
-    match flow.next()? {
-        Some(_) => Ok(false),
-        None => Ok(true),
-    }
-}
-
-fn logical(bytes: &[u8]) -> Result<LogicalName, &'static str> {
+pub(crate) fn logical(bytes: &[u8]) -> Result<LogicalName, &'static str> {
     LogicalName::read(bytes).ok_or("no logical name")
 }
 
-// A listing of these names.
-fn names(alloc: Global, of: &[&[u8]]) -> Result<Reply, NoMemory> {
-    let mut list = NameList::new(alloc);
-    for bytes in of {
-        if let Some(name) = Name::from_bytes(*bytes) {
-            list.push(name)?;
+// The stamp of a truncate.
+impl Tell for u64 {
+    fn tell(&self, line: &mut String) -> Result<(), NoMemory> {
+        say(line, "stamp", &[*self])
+    }
+}
+
+impl Tell for () {
+    fn tell(&self, line: &mut String) -> Result<(), NoMemory> {
+        say(line, "renamed", &[])
+    }
+}
+
+// The size of the file, the bytes that are stored, whose they are, and its truncates.
+impl Tell for Attr {
+    fn tell(&self, line: &mut String) -> Result<(), NoMemory> {
+        say(line, "size", &[self.size])?;
+        say(line, "stored", &[u64::try_from(self.stored).unwrap_or(0)])?;
+        for share in self.shares.as_slice() {
+            pair(line, share.writer, "=", share.bytes)?;
+        }
+        self.truncs.tell(line)
+    }
+}
+
+impl Tell for AttrOut {
+    fn tell(&self, line: &mut String) -> Result<(), NoMemory> {
+        match self {
+            AttrOut::MustMerge { room } => say(line, "merge", &[*room]),
+            AttrOut::Cached(attr) => attr.tell(line),
         }
     }
-    Ok(Reply::Looked(Answer::Names(list)))
 }
 
-fn number(value: u64) -> Reply {
-    Reply::Looked(Answer::Number { value })
-}
-
-fn trouble(why: Stuck) -> (u8, u64) {
-    match why {
-        Stuck::Damaged { file, place, .. } => (first(&file), place),
-        Stuck::Refused(_) => (b'r', 0),
-        Stuck::Fault => (b'f', 0),
+impl Tell for Recovered {
+    fn tell(&self, line: &mut String) -> Result<(), NoMemory> {
+        say(line, "buried", &[])?;
+        for buried in self.buried.as_slice() {
+            pair(line, buried.writer, ":", buried.count)?;
+        }
+        say(line, "alive", self.alive.as_slice())?;
+        say(line, if self.hold { "made" } else { "whole" }, &[])
     }
 }
 
-const NOT_PLAYED: (u8, u64) = (b'?', 0);
-
-// What comes of a truncate: `s` with the stamp, or the trouble.
-fn truncated(
-    name: LogicalName,
-    replies: Vec<Reply>,
-    calls: &mut Vec<(u8, u64)>,
-) -> Result<(u8, u64), NoMemory> {
-    let mut flow = TruncFlow::new(name, 3);
-    if !is_played(&mut flow, replies, calls)? {
-        return Ok(NOT_PLAYED);
+pub(crate) fn truncate(alloc: Global, told: &[Told], shown: &mut Shown) -> Result<(), Fail> {
+    let mut flow = TruncFlow::new(logical(b"a")?, 3);
+    if is_played(alloc, &mut flow, told, &mut shown.asks)? {
+        flow.out().tell(&mut shown.ends)?;
     }
-    Ok(match flow.out() {
-        Ok(stamp) => (b's', stamp),
-        Err(why) => trouble(why),
-    })
+    Ok(())
 }
 
-// What a truncate is told up to the listing of the metadata, in which the greatest stamp is 30.
-fn up_to_metadata(alloc: Global) -> Result<Vec<Reply>, NoMemory> {
-    let metas = names(
-        alloc,
-        &[b"5.5.30.0.4294967297".as_slice(), b"9.9.10.0.4294967298"],
-    )?;
-    Ok(vec![in alloc;
-        Reply::Room { room: 1 },
-        Reply::Holding { holder: 7 },
-        metas,
-    ]?)
-}
-
-// The same up to these truncates, and then these replies.
-fn up_to_truncs(alloc: Global, of: &[&[u8]], then: Vec<Reply>) -> Result<Vec<Reply>, NoMemory> {
-    let mut replies = up_to_metadata(alloc)?;
-    replies.push(names(alloc, of)?)?;
-    for reply in then {
-        replies.push(reply)?;
+pub(crate) fn rename(alloc: Global, told: &[Told], shown: &mut Shown) -> Result<(), Fail> {
+    let mut flow = RenameFlow::new(logical(b"a")?, logical(b"b")?);
+    if is_played(alloc, &mut flow, told, &mut shown.asks)? {
+        flow.out().tell(&mut shown.ends)?;
     }
-    Ok(replies)
+    Ok(())
 }
+
+pub(crate) fn attr(alloc: Global, told: &[Told], shown: &mut Shown) -> Result<(), Fail> {
+    show(alloc, AttrFlow::new(alloc, logical(b"a")?), told, shown)
+}
+
+pub(crate) fn recover(alloc: Global, told: &[Told], shown: &mut Shown) -> Result<(), Fail> {
+    show(alloc, RecoverFlow::new(alloc, logical(b"a")?), told, shown)
+}
+
+// ---- truncates
+
+// The greatest stamp in them is 30.
+const METAS: Told = Told::Names(&["5.5.30.0.4294967297", "9.9.10.0.4294967298"]);
+
+const ROOM: Told = Told::Room(1);
+
+const HOLDING: Told = Told::Holding(7);
+
+const TRUNCATES: [Case; 5] = [
+    Case {
+        machine: Machine::Truncate,
+        told: &[
+            ROOM,
+            HOLDING,
+            METAS,
+            Told::Names(&["40.1", "7.9"]),
+            Told::Marked(41),
+            Told::Done,
+        ],
+        asks: "find hold 1 list metadata list truncs mark 3 40 release 7",
+        ends: "stamp 41",
+    },
+    Case {
+        machine: Machine::Truncate,
+        told: &[
+            ROOM,
+            HOLDING,
+            METAS,
+            Told::Names(&[]),
+            Told::Refused(Refusal::StampsSpent),
+            Told::Done,
+        ],
+        asks: "find hold 1 list metadata list truncs mark 3 30 release 7",
+        ends: "refused",
+    },
+    Case {
+        machine: Machine::Truncate,
+        told: &[
+            ROOM,
+            HOLDING,
+            METAS,
+            Told::Names(&[]),
+            Told::Marked(31),
+            Told::Fault,
+        ],
+        asks: "find hold 1 list metadata list truncs mark 3 30 release 7",
+        ends: "fault",
+    },
+    // a name that is no truncate's
+    Case {
+        machine: Machine::Truncate,
+        told: &[ROOM, HOLDING, METAS, Told::Names(&["x"]), Told::Done],
+        asks: "find hold 1 list metadata list truncs release 7",
+        ends: "damaged truncs/x 0",
+    },
+    // who holds the container is another
+    Case {
+        machine: Machine::Truncate,
+        told: &[ROOM, Told::Refused(Refusal::Held)],
+        asks: "find hold 1",
+        ends: "refused",
+    },
+];
 
 #[test]
 fn a_truncate_comes_above_all_that_is_listed_and_lets_go(rt: HostRuntime) -> Result<(), Fail> {
-    let alloc = rt.alloc();
-    let name = logical(b"a")?;
-    let mut calls = Vec::new(alloc);
-    let marked = vec![in alloc; Reply::Marked { stamp: 41 }, Reply::Done]?;
-    let refused = vec![in alloc; Reply::Refused(Refusal::StampsSpent), Reply::Done]?;
-    let faulted = vec![in alloc; Reply::Marked { stamp: 31 }, Reply::Fault]?;
-    let outcomes = [
-        truncated(
-            name,
-            up_to_truncs(alloc, &[b"40.1".as_slice(), b"7.9"], marked)?,
-            &mut calls,
-        )?,
-        truncated(name, up_to_truncs(alloc, &[], refused)?, &mut calls)?,
-        truncated(name, up_to_truncs(alloc, &[], faulted)?, &mut calls)?,
-        // a name that is no truncate's
-        truncated(
-            name,
-            up_to_truncs(alloc, &[b"x".as_slice()], vec![in alloc; Reply::Done]?)?,
-            &mut calls,
-        )?,
-        // who holds the container is another
-        truncated(
-            name,
-            vec![in alloc; Reply::Room { room: 1 }, Reply::Refused(Refusal::Held)]?,
-            &mut calls,
-        )?,
-    ];
-    assert!(rt; outcomes == [(b's', 41), (b'r', 0), (b'f', 0), (b'x', 0), (b'r', 0)]);
-    assert!(rt;
-        calls.as_slice()
-            == [
-                (b'F', 0),
-                (b'H', 1),
-                (b'm', 0),
-                (b't', 0),
-                (b'M', 40),
-                (b'X', 7),
-                (b'F', 0),
-                (b'H', 1),
-                (b'm', 0),
-                (b't', 0),
-                (b'M', 30),
-                (b'X', 7),
-                (b'F', 0),
-                (b'H', 1),
-                (b'm', 0),
-                (b't', 0),
-                (b'M', 30),
-                (b'X', 7),
-                (b'F', 0),
-                (b'H', 1),
-                (b'm', 0),
-                (b't', 0),
-                (b'X', 7),
-                (b'F', 0),
-                (b'H', 1),
-            ]
-            .as_slice()
-    );
-    Ok(())
+    all_hold(&rt, rt.alloc(), &TRUNCATES)
 }
 
-// What comes of a rename whose Move and Release are answered so.
-fn renamed(
-    alloc: Global,
-    moved: Reply,
-    released: Reply,
-    calls: &mut Vec<(u8, u64)>,
-) -> Result<(u8, u64), Fail> {
-    let mut flow = RenameFlow::new(logical(b"a")?, logical(b"b")?);
-    let replies = vec![in alloc;
-        Reply::Room { room: 1 },
-        Reply::Holding { holder: 7 },
-        moved,
-        released,
-    ]?;
-    if !is_played(&mut flow, replies, calls)? {
-        return Ok(NOT_PLAYED);
-    }
-    Ok(match flow.out() {
-        Ok(_) => (b's', 0),
-        Err(why) => trouble(why),
-    })
-}
+// ---- renames
+
+const RENAME_ASKS: &str = "find hold 1 move 7 release 7";
+
+const RENAMES: [Case; 4] = [
+    Case {
+        machine: Machine::Rename,
+        told: &[ROOM, HOLDING, Told::Done, Told::Done],
+        asks: RENAME_ASKS,
+        ends: "renamed",
+    },
+    Case {
+        machine: Machine::Rename,
+        told: &[ROOM, HOLDING, Told::Fault, Told::Done],
+        asks: RENAME_ASKS,
+        ends: "fault",
+    },
+    Case {
+        machine: Machine::Rename,
+        told: &[ROOM, HOLDING, Told::Refused(Refusal::Exists), Told::Fault],
+        asks: RENAME_ASKS,
+        ends: "refused",
+    },
+    Case {
+        machine: Machine::Rename,
+        told: &[ROOM, HOLDING, Told::Done, Told::Fault],
+        asks: RENAME_ASKS,
+        ends: "fault",
+    },
+];
 
 #[test]
 fn a_rename_lets_go_whatever_its_move_is_told(rt: HostRuntime) -> Result<(), Fail> {
-    let alloc = rt.alloc();
-    let mut calls = Vec::new(alloc);
-    let exists = || Reply::Refused(Refusal::Exists);
-    let outcomes = [
-        renamed(alloc, Reply::Done, Reply::Done, &mut calls)?,
-        renamed(alloc, Reply::Fault, Reply::Done, &mut calls)?,
-        renamed(alloc, exists(), Reply::Fault, &mut calls)?,
-        renamed(alloc, Reply::Done, Reply::Fault, &mut calls)?,
-    ];
-    assert!(rt; outcomes == [(b's', 0), (b'f', 0), (b'r', 0), (b'f', 0)]);
-    assert!(rt; calls.len() == 16);
-    assert!(rt; calls.as_slice()[..4] == [(b'F', 0), (b'H', 1), (b'N', 7), (b'X', 7)]);
-    Ok(())
+    all_hold(&rt, rt.alloc(), &RENAMES)
 }
 
-// The letter, the size, the stored bytes, the first writer with bytes, and how many truncates.
-type Told = (u8, u64, u128, u64, usize);
+// ---- what is told of a file
 
-// What is told of a file whose listings are these.
-fn told_of(alloc: Global, listings: Vec<Reply>, calls: &mut Vec<(u8, u64)>) -> Result<Told, Fail> {
-    let mut flow = AttrFlow::new(alloc, logical(b"a")?);
-    let mut replies = vec![in alloc; Reply::Room { room: 5 }]?;
-    for reply in listings {
-        replies.push(reply)?;
-    }
-    if !is_played(&mut flow, replies, calls)? {
-        return Ok((b'?', 0, 0, 0, 0));
-    }
-    Ok(match flow.out() {
-        Ok(AttrOut::MustMerge { room }) => (b'm', room, 0, 0, 0),
-        Ok(AttrOut::Cached(attr)) => {
-            let writer = match attr.shares.as_slice().first() {
-                Some(share) => share.writer,
-                None => 0,
-            };
-            (
-                b'c',
-                attr.size,
-                attr.stored,
-                writer,
-                attr.truncs.as_slice().len(),
-            )
-        }
-        Err(why) => {
-            let (letter, place) = trouble(why);
-            (letter, place, 0, 0, 0)
-        }
-    })
-}
+const LEFT: Told = Told::Names(&["0.0.0.0.3", "4.6.5.0.2", "9.9.10.0.4"]);
+
+const CACHED_ASKS: &str = "find list openhosts list metadata list truncs";
+
+const TOLD: [Case; 4] = [
+    Case {
+        machine: Machine::Attr,
+        told: &[Told::Room(5), Told::Names(&["0.4294967297"])],
+        asks: "find list openhosts",
+        ends: "merge 5",
+    },
+    Case {
+        machine: Machine::Attr,
+        told: &[Told::Room(5), Told::Names(&["x"])],
+        asks: "find list openhosts",
+        ends: "damaged openhosts/x 0",
+    },
+    // a truncate before the last write
+    Case {
+        machine: Machine::Attr,
+        told: &[Told::Room(5), Told::Names(&[]), LEFT, Told::Names(&["7.2"])],
+        asks: CACHED_ASKS,
+        ends: "size 9 stored 15 2=6 4=9 truncates 7:2",
+    },
+    // and one behind it
+    Case {
+        machine: Machine::Attr,
+        told: &[
+            Told::Room(5),
+            Told::NoFolder,
+            LEFT,
+            Told::Names(&["11.2", "7.8"]),
+        ],
+        asks: CACHED_ASKS,
+        ends: "size 2 stored 15 2=6 4=9 truncates 7:8 11:2",
+    },
+];
 
 #[test]
 fn what_writers_left_tells_of_a_file_that_nobody_has_open(rt: HostRuntime) -> Result<(), Fail> {
-    let alloc = rt.alloc();
-    let mut calls = Vec::new(alloc);
-    let metas = || {
-        names(
-            alloc,
-            &[b"0.0.0.0.3".as_slice(), b"4.6.5.0.2", b"9.9.10.0.4"],
-        )
-    };
-    let open = names(alloc, &[b"0.4294967297".as_slice()])?;
-    let foreign = names(alloc, &[b"x".as_slice()])?;
-    let no_folder = Reply::Looked(Answer::NoFolder);
-    let before = names(alloc, &[b"7.2".as_slice()])?;
-    let after = names(alloc, &[b"11.2".as_slice(), b"7.8"])?;
-    let nobody = names(alloc, &[])?;
-    let outcomes = [
-        told_of(alloc, vec![in alloc; open]?, &mut calls)?,
-        told_of(alloc, vec![in alloc; foreign]?, &mut calls)?,
-        told_of(alloc, vec![in alloc; nobody, metas()?, before]?, &mut calls)?,
-        told_of(
-            alloc,
-            vec![in alloc; no_folder, metas()?, after]?,
-            &mut calls,
-        )?,
-    ];
-    assert!(rt;
-        outcomes
-            == [
-                (b'm', 5, 0, 0, 0),
-                (b'x', 0, 0, 0, 0),
-                (b'c', 9, 15, 2, 1),
-                (b'c', 2, 15, 2, 2),
-            ]
-    );
-    assert!(rt; calls.len() == 12);
-    assert!(rt; calls.as_slice()[8..] == [(b'F', 0), (b'o', 0), (b'm', 0), (b't', 0)]);
-    Ok(())
+    all_hold(&rt, rt.alloc(), &TOLD)
 }
 
-// The two entries of a writer: of 5 bytes and of 3.
-fn two_entries(alloc: Global) -> Result<Reply, NoMemory> {
-    let entry = Entry {
-        at: 0,
-        len: 5,
-        physical: 0,
-        stamp: 11,
-        writer: WRITER,
-    };
-    let next = Entry {
-        at: 4,
-        len: 3,
-        physical: 5,
-        stamp: 12,
-        writer: WRITER,
-    };
-    let mut all = Vec::new(alloc);
-    all.extend_from_slice(&encode(&entry))?;
-    all.extend_from_slice(&encode(&next))?;
-    Ok(Reply::Looked(Answer::Bytes(Bytes::from_vec(all))))
-}
+// ---- recovery
 
-// How many were buried, how many entries the last of them has, how many are alive, and whether the folder was made.
-fn recovered(outcome: Result<Recovered, Stuck>) -> (u64, u64, u64, bool) {
-    match outcome {
-        Ok(done) => {
-            let count = match done.buried.as_slice().last() {
-                Some(buried) => buried.count,
-                None => 0,
-            };
-            (
-                done.buried.as_slice().len() as u64,
-                count,
-                done.alive.as_slice().len() as u64,
-                done.hold,
-            )
-        }
-        Err(why) => {
-            let (letter, place) = trouble(why);
-            (letter as u64, place, 0, false)
-        }
-    }
-}
+const WRITER: u64 = 4294967297;
 
-// What comes of a recovery that is told so.
-fn recovery(
-    alloc: Global,
-    told: Vec<Reply>,
-    calls: &mut Vec<(u8, u64)>,
-) -> Result<(u64, u64, u64, bool), Fail> {
-    let mut flow = RecoverFlow::new(alloc, logical(b"a")?);
-    let mut replies = vec![in alloc; Reply::Room { room: 1 }]?;
-    for reply in told {
-        replies.push(reply)?;
-    }
-    if !is_played(&mut flow, replies, calls)? {
-        return Ok((0, 0, 0, true));
-    }
-    Ok(recovered(flow.out()))
-}
+// The two entries of the writer: of 5 bytes and of 3.
+const ENTRIES: Told = Told::Spelled(b"", &[0, 5, 0, 11, WRITER, 4, 3, 5, 12, WRITER]);
+
+const ONE: Told = Told::Names(&["0.4294967297"]);
+
+const ALIVE: Told = Told::Refused(Refusal::Alive);
+
+const RECOVERIES: [Case; 4] = [
+    // torn, beside one that is live
+    Case {
+        machine: Machine::Recover,
+        told: &[
+            ROOM,
+            Told::Names(&["0.4294967297", "1.5"]),
+            ALIVE,
+            Told::Done,
+            Told::Long(119),
+            Told::Long(8),
+            ENTRIES,
+            Told::Done,
+            Told::Done,
+            Told::Done,
+            Told::Done,
+            Told::Done,
+        ],
+        asks: "find list openhosts inspect 5 inspect 4294967297 length index.0.4294967297 length log.0.4294967297 read index.0.4294967297 0 80 mend 2 log index meta 7 bury 4294967297",
+        ends: "buried 4294967297:2 alive 5 whole",
+    },
+    // whole, and live after all
+    Case {
+        machine: Machine::Recover,
+        told: &[
+            ROOM,
+            ONE,
+            Told::Done,
+            Told::Long(80),
+            Told::Long(8),
+            ENTRIES,
+            Told::Done,
+            Told::Done,
+            ALIVE,
+        ],
+        asks: "find list openhosts inspect 4294967297 length index.0.4294967297 length log.0.4294967297 read index.0.4294967297 0 80 log index meta 7",
+        ends: "buried alive 4294967297 whole",
+    },
+    // nothing of it is there
+    Case {
+        machine: Machine::Recover,
+        told: &[
+            ROOM,
+            ONE,
+            Told::Done,
+            Told::NoFolder,
+            Told::NoFolder,
+            Told::Done,
+        ],
+        asks: "find list openhosts inspect 4294967297 length index.0.4294967297 length log.0.4294967297 bury 4294967297",
+        ends: "buried 4294967297:0 alive whole",
+    },
+    Case {
+        machine: Machine::Recover,
+        told: &[ROOM, Told::NoFolder, Told::Made],
+        asks: "find list openhosts mend-hold 1",
+        ends: "buried alive made",
+    },
+];
 
 #[test]
 fn a_recovery_mends_and_buries_the_dead_by_ascending_id(rt: HostRuntime) -> Result<(), Fail> {
-    let alloc = rt.alloc();
-    let mut calls = Vec::new(alloc);
-    let two = names(alloc, &[b"0.4294967297".as_slice(), b"1.5"])?;
-    let one = || names(alloc, &[b"0.4294967297".as_slice()]);
-    let alive = || Reply::Refused(Refusal::Alive);
-    let missing = || Reply::Looked(Answer::NoFolder);
-    let torn = vec![in alloc;
-        two,
-        alive(),
-        Reply::Done,
-        number(119),
-        number(8),
-        two_entries(alloc)?,
-        Reply::Done,
-        Reply::Done,
-        Reply::Done,
-        Reply::Done,
-        Reply::Done,
-    ]?;
-    let outcomes = [
-        recovery(alloc, torn, &mut calls)?,
-        // whole, and live after all
-        recovery(
-            alloc,
-            vec![in alloc;
-                one()?,
-                Reply::Done,
-                number(80),
-                number(8),
-                two_entries(alloc)?,
-                Reply::Done,
-                Reply::Done,
-                alive(),
-            ]?,
-            &mut calls,
-        )?,
-        // nothing of it is there
-        recovery(
-            alloc,
-            vec![in alloc; one()?, Reply::Done, missing(), missing(), Reply::Done]?,
-            &mut calls,
-        )?,
-        recovery(
-            alloc,
-            vec![in alloc; missing(), Reply::Mended { made: true }]?,
-            &mut calls,
-        )?,
-    ];
-    assert!(rt;
-        outcomes
-            == [
-                (1, 2, 1, false),
-                (0, 0, 1, false),
-                (1, 0, 0, false),
-                (0, 0, 0, true)
-            ]
-    );
-    assert!(rt;
-        calls.as_slice()
-            == [
-                (b'F', 0),
-                (b'o', 0),
-                (b'I', 5),
-                (b'I', WRITER),
-                (b'i', 0),
-                (b'l', 0),
-                (b'R', 0),
-                (b'C', 2),
-                (b'S', 1),
-                (b'S', 0),
-                (b'P', 7),
-                (b'B', WRITER),
-                (b'F', 0),
-                (b'o', 0),
-                (b'I', WRITER),
-                (b'i', 0),
-                (b'l', 0),
-                (b'R', 0),
-                (b'S', 1),
-                (b'S', 0),
-                (b'P', 7),
-                (b'F', 0),
-                (b'o', 0),
-                (b'I', WRITER),
-                (b'i', 0),
-                (b'l', 0),
-                (b'B', WRITER),
-                (b'F', 0),
-                (b'o', 0),
-                (b'h', 1),
-            ]
-            .as_slice()
-    );
-    Ok(())
+    all_hold(&rt, rt.alloc(), &RECOVERIES)
 }

@@ -1,12 +1,29 @@
 //! Tests of the machines: how one is driven, and the calls of a writer, of a reader, and of who truncates, renames, looks
 //! at or recovers a file. They stand apart, so that no crate is proved twice for them.
+//!
+//! A test is a table of cases. Each says which machine runs, what its calls are told, which calls it makes of that, and
+//! how it ends. One function takes a machine through the replies, and one compares.
 #![tactic(auto)]
 
 #[cfg(test)]
+mod cases;
+#[cfg(test)]
+mod gathered;
+#[cfg(test)]
 mod keepers;
+#[cfg(test)]
+mod listings;
 #[cfg(test)]
 mod machines;
 #[cfg(test)]
+mod playing;
+#[cfg(test)]
 mod readers;
+#[cfg(test)]
+mod replies;
+#[cfg(test)]
+mod shares;
+#[cfg(test)]
+mod spelling;
 #[cfg(test)]
 mod writers;

@@ -1,12 +1,15 @@
 //! The calls of a writer, and what comes of the replies to them.
-ghost use Rattle.std.specs.Prelude.{IfOk, IsTrue};
-ghost use Rattle.flow.specs.Standing.{IsFresh, IsOver, rest_of};
-
-use flow::{Flow, Stuck};
+use crate::cases::{Case, Machine, all_hold};
+use crate::keepers::logical;
+use crate::playing::{Shown, Tell, is_played, show};
+use crate::replies::Told;
+use crate::spelling::{say, trouble};
+use flow::Flow;
 use mount_model::{Call, Reply};
-use plfs_types::{Block, Bytes, LogicalName, Name, NoMemory};
+use plfs_types::{Block, Bytes, NoMemory};
+use std::alloc::Global;
 use std::test::Fail;
-use writer_flow::{CloseFlow, OpenWrite, SyncFlow, WriteFlow, WriterHandle};
+use writer_flow::{CloseFlow, OpenWrite, SyncFlow, WriteFlow, WriterHandle, WriterOut};
 
 const WRITER: u64 = 4294967297;
 
@@ -21,142 +24,144 @@ fn handle_of(pending: u64, closing: bool, landed: u64) -> WriterHandle {
     }
 }
 
-// A letter for each call of a writer.
-fn letter(call: &Call) -> u8 {
-    match call {
-        Call::MakeContainer { .. } => b'C',
-        Call::Enter { .. } => b'E',
-        Call::Floor { .. } => b'F',
-        Call::MakeHostdir { .. } => b'H',
-        Call::MakeIndex { .. } => b'I',
-        Call::MakeLog { .. } => b'L',
-        Call::Write { .. } => b'W',
-        Call::Flush { .. } => b'f',
-        Call::SyncLog { .. } => b'l',
-        Call::SyncIndex { .. } => b'i',
-        Call::PutMeta { .. } => b'P',
-        Call::Exit { .. } => b'X',
-        _ => b'?',
+fn block(alloc: Global) -> Result<Block, Fail> {
+    let block = Block::new(Bytes::copy(alloc, b"x")?).ok().ok_or("a block")?;
+    Ok(block)
+}
+
+// The writer, the capacity, and how many are pending and have landed.
+impl Tell for WriterHandle {
+    fn tell(&self, line: &mut String) -> Result<(), NoMemory> {
+        let word = if self.closing { "closing" } else { "open" };
+        let numbers = [self.writer, self.cap as u64, self.pending, self.landed];
+        say(line, word, &numbers)
     }
 }
 
-// Takes the machine through these replies, and says whether it then has an outcome: not where it asks for fewer or
-// more. The letters of its calls are put behind `calls`.
-fn is_played<F: Flow>(
-    flow: &mut F,
-    replies: Vec<Reply>,
-    calls: &mut Vec<u8>,
-) -> Result<bool, NoMemory>
-    requires { IsFresh (F.standing flow.old) }
-    ensures { IfOk result (λ over. IsTrue over → IsOver (rest_of (F.standing flow.new))) }
-{
-    for reply in replies {
-        match flow.next()? {
-            Some(call) => {
-                calls.push(letter(&call))?;
-                flow.take(reply)?;
-            }
-            None => return Ok(false),
+impl Tell for WriterOut {
+    fn tell(&self, line: &mut String) -> Result<(), NoMemory> {
+        match &self.handle {
+            Some(handle) => handle.tell(line)?,
+            None => say(line, "left", &[])?,
+        }
+        match &self.result {
+            Ok(number) => say(line, "ok", &[*number]),
+            Err(why) => trouble(line, why),
         }
     }
-    match flow.next()? {
-        Some(_) => Ok(false),
-        None => Ok(true),
+}
+
+pub(crate) fn open(alloc: Global, told: &[Told], shown: &mut Shown) -> Result<(), Fail> {
+    let mut flow = OpenWrite::new(logical(b"ckpt")?, 7, 2);
+    if is_played(alloc, &mut flow, told, &mut shown.asks)? {
+        flow.out().tell(&mut shown.ends)?;
     }
+    Ok(())
 }
 
-fn foreign() -> Reply {
-    Reply::Damaged {
-        folder: Name::empty(),
-        file: Name::empty(),
+pub(crate) fn write(
+    alloc: Global,
+    pending: u64,
+    told: &[Told],
+    shown: &mut Shown,
+) -> Result<(), Fail> {
+    let flow = WriteFlow::new(handle_of(pending, false, 5), 3, block(alloc)?);
+    show(alloc, flow, told, shown)
+}
+
+pub(crate) fn sync(
+    alloc: Global,
+    pending: u64,
+    told: &[Told],
+    shown: &mut Shown,
+) -> Result<(), Fail> {
+    let mut flow = SyncFlow::new(handle_of(pending, false, 5));
+    if is_played(alloc, &mut flow, told, &mut shown.asks)? {
+        flow.out().tell(&mut shown.ends)?;
     }
-}
-
-#[test]
-fn an_opening_makes_its_six_calls(rt: HostRuntime) -> Result<(), Fail> {
-    let mut calls = Vec::new(rt.alloc());
-    let replies = vec![in rt.alloc();
-        Reply::Room { room: 1 },
-        Reply::Entered { writer: WRITER },
-        Reply::Floored { floor: 9 },
-        Reply::Done,
-        Reply::Done,
-        Reply::Done,
-    ]?;
-    let mut open = OpenWrite::new(LogicalName::read(b"ckpt").ok_or("a name")?, 7, 2);
-    assert!(rt; is_played(&mut open, replies, &mut calls)?);
-    assert!(rt; calls.as_slice() == b"CEFHIL".as_slice());
-    let handle = open.out().ok().ok_or("a handle")?;
-    assert!(rt; handle == handle_of(0, false, 0));
     Ok(())
 }
 
-#[test]
-fn after_a_trouble_an_opening_leaves_and_tells_the_first(rt: HostRuntime) -> Result<(), Fail> {
-    let mut calls = Vec::new(rt.alloc());
-    let replies = vec![in rt.alloc();
-        Reply::Room { room: 1 },
-        Reply::Entered { writer: WRITER },
-        foreign(),
-        Reply::Fault,
-    ]?;
-    let mut open = OpenWrite::new(LogicalName::read(b"ckpt").ok_or("a name")?, 7, 2);
-    assert!(rt; is_played(&mut open, replies, &mut calls)?);
-    assert!(rt; calls.as_slice() == b"CEFX".as_slice());
-    assert!(rt; matches!(open.out(), Err(Stuck::Damaged { .. })));
+pub(crate) fn close(
+    alloc: Global,
+    closing: bool,
+    landed: u64,
+    told: &[Told],
+    shown: &mut Shown,
+) -> Result<(), Fail> {
+    let mut flow = CloseFlow::new(handle_of(0, closing, landed));
+    if is_played(alloc, &mut flow, told, &mut shown.asks)? {
+        flow.out().tell(&mut shown.ends)?;
+    }
     Ok(())
 }
 
-#[test]
-fn a_write_flushes_a_full_buffer(rt: HostRuntime) -> Result<(), Fail> {
-    let mut calls = Vec::new(rt.alloc());
-    let block = Block::new(Bytes::copy(rt.alloc(), b"x")?)
-        .ok()
-        .ok_or("a block")?;
-    let replies = vec![in rt.alloc(); Reply::Flushed { landed: 7 }, Reply::Wrote { stamp: 10 }]?;
-    let mut write = WriteFlow::new(handle_of(2, false, 5), 3, block);
-    assert!(rt; is_played(&mut write, replies, &mut calls)?);
-    assert!(rt; calls.as_slice() == b"fW".as_slice());
-    let out = write.out();
-    assert!(rt; (out.handle, out.result.ok()) == (Some(handle_of(1, false, 5)), Some(10)));
-    Ok(())
-}
+const CASES: [Case; 6] = [
+    // an opening makes its six calls
+    Case {
+        machine: Machine::Open,
+        told: &[
+            Told::Room(1),
+            Told::Entered(WRITER),
+            Told::Floored(9),
+            Told::Done,
+            Told::Done,
+            Told::Done,
+        ],
+        asks: "make enter 7 2 floor hostdir index log",
+        ends: "open 4294967297 2 0 0",
+    },
+    // after a trouble it leaves and tells the first
+    Case {
+        machine: Machine::Open,
+        told: &[
+            Told::Room(1),
+            Told::Entered(WRITER),
+            Told::Foreign,
+            Told::Fault,
+        ],
+        asks: "make enter 7 2 floor exit",
+        ends: "damaged / 0",
+    },
+    // a write flushes a full buffer
+    Case {
+        machine: Machine::Write { pending: 2 },
+        told: &[Told::Flushed(7), Told::Wrote(10)],
+        asks: "flush write 3",
+        ends: "open 4294967297 2 1 5 ok 10",
+    },
+    // a sync tells what has landed
+    Case {
+        machine: Machine::Sync { pending: 1 },
+        told: &[Told::Done, Told::Flushed(6), Told::Synced(6)],
+        asks: "sync-log flush sync-index",
+        ends: "open 4294967297 2 0 6 ok 6",
+    },
+    // a close syncs, and a fault of what it leaves keeps it open
+    Case {
+        machine: Machine::Close {
+            closing: false,
+            landed: 5,
+        },
+        told: &[Told::Done, Told::Synced(6), Told::Fault],
+        asks: "sync-log sync-index meta",
+        ends: "closing 4294967297 2 0 6 fault",
+    },
+    // the next one goes on there, and leaves
+    Case {
+        machine: Machine::Close {
+            closing: true,
+            landed: 6,
+        },
+        told: &[Told::Done, Told::Done],
+        asks: "meta exit",
+        ends: "left ok 6",
+    },
+];
 
 #[test]
-fn a_sync_tells_what_has_landed(rt: HostRuntime) -> Result<(), Fail> {
-    let mut calls = Vec::new(rt.alloc());
-    let replies = vec![in rt.alloc();
-        Reply::Done,
-        Reply::Flushed { landed: 6 },
-        Reply::Synced { landed: 6 },
-    ]?;
-    let mut sync = SyncFlow::new(handle_of(1, false, 5));
-    assert!(rt; is_played(&mut sync, replies, &mut calls)?);
-    assert!(rt; calls.as_slice() == b"lfi".as_slice());
-    let out = sync.out();
-    assert!(rt; (out.handle, out.result.ok()) == (Some(handle_of(0, false, 6)), Some(6)));
-    Ok(())
-}
-
-#[test]
-fn a_close_syncs_and_leaves(rt: HostRuntime) -> Result<(), Fail> {
-    let mut calls = Vec::new(rt.alloc());
-    let replies = vec![in rt.alloc(); Reply::Done, Reply::Synced { landed: 6 }, Reply::Fault]?;
-    let mut close = CloseFlow::new(handle_of(0, false, 5));
-    assert!(rt; is_played(&mut close, replies, &mut calls)?);
-    assert!(rt; calls.as_slice() == b"liP".as_slice());
-    let out = close.out();
-    assert!(rt; matches!(out.result, Err(Stuck::Fault)));
-    let handle = out.handle.ok_or("a handle")?;
-    assert!(rt; handle == handle_of(0, true, 6));
-
-    let replies = vec![in rt.alloc(); Reply::Done, Reply::Done]?;
-    let mut close = CloseFlow::new(handle);
-    assert!(rt; is_played(&mut close, replies, &mut calls)?);
-    assert!(rt; calls.as_slice() == b"liPPX".as_slice());
-    let out = close.out();
-    assert!(rt; (out.handle, out.result.ok()) == (None, Some(6)));
-    Ok(())
+fn a_writer_opens_writes_syncs_and_leaves(rt: HostRuntime) -> Result<(), Fail> {
+    all_hold(&rt, rt.alloc(), &CASES)
 }
 
 #[test]
@@ -171,12 +176,8 @@ fn crosses<T: Send>(_value: &T) {}
 
 #[test]
 fn machines_cross_threads(rt: HostRuntime) -> Result<(), Fail> {
-    let block = Block::new(Bytes::copy(rt.alloc(), b"x")?)
-        .ok()
-        .ok_or("a block")?;
-    let name = LogicalName::read(b"ckpt").ok_or("a name")?;
-    crosses(&OpenWrite::new(name, 7, 2));
-    crosses(&WriteFlow::new(handle_of(2, false, 5), 3, block));
+    crosses(&OpenWrite::new(logical(b"ckpt")?, 7, 2));
+    crosses(&WriteFlow::new(handle_of(2, false, 5), 3, block(rt.alloc())?));
     crosses(&SyncFlow::new(handle_of(2, false, 5)));
     crosses(&CloseFlow::new(handle_of(2, false, 5)));
     Ok(())

@@ -60,7 +60,7 @@ one_dropping room k name d e a b =
     let writer : d.writer ≡ e.writer = cc in
     dropping_eq d e (a.room_is ∙ sym b.room_is) host writer
 
-named_dropping : (room k : ℕ) (names : List Name) (ds : List Dropping) (name : Name) (d : Dropping) → AreDroppingsOf room k names ds → Among name names → IsIndexName room k name d → Among d ds
+pub named_dropping : (room k : ℕ) (names : List Name) (ds : List Dropping) (name : Name) (d : Dropping) → AreDroppingsOf room k names ds → Among name names → IsIndexName room k name d → Among d ds
 named_dropping room k [] ds name d are a is = absurd a
 named_dropping room k (n ∷ names) ds name d (inl (found, rest, named, split, more)) (inl here) is =
     let same : d ≡ found = one_dropping room k n d found (subst (λ x. IsIndexName room k x d) here is) named in
@@ -96,7 +96,7 @@ folder_names caller room k start next asked names d call c r its number stood =
     let at : file_at l.room (index_path d.host d.writer) ≡ Some now.bytes = subst (λ x. file_at x (index_path d.host d.writer) ≡ Some now.bytes) same f.2 in
     file_named l.room (hostdir_of k) (index_path d.host d.writer).file names now.bytes l.entries (subst (λ folder. file_at l.room (record { folder = folder; file = (index_path d.host d.writer).file }) ≡ Some now.bytes) (its_hostdir d.host k number) at)
 
-index_name : (room k : ℕ) (d : Dropping) → IsNamed d → d.room ≡ room → d.host % 32 ≡ k → IsIndexName room k (index_path d.host d.writer).file d
+pub index_name : (room k : ℕ) (d : Dropping) → IsNamed d → d.room ≡ room → d.host % 32 ≡ k → IsIndexName room k (index_path d.host d.writer).file d
 index_name room k d named its number = record {
   room_is = its;
   folder = number;
@@ -125,7 +125,7 @@ hostdirs_found caller room start end top (k ∷ ks) asked ds d seen (mine, rest,
     let s = seen_split caller start end mine rest (subst (λ l. IsSeen caller start l end) calls seen) in
     subst (Among d) (sym split) (among_right d here others (hostdirs_found caller room s.0 end top ks rest others d s.2 more its (stood_grows start s.0 d (seen_grows caller start s.0 mine s.1) stood) named later))
 
-in_range : (from n k : ℕ) → from ≤ k → k < from + n → Among k (range_with_len from n)
+pub in_range : (from n k : ℕ) → from ≤ k → k < from + n → Among k (range_with_len from n)
 in_range from zero k low high = absurd (omega arith)
 in_range from (suc n) k low high = elim (cases_eq k from) as (λ _. Among k (from ∷ range_with_len (from + 1) n)) [
   | inl e ↦ inl e

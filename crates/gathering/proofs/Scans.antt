@@ -33,7 +33,7 @@ named_more : (room k : ℕ) (name : Name) (names : List Name) (ds : List Droppin
 named_more room k name names ds all = All-weaker (IsNamedIn room k names) (IsNamedIn room k (name ∷ names)) ds (λ d n. (n.0, inr n.1, n.2)) all
 
 -- each dropping that is found has its name
-all_named : (room k : ℕ) (names : List Name) (ds : List Dropping) → AreDroppingsOf room k names ds → AllByRecursion (IsNamedIn room k names) ds
+pub all_named : (room k : ℕ) (names : List Name) (ds : List Dropping) → AreDroppingsOf room k names ds → AllByRecursion (IsNamedIn room k names) ds
 all_named room k [] ds none = subst (AllByRecursion (IsNamedIn room k [])) (sym none) tt
 all_named room k (name ∷ names) ds (inl (d, rest, is, split, more)) = subst (AllByRecursion (IsNamedIn room k (name ∷ names))) (sym split) ((name, inl refl, is), named_more room k name names rest (all_named room k names rest more))
 all_named room k (name ∷ names) ds (inr (none, more)) = named_more room k name names ds (all_named room k names ds more)

@@ -6,3 +6,4 @@ mod Entries
 mod Waiting
 mod Truncating
 mod Telling
+pub mod Facts

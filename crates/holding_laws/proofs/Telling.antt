@@ -17,12 +17,12 @@ use Rattle.looks.specs.Replies.{Tries, given, on_ok, room_in, failure}
 use Rattle.attr_flow.specs.declared.attr_flow.AttrOut.{AttrOut}
 use Rattle.attr_flow.specs.Asking.{attributes, lists_truncs, lists_metadata, if_open, lists_open, attr_program}
 use Rattle.attr_flow.specs.Listings.{is_open, metadata_named, truncs_named}
-use Rattle.holding_laws.specs.Asking.{MayAsk}
+use Rattle.mount_sound.specs.Owed.{Permits}
 use Rattle.holding_laws.proofs.Safety.{safe_free}
 
 module _ (caller : ℕ) where
   abbrev Safe : Tries AttrOut → State → Type 0
-  Safe program state = IsSafe IsStep MayAsk caller (asking program) state
+  Safe program state = IsSafe IsStep Permits caller (asking program) state
 
   safe_given : {A : Type 0} (o : Option A) (why : Stuck) (next : A → Tries AttrOut) (state : State) → ((a : A) → Safe (next a) state) → Safe (given o why next) state
   safe_given None why next state safe = tt

@@ -26,7 +26,7 @@ use Rattle.mount_model.specs.Step.{IsStep}
 use Rattle.mount_model.specs.Table.{holder_at}
 use Rattle.mount_model.proofs.Facts.{IsHolding, held_before-push, is_holding, match_cases, next_not_held}
 use Rattle.mount_sound.specs.Items.{HasItem}
-use Rattle.mount_sound.specs.Owed.{IsTop}
+use Rattle.mount_sound.specs.Owed.{IsTop, Permits}
 use Rattle.mount_sound.specs.Sound.{IsFine, IsSound}
 use Rattle.mount_sound.specs.There.{landed_entries}
 use Rattle.mount_sound.proofs.Facts.{step_fine}
@@ -37,7 +37,6 @@ use Rattle.trunc_rename.specs.Holding.{holder_in, released, lets_go, or_lets_go,
 use Rattle.trunc_rename.specs.Tops.{metadata_top, truncs_top}
 use Rattle.trunc_rename.specs.Truncating.{marked, marks, lists_truncs, lists_metadata, truncate_program}
 use Rattle.trunc_rename.specs.Renaming.{moved, moves, rename_program}
-use Rattle.holding_laws.specs.Asking.{MayAsk}
 use Rattle.holding_laws.proofs.Safety.{LastsOne, fine_lasts, may_free, may_lasts, safe_ask, safe_free}
 use Rattle.holding_laws.proofs.Tops.{cases_Option, went_on, metadata_has, truncs_above, truncs_has}
 use Rattle.holding_laws.proofs.Greatest.{Stands, greatest_above, greatest_in, greatest_stands}
@@ -47,12 +46,12 @@ use Rattle.holding_laws.proofs.Waiting.{Bounded, Waits, bounded_lasts, one_room,
 
 -- ---- what follows a hold
 
-safe_release : {R : Type 0} (caller holder : ℕ) (outcome : Result R Stuck) (state : State) → IsFine state → IsSafe IsStep MayAsk caller (asking (lets_go holder outcome)) state
+safe_release : {R : Type 0} (caller holder : ℕ) (outcome : Result R Stuck) (state : State) → IsFine state → IsSafe IsStep Permits caller (asking (lets_go holder outcome)) state
 safe_release caller holder outcome = safe_free caller (Release holder) (λ reply. done (released outcome reply)) (tt, tt) (λ reply after fine. tt)
 
-safe_marks : (caller size holder top : ℕ) (state : State) → MayAsk state caller (unbroken (Mark holder size top)) → IsSafe IsStep MayAsk caller (asking (marks size holder top)) state
+safe_marks : (caller size holder top : ℕ) (state : State) → Permits state caller (unbroken (Mark holder size top)) → IsSafe IsStep Permits caller (asking (marks size holder top)) state
 safe_marks caller size holder top =
-    safe_ask caller (λ state. MayAsk state caller (unbroken (Mark holder size top))) (Mark holder size top) (λ reply. lets_go holder (marked reply)) (may_lasts caller (unbroken (Mark holder size top))) (λ state m. m)
+    safe_ask caller (λ state. Permits state caller (unbroken (Mark holder size top))) (Mark holder size top) (λ reply. lets_go holder (marked reply)) (may_lasts caller (unbroken (Mark holder size top))) (λ state m. m)
     (λ state reply after m may step. safe_release caller holder (marked reply) after (step_fine state after caller (unbroken (Mark holder size top)) reply may.1 step may.0))
 
 -- a look of one's own leaves what a look of another leaves
@@ -78,7 +77,7 @@ cases_Result (Err why) = inr (why, refl)
 module _ (caller room holder : ℕ) where
   -- what was listed of the truncates bounds all stamps, where the metadata bounded the entries
   owed_now : (least top size : ℕ) (now after : State) (reply : Reply) → Bounded caller room holder least now → IsStep now caller (unbroken (Look room (ListFolder truncs))) reply after
-      → told_by truncs (λ names. truncs_top names least) reply ≡ Ok top → MayAsk now caller (unbroken (Mark holder size top))
+      → told_by truncs (λ names. truncs_top names least) reply ≡ Ok top → Permits now caller (unbroken (Mark holder size top))
   owed_now least top size now after reply b step h = (
     b.waits.fine,
     record {
@@ -136,26 +135,26 @@ module _ (caller room holder : ℕ) where
         );
   }
 
-  safe_truncs : (size least : ℕ) (state : State) → Bounded caller room holder least state → IsSafe IsStep MayAsk caller (asking (lists_truncs size room holder least)) state
+  safe_truncs : (size least : ℕ) (state : State) → Bounded caller room holder least state → IsSafe IsStep Permits caller (asking (lists_truncs size room holder least)) state
   safe_truncs size least =
       let look : Sight = ListFolder truncs in
       safe_ask caller (Bounded caller room holder least) (Look room look) (λ reply. or_lets_go holder (marks size holder) (told_by truncs (λ names. truncs_top names least) reply)) (bounded_lasts caller room holder least)
       (λ state b. may_free state caller (Look room look) (tt, tt) b.waits.fine)
       (λ state reply after b may step.
-      let P : Result ℕ Stuck → Type 0 = λ r. IsSafe IsStep MayAsk caller (asking (or_lets_go holder (marks size holder) r)) after in
+      let P : Result ℕ Stuck → Type 0 = λ r. IsSafe IsStep Permits caller (asking (or_lets_go holder (marks size holder) r)) after in
       elim (cases_Result (told_by truncs (λ names. truncs_top names least) reply)) as (λ _. P (told_by truncs (λ names. truncs_top names least) reply)) [
         | inl ok ↦ subst P (sym ok.1) (safe_marks caller size holder ok.0 after
-            (own_look caller (λ x. MayAsk x caller (unbroken (Mark holder size ok.0))) (may_lasts caller (unbroken (Mark holder size ok.0))) state after room look reply b.waits.fine step (owed_now least ok.0 size state after reply b step ok.1)))
+            (own_look caller (λ x. Permits x caller (unbroken (Mark holder size ok.0))) (may_lasts caller (unbroken (Mark holder size ok.0))) state after room look reply b.waits.fine step (owed_now least ok.0 size state after reply b step ok.1)))
         | inr err ↦ subst P (sym err.1) (safe_release {R = ℕ} caller holder (Err err.0) after (step_fine state after caller (unbroken (Look room look)) reply may.1 step may.0))
       ])
 
-  safe_metadata : (size : ℕ) (state : State) → Waits caller room holder state → IsSafe IsStep MayAsk caller (asking (lists_metadata size room holder)) state
+  safe_metadata : (size : ℕ) (state : State) → Waits caller room holder state → IsSafe IsStep Permits caller (asking (lists_metadata size room holder)) state
   safe_metadata size =
       let look : Sight = ListFolder metadata in
       safe_ask caller (Waits caller room holder) (Look room look) (λ reply. or_lets_go holder (lists_truncs size room holder) (told_by metadata (λ names. metadata_top names 0) reply)) (waits_lasts caller room holder)
       (λ state w. may_free state caller (Look room look) (tt, tt) w.fine)
       (λ state reply after w may step.
-      let P : Result ℕ Stuck → Type 0 = λ r. IsSafe IsStep MayAsk caller (asking (or_lets_go holder (lists_truncs size room holder) r)) after in
+      let P : Result ℕ Stuck → Type 0 = λ r. IsSafe IsStep Permits caller (asking (or_lets_go holder (lists_truncs size room holder) r)) after in
       elim (cases_Result (told_by metadata (λ names. metadata_top names 0) reply)) as (λ _. P (told_by metadata (λ names. metadata_top names 0) reply)) [
         | inl ok ↦ subst P (sym ok.1) (safe_truncs size ok.0 after
             (own_look caller (Bounded caller room holder ok.0) (bounded_lasts caller room holder ok.0) state after room look reply w.fine step (bounded_now ok.0 state after reply w step ok.1)))
@@ -203,20 +202,20 @@ held_by reply holder e = absurd cc
 
 -- ---- the whole
 
-pub safe_truncate : (caller : ℕ) (name : List ℕ) (size : ℕ) (state : State) → IsFine state → IsSafe IsStep MayAsk caller (asking (truncate_program name size)) state
+pub safe_truncate : (caller : ℕ) (name : List ℕ) (size : ℕ) (state : State) → IsFine state → IsSafe IsStep Permits caller (asking (truncate_program name size)) state
 safe_truncate caller name size =
     safe_free caller (Find name) (λ reply. given (room_in reply) (failure reply) (λ room. holds room (lists_metadata size room))) (tt, tt)
     (λ reply after fine.
-    elim (cases_Option (room_in reply)) as (λ _. IsSafe IsStep MayAsk caller (asking (given (room_in reply) (failure reply) (λ room. holds room (lists_metadata size room)))) after) [
-      | inl none ↦ subst (λ o. IsSafe IsStep MayAsk caller (asking (given o (failure reply) (λ room. holds room (lists_metadata size room)))) after) (sym none) tt
-      | inr some ↦ subst (λ o. IsSafe IsStep MayAsk caller (asking (given o (failure reply) (λ room. holds room (lists_metadata size room)))) after) (sym some.1) (safe_holds some.0 after fine)
+    elim (cases_Option (room_in reply)) as (λ _. IsSafe IsStep Permits caller (asking (given (room_in reply) (failure reply) (λ room. holds room (lists_metadata size room)))) after) [
+      | inl none ↦ subst (λ o. IsSafe IsStep Permits caller (asking (given o (failure reply) (λ room. holds room (lists_metadata size room)))) after) (sym none) tt
+      | inr some ↦ subst (λ o. IsSafe IsStep Permits caller (asking (given o (failure reply) (λ room. holds room (lists_metadata size room)))) after) (sym some.1) (safe_holds some.0 after fine)
     ])
   where
-    safe_holds : (room : ℕ) (state : State) → IsFine state → IsSafe IsStep MayAsk caller (asking (holds room (lists_metadata size room))) state
+    safe_holds : (room : ℕ) (state : State) → IsFine state → IsSafe IsStep Permits caller (asking (holds room (lists_metadata size room))) state
     safe_holds room =
         safe_ask caller IsFine (Hold room) (λ reply. given (holder_in reply) (failure reply) (lists_metadata size room)) (fine_lasts caller) (λ state fine. may_free state caller (Hold room) (tt, tt) fine)
         (λ state reply after fine may step.
-        let P : Option ℕ → Type 0 = λ o. IsSafe IsStep MayAsk caller (asking (given o (failure reply) (lists_metadata size room))) after in
+        let P : Option ℕ → Type 0 = λ o. IsSafe IsStep Permits caller (asking (given o (failure reply) (lists_metadata size room))) after in
         let later : IsFine after = step_fine state after caller (unbroken (Hold room)) reply may.1 step fine in
         elim (cases_Option (holder_in reply)) as (λ _. P (holder_in reply)) [
           | inl none ↦ subst P (sym none) tt
@@ -224,24 +223,24 @@ safe_truncate caller name size =
               (waits_now caller room some.0 state after fine later (subst (λ r. IsStep state caller (unbroken (Hold room)) r after) (held_by reply some.0 some.1) step)))
         ])
 
-pub safe_rename : (caller : ℕ) (name to : List ℕ) (state : State) → IsFine state → IsSafe IsStep MayAsk caller (asking (rename_program name to)) state
+pub safe_rename : (caller : ℕ) (name to : List ℕ) (state : State) → IsFine state → IsSafe IsStep Permits caller (asking (rename_program name to)) state
 safe_rename caller name to =
     safe_free caller (Find name) (λ reply. given (room_in reply) (failure reply) (λ room. holds room (moves to))) (tt, tt)
     (λ reply after fine.
-    let P : Option ℕ → Type 0 = λ o. IsSafe IsStep MayAsk caller (asking (given o (failure reply) (λ room. holds room (moves to)))) after in
+    let P : Option ℕ → Type 0 = λ o. IsSafe IsStep Permits caller (asking (given o (failure reply) (λ room. holds room (moves to)))) after in
     elim (cases_Option (room_in reply)) as (λ _. P (room_in reply)) [
       | inl none ↦ subst P (sym none) tt
       | inr some ↦ subst P (sym some.1) (safe_holds some.0 after fine)
     ])
   where
-    safe_moves : (holder : ℕ) (state : State) → IsFine state → IsSafe IsStep MayAsk caller (asking (moves to holder)) state
+    safe_moves : (holder : ℕ) (state : State) → IsFine state → IsSafe IsStep Permits caller (asking (moves to holder)) state
     safe_moves holder = safe_free caller (Move holder to) (λ reply. lets_go holder (moved reply)) (tt, tt) (λ reply after fine. safe_release caller holder (moved reply) after fine)
 
-    safe_holds : (room : ℕ) (state : State) → IsFine state → IsSafe IsStep MayAsk caller (asking (holds room (moves to))) state
+    safe_holds : (room : ℕ) (state : State) → IsFine state → IsSafe IsStep Permits caller (asking (holds room (moves to))) state
     safe_holds room =
         safe_free caller (Hold room) (λ reply. given (holder_in reply) (failure reply) (moves to)) (tt, tt)
         (λ reply after fine.
-        let P : Option ℕ → Type 0 = λ o. IsSafe IsStep MayAsk caller (asking (given o (failure reply) (moves to))) after in
+        let P : Option ℕ → Type 0 = λ o. IsSafe IsStep Permits caller (asking (given o (failure reply) (moves to))) after in
         elim (cases_Option (holder_in reply)) as (λ _. P (holder_in reply)) [
           | inl none ↦ subst P (sym none) tt
           | inr some ↦ subst P (sym some.1) (safe_moves some.0 after fine)

@@ -18,3 +18,4 @@ mod Searching
 pub mod TailLemmas
 mod TopLemmas
 pub mod TruncLemmas
+mod TruncOrder

@@ -1,7 +1,7 @@
 -- The entries of an index dropping, as they are checked in order.
 use Rattle.std.specs.Prelude.{ℕ, zero, suc, ◌+◌, ◌-◌, ◌&&◌, ◌==◌, nat_le, nat_lt, Bool, if◌then◌else◌, List, [], ◌∷◌, ◌++◌, drop}
 use Rattle.index_entry.specs.Spelling.{entry_in}
-use Rattle.plfs_types.specs.declared.limits.TheConstants.{MAX_SIZE, MAX_LOG, MAX_STAMP}
+use Rattle.plfs_types.specs.declared.limits.TheConstants.{ENTRY_SIZE, MAX_SIZE, MAX_LOG, MAX_STAMP}
 use Rattle.plfs_types.specs.declared.entries.Entry.{Entry}
 use Rattle.plfs_types.specs.declared.entries.Cover.{Cover}
 use Rattle.index_reader.specs.declared.entries.Tail.{Tail}
@@ -28,5 +28,5 @@ abbrev pub checked : ℕ → ℕ → List ℕ → Tail → Went × Tail
 checked log zero bytes tail = (On, tail)
 checked log (suc n) bytes tail =
     if is_next tail.cover (entry_in bytes)
-    then (if nat_le ((entry_in bytes).physical + (entry_in bytes).len) log then checked log n (drop 40 bytes) (longer (entry_in bytes) tail) else (Ends, tail))
+    then (if nat_le ((entry_in bytes).physical + (entry_in bytes).len) log then checked log n (drop ENTRY_SIZE bytes) (longer (entry_in bytes) tail) else (Ends, tail))
     else (Breaks, tail)

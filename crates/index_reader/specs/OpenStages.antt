@@ -3,7 +3,7 @@ use Rattle.std.specs.Prelude.{◌≡◌, ℕ, ◌+◌, ◌^◌, List, ◌∷◌,
 use Rattle.flat_format.specs.declared.flat.Flat.{Flat}
 use Rattle.flow.specs.declared.trouble.Stuck.{Stuck}
 use Rattle.story.specs.Program.{done, followed_by}
-use Rattle.flow.specs.Standing.{Standing, ready}
+use Rattle.flow.specs.Standing.{Awaits, Standing, ready, rest_of}
 use Rattle.mount_model.specs.declared.call.Call.{Call}
 use Rattle.mount_model.specs.declared.reply.Reply.{Reply}
 use Rattle.index_reader.specs.declared.flats.FlatRead.{FlatRead}
@@ -13,9 +13,12 @@ use Rattle.index_reader.specs.declared.flats.AfterFlat.{AfterFlat}
 use Rattle.index_reader.specs.declared.flats.AfterFlat.TheVariants.{GoesOn, Is}
 use Rattle.index_reader.specs.declared.listing.Dropping.{Dropping}
 use Rattle.index_reader.specs.declared.listing.Listing.{Listing}
+use Rattle.index_reader.specs.declared.opening.AfterOpen.{AfterOpen}
+use Rattle.index_reader.specs.declared.opening.AfterOpen.TheVariants as after
 use Rattle.index_reader.specs.declared.opening.OpenRead.{OpenRead}
 use Rattle.index_reader.specs.declared.opening.Stage.{Stage}
 use Rattle.index_reader.specs.declared.opening.Stage.TheVariants.{Finding, Flats, Reading, Top, Scans, Listed, Failed}
+use Rattle.index_reader.specs.Listing.{AreByWriter}
 use Rattle.index_reader.specs.Replies.{Tries, on_ok}
 use Rattle.index_reader.specs.FileStages.{file_left}
 use Rattle.index_reader.specs.FlatRules.{flat_told}
@@ -78,3 +81,22 @@ open_standing flow = ready (open_left flow.stage)
 
 abbrev pub open_calls_left : OpenRead → ℕ
 open_calls_left flow = open_calls flow.stage
+
+-- the calls that are left of it
+abbrev pub open_rest : OpenRead → Tries Listing
+open_rest flow = open_left flow.stage
+
+-- where it stands after a reply
+abbrev pub after_open : AfterOpen → Tries Listing
+after_open (after.GoesOn flow) = open_rest flow
+after_open (after.Is result) = done result
+
+abbrev pub after_open_calls : AfterOpen → ℕ
+after_open_calls (after.GoesOn flow) = open_calls_left flow
+after_open_calls (after.Is result) = 0
+
+-- there is a call to be made, or what was listed is in order
+abbrev pub IsAfterOpen : AfterOpen → Type 0
+IsAfterOpen (after.GoesOn flow) = Awaits (rest_of (open_standing flow))
+IsAfterOpen (after.Is (Ok listing)) = AreByWriter listing.droppings
+IsAfterOpen (after.Is (Err why)) = Unit {0}

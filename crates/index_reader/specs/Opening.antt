@@ -97,6 +97,10 @@ top_program room id flat = ask
     (λ reply. given (names_in reply) (trouble (file_in [] []) reply)
     (λ names. on_ok (λ ks. scans room id flat ks nothing_found) (top_shows names)))
 
+-- the top and the droppings alone
+abbrev pub scan_program : ℕ → Tries Listing
+scan_program room = top_program room 0 no_flat
+
 -- the newest flattened index is read, where there is one
 abbrev pub if_newest : ℕ → Option ℕ → Tries Listing
 if_newest room None = top_program room 0 no_flat

@@ -40,6 +40,11 @@ abbrev pub if_trunc : Name → Option Trunc → (Trunc → Result (List Trunc) S
 if_trunc name None next = Err (damage (truncs_path name) 0)
 if_trunc name (Some t) next = next t
 
+-- the truncates that the names tell, as they are listed, behind those so far
+abbrev pub truncs_listed : List Name → List Trunc → Result (List Trunc) Stuck
+truncs_listed [] sofar = Ok sofar
+truncs_listed (name ∷ names) sofar = if_trunc name (trunc_in name) (λ t. truncs_listed names (sofar ++ t ∷ []))
+
 -- the truncates that the names tell, in order, with those so far
 abbrev pub truncs_of : List Name → List Trunc → Result (List Trunc) Stuck
 truncs_of [] sofar = Ok sofar

@@ -6,7 +6,7 @@ ghost use Rattle.index_entry.specs.Spelling.{entry_in as entry_of};
 ghost use Rattle.index_reader.specs.Entries.{is_next as next_of, longer as longer_of, checked};
 
 use index_entry::number_at;
-use plfs_types::{Cover, Entry, EntryList, MAX_LOG, MAX_SIZE, MAX_STAMP, NoMemory};
+use plfs_types::{Cover, ENTRY_SIZE, Entry, EntryList, MAX_LOG, MAX_SIZE, MAX_STAMP, NoMemory};
 
 /// What was read of an index dropping: the entries that a flattened index doesn't cover, and a cover of all.
 #[derive(Drop)]
@@ -28,7 +28,7 @@ pub(crate) enum Went {
 
 #[tactic(auto, unfolding(index_entry::specs::Spelling::entry_in))]
 fn entry_in(bytes: &[u8]) -> Entry
-    requires { 40 ≤ length bytes.now }
+    requires { ENTRY_SIZE ≤ length bytes.now }
     ensures { result ≡ entry_of bytes.now }
 {
     Entry {
@@ -42,10 +42,10 @@ fn entry_in(bytes: &[u8]) -> Entry
 
 /// The bytes after those of the first entry.
 fn past_first(bytes: &[u8]) -> &[u8]
-    requires { 40 ≤ length bytes.now }
-    ensures { result.now ≡ drop 40 bytes.now }
+    requires { ENTRY_SIZE ≤ length bytes.now }
+    ensures { result.now ≡ drop ENTRY_SIZE bytes.now }
 {
-    &bytes[40..]
+    &bytes[ENTRY_SIZE..]
 }
 
 /// Whether the entry is valid and follows what the cover counts.
@@ -85,7 +85,7 @@ impl Tail {
     /// Goes on with the first of so many entries of these bytes, up to one that doesn't follow or ends past so many
     /// bytes of the log.
     pub(crate) fn check(&mut self, log: u64, count: usize, bytes: &[u8]) -> Result<Went, NoMemory>
-        requires bytes { 40 * count ≤ length bytes.now }
+        requires bytes { ENTRY_SIZE * count ≤ length bytes.now }
         requires count { self.old.cover.count + count < 2 ^ 64 }
         requires pieces { All HasPiece self.old.entries }
         ensures checked { IfOk result (λ went. (went, self.new) ≡ checked log count bytes.now self.old) }

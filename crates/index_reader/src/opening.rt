@@ -6,8 +6,8 @@ ghost use Rattle.flow.specs.Standing.{ready, next_of, rest_of, replied, Awaits, 
 ghost use Rattle.index_reader.specs.Listing.{AreByWriter};
 ghost use Rattle.index_reader.specs.Covered.{AreByWriter as AreCoversByWriter};
 ghost use Rattle.index_reader.specs.Scanning.{nothing_found};
-ghost use Rattle.index_reader.specs.Opening.{top_program, scans, open_at_program, open_read_program};
-ghost use Rattle.index_reader.specs.OpenStages.{after_flat, after_flat_calls, IsOfFlat, open_left, open_calls, open_standing, open_calls_left};
+ghost use Rattle.index_reader.specs.Opening.{top_program, scan_program, scans, open_at_program, open_read_program};
+ghost use Rattle.index_reader.specs.OpenStages.{after_flat, after_flat_calls, after_open, after_open_calls, IsAfterOpen, IsOfFlat, open_left, open_calls, open_standing, open_calls_left};
 
 use crate::droppings::Droppings;
 use crate::flats::{AfterFlat, FlatRead};
@@ -71,6 +71,15 @@ pub(crate) enum Stage {
     Failed(Stuck),
 }
 
+/// Where a listing stands after a reply.
+#[derive(Drop)]
+pub enum AfterOpen {
+    /// There is a further call.
+    GoesOn(OpenRead),
+    /// It has ended so.
+    Is(Result<Listing, Stuck>),
+}
+
 impl OpenRead {
     /// Lists the container of this name.
     pub fn new(alloc: Global, name: LogicalName) -> Self
@@ -84,7 +93,8 @@ impl OpenRead {
 
     /// Lists the container of this room.
     pub fn at(alloc: Global, room: u64) -> Self
-        ensures { open_standing result ≡ ready (open_at_program room) }
+        ensures starts { open_standing result ≡ ready (open_at_program room) }
+        ensures left { open_calls_left result ≡ 2 ^ 64 + 50 }
     {
         OpenRead {
             alloc,
@@ -92,8 +102,35 @@ impl OpenRead {
         }
     }
 
+    /// Lists the top and the folders of droppings of the container of this room, and reads no flattened index.
+    pub fn top(alloc: Global, room: u64) -> Self
+        ensures is { open_standing result ≡ ready (scan_program room) }
+        ensures left { open_calls_left result ≡ 40 }
+    {
+        OpenRead {
+            alloc,
+            stage: Stage::Top {
+                room,
+                id: 0,
+                flat: no_flat(alloc),
+            },
+        }
+    }
+
+    /// Where it stands after the reply to its call.
+    pub fn after(self, reply: Reply) -> Result<AfterOpen, NoMemory>
+        requires { Awaits (rest_of (open_standing self)) }
+        ensures goes_on { IfOk result (λ after. after_open after ≡ replied (rest_of (open_standing self)) reply) }
+        ensures fewer { IfOk result (λ after. after_open_calls after < open_calls_left self) }
+        ensures order { IfOk result IsAfterOpen }
+    {
+        let OpenRead { alloc, stage } = self;
+        let stage = after_reply(alloc, stage, reply)?;
+        Ok(ended_or_not(alloc, stage))
+    }
+
     /// The call that is to be made, where there is one.
-    fn call(&self) -> Option<Call>
+    pub fn call(&self) -> Option<Call>
         ensures { result ≡ next_of (open_standing self.now) }
     {
         match &self.stage {
@@ -297,6 +334,27 @@ fn after_reply(alloc: Global, stage: Stage, reply: Reply) -> Result<Stage, NoMem
             scan,
         } => after_folder(alloc, room, id, flat, folder, rest, scan, reply),
         Stage::Listed { .. } | Stage::Failed(_) => unreachable!(),
+    }
+}
+
+/// What this stage is of a listing.
+fn ended_or_not(alloc: Global, stage: Stage) -> AfterOpen
+    ensures goes_on { after_open result ≡ open_left stage }
+    ensures fewer { after_open_calls result ≡ open_calls stage }
+    ensures order { IsAfterOpen result }
+{
+    match stage {
+        Stage::Listed {
+            room,
+            droppings,
+            flat,
+        } => AfterOpen::Is(Ok(Listing {
+            room,
+            droppings: droppings.into_list(),
+            flat: flat.into_flat(),
+        })),
+        Stage::Failed(why) => AfterOpen::Is(Err(why)),
+        stage => AfterOpen::GoesOn(OpenRead { alloc, stage }),
     }
 }
 

@@ -28,8 +28,8 @@ pub(crate) enum Placed {
     Logged(Place),
 }
 
-/// The dropping of this writer, where there is one.
-fn found(droppings: &[Dropping], writer: u64) -> Option<Dropping>
+/// The dropping of this writer among droppings by ascending writer, where there is one.
+pub fn found(droppings: &[Dropping], writer: u64) -> Option<Dropping>
     requires { AreByWriter droppings.now }
     ensures { result ≡ item_of (λ (d : Listed). d.writer) writer droppings.now }
 {

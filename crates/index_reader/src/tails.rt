@@ -14,11 +14,14 @@ use crate::steps::{DroppingRead, Step, TailRead};
 use container_layout::{Item, print};
 use flow::Stuck;
 use mount_model::{Call, Look, Reply};
-use plfs_types::{Cover, EntryList, NoMemory, Path};
+use plfs_types::{Cover, ENTRY_SIZE, EntryList, NoMemory, Path};
 use std::alloc::Global;
 
 /// How many entries one Read asks for at most.
-const MAX_READ: u64 = 4096;
+pub(crate) const MAX_READ: u64 = 4096;
+
+/// The bytes of an entry.
+const ENTRY: u64 = ENTRY_SIZE as u64;
 
 /// What comes after a reply.
 #[derive(Drop)]
@@ -77,8 +80,8 @@ impl TailRead {
             },
             Step::Entries { whole, left, .. } => Look::Read {
                 path: index_path(self.dropping),
-                at: 40 * (whole - left),
-                len: 40 * next_read(left),
+                at: ENTRY * (whole - left),
+                len: ENTRY * next_read(left),
             },
         };
         Call::Look { room, look }
@@ -112,7 +115,7 @@ impl TailRead {
         let Some(told) = number_in(&reply) else {
             return After::Is(Err(trouble(&path, &reply)));
         };
-        let whole = told / 40;
+        let whole = told / ENTRY;
         if whole < self.tail.cover.count {
             return After::Is(Err(damage(&path, told)));
         }
@@ -160,11 +163,11 @@ impl TailRead {
         };
         let bytes = bytes.as_slice();
         let asked = next_read(left);
-        let is_full = 40 * asked <= bytes.len() as u64;
+        let is_full = ENTRY * asked <= bytes.len() as u64;
         let mut tail = self.tail;
         let past = match look(&mut tail, log, asked, ended, bytes)? {
             Went::Breaks => {
-                return Ok(After::Is(Err(damage(&path, 40 * tail.cover.count))));
+                return Ok(After::Is(Err(damage(&path, ENTRY * tail.cover.count))));
             }
             Went::Ends => true,
             Went::On => false,
@@ -188,7 +191,7 @@ fn look(tail: &mut Tail, log: u64, asked: u64, ended: bool, bytes: &[u8]) -> Res
     if ended {
         return Ok(Went::Ends);
     }
-    let count = (bytes.len() / 40).min(asked as usize);
+    let count = (bytes.len() / ENTRY_SIZE).min(asked as usize);
     tail.check(log, count, bytes)
 }
 
@@ -197,7 +200,7 @@ fn look(tail: &mut Tail, log: u64, asked: u64, ended: bool, bytes: &[u8]) -> Res
 fn reading(dropping: Dropping, tail: Tail, log: u64, whole: u64, left: u64, ended: bool) -> After
     requires pieces { All HasPiece tail.entries }
     requires within { tail.cover.count + left ≤ whole }
-    requires places { 40 * whole < 2 ^ 64 }
+    requires places { ENTRY_SIZE * whole < 2 ^ 64 }
     ensures goes_on { (room : ℕ) → after_left room result ≡ reads_left room dropping log whole left ended tail }
     ensures fewer { after_calls result ≤ left }
     ensures pieces { IsOfPieces result }

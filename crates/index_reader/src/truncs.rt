@@ -1,12 +1,13 @@
 //! Listing a container's truncates.
-ghost use Rattle.std.specs.Prelude.{◌≡◌, ◌≤◌, ◌<◌, ◌+◌, ℕ, [], length, IfOk, OnOk};
+ghost use Rattle.std.specs.Prelude.{◌≡◌, ◌<◌, [], IfOk};
 ghost use Rattle.flow.specs.Standing.{ready, next_of, rest_of, replied};
-ghost use Rattle.index_reader.specs.Truncs.{trunc_in as trunc_of, is_before as comes_before, place_of as place_for, inserted, truncs_of, trunc_program, truncs_path as path_of_truncs};
+ghost use Rattle.index_reader.specs.Truncs.{trunc_in as trunc_of, truncs_listed, truncs_of, trunc_program, truncs_path as path_of_truncs};
 ghost use Rattle.index_reader.specs.TruncStages.{list_left, list_calls, trunc_standing, trunc_left};
 
 use crate::replies::{damage, names_in, trouble};
 use container_layout::{Item, read, truncs};
 use flow::{Flow, Stuck};
+use looks::truncs_by_stamp;
 use mount_model::{Call, Look, Reply};
 use plfs_types::{Name, NoMemory, Path, Trunc, TruncList};
 use std::alloc::Global;
@@ -44,50 +45,32 @@ fn trunc_in(name: Name) -> Option<Trunc>
     }
 }
 
-fn is_before(t: &Trunc, u: &Trunc) -> bool
-    ensures { result ≡ comes_before t.now u.now }
-{
-    if t.stamp == u.stamp {
-        t.size < u.size
-    } else {
-        t.stamp < u.stamp
-    }
-}
-
-/// The place of a truncate among those in order.
-fn place_of(t: &Trunc, list: &[Trunc]) -> usize
-    ensures place { result ≡ place_for t.now list.now }
-    ensures within { result ≤ length list.now }
-{
-    for (i, u) in list.iter().enumerate() {
-        if is_before(t, u) {
-            return i;
-        }
-    }
-    list.len()
-}
-
-/// Puts a truncate in its place.
-fn insert(list: &mut Vec<Trunc>, t: Trunc) -> Result<(), NoMemory>
-    ensures { OnOk result (list.new.items ≡ inserted t list.old.items) }
-{
-    let place = place_of(&t, list);
-    list.insert(place, t)?;
-    Ok(())
-}
-
-/// The truncates that the names tell.
-fn truncs_in(alloc: Global, names: &[Name]) -> Result<Result<TruncList, Stuck>, NoMemory>
-    ensures { IfOk result (λ found. found ≡ truncs_of names.now []) }
+/// The truncates that the names tell, as they are listed.
+fn names_told(alloc: Global, names: &[Name]) -> Result<Result<TruncList, Stuck>, NoMemory>
+    ensures { IfOk result (λ found. found ≡ truncs_listed names.now []) }
 {
     let mut list = Vec::new(alloc);
     for name in names {
         let Some(t) = trunc_in(*name) else {
             return Ok(Err(damage(&truncs_path(*name), 0)));
         };
-        insert(&mut list, t)?;
+        list.push(t)?;
     }
     Ok(Ok(TruncList::from_vec(list)))
+}
+
+/// The truncates that the names tell, in order. They are sorted once.
+#[tactic(auto, using(crate::proofs::TruncOrder::listed_sorted, crate::proofs::TruncOrder::listed_none))]
+fn truncs_in(alloc: Global, names: &[Name]) -> Result<Result<TruncList, Stuck>, NoMemory>
+    ensures { IfOk result (λ found. found ≡ truncs_of names.now []) }
+{
+    match names_told(alloc, names)? {
+        Err(because) => Ok(Err(because)),
+        Ok(list) => {
+            let ordered = truncs_by_stamp(list)?;
+            Ok(Ok(ordered))
+        }
+    }
 }
 
 impl TruncRead {

@@ -61,7 +61,7 @@ module _ (l : Ledger) (old new : State) (other : ℕ) (ask : Ask) (reply : Reply
   pub stay_later : (s' : IsSoundFor (issued_after l old ask.call reply) new) → ItemsStay s.shape.tree s'.shape.tree
   stay_later s' = let g = step_stays l old s other new ask reply (may.owes s.clean) step in subst (ItemsStay s.shape.tree) (one_tree g.0 s'.shape.tree new.store.tree g.1 s'.shape.told) g.2
 
-  item_later : (item : Item) → Stays item → (number : ℕ) → StandsInRoom old number (λ room. (content : List ℕ) × HasItem room item content) → StandsInRoom new number (λ room. (content : List ℕ) × HasItem room item content)
+  pub item_later : (item : Item) → Stays item → (number : ℕ) → StandsInRoom old number (λ room. (content : List ℕ) × HasItem room item content) → StandsInRoom new number (λ room. (content : List ℕ) × HasItem room item content)
   item_later item stays number owed =
       let was = owed s.shape.tree s.shape.told in
       let x = stay_later later number was.0 item was.2.0 was.1 stays was.2.1 in

@@ -21,7 +21,7 @@ mounted_fine serial times opened new m = record {
 }
 
 -- no step changes what was mounted
-was_clean : (old new : State) (caller : ℕ) (ask : Ask) (reply : Reply) → IsStep old caller ask reply new → IsClean new → IsClean old
+pub was_clean : (old new : State) (caller : ℕ) (ask : Ask) (reply : Reply) → IsStep old caller ask reply new → IsClean new → IsClean old
 was_clean old new caller ask reply step clean = (clean.0, ap (λ (x : Stored). x.tree) (sym (step_place old new caller ask reply step).opened) ∙ clean.1, clean.2)
 
 pub step_fine : (old new : State) (caller : ℕ) (ask : Ask) (reply : Reply) → May old caller ask → IsStep old caller ask reply new → IsFine old → IsFine new

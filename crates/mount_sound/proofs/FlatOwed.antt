@@ -94,7 +94,7 @@ on_other other call old reply new id f found not a = inl tt
 
 module _ (id : ℕ) (f : Flattening) (bytes : List ℕ) (tree : Tree) (room : Room) (there : slice_get tree.rooms f.room ≡ Some room) (stands : file_at room (temporary_of f.makes id) ≡ Some bytes) where
   -- the temporary file stands as it stood, in the tree that the state tells
-  abbrev StandsIn : State → Type 0
+  abbrev pub StandsIn : State → Type 0
   StandsIn new = (after : Tree) → new.store.tree ≡ Some after → StandsAfter f.room (temporary_of f.makes id) tree room there bytes stands after
 
   answered_leaves : (old : State) → IsRegular old → AreNamed old → old.store.tree ≡ Some tree → flattening_at id old.table.flattenings ≡ Some f → (other : ℕ) → (f.owner ≡ other → ⊥) → (call : Call) (reply : Reply) (new : State) → Answers old other call reply new → StandsIn new
@@ -113,7 +113,7 @@ module _ (id : ℕ) (f : Flattening) (bytes : List ℕ) (tree : Tree) (room : Ro
   cut_leaves old r named told found other not call short (inl same) after now = as_before f.room (temporary_of f.makes id) tree room there bytes stands after (one_tree after tree short.store.tree now (ap (λ (x : State). x.store.tree) same ∙ told))
   cut_leaves old r named told found other not call short (inr (reply, which, a)) after now = answered_leaves old r named told found other not call reply short a after now
 
-  step_leaves : (old new : State) (other : ℕ) (ask : Ask) (reply : Reply) → IsRegular old → AreNamed old → old.store.tree ≡ Some tree → flattening_at id old.table.flattenings ≡ Some f → (f.owner ≡ other → ⊥) → IsStep old other ask reply new → StandsIn new
+  pub step_leaves : (old new : State) (other : ℕ) (ask : Ask) (reply : Reply) → IsRegular old → AreNamed old → old.store.tree ≡ Some tree → flattening_at id old.table.flattenings ≡ Some f → (f.owner ≡ other → ⊥) → IsStep old other ask reply new → StandsIn new
   step_leaves old new other ask reply r named told found not step after now = step_cases old other ask reply new (StandsAfter f.room (temporary_of f.makes id) tree room there bytes stands after) step
       (λ none a. answered_leaves old r named told found other not ask.call reply new a after now)
       (λ k some x.

@@ -46,16 +46,16 @@ KeepsAllEntries room new = (host writer : ℕ) (content : List ℕ) → HasItem 
 -- ---- what is covered
 
 module _ (room new : Room) (keeps : KeepsAllEntries room new) where
-  its : (c : Cover) (is : IsCovered room c) → KeepsEntries room new is.host c.writer
+  pub its : (c : Cover) (is : IsCovered room c) → KeepsEntries room new is.host c.writer
   its c is = keeps is.host c.writer is.content is.stands
 
-  same_covered : (c : Cover) (is : IsCovered room c) → covered_entries new is.host c ≡ covered_entries room is.host c
+  pub same_covered : (c : Cover) (is : IsCovered room c) → covered_entries new is.host c ≡ covered_entries room is.host c
   same_covered c is =
       sym (take_less c.count (kept_in room is.host c.writer) (landed_entries new is.host c.writer) is.kept)
       ∙ ap (λ es. take c.count es) (its c is).same
       ∙ take_less c.count (kept_in room is.host c.writer) (landed_entries room is.host c.writer) is.kept
 
-  abbrev covered_on : (c : Cover) → IsCovered room c → IsCovered new c
+  abbrev pub covered_on : (c : Cover) → IsCovered room c → IsCovered new c
   covered_on c is = record {
     host = is.host;
     content = (its c is).content;
@@ -65,7 +65,7 @@ module _ (room new : Room) (keeps : KeepsAllEntries room new) where
     latest = is.latest ∙ ap (last_stamp 0) (sym (same_covered c is));
   }
 
-  all_covered_on : (covers : List Cover) (entries : List Entry) → AreCovered room covers entries → AreCovered new covers entries
+  pub all_covered_on : (covers : List Cover) (entries : List Entry) → AreCovered room covers entries → AreCovered new covers entries
   all_covered_on [] entries a = a
   all_covered_on (c ∷ covers) entries a = (covered_on c a.0, (a.1.0, a.1.1 ∙ ap (λ es. es ++ a.1.0) (sym (same_covered c a.0)), all_covered_on covers a.1.0 a.1.2))
 

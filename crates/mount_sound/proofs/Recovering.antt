@@ -56,7 +56,7 @@ passed check old new does on = elim (match_cases check _ _ on) as (λ _. (check 
 ]
 
 -- what the act told then
-done_made : (folder file : Name) (table : Table) (told : Told) → Done ≡ (done_outcome folder file table told).reply → told ≡ made
+pub done_made : (folder file : Name) (table : Table) (told : Told) → Done ≡ (done_outcome folder file table told).reply → told ≡ made
 done_made folder file table (Ok Made) e = refl
 done_made folder file table (Ok NoRoom) e = absurd (cc)
 done_made folder file table (Ok NoFolder) e = absurd (cc)
@@ -64,7 +64,7 @@ done_made folder file table (Ok answer) e = absurd (cc)
 done_made folder file table (Err trouble.Fault) e = absurd (cc)
 done_made folder file table (Err trouble.NoMemory) e = absurd (cc)
 
-meta_made : (file : Name) (table : Table) (told : Told) → Done ≡ (mend_meta_outcome file table told).reply → (told ≡ made) ⊎ ((n : ℕ) × (told ≡ Ok (Old n)))
+pub meta_made : (file : Name) (table : Table) (told : Told) → Done ≡ (mend_meta_outcome file table told).reply → (told ≡ made) ⊎ ((n : ℕ) × (told ≡ Ok (Old n)))
 meta_made file table (Ok Made) e = inl refl
 meta_made file table (Ok (Old n)) e = inr (n, refl)
 meta_made file table (Ok NoRoom) e = absurd (cc)

@@ -113,19 +113,19 @@ module _ (l : Ledger) (old new : State) (other : ℕ) (ask : Ask) (reply : Reply
 
   -- ---- a writer that is buried
 
-  room_was : (number : ℕ) (now : Room) → slice_get s'.shape.tree.rooms number ≡ Some now → IsFrom s.shape.tree number now
+  pub room_was : (number : ℕ) (now : Room) → slice_get s'.shape.tree.rooms number ≡ Some now → IsFrom s.shape.tree number now
   room_was number now here =
       let P : Call → Step → Type 0 = λ call x. IsAsideCall call → IsAside x in
       let g = step_acts P old new other ask reply s.shape.tree (its_acts old.table (next_id old) other) step s.shape.told in
       rooms_from (P ask.call) s.shape.tree s'.shape.tree (subst (ActsOn (P ask.call) s.shape.tree) (one_tree g.0 s'.shape.tree new.store.tree g.1 s'.shape.told) g.2) number now here
 
   module _ (number host writer : ℕ) (dead : IsNotLive old writer) (now : Room) (here : slice_get s'.shape.tree.rooms number ≡ Some now) where
-    meta_stays : (room : Room) → slice_get s.shape.tree.rooms number ≡ Some room → HasMeta room host writer → HasMeta now host writer
+    pub meta_stays : (room : Room) → slice_get s.shape.tree.rooms number ≡ Some room → HasMeta room host writer → HasMeta now host writer
     meta_stays room there m =
         let x = stay_later l old new other ask reply may step s s' number room (Meta m.last m.bytes m.stamp host writer) m.content there tt m.has in
         record { last = m.last; bytes = m.bytes; stamp = m.stamp; content = x.1; has = subst (λ r. HasItem r (Meta m.last m.bytes m.stamp host writer) x.1) (some_room x.0 now (slice_get s'.shape.tree.rooms number) x.2 here) x.3 }
 
-    none_whole : (room : Room) → slice_get s.shape.tree.rooms number ≡ Some room → ((h : ℕ) (content : List ℕ) → HasItem room (Index h writer) content → whole content ≡ 0) → (h : ℕ) (bytes : List ℕ) → HasItem now (Index h writer) bytes → whole bytes ≡ 0
+    pub none_whole : (room : Room) → slice_get s.shape.tree.rooms number ≡ Some room → ((h : ℕ) (content : List ℕ) → HasItem room (Index h writer) content → whole content ≡ 0) → (h : ℕ) (bytes : List ℕ) → HasItem now (Index h writer) bytes → whole bytes ≡ 0
     none_whole room there none h bytes stands =
         let x = gone_later l old new other ask reply may step s s' number h writer stands.is_item (gone_anywhere number writer old.table.writers dead) room there in
         let g : StayGone h writer room now = subst (StayGone h writer room) (some_room x.0 now (slice_get s'.shape.tree.rooms number) x.1 here) x.2 in

@@ -206,7 +206,7 @@ module _ (tree : Tree) (f : Flattening) (named : FitsNames f.makes) (small : f.i
 -- ---- each step
 
 module _ (l : Ledger) (old : State) (s : IsSoundFor l old) (caller : ℕ) where
-  paths_differ : (n : ℕ) (room : Room) → slice_get s.shape.tree.rooms n ≡ Some room → PathsDiffer room
+  pub paths_differ : (n : ℕ) (room : Room) → slice_get s.shape.tree.rooms n ≡ Some room → PathsDiffer room
   paths_differ n room there = elim (s.shape.shaped.rooms n room there) as (λ _. PathsDiffer room) [
     | inl m ↦ m.paths_differ
     | inr c ↦ c.paths_differ

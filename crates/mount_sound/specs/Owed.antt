@@ -25,7 +25,7 @@ use Rattle.mount_sound.specs.Dropping.{IsToldOf}
 use Rattle.mount_sound.specs.Landed.{whole}
 use Rattle.mount_sound.specs.There.{landed_entries, landed_in}
 use Rattle.mount_sound.specs.Flats.{IsRightFor}
-use Rattle.mount_sound.specs.Sound.{IsClean}
+use Rattle.mount_sound.specs.Sound.{IsClean, IsFine}
 
 -- of the room of this number, as the store tells it
 abbrev pub InRoom : State → ℕ → (Room → Type 0) → Type 0
@@ -114,3 +114,7 @@ AreAllowed start (event ∷ events) = May start event.caller event.ask × AreAll
 abbrev pub IsLawful : State → List Event → Type 0
 IsLawful start [] = Unit {0}
 IsLawful start (event ∷ events) = May start event.caller event.ask × IsStep start event.caller event.ask event.reply event.after × IsLawful event.after events
+
+-- the state is fine, and the caller owes no more than it meets
+abbrev pub Permits : State → ℕ → Ask → Type 0
+Permits state caller ask = IsFine state × May state caller ask

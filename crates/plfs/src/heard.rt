@@ -1,5 +1,5 @@
 //! What is remembered of the standard streams, so that it can be said on standard error why a run ended.
-ghost use Rattle.std.specs.Prelude.{◌≡◌, [], false, None};
+ghost use Rattle.std.specs.Prelude.{◌≡◌, [], true, false, None};
 ghost use Rattle.std.specs.Str.{IsUtf8};
 
 use std::alloc::Global;
@@ -27,11 +27,11 @@ impl<'a, R: Read> Read for Heard<'a, R> {
     }
 }
 
-/// The last line that was written, up to its 1024th byte, and why the writing failed last.
+/// The first line that was written of damage, up to its 1024th byte, and why the writing failed last.
 #[derive(Drop)]
 pub struct Said {
     line: Vec<u8>,
-    is_ended: bool,
+    is_of_damage: bool,
     pub error: Option<io::Error>,
 }
 
@@ -39,38 +39,56 @@ impl Said {
     /// Nothing was written.
     pub fn new(alloc: Global) -> Said
         ensures line { result.line.items ≡ [] }
-        ensures ended { result.is_ended ≡ false }
+        ensures none { result.is_of_damage ≡ false }
         ensures well { result.error ≡ None }
     {
         Said {
             line: Vec::new(alloc),
-            is_ended: false,
+            is_of_damage: false,
             error: None,
         }
     }
 
-    /// The last line without its line feed. It is empty where it is no text, or where memory was refused for it.
-    pub fn line(&self) -> &str
-        ensures text { IsUtf8 self.now.line.items → result.now ≡ self.now.line.items }
-        ensures other { (¬ IsUtf8 self.now.line.items) → result.now ≡ [] }
+    /// The first line of damage without its line feed: the number of the script's line, a space, and what is damaged. It is empty where there was none, or where
+    /// memory was refused for it.
+    pub fn damage(&self) -> &str
+        ensures text { self.now.is_of_damage ≡ true → IsUtf8 self.now.line.items → result.now ≡ self.now.line.items }
+        ensures other { self.now.is_of_damage ≡ true → (¬ IsUtf8 self.now.line.items) → result.now ≡ [] }
+        ensures none { self.now.is_of_damage ≡ false → result.now ≡ [] }
     {
-        str::from_utf8(self.line.as_slice()).unwrap_or("")
+        if self.is_of_damage {
+            str::from_utf8(self.line.as_slice()).unwrap_or("")
+        } else {
+            ""
+        }
     }
 
     fn hear(&mut self, bytes: &[u8]) {
         for byte in bytes {
-            if self.is_ended {
-                self.line.clear();
+            if !self.is_of_damage {
+                self.hear_byte(*byte);
             }
-            self.is_ended = *byte == b'\n';
-            self.hear_byte(*byte);
         }
     }
 
     fn hear_byte(&mut self, byte: u8) {
-        if byte != b'\n' && self.line.len() < MOST_REMEMBERED && self.line.push(byte).is_err() {
+        if byte == b'\n' {
+            if is_of_damage(self.line.as_slice()) {
+                self.is_of_damage = true;
+            } else {
+                self.line.clear();
+            }
+        } else if self.line.len() < MOST_REMEMBERED && self.line.push(byte).is_err() {
             self.line.clear();
         }
+    }
+}
+
+// Whether a line tells of damage: behind its number stands the word.
+fn is_of_damage(line: &[u8]) -> bool {
+    match str::from_utf8(line).unwrap_or("").split_once(' ') {
+        Some((_, what)) => what.starts_with("damaged "),
+        None => false,
     }
 }
 

@@ -24,6 +24,9 @@ use std::{env, str};
 use store_api::Store;
 use store_folder::{FolderStore, Place};
 
+/// What helps where something is damaged.
+const CURE: &str = "restore it from a copy";
+
 /// What a run leaves: the store, the status, and what the standard streams told.
 #[derive(Drop)]
 struct Ran<S: Drop> {
@@ -176,12 +179,19 @@ fn tell_several(
             };
             let store = stores.as_slice().get(place);
             match folders.get(place) {
-                Some(folder) => tell(rt, status, folder, store, input, &said, standard),
-                None => tell(rt, status, root.as_str(), store, input, &said, standard),
+                Some(folder) if status == 4 || is_of_command(&said) => {
+                    tell(rt, status, folder, store, input, &said, standard);
+                }
+                _ => tell(rt, status, root.as_str(), None, input, &said, standard),
             }
         }
     }
     ExitCode::from(status)
+}
+
+// Whether what is damaged was told of a command's one statement, whose last step was made where it is.
+fn is_of_command(said: &Said) -> bool {
+    said.damage().starts_with("0 ")
 }
 
 // Says where the store failed, and why.
@@ -248,7 +258,7 @@ fn tell_stream(rt: &HostRuntime, stream: &str, is_closed: bool, error: Option<io
     };
 }
 
-// Says what is damaged. The line that was printed last tells the item and its place, and the store the room.
+// Says what is damaged, and at which line of the script that showed. Where it was no line of a script the store has the room.
 fn tell_damage(
     rt: &HostRuntime,
     root: &str,
@@ -259,11 +269,11 @@ fn tell_damage(
         Some(store) => Place::of_room(store.place().room),
         None => Place::root(),
     };
-    let what = match said.line().split_once(' ') {
-        Some((_, what)) => what,
-        None => "damaged",
+    let _ = match said.damage().split_once(' ') {
+        Some(("0", what)) => eprintln!(rt; "plfs: {root}{place}: {what}: {CURE}"),
+        Some((line, what)) => eprintln!(rt; "plfs: {root}: line {line}: {what}: {CURE}"),
+        None => eprintln!(rt; "plfs: {root}{place}: damaged: {CURE}"),
     };
-    let _ = eprintln!(rt; "plfs: {root}{place}: {what}: restore it from a copy");
 }
 
 // The words behind the program's name, or None where one of them is no text.

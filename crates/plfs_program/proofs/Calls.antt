@@ -1,54 +1,43 @@
--- Calls that lead on.
-use Rattle.std.proofs.Common.{ℕ, ◌≡◌, List, [], ◌∷◌, ◌++◌, Option, Some, refl, sym, ◌∙◌, subst}
-use Rattle.std.proofs.Math.Logic.{∥∥₁_map}
+-- What a mount's calls lead to.
+use Rattle.std.proofs.Common.{ℕ, ◌≡◌, List, Option, Some, refl, sym, ◌∙◌, subst}
 use Rattle.store_api.specs.declared.tree.Tree.{Tree}
 use Rattle.store_api.specs.Acts.{Stored}
-use Rattle.mount_model.specs.declared.call.Ask.{Ask}
-use Rattle.mount_model.specs.declared.reply.Reply.{Reply}
 use Rattle.mount_model.specs.State.{State}
-use Rattle.mount_model.specs.Step.{IsStep}
-use Rattle.mount_model.specs.History.{Event, state_after}
 use Rattle.mount_model.specs.Mounting.{IsMounted}
 use Rattle.mount_sound.specs.Sound.{IsSoundFor, IsSoundTree}
 use Rattle.mount_sound.specs.Issued.{issued}
-use Rattle.mount_sound.specs.Owed.{May, IsLawful}
 use Rattle.mount_sound.proofs.Facts.{mounted_sound, history_keeps, left_sound}
-use Rattle.plfs_program.specs.Calling.{GoesOn, IsRun}
-
-pub no_call : (state : State) → GoesOn state state
-no_call state = record { events = []; legal = tt; ends = refl }
-
-legal_push : (start : State) (events : List Event) (event : Event) → IsLawful start events → May (state_after start events) event.caller event.ask → IsStep (state_after start events) event.caller event.ask event.reply event.after → IsLawful start (events ++ event ∷ [])
-legal_push start [] event legal may step = (may, step, tt)
-legal_push start (first ∷ events) event legal may step = (legal.0, legal.1, legal_push first.after events event legal.2 may step)
-
-ends_push : (start : State) (events : List Event) (event : Event) → state_after start (events ++ event ∷ []) ≡ event.after
-ends_push start [] event = refl
-ends_push start (first ∷ events) event = ends_push first.after events event
-
--- one call more
-pub one_more : (start old new : State) (caller : ℕ) (ask : Ask) (reply : Reply) → May old caller ask → IsStep old caller ask reply new → GoesOn start old → GoesOn start new
-one_more start old new caller ask reply may step so_far =
-    let event : Event = record { caller = caller; ask = ask; reply = reply; after = new } in
-    let P : State → Type 0 = λ s. IsStep s caller ask reply new in
-    let M : State → Type 0 = λ s. May s caller ask in
-    record {
-      events = so_far.events ++ event ∷ [];
-      legal = legal_push start so_far.events event so_far.legal (subst M (sym so_far.ends) may) (subst P (sym so_far.ends) step);
-      ends = ends_push start so_far.events event;
-    }
+use Rattle.script_lang.specs.declared.line.Line.{Line}
+use Rattle.script_lang.specs.declared.script.Script.{Script}
+use Rattle.run_core.specs.Leading.{GoesOn}
+use Rattle.run_core.specs.Play.{IsPlay}
+use Rattle.plfs_program.specs.Calling.{IsRun, IsPlayedOn}
 
 -- a mount was made, and its calls led to what is left
-pub was_run : (times : Option (List ℕ)) (before after : Stored) (mount first last end : State) → IsMounted 0 times before mount → first ≡ mount → last ≡ first → ∥ GoesOn last end ∥₁ → after ≡ end.store → IsRun times before after
-was_run times before after mount first last end mounted first_is last_is called left =
-    let P : State → Type 0 = λ s. ∥ GoesOn s end ∥₁ in
-    record { start = mount; end = end; mounted = mounted; called = subst P (last_is ∙ first_is) called; left = sym left }
+pub was_run : (times : Option (List ℕ)) (before after : Stored) (start end : State) → IsMounted 0 times before start → GoesOn start end → after ≡ end.store → IsRun times before after
+was_run times before after start end mounted called left = record { start = start; end = end; mounted = mounted; called = called; left = sym left }
+
+-- a mount was made, and the script was played on it
+pub was_played : (times : Option (List ℕ)) (before after : Stored) (script : Script) (lines : List Line) (start end : State) → IsMounted 0 times before start → IsPlay script start lines end → after ≡ end.store
+    → IsPlayedOn times before script lines after
+was_played times before after script lines start end mounted play left = record { start = start; end = end; mounted = mounted; play = play; left = sym left }
 
 -- the tree that a mount's calls left of a sound one
-pub leaves_sound : (times : Option (List ℕ)) (before after : Stored) (tree : Tree) → IsRun times before after → before.tree ≡ Some tree → IsSoundTree tree → ∥ ((left : Tree) × (after.tree ≡ Some left) × IsSoundTree left) ∥₁
-leaves_sound times before after tree run told sound = ∥∥₁_map run.called (λ went.
-    let ledger = issued sound.issued run.start went.events in
+pub leaves_sound : (times : Option (List ℕ)) (before after : Stored) (tree : Tree) → IsRun times before after → before.tree ≡ Some tree → IsSoundTree tree → (left : Tree) × (after.tree ≡ Some left) × IsSoundTree left
+leaves_sound times before after tree run told sound =
+    let events = run.called.events in
+    let ledger = issued sound.issued run.start events in
     let begins : IsSoundFor sound.issued run.start = mounted_sound 0 times before run.start tree run.mounted told sound in
-    let ends : IsSoundFor ledger run.end = subst (IsSoundFor ledger) went.ends (history_keeps sound.issued run.start went.events went.legal begins) in
+    let ends : IsSoundFor ledger run.end = subst (IsSoundFor ledger) run.called.leads.ends (history_keeps sound.issued run.start events run.called.leads.lawful begins) in
     let Told : Stored → Type 0 = λ stored. stored.tree ≡ Some ends.shape.tree in
-    (ends.shape.tree, subst Told run.left ends.shape.told, left_sound ledger run.end ends))
+    (ends.shape.tree, subst Told run.left ends.shape.told, left_sound ledger run.end ends)
+
+-- the calls of a play are calls of a mount
+pub play_runs : (times : Option (List ℕ)) (before after : Stored) (script : Script) (lines : List Line) → IsPlayedOn times before script lines after → IsRun times before after
+play_runs times before after script lines played = record {
+  start = played.start;
+  end = played.end;
+  mounted = played.mounted;
+  called = record { events = played.play.history; leads = played.play.leads };
+  left = played.left;
+}

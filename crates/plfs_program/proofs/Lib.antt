@@ -1,14 +1,8 @@
 mod Calls
 mod CourseLemmas
-mod Driving
-mod Machines
+mod Lines
 mod ListingLemmas
 mod MarkLaws
 mod MountLemmas
-mod EntryLemmas
 mod InputLemmas
-mod LineLemmas
-mod LogLemmas
 mod OutputLemmas
-mod Played
-mod Unowed

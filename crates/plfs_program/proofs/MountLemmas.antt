@@ -23,7 +23,7 @@ use Rattle.store_api.specs.Room as rooms
 use Rattle.store_api.specs.Step.{Name, Step}
 use Rattle.script_lang.specs.declared.line.Line.{Line}
 use Rattle.script_lang.specs.declared.line.Outcome.{Outcome}
-use Rattle.script_lang.specs.declared.script.Numbered.{Numbered}
+use Rattle.script_lang.specs.declared.script.Script.{Script}
 use Rattle.mount_model.specs.Making.{Told}
 use Rattle.mount_model.specs.Paths.{marks_name, marks_folder}
 use Rattle.mount_model.specs.State.{State}
@@ -32,11 +32,11 @@ use Rattle.mount_model.specs.Mounting.{marks_step, list_step, mark_step, room_to
 use Rattle.mount_model.specs.declared.trouble.MountTrouble.{MountTrouble}
 use Rattle.mount_model.specs.declared.trouble.MountTrouble.TheVariants as trouble
 use Rattle.mount_model.specs.Failing.{names_told, made_told, trouble_of, LeavesNone, FailsToMount, no_room, no_names, no_next, no_mark}
-use Rattle.plfs_program.specs.Calling.{IsRun}
+use Rattle.plfs_program.specs.Calling.{IsPlayedOn}
 use Rattle.plfs_program.specs.Mounting.{listed_in, listed_or_none, listed_in_room, listed_marks, AreWhy, HaveNext, unmounted_of, IsUnmounted}
 use Rattle.script_lang.specs.declared.line.Outcome.TheVariants as of
 use Rattle.script_lang.specs.declared.line.Why.TheVariants.{MountsSpent}
-use Rattle.plfs_program.specs.Lines.{AreLinesOf, unmounted, mounted, AreInTurn}
+use Rattle.plfs_program.specs.Lines.{AreLinesOf, unmounted, mounted}
 use Rattle.plfs_program.specs.Outcomes.{has_line, is_fault}
 use Rattle.plfs_program.proofs.ListingLemmas.{of_listed}
 use Rattle.plfs_program.proofs.MarkLaws.{IsUpTo, above_greatest}
@@ -293,15 +293,15 @@ has_next serial times opened new m tree is =
 
 -- ---- the lines, where memory wasn't refused
 
-pub all_mounted : {E : Type 0} (times : Option (List ℕ)) (before after : Stored) (statements : List Numbered) (result : Result (List Line) E) → IsRun times before after → IfOk result (AreInTurn statements)
-    → IfOk result (AreLinesOf times before after statements)
-all_mounted times before after statements (Ok lines) run in_turn = mounted run in_turn
-all_mounted times before after statements (Err e) run in_turn = tt
+pub all_mounted : {E : Type 0} (times : Option (List ℕ)) (before after : Stored) (script : Script) (result : Result (List Line) E) → IfOk result (λ lines. IsPlayedOn times before script lines after)
+    → IfOk result (AreLinesOf times before after script)
+all_mounted times before after script (Ok lines) played = mounted played
+all_mounted times before after script (Err e) played = tt
 
-pub all_unmounted : {E : Type 0} (times : Option (List ℕ)) (before after : Stored) (why : MountTrouble) (statements : List Numbered) (result : Result (List Line) E) → FailsToMount before why after → IfOk result (IsUnmounted why)
-    → IfOk result (AreLinesOf times before after statements)
-all_unmounted times before after why statements (Ok lines) failed only = unmounted why failed only
-all_unmounted times before after why statements (Err e) failed only = tt
+pub all_unmounted : {E : Type 0} (times : Option (List ℕ)) (before after : Stored) (why : MountTrouble) (script : Script) (result : Result (List Line) E) → FailsToMount before why after → IfOk result (IsUnmounted why)
+    → IfOk result (AreLinesOf times before after script)
+all_unmounted times before after why script (Ok lines) failed only = unmounted why failed only
+all_unmounted times before after why script (Err e) failed only = tt
 
 by_trouble : (why : MountTrouble) (outcome : Outcome) (R : Type 0) → unmounted_of why ≡ Some outcome → (why ≡ trouble.Fault → R) → (is_fault outcome || false) ≡ true → R
 by_trouble (trouble.Damaged file) outcome R is cause bad = let same : outcome ≡ of.Damaged marks_folder file 0 = cc in absurd (let wrong : false ≡ true = ap (λ o. is_fault o || false) (sym same) ∙ bad in cc)

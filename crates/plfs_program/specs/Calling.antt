@@ -3,23 +3,28 @@ use Rattle.std.specs.Prelude.{◌≡◌, ℕ, List, Option}
 use Rattle.store_api.specs.Acts.{Stored}
 use Rattle.mount_model.specs.State.{State}
 use Rattle.mount_model.specs.Mounting.{IsMounted}
-use Rattle.mount_model.specs.History.{Event, state_after}
 use Rattle.mount_model.specs.declared.trouble.MountTrouble.{MountTrouble}
 use Rattle.mount_model.specs.Failing.{FailsToMount}
-use Rattle.mount_sound.specs.Owed.{IsLawful}
+use Rattle.script_lang.specs.declared.line.Line.{Line}
+use Rattle.script_lang.specs.declared.script.Script.{Script}
+use Rattle.run_core.specs.Leading.{GoesOn}
+use Rattle.run_core.specs.Play.{IsPlay}
 
--- legal calls lead from one state of the mount to the other
-pub record GoesOn (old new : State) : Type 0 where
-  pub events : List Event
-  pub legal : IsLawful old events
-  pub ends : state_after old events ≡ new
+-- A mount was made of the store as it was, with these times to come. On it the script was played, with these lines, which
+-- led to what is left of the store.
+pub record IsPlayedOn (times : Option (List ℕ)) (before : Stored) (script : Script) (lines : List Line) (after : Stored) : Type 0 where
+  pub start : State
+  pub end : State
+  pub mounted : IsMounted 0 times before start
+  pub play : IsPlay script start lines end
+  pub left : end.store ≡ after
 
 -- A mount was made of the store as it was, with these times to come, and its calls led to what is left of the store.
 pub record IsRun (times : Option (List ℕ)) (before after : Stored) : Type 0 where
   pub start : State
   pub end : State
   pub mounted : IsMounted 0 times before start
-  pub called : ∥ GoesOn start end ∥₁
+  pub called : GoesOn start end
   pub left : end.store ≡ after
 
 -- That, or the mounting broke off and left the store so.

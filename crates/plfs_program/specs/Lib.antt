@@ -1,14 +1,11 @@
-pub mod Answered
 pub mod Built
 pub mod Calling
+pub mod Commands
 pub mod Course
-pub mod Ending
-pub mod Entries
 pub mod Faults
 pub mod Input
 pub mod Lines
-pub mod Logged
 pub mod Mounting
 pub mod Outcomes
 pub mod Output
-pub mod Stuck
+pub mod Showing

@@ -1,73 +1,27 @@
-//! Scripts that are played so far: one actor, its writers and its readers.
-ghost use Rattle.std.specs.Prelude.{◌≡◌, true, false, IfSome, IfNone};
-ghost use Rattle.std.specs.List.{list_all};
-ghost use Rattle.plfs_program.specs.Built.{are_built_actors, is_built, is_built_phase, is_built_statement, statements_of};
+//! Scripts that are played so far.
+ghost use Rattle.std.specs.Prelude.{◌≡◌};
+ghost use Rattle.actor_core.specs.Statements.{is_built_statement as is_made};
+ghost use Rattle.plfs_program.specs.Built.{is_built, is_built_phase};
 
-use crate::playing::{CAPACITY, HOST};
-use script_lang::{ActorDecl, Data, Numbered, Phase, Script, Statement};
+use actor_core::is_built_statement;
+use script_lang::{Numbered, Phase, Script};
 
-// The greatest place of a write or a read.
-const MAX_PLACE: u64 = 1 << 23;
-
-// The most bytes of a read.
-const MAX_LEN: u64 = 1 << 20;
-
-// Whether the statement is played.
-fn is_built_statement(statement: &Statement) -> bool
-    ensures { result ≡ is_built_statement statement.now }
+fn is_built_numbered(numbered: &Numbered) -> bool
+    ensures { result ≡ is_made numbered.now.statement }
 {
-    match statement {
-        Statement::Open { .. } | Statement::Sync | Statement::Close => true,
-        Statement::Write {
-            at,
-            content: Data::Text(_) | Data::Hex(_),
-        } => *at <= MAX_PLACE,
-        Statement::Ropen { workers, .. } => *workers == 1,
-        Statement::Read { at, len } => *at <= MAX_PLACE && *len <= MAX_LEN,
-        _ => false,
-    }
+    is_built_statement(&numbered.statement)
 }
 
-// Whether there is at most one actor, with the host and the capacity that writers have so far.
-fn are_built_actors(actors: &[ActorDecl]) -> bool
-    ensures { result ≡ are_built_actors actors.now }
-{
-    match actors {
-        [] => true,
-        [actor] => actor.host == HOST && actor.cap == CAPACITY,
-        _ => false,
-    }
-}
-
-// Whether each statement is played.
-fn are_built_statements(statements: &[Numbered]) -> bool
-    ensures { result ≡ list_all (λ s. is_built_statement s.statement) statements.now }
-{
-    statements
-        .iter()
-        .all(|numbered| is_built_statement(&numbered.statement))
-}
-
-// Whether no turn is written, and each statement is played.
+// Whether each statement of the phase is played.
 fn is_built_phase(phase: &Phase) -> bool
     ensures { result ≡ is_built_phase phase.now }
 {
-    phase.turns.as_slice().is_empty() && are_built_statements(phase.statements.as_slice())
+    phase.statements.as_slice().iter().all(is_built_numbered)
 }
 
-/// The statements of a script that is played so far.
-///
-/// None: it has another actor, another phase, a written turn, or a statement that isn't played.
-pub(crate) fn built(script: &Script) -> Option<&[Numbered]>
-    ensures found { IfSome result (λ statements. (is_built script.now ≡ true) × (statements.now ≡ statements_of script.now)) }
-    ensures exact { IfNone result (is_built script.now ≡ false) }
+/// Whether each statement of the script is one that actors make.
+pub(crate) fn is_built(script: &Script) -> bool
+    ensures { result ≡ is_built script.now }
 {
-    let [phase] = script.phases.as_slice() else {
-        return None;
-    };
-    if are_built_actors(script.actors.as_slice()) && is_built_phase(phase) {
-        Some(phase.statements.as_slice())
-    } else {
-        None
-    }
+    script.phases.as_slice().iter().all(is_built_phase)
 }

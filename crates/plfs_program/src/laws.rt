@@ -8,7 +8,9 @@ ghost use Rattle.mount_model.specs.State.{State};
 ghost use Rattle.mount_model.specs.declared.trouble.MountTrouble.{MountTrouble};
 ghost use Rattle.mount_model.specs.Failing.{FailsToMount};
 ghost use Rattle.mount_sound.specs.Sound.{IsSoundTree};
-ghost use Rattle.plfs_program.specs.Calling.{IsRun};
+ghost use Rattle.script_lang.specs.declared.line.Line.{Line};
+ghost use Rattle.script_lang.specs.declared.script.Script.{Script};
+ghost use Rattle.plfs_program.specs.Calling.{IsPlayedOn, IsRun};
 ghost use Rattle.plfs_program.specs.Mounting.{AreSpent, AreDamagedAt, AreWhy, HaveNext, listed_marks};
 
 /// A law: the listed marks of a told tree decide what its mounting says: no two of its answers fit one listing, and no
@@ -29,7 +31,9 @@ pub fn marks_are_why()
     ensures mounted { (serial : ℕ) (times : Option (List ℕ)) (before : Stored) (start : State) (tree : Tree) → IsMounted serial times before start → before.tree ≡ Some tree → HaveNext (listed_marks tree) }
 {}
 
-/// A law: where the store told a sound tree and a mount was made of it, the tree that the calls left is sound.
+/// A law: where the store told a sound tree and a mount was made of it, the tree that the calls left is sound. The calls of a
+/// play are such calls.
 pub fn a_run_leaves_a_sound_tree()
-    ensures { (times : Option (List ℕ)) (before after : Stored) (tree : Tree) → IsRun times before after → before.tree ≡ Some tree → IsSoundTree tree → ∥ ((left : Tree) × (after.tree ≡ Some left) × IsSoundTree left) ∥₁ }
+    ensures play { (times : Option (List ℕ)) (before after : Stored) (script : Script) (lines : List Line) → IsPlayedOn times before script lines after → IsRun times before after }
+    ensures sound { (times : Option (List ℕ)) (before after : Stored) (tree : Tree) → IsRun times before after → before.tree ≡ Some tree → IsSoundTree tree → (left : Tree) × (after.tree ≡ Some left) × IsSoundTree left }
 {}

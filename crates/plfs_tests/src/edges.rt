@@ -7,13 +7,23 @@ const USAGE: &str =
 
 const UNBUILT: &str = "script 0 unbuilt\n";
 
+// Words that are no command, or of one that is still to come.
+const OTHERS: &[&[&str]] = &[
+    &["run", "play"],
+    &["run"],
+    &["ls"],
+    &["map"],
+    &["map", ".f"],
+    &[],
+];
+
 #[test]
 fn other_words_print_the_usage_line(rt: HostRuntime) -> Result<(), Fail> {
-    for word in ["ls", "run", "help", ""] {
+    for words in OTHERS {
         let run = run_fresh(
             rt.alloc(),
             Setup {
-                word,
+                words,
                 ..playing(b"")
             },
         )?;
@@ -62,21 +72,10 @@ fn a_sink_that_takes_nothing_breaks_the_run(rt: HostRuntime) -> Result<(), Fail>
 }
 
 #[test]
-fn other_scripts_are_not_built(rt: HostRuntime) -> Result<(), Fail> {
+fn scripts_that_flatten_are_not_built(rt: HostRuntime) -> Result<(), Fail> {
     for script in [
-        "actor a\na map\n",
-        "actor a\nactor b\n",
-        "actor a 1\n",
-        "actor a 0 65\n",
-        "actor a\nphase\n",
-        "actor a\nturn a 1\na sync\n",
-        "actor a\na write 0 fill:1:65\n",
-        "actor a\na write 0 ramp:1:65\n",
-        "actor a\na write 8388609 text:x\n",
-        "actor a\na read 8388609 1\n",
-        "actor a\na read 0 1048577\n",
-        "actor a\na ropen f 2\n",
-        "actor a\na open f\na ls\n",
+        "actor a\na flatten f\n",
+        "actor a\na open f\nphase\na flatten f\na ls\n",
     ] {
         let run = run_fresh(rt.alloc(), playing(script.as_bytes()))?;
         ends(&rt, &run, 2, UNBUILT);
@@ -125,7 +124,7 @@ fn reads_of_more_than_2_to_28_bytes_are_a_fault(rt: HostRuntime) -> Result<(), F
 }
 
 #[test]
-fn each_valid_script_of_one_actor_is_played(rt: HostRuntime) -> Result<(), Fail> {
+fn scripts_are_played_however_they_are_laid_out(rt: HostRuntime) -> Result<(), Fail> {
     for (script, output) in [
         ("actor b\nb open f\n", "2 open 4294967297\n"),
         ("actor a\na open f", "2 open 4294967297\n"),

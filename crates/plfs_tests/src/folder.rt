@@ -134,7 +134,10 @@ fn a_file_in_a_containers_place_is_a_fault_and_stays(rt: HostRuntime) -> Result<
     fs::write(&rt, "taken-store/f", "kept")?;
     let (status, lines) = play(rt, root, HELLO)?;
     assert_eq!(rt; status, 4);
-    assert_eq!(rt; lines.as_slice(), b"2 fault\n".as_slice());
+    assert_eq!(rt;
+        lines.as_slice(),
+        b"2 fault\n3 refused not-open\n4 refused not-open\n5 refused not-open\n6 refused no-file\n7 refused not-open\n".as_slice()
+    );
     assert!(rt; has_file(rt, "taken-store/f", b"kept"));
     assert_eq!(rt; count_names(rt, root), 2);
     fs::remove_dir_all(&rt, root)?;

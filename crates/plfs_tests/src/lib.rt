@@ -3,14 +3,20 @@
 #![tactic(auto)]
 
 #[cfg(test)]
+mod actors;
+#[cfg(test)]
+mod damage;
+#[cfg(test)]
 mod edges;
+#[cfg(test)]
+mod files;
 #[cfg(test)]
 mod folder;
 #[cfg(test)]
 mod marks;
 #[cfg(test)]
+mod rows;
+#[cfg(test)]
 mod runs;
 #[cfg(test)]
-mod scripts;
-#[cfg(test)]
-mod table;
+mod sessions;

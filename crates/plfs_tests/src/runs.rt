@@ -5,20 +5,21 @@ use plfs_types::{Bytes, NoMemory, Word};
 use std::alloc::Global;
 use std::process::Abort;
 use std::test::Fail;
+use store_api::Store;
 use store_memory::{FailList, MemoryStore};
 
 /// What a run left.
 #[derive(Drop)]
-pub struct Run {
+pub struct Run<S: Drop> {
     pub status: u8,
     pub output: Bytes,
-    pub store: Option<MemoryStore>,
+    pub store: Option<S>,
 }
 
-/// What a run is set up with: its words, its script, the clock's times, and the calls that fail.
+/// What a run is set up with: its words, its input, the clock's times, and the calls that fail.
 #[derive(Clone, Copy)]
 pub struct Setup<'a> {
-    pub word: &'a str,
+    pub words: &'a [&'a str],
     pub script: &'a [u8],
     pub times: &'a [u64],
     pub source_fails: &'a [u64],
@@ -29,7 +30,7 @@ pub struct Setup<'a> {
 /// `play` of a script at the time 10, where nothing fails.
 pub(crate) fn playing(script: &[u8]) -> Setup<'_> {
     Setup {
-        word: "play",
+        words: &["play"],
         script,
         times: &[10],
         source_fails: &[],
@@ -43,9 +44,15 @@ fn numbers(alloc: Global, of: &[u64]) -> Result<CallList, NoMemory> {
 }
 
 /// Runs it over this store.
-pub(crate) fn run_on(alloc: Global, store: MemoryStore, setup: Setup<'_>) -> Result<Run, NoMemory> {
+pub(crate) fn run_on<S: Store + Drop>(
+    alloc: Global,
+    store: S,
+    setup: Setup<'_>,
+) -> Result<Run<S>, NoMemory> {
     let mut words = Vec::new(alloc);
-    words.push(Word::copy(alloc, setup.word)?)?;
+    for word in setup.words {
+        words.push(Word::copy(alloc, word)?)?;
+    }
     let script = Bytes::copy(alloc, setup.script)?;
     let mut input = MemorySource::new(script, 7, numbers(alloc, setup.source_fails)?);
     let mut out = MemorySink::new(alloc, setup.sink_piece, numbers(alloc, setup.sink_fails)?);
@@ -60,13 +67,13 @@ pub(crate) fn run_on(alloc: Global, store: MemoryStore, setup: Setup<'_>) -> Res
 }
 
 /// Runs it over an empty store.
-pub(crate) fn run_fresh(alloc: Global, setup: Setup<'_>) -> Result<Run, NoMemory> {
+pub(crate) fn run_fresh(alloc: Global, setup: Setup<'_>) -> Result<Run<MemoryStore>, NoMemory> {
     let store = MemoryStore::new(alloc, FailList::new(alloc))?;
     run_on(alloc, store, setup)
 }
 
 /// The run ends so.
-pub(crate) fn ends(rt: &impl Abort, run: &Run, status: u8, output: &str) {
+pub(crate) fn ends<S: Drop>(rt: &impl Abort, run: &Run<S>, status: u8, output: &str) {
     assert_eq!(rt; run.status, status);
     assert_eq!(rt; run.output.as_slice(), output.as_bytes());
 }

@@ -18,7 +18,7 @@ use Rattle.reader_laws.specs.Failing.{FailsByStore}
 use Rattle.reader_laws.proofs.LookEnds.{Fails}
 use Rattle.reader_laws.proofs.Troubles.{fails_there, fails_later}
 
-same_trouble : {R : Type 0} (a b : Stuck) → ◌≡◌ {A = Result R Stuck} (Err a) (Err b) → a ≡ b
+pub same_trouble : {R : Type 0} (a b : Stuck) → ◌≡◌ {A = Result R Stuck} (Err a) (Err b) → a ≡ b
 same_trouble a b e = cc
 
 module _ (caller : ℕ) (start : Moment) (events before : List Event) (e : Event) (later : List Event) (why : Stuck) (split : events ≡ before ++ e ∷ later) (lawful : IsLawful start.state events) where

@@ -141,7 +141,7 @@ newest_named names id made =
 -- ---- that it is right
 
 -- a flattened index that stands spells a valid one
-spells_there : (m : Moment) (s : IsSoundAt m) (number id : ℕ) (content : List ℕ) → IsItem (item.Flat id) → file_then m number (flat_path id) ≡ Some content → (flat : Flat) × IsFlat flat × SpellsFlat content flat
+pub spells_there : (m : Moment) (s : IsSoundAt m) (number id : ℕ) (content : List ℕ) → IsItem (item.Flat id) → file_then m number (flat_path id) ≡ Some content → (flat : Flat) × IsFlat flat × SpellsFlat content flat
 spells_there m s number id content is there =
     let r = in_a_room (slice_get s.shape.tree.rooms number) (flat_path id) content (in_tree m s number (flat_path id) content there) in
     let right : IsRightFlat r.0 content = (s.flats number r.0 r.1 making.Flat id content (record { is_item = is; there = r.2 })).0 in

@@ -1,5 +1,5 @@
 -- What a caller's calls in a lawful history from a sound state are.
-use Rattle.std.proofs.Common.{◌≡◌, ℕ, List, [], ◌∷◌, ◌++◌, refl, ap, ◌∙◌, inl, inr, subst}
+use Rattle.std.proofs.Common.{◌≡◌, ℕ, List, [], ◌∷◌, ◌++◌, refl, ap, sym, ◌∙◌, inl, inr, subst}
 use Rattle.std.specs.Prelude.{Ok}
 use Rattle.std.specs.List.{AllByRecursion}
 use Rattle.plfs_types.specs.declared.entries.Trunc.{Trunc}
@@ -11,9 +11,10 @@ use Rattle.story.specs.Program.{Program, ask}
 use Rattle.flow.specs.Running.{unbroken, Runs}
 use Rattle.flow.proofs.Facts.{runs_next}
 use Rattle.turn_object.specs.Callers.{made_by}
+use Rattle.index_reader.specs.declared.opened.OpenReader.{OpenReader}
 use Rattle.index_reader.specs.Truncs.{trunc_program}
 use Rattle.gathering.specs.Moments.{Moment, IsSoundAt, moment_after}
-use Rattle.gathering.specs.Seen.{asked_in, calls_of}
+use Rattle.gathering.specs.Seen.{Asked, asked_in, calls_of}
 use Rattle.gathering.specs.Opening.{ListsTruncs}
 use Rattle.gathering.proofs.Facts.{its_call, legal_first, legal_rest, seen, sound_after}
 use Rattle.reader_laws.specs.Listing.{HasListedTruncs}
@@ -69,6 +70,10 @@ truncs_listed caller room start events truncs lawful sound runs =
       rests = calls_are caller f.later ∙ ap asked_all none;
       truncates = truncs_told m s f.event.caller room f.event g.0 truncs rest.1 f.asked g.1 g.2.1;
     }
+
+-- the same of a reader of this room, which has these truncates
+pub listed_by : (reader : OpenReader) (room : ℕ) (truncs : List Trunc) (asked : Asked) → reader.room ≡ room → reader.truncs ≡ truncs → ListsTruncs room truncs asked → ListsTruncs reader.room reader.truncs asked
+listed_by reader room truncs asked room_is truncs_are lists = subst (λ r. ListsTruncs r reader.truncs asked) (sym room_is) (subst (λ ts. ListsTruncs room ts asked) (sym truncs_are) lists)
 
 -- where the caller's call comes first among the events
 pub truncs_first : (caller room : ℕ) (m : Moment) (last : Event) (later : List Event) (truncs : List Trunc) → IsLawful m.state (last ∷ later) → IsSoundAt m → last.caller ≡ caller → Runs caller (trunc_program room) (last ∷ later) (Ok truncs) → ListsTruncs room truncs (asked_in last)

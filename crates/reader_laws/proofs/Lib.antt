@@ -1,3 +1,4 @@
+pub mod Facts
 mod Calling
 mod Checking
 mod Tails
@@ -29,3 +30,11 @@ mod NoBreaks
 mod TailFails
 mod PackFails
 mod ShareFails
+mod Folders
+mod HadItems
+mod KnownNames
+mod ScanOwners
+mod ScanStands
+mod ScanFails
+mod ListingFails
+mod OpeningFails

@@ -60,7 +60,7 @@ from_first start events before e later split lawful sound =
 
 -- ---- names
 
-has_true : (name : Name) (names : List Name) → has_name name names ≡ true → Among name names
+pub has_true : (name : Name) (names : List Name) → has_name name names ≡ true → Among name names
 has_true name [] e = absurd (cc)
 has_true name (other ∷ names) e = elim (same_bytes name other) as (λ t. same_bytes name other ≡ t → (if t then true else has_name name names) ≡ true → Among name (other ∷ names)) [
   | true ↦ λ t e. inl (same_bytes-eq name other t)
@@ -237,7 +237,7 @@ record HasTop (caller room : ℕ) (flat : Flat) (events : List Event) (listing :
   pub droppings : AreListed room found listing.droppings
   pub packs : All (IsPackedAs room (calls_of caller events)) listing.droppings
 
-range_below : (from n : ℕ) → AllByRecursion (λ k. k < from + n) (range_with_len from n)
+pub range_below : (from n : ℕ) → AllByRecursion (λ k. k < from + n) (range_with_len from n)
 range_below from zero = tt
 range_below from (suc n) = (omega arith, wider (range_with_len (from + 1) n) (range_below (from + 1) n))
   where

@@ -61,7 +61,7 @@ on_full : (caller : ℕ) (full : Bool) (next : Tries (List ℕ)) (out : List ℕ
 on_full caller true next out later why state on runs = on runs
 on_full caller false next out later why state on runs = absurd (no_ok out why runs.1)
 
-parts_fail : (caller : ℕ) (makes : Making) (room id : ℕ) (bytes : List ℕ) (n : ℕ) (m : Moment) (told_ left : ℕ) (sofar : List ℕ) (events : List Event) (why : Stuck) → IsItem (installed_item makes id) → IsSoundAt m → IsContainerAt m room → file_then m room (installed_of makes id) ≡ Some bytes → IsLawful m.state events
+pub parts_fail : (caller : ℕ) (makes : Making) (room id : ℕ) (bytes : List ℕ) (n : ℕ) (m : Moment) (told_ left : ℕ) (sofar : List ℕ) (events : List Event) (why : Stuck) → IsItem (installed_item makes id) → IsSoundAt m → IsContainerAt m room → file_then m room (installed_of makes id) ≡ Some bytes → IsLawful m.state events
     → Runs caller (parts n room (installed_of makes id) told_ left sofar) events (Err why) → FailsByStore caller m.state events why
 parts_fail caller makes room id bytes zero m told_ left sofar events why is s container there lawful runs = absurd (no_ok sofar why runs.1)
 parts_fail caller makes room id bytes (suc n) m told_ left sofar events why is s container there lawful runs =

@@ -147,15 +147,15 @@ runs_say says (suc n) from end short e h =
     }
 
 -- what a question says lies within a file and a log
-abbrev IsBounded : (ℕ → Option Source) → Type 0
+abbrev pub IsBounded : (ℕ → Option Source) → Type 0
 IsBounded says = (x : ℕ) (s : Source) → says x ≡ Some s → (x < 2 ^ 40) × (s.place + 1 < 2 ^ 64)
 
 -- The runs of such a question say what it says.
-record AreRunsOf (says : ℕ → Option Source) (pieces : List Piece) : Type 0 where
+pub record AreRunsOf (says : ℕ → Option Source) (pieces : List Piece) : Type 0 where
   pub runs : AreRuns pieces
   pub same : (x : ℕ) → source_at pieces x ≡ says x
 
-runs_are : (says : ℕ → Option Source) → IsBounded says → AreRunsOf says (runs_of says)
+pub runs_are : (says : ℕ → Option Source) → IsBounded says → AreRunsOf says (runs_of says)
 unfolding runs_of
 runs_are says bounded =
     let made = runs_say says (2 ^ 40) 0 (2 ^ 40) (λ x s e. (bounded x s e).1) refl (omega arith) in

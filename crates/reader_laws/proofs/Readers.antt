@@ -32,7 +32,7 @@ use Rattle.reader_laws.specs.Sharing.{cover_before}
 use Rattle.reader_laws.proofs.Calling.{calls_append}
 use Rattle.reader_laws.proofs.Cuts.{all_by, same_tails}
 use Rattle.reader_laws.proofs.Counts.{AreRightFor, none_right, flat_is_right, cover_is, counts_are, IsCounted, covers_counted}
-use Rattle.reader_laws.proofs.Histories.{truncs_listed}
+use Rattle.reader_laws.proofs.Histories.{listed_by, truncs_listed}
 use Rattle.reader_laws.proofs.Listings.{listing_run}
 use Rattle.reader_laws.proofs.Openings.{in_turn, named_in, HasCutOf, cut_of, reader_of, IsBegun, listing_begins}
 use Rattle.reader_laws.proofs.Portions.{all_of, HasAllOf, all_together}
@@ -161,6 +161,7 @@ opens_alone caller start events listing portions truncs parts reader lawful soun
       waits = b.waits;
       begins = b.begins;
       lists = last.lists;
+      truncates = listed_by reader listing.room truncs (asked_in last.listing) (made.room ∙ is.room) (made.truncates ∙ is.truncates) last.truncates;
       cut = cut;
       has = reader_of from end listing portions (shares_of portions) truncs parts reader gathered cut has.each s3 view c.1.picks
           (same_tails cut gathered (λ g a. All-Among (λ (x : Gathered). Among x gathered) cut g c.1.picks.from a) c.1.all)

@@ -34,7 +34,7 @@ Owner = item_type nothing_found.indices
 -- ---- hosts of a folder
 
 -- droppings of a host are in the folder of its number alone
-host_of_folder : (k host : ℕ) → k < 32 → hostdir_of k ≡ hostdir_of host → host % 32 ≡ k
+pub host_of_folder : (k host : ℕ) → k < 32 → hostdir_of k ≡ hostdir_of host → host % 32 ≡ k
 host_of_folder k host small same =
     let numbers : decimal (k % 32) ≡ decimal (host % 32) = ap (drop 8) same in
     let one : k % 32 ≡ host % 32 = decimal_injective (k % 32) (host % 32) (omega arith) (omega arith) numbers in
@@ -58,7 +58,7 @@ has_tail w p owners e = elim (cases_Bool (nat_eq p.writer w)) [
     unlike : (a b : ℕ) → a ≡ b → nat_eq a b ≡ false → ⊥
     unlike a b e t = let yes_ : nat_eq a b ≡ true = grind (arith, nat_tests) in let clash : true ≡ false = sym yes_ ∙ t in cc
 
-all_placed : (P : Owner → Type 0) (o : Owner) (owners : List Owner) → P o → AllByRecursion P owners → AllByRecursion P (placed o owners)
+pub all_placed : (P : Owner → Type 0) (o : Owner) (owners : List Owner) → P o → AllByRecursion P owners → AllByRecursion P (placed o owners)
 all_placed P o [] p all = (p, tt)
 all_placed P o (x ∷ owners) p all = elim (nat_lt o.writer x.writer) as (λ t. AllByRecursion P (if t then o ∷ x ∷ owners else x ∷ placed o owners)) [
   | true ↦ (p, all)

@@ -85,7 +85,7 @@ fails_later caller start before e later why lawful (is, inr memory) =
 
 -- ---- parts of a history
 
-lawful_rest : (start : State) (first rest : List Event) → IsLawful start (first ++ rest) → IsLawful (state_after start first) rest
+pub lawful_rest : (start : State) (first rest : List Event) → IsLawful start (first ++ rest) → IsLawful (state_after start first) rest
 lawful_rest start [] rest lawful = lawful
 lawful_rest start (e ∷ first) rest lawful = lawful_rest e.after first rest lawful.2
 

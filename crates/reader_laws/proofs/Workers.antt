@@ -25,7 +25,7 @@ use Rattle.gathering.specs.Seen.{asked_in, calls_of, Asked}
 use Rattle.gathering.specs.Gathering.{Gathered, Share as Gathering, GatherShares}
 use Rattle.gathering.specs.Listing.{IsAmong}
 use Rattle.gathering.specs.Flats.{pieces_of}
-use Rattle.gathering.specs.Opening.{IsSharedOpening, HasView}
+use Rattle.gathering.specs.Opening.{IsSharedOpening, HasView, ListsTruncs}
 use Rattle.gathering.specs.View.{covered_in, tails_of}
 use Rattle.gathering.proofs.Facts.{found_any, grows_after, is_among, legal_first, legal_rest, moment-append, seen, shared_flat, shared_opened, sound_after}
 use Rattle.reader_laws.specs.Listing.{HasListed}
@@ -34,7 +34,7 @@ use Rattle.reader_laws.specs.Opening.{Portion, droppings_of, shares_of, Work, po
 use Rattle.reader_laws.specs.Sharing.{in_room}
 use Rattle.reader_laws.proofs.Counts.{AreRightFor, item_first, item_rest}
 use Rattle.reader_laws.proofs.Cuts.{either_part, all_by, same_tails}
-use Rattle.reader_laws.proofs.Histories.{truncs_first}
+use Rattle.reader_laws.proofs.Histories.{listed_by, truncs_first}
 use Rattle.reader_laws.proofs.Listings.{listing_run}
 use Rattle.reader_laws.proofs.Openings.{named_in, HasCutOf, cut_of, reader_of, IsBegun, listing_begins}
 use Rattle.reader_laws.proofs.Portions.{HasEach, all_of, HasAllOf, all_together}
@@ -88,6 +88,7 @@ record IsOpened (caller : ℕ) (start : Moment) (events : List Event) (listing :
   pub waits : calls_of caller before ≡ []
   pub begins : first.caller ≡ caller
   pub lists : last.caller ≡ caller
+  pub truncates : ListsTruncs listing.room truncs (asked_in last)
   pub asked : List Asked
   pub listed : HasListed listing asked
   pub gathered : List Gathered
@@ -169,6 +170,7 @@ workers_opened caller start events listing works truncs lawful sound o =
       waits = b.waits;
       begins = b.begins;
       lists = o.by_caller;
+      truncates = lists;
       asked = calls_of caller o.scanning;
       listed = h;
       gathered = gathered;
@@ -200,6 +202,7 @@ opens_each caller start events listing works truncs parts reader lawful sound op
       waits = o.waits;
       begins = o.begins;
       lists = o.lists;
+      truncates = listed_by reader listing.room truncs (asked_in o.last) (made.room ∙ is.room) (made.truncates ∙ is.truncates) o.truncates;
       cut = o.cut;
       has = reader_of from end listing (portions_of works) (shares_of (portions_of works)) truncs parts reader o.gathered o.cut o.has.each o.sound o.view o.is_cut.picks (same_entries o.gathered o.cut o.is_cut.picks.from o.is_cut.all) o.flat_is o.has.pieces o.has.entries is made
           (covers_of_cut from end listing o.asked (portions_of works) truncs o.gathered o.cut parts.flat.covers o.listed o.view o.is_cut o.has o.right is.covers);
@@ -233,6 +236,7 @@ opens_joined caller start events listing works share truncs parts reader lawful 
       waits = o.waits;
       begins = o.begins;
       lists = o.lists;
+      truncates = listed_by reader listing.room truncs (asked_in o.last) (made.room ∙ is.room) (made.truncates ∙ is.truncates) o.truncates;
       cut = o.cut;
       has = reader_of from end listing (portions_of works) (share ∷ []) truncs parts reader o.gathered o.cut (joined o.has.each ∷ []) o.sound o.view o.is_cut.picks (same_entries o.gathered o.cut o.is_cut.picks.from o.is_cut.all) o.flat_is
           (joins.pieces.entries o.has.each o.has.pieces, tt) (append-nil (joined o.has.each) ∙ o.has.entries) is made

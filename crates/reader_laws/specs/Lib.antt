@@ -4,3 +4,4 @@ pub mod Failing
 pub mod Listing
 pub mod Opening
 pub mod Opened
+pub mod Troubled

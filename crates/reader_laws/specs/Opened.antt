@@ -9,10 +9,10 @@ use Rattle.mount_sound.specs.Ledger.{entries_in}
 use Rattle.index_reader.specs.declared.gathered.Gathered.{Gathered as Parts}
 use Rattle.index_reader.specs.declared.opened.OpenReader.{OpenReader}
 use Rattle.gathering.specs.Moments.{Moment, moment_after}
-use Rattle.gathering.specs.Seen.{calls_of}
+use Rattle.gathering.specs.Seen.{asked_in, calls_of}
 use Rattle.gathering.specs.Gathering.{Gathered}
 use Rattle.gathering.specs.View.{writes_in, changes_in}
-use Rattle.gathering.specs.Opening.{HasView}
+use Rattle.gathering.specs.Opening.{HasView, ListsTruncs}
 use Rattle.reader_laws.specs.Covering.{counts_in}
 use Rattle.reader_laws.specs.Sharing.{in_room}
 
@@ -47,5 +47,6 @@ pub record HasOpenedIn (caller : ℕ) (start : Moment) (events : List Event) (re
   pub waits : calls_of caller before ≡ []
   pub begins : first.caller ≡ caller
   pub lists : listing.caller ≡ caller
+  pub truncates : ListsTruncs reader.room reader.truncs (asked_in listing)
   pub cut : List Gathered
   pub has : HasOpenReader (moment_after start before) (moment_after (moment_after start before) (first ∷ more)) reader cut

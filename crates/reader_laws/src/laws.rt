@@ -29,7 +29,8 @@ ghost use Rattle.reader_laws.specs.Sharing.{in_room, IsShareOf};
 ghost use Rattle.reader_laws.specs.Listing.{HasListed, HasListedTruncs};
 ghost use Rattle.reader_laws.specs.Opening.{Lists, Portion, shares_of, Work, portions_of, OpensAlone, OpensByWorkers};
 ghost use Rattle.reader_laws.specs.Opened.{IsReaderOf, HasOpenReader, HasOpenedIn};
-ghost use Rattle.reader_laws.specs.Failing.{FailsByStore};
+ghost use Rattle.reader_laws.specs.Failing.{FailsByStore, FailsOrLacks};
+ghost use Rattle.reader_laws.specs.Troubled.{OpensInTrouble};
 
 /// A law: who runs the program that lists a container, and ends well, has read the newest flattened index, if there was
 /// one, and scanned the container; what it listed is what it read and found.
@@ -100,6 +101,22 @@ pub fn shares_and_truncates_fail_by_store()
         → IsLawful start.state (scanning ++ (between ++ reading)) → IsSoundAt start → Lists program → Runs lister program scanning (Ok listing)
         → Runs caller (trunc_program listing.room) reading (Err why)
         → FailsByStore caller (state_after start.state (scanning ++ between)) reading why }
+{}
+
+/// A law: where the program that lists a container ends in trouble, whatever others call, the store's count of faults rose
+/// meanwhile, or no container has that name or number: it is no damage.
+pub fn a_listing_fails_by_store()
+    ensures { (caller : ℕ) (program : Tries Listing) (start : Moment) (events : List Event) (why : Stuck)
+        → IsLawful start.state events → IsSoundAt start → Lists program → Runs caller program events (Err why)
+        → FailsOrLacks caller start.state events why }
+{}
+
+/// A law: the opening of a reader shows no damage. Whichever of its programs ends in trouble, whoever runs it, whenever and
+/// whatever others call, the store's count of faults rose in these events, or no container has that name or number.
+pub fn an_opening_shows_no_damage()
+    ensures { (lister caller : ℕ) (start : Moment) (events : List Event) (why : Stuck)
+        → IsLawful start.state events → IsSoundAt start → OpensInTrouble lister caller events why
+        → FailsOrLacks caller start.state events why }
 {}
 
 /// A law: readers of one cut and the same truncates have the same pieces, size and covers, whatever flattened index each

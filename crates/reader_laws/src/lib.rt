@@ -9,7 +9,7 @@
 mod laws;
 
 pub use laws::{
-    a_listing_is_a_scan, a_reader_opens, a_reader_opens_by_workers, a_share_is_gathered,
-    an_open_reader_reads_its_file, flattening_leaves_readers_the_same,
-    shares_and_truncates_fail_by_store, truncates_are_listed,
+    a_listing_fails_by_store, a_listing_is_a_scan, a_reader_opens, a_reader_opens_by_workers,
+    a_share_is_gathered, an_open_reader_reads_its_file, an_opening_shows_no_damage,
+    flattening_leaves_readers_the_same, shares_and_truncates_fail_by_store, truncates_are_listed,
 };

@@ -17,13 +17,13 @@ counted [] run = run
 counted (e ∷ es) run = counted es (longer e run)
 
 -- how the checking ended
-abbrev came : Went → Run → Went × Run
+abbrev pub came : Went → Run → Went × Run
 came went run = (went, run)
 
-went_of : (went : Went) (run : Run) (other : Went) (new : Run) → came went run ≡ came other new → went ≡ other
+pub went_of : (went : Went) (run : Run) (other : Went) (new : Run) → came went run ≡ came other new → went ≡ other
 went_of went run other new e = ap (λ (p : Went × Run). p.0) e
 
-run_of : (went : Went) (run : Run) (other : Went) (new : Run) → came went run ≡ came other new → run ≡ new
+pub run_of : (went : Went) (run : Run) (other : Went) (new : Run) → came went run ≡ came other new → run ≡ new
 run_of went run other new e = ap (λ (p : Went × Run). p.1) e
 
 goes_on : (log count : ℕ) (bytes : List ℕ) (run : Run) (went : Went) (new : Run) → checked log count bytes run ≡ (went, new) → went ≢ breaks → new ≡ counted (within_log log count bytes) run

@@ -1,1 +1,12 @@
+mod Checking
+mod Cleanly
 mod Counting
+pub mod Facts
+mod FirstEntries
+mod Leftovers
+mod Looking
+mod OneHost
+mod Ranges
+mod Reading
+mod Recovering
+mod Writers

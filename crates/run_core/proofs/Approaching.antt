@@ -17,20 +17,22 @@ use Rattle.actor_core.specs.Progress.{Progress, idle, going, asked, told, given,
 use Rattle.actor_core.specs.Standings.{progress_of}
 use Rattle.run_core.specs.declared.player.Player.{Player}
 use Rattle.run_core.specs.Course.{Course}
-use Rattle.run_core.specs.Leading.{GoesOn, MadeCall}
-use Rattle.run_core.specs.Players.{course_at, course_left, IsUnowedProgress, IsMade, IsFit, in_progress, lines_left}
+use Rattle.run_core.specs.Leading.{AreBy, GoesOn, MadeCall}
+use Rattle.run_core.specs.Players.{course_at, course_left, IsSafeProgress, IsMade, IsFit, in_progress, lines_left}
 use Rattle.run_core.specs.Moving.{Approaches, Passes, Begins, IsDone}
-use Rattle.run_core.proofs.Leading.{leads_none, leads_both, memory_both, went, went_both}
+use Rattle.run_core.proofs.Leading.{leads_none, leads_both, memory_both, by_both, went, went_both}
 use Rattle.std.specs.Prelude.{Some, None}
 use Rattle.actor_core.specs.Progress.{ask_of, waiting_line, line_taken}
+use Rattle.run_core.proofs.Fitness.{idle_fit}
 use Rattle.run_core.proofs.Works.{AsksNext, TellsNext, its_line, same_some}
-use Rattle.run_core.proofs.Turning.{Same, same_fit, same_left, course_same, after_reply}
+use Rattle.run_core.proofs.Turning.{Same, same_made, same_fit, call_fit, same_left, course_same, after_reply}
 
-pub not_near : (player : Player) (now : State) → IsFit player → Approaches player now player now
+pub not_near : (player : Player) (now : State) → IsFit player now → Approaches player now player now
 not_near player now fit = record {
   events = [];
   leads = leads_none now;
   had_memory = tt;
+  by_it = tt;
   nears = λ later more line left t. t;
   ahead = refl;
   number = refl;
@@ -39,16 +41,17 @@ not_near player now fit = record {
 }
 
 -- one call more
-pub nearer : (old now new : Player) (start mid end : State) (question : Ask) (reply : Reply) → Approaches old start now mid → (a : AsksNext (progress_of now.actor) question) → MadeCall mid now.number question reply end → reply ≢ NoMemory
+pub nearer : (old now new : Player) (start mid end : State) (question : Ask) (reply : Reply) → Approaches old start now mid → (a : AsksNext now.number mid (progress_of now.actor) question) → MadeCall mid now.number question reply end → reply ≢ NoMemory
     → progress_of new.actor ≡ with_reply (given (progress_of now.actor)) reply → Same now new → Approaches old start new end
 nearer old now new start mid end question reply so_far a made memory is same =
     let progress = progress_of now.actor in
-    let reached : progress_of new.actor ≡ going a.number (a.next reply) = after_reply progress question a (progress_of new.actor) reply is in
+    let reached : progress_of new.actor ≡ going a.number (a.next reply) = after_reply now.number mid progress question a (progress_of new.actor) reply is in
     let e : Event = record { caller = now.number; ask = question; reply = reply; after = end } in
     record {
       events = so_far.events ++ e ∷ [];
       leads = leads_both start mid end so_far.events (e ∷ []) so_far.leads made;
       had_memory = memory_both so_far.events (e ∷ []) so_far.had_memory (memory, tt);
+      by_it = by_both old.number so_far.events (e ∷ []) so_far.by_it (so_far.number, tt);
       nears = λ later more line left t.
           let next : Kept → Course = λ kept. pauses (later kept) in
           let there : Course = course_at (going a.number (a.next reply)) now.queue.items next in
@@ -57,7 +60,7 @@ nearer old now new start mid end question reply so_far a made memory is same =
           subst (λ (z : List Event). Finishes old.number (course_left old later) z line left) (sym (append_assoc so_far.events (e ∷ []) more)) (so_far.nears later (e ∷ more) line left before);
       ahead = same.ahead ∙ so_far.ahead;
       number = same.number ∙ so_far.number;
-      fit = same_fit now new same (subst IsUnowedProgress (sym reached) (a.unowed reply)) so_far.fit;
+      fit = call_fit now new mid end question reply so_far.fit a made reached same;
       left = same_left now new same (ap in_progress reached ∙ sym a.busy) ∙ so_far.left;
     }
 
@@ -77,6 +80,7 @@ passes old now new start end line so_far t none is same =
       events = so_far.events;
       leads = so_far.leads;
       had_memory = so_far.had_memory;
+      by_it = so_far.by_it;
       ends = λ later.
           let next : Kept → Course = λ kept. pauses (later kept) in
           let none_yet : List Event = [] in
@@ -86,7 +90,7 @@ passes old now new start end line so_far t none is same =
           subst (λ (z : List Event). Finishes old.number (course_left old later) z line (course_left new later)) (append-nil so_far.events) (so_far.nears later [] line (course_left new later) to_line) in
           to_end old.number new.number old.ahead.items new.ahead.items (course_left old later) (course_left new later) so_far.events line none (same.ahead ∙ (so_far.ahead ∙ none)) (same.number ∙ so_far.number) whole;
       number = same.number ∙ so_far.number;
-      fit = same_fit now new same (subst IsUnowedProgress (sym is) tt) so_far.fit;
+      fit = idle_fit new end t.kept is (same_made now new same so_far.fit.made) so_far.fit.fine;
       left = sym so_far.left ∙ omega (arith, was, rests, same_ahead, same_queue);
     }
 
@@ -96,6 +100,7 @@ begins_passes old now new start end line b p = record {
   events = p.events;
   leads = p.leads;
   had_memory = p.had_memory;
+  by_it = subst (λ (n : ℕ). AreBy n p.events) b.number p.by_it;
   ends = λ later.
       let P : ℕ × Course × List Line → Type 0 = λ z. ToEnd z.2 line (performer z.0 z.1 z.2) p.events (performer new.number (course_left new later) new.ahead.items) in
       subst P (λ i. (b.number i, b.same later i, b.ahead i)) (p.ends later);
@@ -105,7 +110,7 @@ begins_passes old now new start end line b p = record {
 }
 
 -- the line was ahead
-pub was_ahead : (old new : Player) (now : State) (line : Line) → IsFit old → old.ahead.items ≡ line ∷ new.ahead.items → new.number ≡ old.number → new.queue.items ≡ old.queue.items → progress_of new.actor ≡ progress_of old.actor → Passes line old now new now
+pub was_ahead : (old new : Player) (now : State) (line : Line) → IsFit old now → old.ahead.items ≡ line ∷ new.ahead.items → new.number ≡ old.number → new.queue.items ≡ old.queue.items → progress_of new.actor ≡ progress_of old.actor → Passes line old now new now
 was_ahead old new now line fit ahead number queue progress =
     let lines : length old.ahead.items ≡ suc (length new.ahead.items) = ap length ahead in
     let others : length new.queue.items ≡ length old.queue.items = ap length queue in
@@ -114,13 +119,18 @@ was_ahead old new now line fit ahead number queue progress =
       events = [];
       leads = leads_none now;
       had_memory = tt;
+      by_it = tt;
       ends = λ later.
           let C : Progress × List Numbered → Course = λ z. course_at z.0 z.1 (λ kept. pauses (later kept)) in
           let course : course_left new later ≡ course_left old later = ap C (λ i. (progress i, queue i)) in
           let P : List Line × ℕ × Course → Type 0 = λ z. ToEnd {S = State} z.0 line (performer old.number (course_left old later) z.0) [] (performer z.1 z.2 new.ahead.items) in
           subst P (λ i. (sym ahead i, sym number i, sym course i)) (refl, refl, refl);
       number = number;
-      fit = record { unowed = subst IsUnowedProgress (sym progress) fit.unowed; made = subst (λ (z : List Numbered). All IsMade z) (sym queue) fit.made };
+      fit = record {
+        fine = fit.fine;
+        safe = (let P : ℕ × Progress → Type 0 = λ z. IsSafeProgress z.0 z.1 now in subst P (λ i. (sym number i, sym progress i)) fit.safe);
+        made = subst (λ (z : List Numbered). All IsMade z) (sym queue) fit.made;
+      };
       left = omega (arith, lines, others, busy);
     }
 
@@ -149,18 +159,18 @@ went_passed old new start end line p = went start end p.events p.leads
 pub line_passes : (old now new : Player) (mid : Progress) (start end : State) (line : Line) → Approaches old start now end → (IsIdle (progress_of now.actor) → ⊥) → None ≡ ask_of (progress_of now.actor) → mid ≡ given (progress_of now.actor)
     → Some line ≡ waiting_line mid → progress_of new.actor ≡ line_taken mid → old.ahead.items ≡ [] → Same now new → Passes line old start new end
 line_passes old now new mid start end line so_far busy none is waits taken empty same =
-    let h = its_line (progress_of now.actor) mid so_far.fit.unowed busy none is in
+    let h = its_line now.number end (progress_of now.actor) mid so_far.fit.safe busy none is in
     let line_is : line ≡ h.line = same_some line h.line (waits ∙ h.waits) in
     subst (λ (z : Line). Passes z old start new end) (sym line_is) (passes old now new start end h.line so_far h.next empty (taken ∙ h.leaves) same)
 
 -- an empty list was asked for a line
-pub same_begins : (old new : Player) → IsFit old → new.number ≡ old.number → new.queue.items ≡ old.queue.items → new.ahead.items ≡ old.ahead.items → progress_of new.actor ≡ progress_of old.actor → Begins old new
-same_begins old new fit number queue ahead progress =
+pub same_begins : (old new : Player) → new.number ≡ old.number → new.queue.items ≡ old.queue.items → new.ahead.items ≡ old.ahead.items → progress_of new.actor ≡ progress_of old.actor → Begins old new
+same_begins old new number queue ahead progress =
     let same : Same old new = record { number = number; queue = queue; ahead = ahead } in
     record {
       same = λ later. (let C : Progress × List Numbered → Course = λ z. course_at z.0 z.1 (λ kept. pauses (later kept)) in ap C (λ i. (progress i, queue i)));
       ahead = ahead;
       number = number;
-      fit = same_fit old new same (subst IsUnowedProgress (sym progress) fit.unowed) fit;
+      fit = λ now fit. same_fit old new now same progress fit;
       left = same_left old new same (ap in_progress progress);
     }

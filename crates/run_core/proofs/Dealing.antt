@@ -3,6 +3,7 @@ use Rattle.std.proofs.Common.{◌≡◌, ℕ, ◌+◌, List, [], ◌∷◌, ◌+
 use Rattle.std.specs.Prelude.{slice_get, All, ◌==◌, cond, false}
 use Rattle.std.proofs.lemmas.List.{length-set}
 use Rattle.std.proofs.lemmas.List.Elements.{All-nil, All-cons, All-head, All-tail, filter-append}
+use Rattle.mount_model.specs.State.{State}
 use Rattle.script_lang.specs.declared.script.Numbered.{Numbered}
 use Rattle.script_lang.specs.declared.script.Phase.{Phase}
 use Rattle.script_lang.specs.Ranges.{FitsNumbered}
@@ -14,8 +15,9 @@ use Rattle.actor_core.specs.Standings.{progress_of}
 use Rattle.actor_core.specs.Statements.{is_built_statement}
 use Rattle.run_core.specs.declared.player.Player.{Player}
 use Rattle.run_core.specs.Course.{Course, one_by_one, own, through}
-use Rattle.run_core.specs.Players.{course_at, course_left, playing, resting, IsUnowedProgress, IsMade, in_progress, lines_left, Stands}
+use Rattle.run_core.specs.Players.{course_at, course_left, playing, resting, IsSafeProgress, IsMade, in_progress, lines_left, Stands}
 use Rattle.run_core.specs.World.{AllStand, At, IsDealt, Dealt}
+use Rattle.run_core.proofs.Fitness.{idle_fit}
 use Rattle.run_core.proofs.Tables.{at_all, own_yes, own_no}
 
 -- ---- one statement more
@@ -71,17 +73,17 @@ no_items : {X : Type 0} (xs : List X) → length xs ≡ 0 → xs ≡ []
 no_items [] is = refl
 no_items (x ∷ xs) is = absurd (omega (arith, is))
 
-kept_in : (progress : Progress) → IsUnowedProgress progress → in_progress progress ≡ 0 → (kept : Kept) × (progress ≡ idle kept)
-kept_in (idle kept) unowed none = (kept, refl)
-kept_in (going number work) unowed none = absurd (omega (arith, none))
-kept_in (asked number k) unowed none = absurd unowed
-kept_in (told line kept) unowed none = absurd (omega (arith, none))
+kept_in : (me : ℕ) (now : State) (progress : Progress) → IsSafeProgress me progress now → in_progress progress ≡ 0 → (kept : Kept) × (progress ≡ idle kept)
+kept_in me now (idle kept) safe none = (kept, refl)
+kept_in me now (going number work) safe none = absurd (omega (arith, none))
+kept_in me now (asked number k) safe none = absurd safe
+kept_in me now (told line kept) safe none = absurd (omega (arith, none))
 
-pub rests_of : (place : ℕ) (player : Player) → Stands [] place player → Rests player
-rests_of place player stands =
+pub rests_of : (place : ℕ) (player : Player) (now : State) → Stands [] place player now → Rests player
+rests_of place player now stands =
     let left : lines_left player ≡ 0 = stands.left in
     let none : in_progress (progress_of player.actor) ≡ 0 = omega (arith, left) in
-    let kept = kept_in (progress_of player.actor) stands.fit.unowed none in
+    let kept = kept_in player.number now (progress_of player.actor) stands.fit.safe none in
     record {
       kept = kept.0;
       progress = kept.1;
@@ -100,10 +102,10 @@ made_all count n (s ∷ ss) fits built =
     ]
 
 -- a player that was given its statements stands at the beginning of the phase
-pub dealt_stands : (count place : ℕ) (statements : List Numbered) (old new : Player) → All (FitsNumbered count) statements → All (λ (s : Numbered). is_built_statement s.statement ≡ true) statements
-    → Stands [] place old → IsDealt (own place statements) old new → Stands statements place new
-dealt_stands count place statements old new fits built stands d =
-    let r = rests_of place old stands in
+pub dealt_stands : (count place : ℕ) (statements : List Numbered) (old new : Player) (now : State) → All (FitsNumbered count) statements → All (λ (s : Numbered). is_built_statement s.statement ≡ true) statements
+    → Stands [] place old now → IsDealt (own place statements) old new → Stands statements place new now
+dealt_stands count place statements old new now fits built stands d =
+    let r = rests_of place old now stands in
     let queue : new.queue.items ≡ own place statements = d.queue ∙ ap (λ z. z ++ own place statements) r.queue in
     let progress : progress_of new.actor ≡ idle r.kept = d.progress ∙ r.progress in
     let ahead : length new.ahead.items ≡ 0 = ap length (d.ahead ∙ r.ahead) in
@@ -111,19 +113,19 @@ dealt_stands count place statements old new fits built stands d =
     let many : length new.queue.items ≡ length (own place statements) = ap length queue in
     record {
       number = d.number ∙ stands.number;
-      fit = record { unowed = subst IsUnowedProgress (sym progress) tt; made = subst (λ (z : List Numbered). All IsMade z) (sym queue) (made_all count place statements fits built) };
+      fit = idle_fit new now r.kept progress (subst (λ (z : List Numbered). All IsMade z) (sym queue) (made_all count place statements fits built)) stands.fit.fine;
       left = omega (arith, ahead, busy, many);
     }
 
-pub all_dealt : (count : ℕ) (statements : List Numbered) (old new : List Player) → All (FitsNumbered count) statements → All (λ (s : Numbered). is_built_statement s.statement ≡ true) statements → AllStand [] old → Dealt statements old new → AllStand statements new
-all_dealt count statements old new fits built stand d = λ place player here.
+pub all_dealt : (count : ℕ) (statements : List Numbered) (old new : List Player) (now : State) → All (FitsNumbered count) statements → All (λ (s : Numbered). is_built_statement s.statement ≡ true) statements → AllStand [] old now → Dealt statements old new → AllStand statements new now
+all_dealt count statements old new now fits built stand d = λ place player here.
     let b = d.each place player here in
-    dealt_stands count place statements b.0 player fits built (stand place b.0 b.1) b.2
+    dealt_stands count place statements b.0 player now fits built (stand place b.0 b.1) b.2
 
 -- what it has to do is what it had to do before, with the phase in front
-pub dealt_course : (place : ℕ) (phase : Phase) (later : List Phase) (old new : Player) → Stands [] place old → IsDealt (own place phase.statements) old new → resting (phase ∷ later) old ≡ playing later new
-dealt_course place phase later old new stands d =
-    let r = rests_of place old stands in
+pub dealt_course : (place : ℕ) (phase : Phase) (later : List Phase) (old new : Player) (now : State) → Stands [] place old now → IsDealt (own place phase.statements) old new → resting (phase ∷ later) old ≡ playing later new
+dealt_course place phase later old new now stands d =
+    let r = rests_of place old now stands in
     let next : ℕ → Kept → Course = λ n kept. pauses (through n later kept) in
     let before : course_at (progress_of old.actor) old.queue.items (through old.number (phase ∷ later)) ≡ one_by_one (own old.number phase.statements) (next old.number) r.kept =
     (let C : Progress × List Numbered → Course = λ z. course_at z.0 z.1 (through old.number (phase ∷ later)) in ap C (λ i. (r.progress i, r.queue i))) in
@@ -135,9 +137,9 @@ dealt_course place phase later old new stands d =
     (λ i. performer (sym d.number i) (left i) (sym d.ahead i))
 
 -- at the end of a phase it waits for the next one
-pub waits : (place : ℕ) (later : List Phase) (player : Player) → Stands [] place player → playing later player ≡ paused (resting later player)
-waits place later player stands =
-    let r = rests_of place player stands in
+pub waits : (place : ℕ) (later : List Phase) (player : Player) (now : State) → Stands [] place player now → playing later player ≡ paused (resting later player)
+waits place later player now stands =
+    let r = rests_of place player now stands in
     let C : (Kept → Course) → Progress × List Numbered → Course = λ next z. course_at z.0 z.1 next in
     let with_pause : course_left player (through player.number later) ≡ pauses (through player.number later r.kept) = ap (C (λ kept. pauses (through player.number later kept))) (λ i. (r.progress i, r.queue i)) in
     let without : course_at (progress_of player.actor) player.queue.items (through player.number later) ≡ through player.number later r.kept = ap (C (through player.number later)) (λ i. (r.progress i, r.queue i)) in

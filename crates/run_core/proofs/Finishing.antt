@@ -21,7 +21,7 @@ use Rattle.run_core.specs.Moving.{Passes}
 use Rattle.run_core.specs.Leading.{GoesOn}
 use Rattle.run_core.specs.World.{AllStand, At, CameToEnd, Tells, PassesAt}
 use Rattle.run_core.proofs.Leading.{leads_none, leads_both, memory_both, went, went_both}
-use Rattle.run_core.proofs.Tables.{map_here, at_all, own_yes, own_no}
+use Rattle.run_core.proofs.Tables.{map_here, at_all, own_yes, own_no, fit_at, stand_fit}
 
 to_its_end : (later : List Phase) (line : Line) (before after : Player) (start end : State) (d : Passes line before start after end) → ToItsEnd line (playing later before) d.events (playing later after)
 to_its_end later line before after start end d =
@@ -29,29 +29,28 @@ to_its_end later line before after start end d =
     subst P (sym d.number) (d.ends (through before.number later))
 
 -- one statement less is left of its actor, and of each other as many as before
-pub passed_stand : (s : Numbered) (rest : List Numbered) (old new : List Player) (start end : State) (line : Line) → AllStand (s ∷ rest) old → At s.actor old (λ before after. Passes line before start after end) new → AllStand rest new
+pub passed_stand : (s : Numbered) (rest : List Numbered) (old new : List Player) (start end : State) (line : Line) → AllStand (s ∷ rest) old start → At s.actor old (λ before after. Passes line before start after end) new → AllStand rest new end
 passed_stand s rest old new start end line stand at =
     let before = at.before in
     let after = at.after in
-    let was : Stands (s ∷ rest) s.actor before = stand s.actor before at.here in
+    let was : Stands (s ∷ rest) s.actor before start = stand s.actor before at.here in
     let mine : length (own s.actor (s ∷ rest)) ≡ suc (length (own s.actor rest)) = ap length (own_yes s.actor s rest refl) in
     let fewer : lines_left before ≡ lines_left after + 1 = at.does.left in
     let left : lines_left before ≡ length (own s.actor (s ∷ rest)) = was.left in
-    at_all (λ j p. Stands rest j p) old new s.actor after at.new_is
-    (record { number = at.does.number ∙ was.number; fit = at.does.fit; left = omega (arith, mine, fewer, left) })
-    (λ j p other here.
-    let stands : Stands (s ∷ rest) j p = stand j p here in
-    record { number = stands.number; fit = stands.fit; left = stands.left ∙ ap length (own_no j s rest (λ is. other (sym is))) })
+    let fit = fit_at s.actor old new before after start end at.does.events (stand_fit (s ∷ rest) old start stand) at.here at.does.leads at.does.by_it at.does.number at.does.fit at.new_is in
+    let lines = at_all (λ j p. lines_left p ≡ length (own j rest)) old new s.actor after at.new_is (omega (arith, mine, fewer, left))
+    (λ j p other here. (stand j p here).left ∙ ap length (own_no j s rest (λ is. other (sym is)))) in
+    λ j p here. record { number = (fit j p here).0; fit = (fit j p here).1; left = lines j p here }
 
 -- the actor of a statement that is left has a line left
-pub has_line : (s : Numbered) (rest : List Numbered) (players : List Player) (player : Player) → AllStand (s ∷ rest) players → slice_get players s.actor ≡ Some player → 1 ≤ lines_left player
-has_line s rest players player stand here =
-    let stands : Stands (s ∷ rest) s.actor player = stand s.actor player here in
+pub has_line : (s : Numbered) (rest : List Numbered) (players : List Player) (player : Player) (now : State) → AllStand (s ∷ rest) players now → slice_get players s.actor ≡ Some player → 1 ≤ lines_left player
+has_line s rest players player now stand here =
+    let stands : Stands (s ∷ rest) s.actor player now = stand s.actor player here in
     let left : lines_left player ≡ length (own s.actor (s ∷ rest)) = stands.left in
     let mine : length (own s.actor (s ∷ rest)) ≡ suc (length (own s.actor rest)) = ap length (own_yes s.actor s rest refl) in
     omega (arith, left, mine)
 
-came_none : (left : List Numbered) (players : List Player) (now : State) → AllStand left players → CameToEnd [] [] left players now players now
+came_none : (left : List Numbered) (players : List Player) (now : State) → AllStand left players now → CameToEnd [] [] left players now players now
 came_none left players now stand = record {
   events = [];
   leads = leads_none now;
@@ -61,7 +60,7 @@ came_none left players now stand = record {
   long = refl;
 }
 
-came_one : (place : ℕ) (line : Line) (left : List Numbered) (old new : List Player) (start end : State) → At place old (λ before after. Passes line before start after end) new → AllStand left new → CameToEnd (place ∷ []) (line ∷ []) left old start new end
+came_one : (place : ℕ) (line : Line) (left : List Numbered) (old new : List Player) (start end : State) → At place old (λ before after. Passes line before start after end) new → AllStand left new end → CameToEnd (place ∷ []) (line ∷ []) left old start new end
 came_one place line left old new start end at stand =
     let d = at.does in
     record {
@@ -107,7 +106,7 @@ came_both places more lines others between left old mid new start now end a b = 
   long = b.long ∙ a.long;
 }
 
-pub tells_none : (left : List Numbered) (lines : List Line) (players : List Player) (now : State) → AllStand left players → Tells [] left lines players now lines players now
+pub tells_none : (left : List Numbered) (lines : List Line) (players : List Player) (now : State) → AllStand left players now → Tells [] left lines players now lines players now
 tells_none left lines players now stand = record { told = []; lines = sym (append-nil lines); came = came_none left players now stand }
 
 whose_both : (first rest : List Numbered) → whose (first ++ rest) ≡ whose first ++ whose rest
@@ -121,7 +120,7 @@ pub tells_more : (statements : List Numbered) (i : ℕ) (s : Numbered) (l m n : 
     → Tells (whose (take (i + 1) statements)) (drop (i + 1) statements) l old start n new end
 tells_more statements i s l m n old mid new start now end taken left a p =
     let rest = drop (i + 1) statements in
-    let stand : AllStand (s ∷ rest) mid = subst (λ z. AllStand z mid) left a.came.stand in
+    let stand : AllStand (s ∷ rest) mid now = subst (λ z. AllStand z mid now) left a.came.stand in
     let one : CameToEnd (s.actor ∷ []) (p.line ∷ []) rest mid now new end = came_one s.actor p.line rest mid new now end p.at (passed_stand s rest mid new now end p.line stand p.at) in
     let both = came_both (whose (take i statements)) (s.actor ∷ []) a.told (p.line ∷ []) (drop i statements) rest old mid new start now end a.came one in
     let places : whose (take (i + 1) statements) ≡ whose (take i statements) ++ s.actor ∷ [] = ap whose taken ∙ whose_both (take i statements) (s ∷ []) in

@@ -3,18 +3,14 @@ use Rattle.std.proofs.Common.{◌≡◌, ℕ, List, [], ◌∷◌, ◌++◌, ref
 use Rattle.mount_model.specs.declared.call.Ask.{Ask}
 use Rattle.mount_model.specs.declared.reply.Reply.{Reply}
 use Rattle.mount_model.specs.State.{State}
-use Rattle.mount_model.specs.Step.{IsStep, IsOwed}
+use Rattle.mount_model.specs.Step.{IsStep}
 use Rattle.mount_model.specs.History.{Event, state_after}
-use Rattle.mount_sound.specs.Owed.{IsLawful, OwesNothing}
-use Rattle.mount_sound.proofs.Facts.{owes_nothing}
-use Rattle.run_core.specs.Leading.{Leads, GoesOn, MadeCall, HadMemory}
+use Rattle.mount_sound.specs.Owed.{IsLawful, May}
+use Rattle.run_core.specs.Leading.{AreBy, GoesOn, HadMemory, Leads, MadeCall}
 
--- a call for which nothing is owed leads on
-pub called : (old : State) (caller : ℕ) (ask : Ask) (reply : Reply) (new : State) → IsOwed ask → OwesNothing ask.call → IsStep old caller ask reply new → MadeCall old caller ask reply new
-called old caller ask reply new owed none step = record {
-  lawful = (record { numbers = owed; owes = λ clean. owes_nothing old caller ask.call none }, step, tt);
-  ends = refl;
-}
+-- a call that its caller may make leads on
+pub called : (old : State) (caller : ℕ) (ask : Ask) (reply : Reply) (new : State) → May old caller ask → IsStep old caller ask reply new → MadeCall old caller ask reply new
+called old caller ask reply new may step = record { lawful = (may, step, tt); ends = refl }
 
 pub leads_none : (start : State) → Leads start [] start
 leads_none start = record { lawful = tt; ends = refl }
@@ -40,6 +36,14 @@ leads_both a b c xs ys x y =
 pub memory_both : (xs ys : List Event) → HadMemory xs → HadMemory ys → HadMemory (xs ++ ys)
 memory_both [] ys x y = y
 memory_both (e ∷ xs) ys x y = (x.0, memory_both xs ys x.1 y)
+
+pub by_both : (caller : ℕ) (xs ys : List Event) → AreBy caller xs → AreBy caller ys → AreBy caller (xs ++ ys)
+by_both caller [] ys x y = y
+by_both caller (e ∷ xs) ys x y = (x.0, by_both caller xs ys x.1 y)
+
+-- calls of one caller, and further ones of the same caller under the number that it has then
+pub by_then : (caller later : ℕ) (xs ys : List Event) → later ≡ caller → AreBy caller xs → AreBy later ys → AreBy caller (xs ++ ys)
+by_then caller later xs ys same x y = by_both caller xs ys x (subst (λ (n : ℕ). AreBy n ys) same y)
 
 pub went_none : (a : State) → GoesOn a a
 went_none a = record { events = []; leads = leads_none a }

@@ -1,8 +1,12 @@
+pub mod Facts
 mod Approaching
+mod Capacity
 mod Caused
 mod Dealing
 mod EndsWell
+mod FilesWell
 mod Finishing
+mod Fitness
 mod GoodLines
 mod Leading
 mod Looking
@@ -13,8 +17,6 @@ mod Rightness
 mod Rounds
 mod Tables
 mod Turning
-mod Unowed
 mod Works
 mod WorksCaused
-mod WorksListNone
-mod WorksUnowed
+mod WorksText

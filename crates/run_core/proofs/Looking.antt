@@ -1,4 +1,4 @@
--- Programs that owe nothing, and end in a fault only where one was answered.
+-- Programs that end in a fault only where one was answered.
 use Rattle.std.proofs.Common.{◌≡◌, ◌≢◌, ◌∙◌, inl, inr, ℕ, Bool, true, false, Result, Ok, Err, Option, Some, None, refl, sym, ap, subst}
 use Rattle.std.specs.Prelude.{if◌then◌else◌}
 use Rattle.plfs_types.specs.declared.names.Path.{Path}
@@ -15,9 +15,7 @@ use Rattle.mount_model.specs.declared.reply.Reply.{Reply}
 use Rattle.mount_model.specs.declared.reply.Reply.TheVariants.{Fault, NoMemory, Looked}
 use Rattle.mount_model.specs.Paths.{Name}
 use Rattle.mount_model.specs.Replies.{FitsCall, IsTrouble, refused, damaged, fault, no_memory}
-use Rattle.mount_sound.specs.Owed.{OwesNothing}
 use Rattle.index_reader.specs.Replies.{Tries, given, on_ok, room_in, trouble}
-use Rattle.run_core.proofs.Unowed.{AsksNothing}
 use Rattle.run_core.proofs.EndsWell.{is_no_fault}
 
 -- the result is no fault
@@ -30,14 +28,10 @@ pub record IsAnswered (call : Call) (reply : Reply) : Type 0 where
   pub has_memory : reply ≢ NoMemory
   pub is_good : reply ≢ Fault
 
--- For none of its calls anything is owed of the state, whatever is replied. Where this holds, and each call is answered so, its result is no fault.
+-- Where this holds, and each call is answered so, its result is no fault.
 abbrev pub Looks : {R : Type 0} → Type 0 → Program Call Reply (Result R Stuck) → Type 0
 Looks well (done result) = well → IsFine result
-Looks well (ask call k) = OwesNothing call × ((reply : Reply) → Looks (well × IsAnswered call reply) (k reply))
-
-pub looks_unowed : {R : Type 0} (well : Type 0) (p : Tries R) → Looks well p → AsksNothing p
-looks_unowed well (done result) looks = tt
-looks_unowed well (ask call k) looks = (looks.0, λ reply. looks_unowed (well × IsAnswered call reply) (k reply) (looks.1 reply))
+Looks well (ask call k) = (reply : Reply) → Looks (well × IsAnswered call reply) (k reply)
 
 -- ---- one program after another
 
@@ -62,7 +56,7 @@ on_ok_looks {A} {R} well next (Err why) fine goes = λ w. same_fine A R why fine
 pub then_looks : {A R : Type 0} (well : Type 0) (p : Tries A) (next : A → Tries R) → Looks well p → ((more : Type 0) (a : A) → Looks more (next a)) → Looks well (followed_by p (on_ok next))
 then_looks {A} {R} well (done (Ok a)) next looks goes = goes well a
 then_looks {A} {R} well (done (Err why)) next looks goes = λ w. same_fine A R why (looks w)
-then_looks {A} {R} well (ask call k) next looks goes = (looks.0, λ reply. then_looks (well × IsAnswered call reply) (k reply) next (looks.1 reply) goes)
+then_looks {A} {R} well (ask call k) next looks goes = λ reply. then_looks (well × IsAnswered call reply) (k reply) next (looks reply) goes
 
 -- ---- replies
 
@@ -103,13 +97,9 @@ find_fine R name path reply answered none = elim answered.fits as (λ _. IsFine 
 
 -- a look, and what it gives leads on
 pub look_looks : {A R : Type 0} (well : Type 0) (room : ℕ) (look : Looking) (f : Reply → Option A) (path : Path) (next : A → Tries R) → ((more : Type 0) (a : A) → Looks more (next a)) → Looks well (ask (Look room look) (λ reply. given (f reply) (trouble path reply) next))
-look_looks {A} {R} well room look f path next goes = (
-  tt,
-  λ reply. given_looks (well × IsAnswered (Look room look) reply) (f reply) (trouble path reply) next (λ w none. look_fine R room look path reply w.1) (goes (well × IsAnswered (Look room look) reply)),
-)
+look_looks {A} {R} well room look f path next goes =
+    λ reply. given_looks (well × IsAnswered (Look room look) reply) (f reply) (trouble path reply) next (λ w none. look_fine R room look path reply w.1) (goes (well × IsAnswered (Look room look) reply))
 
 pub find_looks : {R : Type 0} (well : Type 0) (name : Name) (path : Path) (next : ℕ → Tries R) → ((more : Type 0) (room : ℕ) → Looks more (next room)) → Looks well (ask (Find name) (λ reply. given (room_in reply) (trouble path reply) next))
-find_looks {R} well name path next goes = (
-  tt,
-  λ reply. given_looks (well × IsAnswered (Find name) reply) (room_in reply) (trouble path reply) next (λ w none. find_fine R name path reply w.1 none) (goes (well × IsAnswered (Find name) reply)),
-)
+find_looks {R} well name path next goes =
+    λ reply. given_looks (well × IsAnswered (Find name) reply) (room_in reply) (trouble path reply) next (λ w none. find_fine R name path reply w.1 none) (goes (well × IsAnswered (Find name) reply))

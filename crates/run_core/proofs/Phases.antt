@@ -24,9 +24,11 @@ use Rattle.run_core.specs.Written.{is_greeting, whose, turns_of, written_of}
 use Rattle.run_core.specs.Cast.{cast_from}
 use Rattle.run_core.specs.Leading.{GoesOn}
 use Rattle.run_core.specs.Play.{IsPlay}
-use Rattle.run_core.specs.Players.{course_at, playing, resting, IsUnowedProgress, IsMade, in_progress, Stands}
+use Rattle.run_core.specs.Players.{course_at, playing, resting, IsMade, in_progress, Stands}
 use Rattle.run_core.specs.World.{AllStand, Dealt, TookTurns, Tells, PlayedPhase, PlayedSoFar, IsCast}
 use Rattle.run_core.proofs.Leading.{leads_none, leads_both, memory_both, went, went_both}
+use Rattle.mount_sound.specs.Sound.{IsFine}
+use Rattle.run_core.proofs.Fitness.{idle_fit}
 use Rattle.run_core.proofs.Works.{same_some}
 use Rattle.run_core.proofs.Dealing.{rests_of, dealt_course, waits}
 
@@ -50,11 +52,11 @@ all_of_map : {X Y : Type 0} (P : Y → Type 0) (f : X → Y) (xs : List X) → (
 all_of_map P f [] each = All-nil P
 all_of_map P f (x ∷ xs) each = All-cons P (f x) (map f xs) (each 0 x refl) (all_of_map P f xs (λ i y here. each (suc i) y here))
 
-none_ahead : (later : List Phase) (players : List Player) → AllStand [] players → NoneAhead (map (resting later) players)
-none_ahead later players stand = all_of_map (λ (one : Performer Ask Reply (Result Share Stuck) Line). one.ahead ≡ []) (resting later) players (λ i player here. (rests_of i player (stand i player here)).ahead)
+none_ahead : (later : List Phase) (players : List Player) (now : State) → AllStand [] players now → NoneAhead (map (resting later) players)
+none_ahead later players now stand = all_of_map (λ (one : Performer Ask Reply (Result Share Stuck) Line). one.ahead ≡ []) (resting later) players (λ i player here. (rests_of i player now (stand i player here)).ahead)
 
 -- the statements were dealt, the turns taken, and the rest was carried to its end
-pub played_phase : (phase : Phase) (l m : List Line) (old dealt turned new : List Player) (start between end : State) → AllStand [] old → Dealt phase.statements old dealt → TookTurns (turns_of phase.turns) dealt start turned between
+pub played_phase : (phase : Phase) (l m : List Line) (old dealt turned new : List Player) (start between end : State) → AllStand [] old start → Dealt phase.statements old dealt → TookTurns (turns_of phase.turns) dealt start turned between
     → Tells (whose phase.statements) [] l turned between m new end → PlayedPhase phase l old start m new end
 played_phase phase l m old dealt turned new start between end stand d t e = record {
   events = t.events ++ e.came.events;
@@ -66,9 +68,9 @@ played_phase phase l m old dealt turned new start between end stand d t e = reco
       let begins : map (resting (phase ∷ later)) old ≡ map (playing later) dealt =
       alike (resting (phase ∷ later)) (playing later) old dealt d.long (λ i player here.
       let b = d.each i player here in
-      (b.0, b.1, dealt_course i phase later b.0 player (stand i b.0 b.1) b.2)) in
+      (b.0, b.1, dealt_course i phase later b.0 player start (stand i b.0 b.1) b.2)) in
       let pauses : map (playing later) new ≡ map paused (map (resting later) new) =
-      alike (playing later) (λ p. paused (resting later p)) new new refl (λ i player here. (player, here, waits i later player (e.came.stand i player here)))
+      alike (playing later) (λ p. paused (resting later p)) new new refl (λ i player here. (player, here, waits i later player end (e.came.stand i player here)))
       ∙ sym (mapped_twice (resting later) paused new) in
       record {
         first = t.events;
@@ -77,13 +79,13 @@ played_phase phase l m old dealt turned new start between end stand d t e = reco
         all = refl;
         turns = subst (λ z. AllInTurn is_greeting (turns_of phase.turns) z t.events (map (playing later) turned)) (sym begins) (t.took later);
         statements = subst (λ z. AllToEnd (whose phase.statements) e.told (map (playing later) turned) e.came.events z) pauses (e.came.came later);
-        none_ahead = none_ahead later new e.came.stand;
+        none_ahead = none_ahead later new end e.came.stand;
       };
   stand = e.came.stand;
   long = e.came.long ∙ (t.long ∙ d.long);
 }
 
-pub no_phase : (players : List Player) (now : State) → AllStand [] players → PlayedSoFar [] [] players now players now
+pub no_phase : (players : List Player) (now : State) → AllStand [] players now → PlayedSoFar [] [] players now players now
 no_phase players now stand = record {
   events = [];
   leads = leads_none now;
@@ -111,12 +113,12 @@ one_phase_more phases i phase l m old mid new start between end taken a p =
     } in
     subst (λ z. PlayedSoFar z m old start new end) (sym taken) both
 
-at_their_end : (players : List Player) → AllStand [] players → InTurns {S = State} is_greeting [] (map (resting []) players) [] []
-at_their_end players stand = (
+at_their_end : (players : List Player) (now : State) → AllStand [] players now → InTurns {S = State} is_greeting [] (map (resting []) players) [] []
+at_their_end players now stand = (
   refl,
   refl,
   all_of_map (λ (one : Performer Ask Reply (Result Share Stuck) Line). one.left ≡ ends) (resting []) players (λ i player here.
-      let r = rests_of i player (stand i player here) in
+      let r = rests_of i player now (stand i player here) in
       let C : Progress × List Numbered → Course = λ z. course_at z.0 z.1 (through player.number []) in
       ap C (λ k. (r.progress k, r.queue k))),
 )
@@ -128,7 +130,7 @@ is_play script lines old new start end c a = record {
   leads = a.leads;
   had_memory = a.had_memory;
   in_turns =
-      let whole = a.played [] [] [] (at_their_end new a.stand) in
+      let whole = a.played [] [] [] (at_their_end new end a.stand) in
       let T : List Phase × List Event × List Line → Type 0 = λ z. InTurns is_greeting (map written_of z.0) (map (resting z.0) old) z.1 z.2 in
       let plain = subst T (λ k. (append-nil script.phases k, append-nil a.events k, append-nil lines k)) whole in
       subst (λ z. InTurns is_greeting (map written_of script.phases) z a.events lines) (c.cast script.phases) plain;
@@ -137,7 +139,7 @@ is_play script lines old new start end c a = record {
 -- ---- the actors as they are declared
 
 pub no_cast : (players : List Player) → players ≡ [] → IsCast [] players
-no_cast players none = subst (λ z. IsCast [] z) (sym none) (record { cast = λ later. refl; stand = λ place player here. absurd (cc); long = refl })
+no_cast players none = subst (λ z. IsCast [] z) (sym none) (record { cast = λ later. refl; stand = λ now fine place player here. absurd (cc); long = refl })
 
 cast_both : (place : ℕ) (later : List Phase) (first : List ActorDecl) (one : ActorDecl) → cast_from place later (first ++ one ∷ []) ≡ cast_from place later first ++ performer (place + length first) (course_of (place + length first) later one) [] ∷ []
 cast_both place later [] one = ap (λ n. performer n (course_of n later one) [] ∷ []) (omega arith)
@@ -169,20 +171,21 @@ cast_more actors i one players player taken c number progress queue ahead =
     let busy : in_progress (progress_of player.actor) ≡ 0 = ap in_progress progress in
     let lines : length player.ahead.items ≡ 0 = ap length ahead in
     let others : length player.queue.items ≡ 0 = ap length queue in
-    let stands : Stands [] player.number player = record {
+    let stands : (now : State) → IsFine now → Stands [] player.number player now = λ now fine. record {
       number = refl;
-      fit = record { unowed = subst IsUnowedProgress (sym progress) tt; made = subst (λ (z : List Numbered). All IsMade z) (sym queue) (All-nil IsMade) };
+      fit = idle_fit player now (fresh one.host one.cap) progress (subst (λ (z : List Numbered). All IsMade z) (sym queue) (All-nil IsMade)) fine;
       left = omega (arith, busy, lines, others);
     } in
-    let P : ℕ → Player → Type 0 = λ n p. Stands [] n p in
     let zero_more : (n : ℕ) → 0 + n ≡ n = λ n. omega arith in
     record {
       cast = λ later.
           let seen : resting later player ≡ performer (length first) (course_of (length first) later one) [] =
           (let C : ℕ × Progress × List Numbered × List Line → Performer Ask Reply (Result Share Stuck) Line = λ z. performer z.0 (course_at z.1 z.2 (through z.0 later)) z.3 in ap C (λ k. (place k, progress k, queue k, ahead k))) in
           map_both (resting later) players player ∙ ((λ k. c.cast later k ++ seen k ∷ []) ∙ (sym (cast_both 0 later first one ∙ ap (λ n. cast_from 0 later first ++ performer n (course_of n later one) [] ∷ []) (zero_more (length first))) ∙ ap (cast_from 0 later) (sym taken)));
-      stand = λ n p here. subst (λ m. P m p) (zero_more n)
-          (at_end P 0 players player (λ j q there. subst (λ m. P m q) (sym (zero_more j)) (c.stand j q there)) (subst (λ m. P m player) (number ∙ sym (zero_more (length players))) stands) n p here);
+      stand = λ now fine n p here.
+          let P : ℕ → Player → Type 0 = λ m q. Stands [] m q now in
+          subst (λ m. P m p) (zero_more n)
+          (at_end P 0 players player (λ j q there. subst (λ m. P m q) (sym (zero_more j)) (c.stand now fine j q there)) (subst (λ m. P m player) (number ∙ sym (zero_more (length players))) (stands now fine)) n p here);
       long = length_both players player ∙ (ap (λ n. n + 1) c.long ∙ (sym (length_both first one) ∙ ap length (sym taken)));
     }
 

@@ -1,4 +1,4 @@
--- A reader's programs owe nothing, and end in a fault only where one was answered.
+-- A reader's programs end in a fault only where one was answered.
 use Rattle.std.proofs.Common.{ℕ, zero, suc, ◌+◌, ◌-◌, ◌*◌, ◌/◌, Bool, true, false, List, [], ◌∷◌, ◌++◌, length, take, drop, min, replicate, nat_le, nat_lt, Option, Some, None, Result, Ok, Err, refl}
 use Rattle.std.specs.Prelude.{if◌then◌else◌, ◌==◌}
 use Rattle.plfs_types.specs.declared.entries.Cover.{Cover}
@@ -127,7 +127,7 @@ newest_fine : (names : List Name) (newest : Option ℕ) → IsFine (newest_in na
 newest_fine [] newest = refl
 newest_fine (name ∷ names) newest = if_flat_fine name (flat_item (flats_path name)) newest (λ further. newest_in names further) (λ further. newest_fine names further)
 
-open_at_looks : (room : ℕ) (well : Type 0) → Looks well (open_at_program room)
+pub open_at_looks : (room : ℕ) (well : Type 0) → Looks well (open_at_program room)
 open_at_looks room well = look_looks well room (ListFolder flats) names_in (flats_path []) _
     (λ more names. on_ok_looks more (if_newest room) (newest_in names None) (newest_fine names None) (λ newest. newest_looks room newest more))
 

@@ -57,3 +57,8 @@ play_right script start lines end p =
       calls = subst (λ z. MakesCalls (left_of actors) p.history z) each made;
       long = turns_tell is_greeting phases actors p.history lines p.in_turns ∙ (ap length (same_statements script.phases) ∙ length-map (statements_in script.phases) (λ (s : Numbered). s.actor));
     }
+
+-- by the play's own calls
+pub play_history : (script : Script) (start : State) (lines : List Line) (end : State) (p : IsPlay script start lines end) → (play_right script start lines end p).history ≡ p.history
+unfolding play_right
+play_history script start lines end p = refl

@@ -21,7 +21,7 @@ use Rattle.run_core.specs.Moving.{Turns, Advances, IsDone}
 use Rattle.run_core.specs.Leading.{GoesOn}
 use Rattle.run_core.specs.World.{AllFit, At, TookTurns}
 use Rattle.run_core.proofs.Leading.{leads_none, leads_both, memory_both, went, went_both}
-use Rattle.run_core.proofs.Tables.{map_here, set_same, set_found, keep_all, keep_both, keep_at, keep_fit}
+use Rattle.run_core.proofs.Tables.{map_here, set_same, set_found, keep_all, keep_both, keep_at, fit_at}
 use Rattle.run_core.proofs.Turning.{done_turn}
 
 in_turn : (later : List Phase) (before after : Player) (start end : State) (d : Advances Turns before start after end) → InTurn is_greeting (playing later before) d.events (playing later after)
@@ -32,7 +32,7 @@ in_turn later before after start end d = (
   (λ i. performer (d.number i) (course_left after (through (d.number i) later)) (d.ahead i)),
 )
 
-pub took_one : (place : ℕ) (old new : List Player) (start end : State) → AllFit old → At place old (λ before after. Advances Turns before start after end) new → TookTurns (place ∷ []) old start new end
+pub took_one : (place : ℕ) (old new : List Player) (start end : State) → AllFit old start → At place old (λ before after. Advances Turns before start after end) new → TookTurns (place ∷ []) old start new end
 took_one place old new start end fit at =
     let d = at.does in
     record {
@@ -53,17 +53,19 @@ took_one place old new start end fit at =
         },
         (refl, refl),
       );
-      keep = keep_at place old new at.before at.after fit at.here (record { number = d.number; left = d.left; fit = d.fit }) at.new_is;
+      keep = keep_at place old new at.before at.after at.here (record { number = d.number; left = d.left }) at.new_is;
+      fit = fit_at place old new at.before at.after start end d.events fit at.here d.leads d.by_it d.number d.fit at.new_is;
       long = ap length at.new_is ∙ length-set old place at.after;
     }
 
-pub took_none : (players : List Player) (now : State) → AllFit players → TookTurns [] players now players now
+pub took_none : (players : List Player) (now : State) → AllFit players now → TookTurns [] players now players now
 took_none players now fit = record {
   events = [];
   leads = leads_none now;
   had_memory = tt;
   took = λ later. (refl, refl);
-  keep = keep_all players fit;
+  keep = keep_all players;
+  fit = fit;
   long = refl;
 }
 
@@ -85,27 +87,28 @@ took_both places more old mid new start between end a b = record {
   had_memory = memory_both a.events b.events a.had_memory b.had_memory;
   took = λ later. turns_append later places more old mid new a.events b.events (a.took later) (b.took later);
   keep = keep_both old mid new a.keep b.keep;
+  fit = b.fit;
   long = b.long ∙ a.long;
 }
 
 -- a player with no statement left takes none of its turns
-pub took_idle : (count place : ℕ) (players : List Player) (now : State) (player : Player) → AllFit players → slice_get players place ≡ Some player → IsDone player → TookTurns (replicate count place) players now players now
+pub took_idle : (count place : ℕ) (players : List Player) (now : State) (player : Player) → AllFit players now → slice_get players place ≡ Some player → IsDone player → TookTurns (replicate count place) players now players now
 took_idle zero place players now player fit here done = took_none players now fit
 took_idle (suc count) place players now player fit here done =
     let one : At place players (λ before after. Advances Turns before now after now) players = record {
       before = player;
       after = player;
       here = here;
-      does = done_turn player now (fit place player here) done;
+      does = done_turn player now (fit place player here).1 done;
       new_is = sym (set_same players place player here);
     } in
     took_both (place ∷ []) (replicate count place) players players players now now now (took_one place players players now now fit one) (took_idle count place players now player fit here done)
 
 -- so many turns, of which the later ones take none
-pub took_rest : (taken left count place : ℕ) (old new : List Player) (start end : State) (player : Player) → count ≡ taken + left → TookTurns (replicate taken place) old start new end → AllFit new → slice_get new place ≡ Some player → IsDone player → TookTurns (replicate count place) old start new end
-took_rest taken left count place old new start end player is took fit here done =
+pub took_rest : (taken left count place : ℕ) (old new : List Player) (start end : State) (player : Player) → count ≡ taken + left → TookTurns (replicate taken place) old start new end → slice_get new place ≡ Some player → IsDone player → TookTurns (replicate count place) old start new end
+took_rest taken left count place old new start end player is took here done =
     subst (λ z. TookTurns z old start new end) (replicate-append-replicate taken left place ∙ ap (λ n. replicate n place) (sym is))
-    (took_both (replicate taken place) (replicate left place) old new new start end end took (took_idle left place new end player fit here done))
+    (took_both (replicate taken place) (replicate left place) old new new start end end took (took_idle left place new end player took.fit here done))
 
 pub one_turn_more : (taken place : ℕ) (old mid new : List Player) (start between end : State) → TookTurns (replicate taken place) old start mid between → TookTurns (place ∷ []) mid between new end → TookTurns (replicate (taken + 1) place) old start new end
 one_turn_more taken place old mid new start between end a b =
@@ -127,7 +130,7 @@ went_took turns old new start mid end t further_on = went_both start mid end (we
 
 -- one turn more
 pub turn_more : (taken place : ℕ) (old mid new : List Player) (start between end : State) → TookTurns (replicate taken place) old start mid between → At place mid (λ before after. Advances Turns before between after end) new → TookTurns (replicate (taken + 1) place) old start new end
-turn_more taken place old mid new start between end t at = one_turn_more taken place old mid new start between end t (took_one place mid new between end (keep_fit old mid t.keep) at)
+turn_more taken place old mid new start between end t at = one_turn_more taken place old mid new start between end t (took_one place mid new between end t.fit at)
 
 -- one turn more, after which no statement is left: the others take none
 pub turns_end : (taken count place : ℕ) (old mid new : List Player) (start between end : State) → taken < count → TookTurns (replicate taken place) old start mid between → (at : At place mid (λ before after. Advances Turns before between after end) new)
@@ -135,4 +138,4 @@ pub turns_end : (taken count place : ℕ) (old mid new : List Player) (start bet
 turns_end taken count place old mid new start between end lt t at done =
     let here : slice_get new place ≡ Some at.after = ap (λ (z : List Player). slice_get z place) at.new_is ∙ set_found mid place at.before at.after at.here in
     let more = turn_more taken place old mid new start between end t at in
-    took_rest (taken + 1) (count - (taken + 1)) count place old new start end at.after (omega (arith, lt)) more (keep_fit old new more.keep) here (done at.after here)
+    took_rest (taken + 1) (count - (taken + 1)) count place old new start end at.after (omega (arith, lt)) more here (done at.after here)

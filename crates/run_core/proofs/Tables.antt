@@ -4,10 +4,15 @@ use Rattle.std.specs.Prelude.{set, slice_get}
 use Rattle.std.proofs.lemmas.List.{take_more, drop_more}
 use mathlib.Core.Logic.{dite}
 use native.Mathlib.Decide.{ℕ_discrete}
+use Rattle.mount_model.specs.State.{State}
+use Rattle.mount_model.specs.History.{Event}
 use Rattle.script_lang.specs.declared.script.Numbered.{Numbered}
 use Rattle.run_core.specs.declared.player.Player.{Player}
 use Rattle.run_core.specs.Course.{own}
+use Rattle.run_core.specs.Leading.{AreBy, Leads}
+use Rattle.run_core.specs.Players.{IsFit}
 use Rattle.run_core.specs.World.{AllStand, AllFit, KeepsLines, AllKeep}
+use Rattle.run_core.proofs.Fitness.{fit_lasts}
 use Rattle.run_core.proofs.Works.{same_some}
 
 -- what stands at a place that was set, and at another one
@@ -54,31 +59,40 @@ own_no n s ss other = ap (λ (b : Bool). cond b (s ∷ own n ss) (own n ss)) (ne
 
 -- ---- all players
 
-pub stand_fit : (statements : List Numbered) (players : List Player) → AllStand statements players → AllFit players
-stand_fit statements players stand = λ place player here. (stand place player here).fit
+pub stand_fit : (statements : List Numbered) (players : List Player) (now : State) → AllStand statements players now → AllFit players now
+stand_fit statements players now stand = λ place player here. ((stand place player here).number, (stand place player here).fit)
 
-pub keep_fit : (old new : List Player) → AllKeep old new → AllFit new
-keep_fit old new keep = λ place player here. (keep place player here).2.fit
-
-pub keep_all : (players : List Player) → AllFit players → AllKeep players players
-keep_all players fit = λ place player here. (player, here, record { number = refl; left = refl; fit = fit place player here })
+pub keep_all : (players : List Player) → AllKeep players players
+keep_all players = λ place player here. (player, here, record { number = refl; left = refl })
 
 pub keep_both : (a b c : List Player) → AllKeep a b → AllKeep b c → AllKeep a c
 keep_both a b c x y = λ place player here.
     let q = y place player here in
     let r = x place q.0 q.1 in
-    (r.0, r.1, record { number = q.2.number ∙ r.2.number; left = q.2.left ∙ r.2.left; fit = q.2.fit })
+    (r.0, r.1, record { number = q.2.number ∙ r.2.number; left = q.2.left ∙ r.2.left })
 
-pub keep_stand : (statements : List Numbered) (old new : List Player) → AllKeep old new → AllStand statements old → AllStand statements new
-keep_stand statements old new keep stand = λ place player here.
+pub keep_stand : (statements : List Numbered) (old new : List Player) (start end : State) → AllKeep old new → AllFit new end → AllStand statements old start → AllStand statements new end
+keep_stand statements old new start end keep fit stand = λ place player here.
     let q = keep place player here in
     let s = stand place q.0 q.1 in
-    record { number = q.2.number ∙ s.number; fit = q.2.fit; left = q.2.left ∙ s.left }
+    let f = fit place player here in
+    record { number = f.0; fit = f.1; left = q.2.left ∙ s.left }
 
-pub keep_at : (place : ℕ) (old new : List Player) (before after : Player) → AllFit old → slice_get old place ≡ Some before → KeepsLines before after → new ≡ set old place after → AllKeep old new
-keep_at place old new before after fit here keeps is =
+pub keep_at : (place : ℕ) (old new : List Player) (before after : Player) → slice_get old place ≡ Some before → KeepsLines before after → new ≡ set old place after → AllKeep old new
+keep_at place old new before after here keeps is =
     let K : ℕ → Player → Type 0 = λ j p. (q : Player) × (slice_get old j ≡ Some q) × KeepsLines q p in
-    at_all K old new place after is (before, here, keeps) (λ j p other stands. (p, stands, record { number = refl; left = refl; fit = fit j p stands }))
+    at_all K old new place after is (before, here, keeps) (λ j p other stands. (p, stands, record { number = refl; left = refl }))
+
+-- the player at this place made calls, after which it may go on, and so may the others
+pub fit_at : (place : ℕ) (old new : List Player) (before after : Player) (start end : State) (events : List Event) → AllFit old start → slice_get old place ≡ Some before → Leads start events end → AreBy before.number events
+    → after.number ≡ before.number → IsFit after end → new ≡ set old place after → AllFit new end
+fit_at place old new before after start end events fit here leads by_it same fit_now is =
+    let P : ℕ → Player → Type 0 = λ j p. (p.number ≡ j) × IsFit p end in
+    let mine : before.number ≡ place = (fit place before here).0 in
+    at_all P old new place after is (same ∙ mine, fit_now)
+    (λ j p other there.
+    let f = fit j p there in
+    (f.0, fit_lasts p before.number (λ clash. other (sym (sym mine ∙ (clash ∙ f.0)))) start events end leads by_it f.1))
 
 pub set_found : {X : Type 0} (xs : List X) (i : ℕ) (x v : X) → slice_get xs i ≡ Some x → slice_get (set xs i v) i ≡ Some v
 set_found [] i x v is = absurd (cc)

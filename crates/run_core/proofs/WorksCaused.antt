@@ -15,7 +15,15 @@ use Rattle.writer_flow.specs.Opening.{open_program}
 use Rattle.writer_flow.specs.Writing.{write_program}
 use Rattle.writer_flow.specs.Syncing.{sync_program}
 use Rattle.writer_flow.specs.Closing.{close_program}
-use Rattle.index_reader.specs.Opening.{open_read_program}
+use Rattle.attr_flow.specs.declared.attr.Attr.{Attr}
+use Rattle.attr_flow.specs.declared.attr_flow.AttrOut.{AttrOut}
+use Rattle.attr_flow.specs.declared.attr_flow.AttrOut.TheVariants.{Cached, MustMerge}
+use Rattle.attr_flow.specs.Asking.{attr_program}
+use Rattle.torn_tail.specs.declared.recovering.Recovered.{Recovered as WasRecovered}
+use Rattle.torn_tail.specs.Recovering.{recover_program}
+use Rattle.trunc_rename.specs.Renaming.{rename_program}
+use Rattle.trunc_rename.specs.Truncating.{truncate_program}
+use Rattle.index_reader.specs.Opening.{open_at_program, open_read_program}
 use Rattle.index_reader.specs.Reading.{read_program}
 use Rattle.index_reader.specs.declared.listing.Listing.{Listing}
 use Rattle.index_reader.specs.declared.opened.OpenReader.{OpenReader}
@@ -28,20 +36,24 @@ use Rattle.script_lang.specs.declared.script.Statement.TheVariants.{Open, Write,
 use Rattle.actor_core.specs.declared.kept.Kept.{Kept}
 use Rattle.actor_core.specs.declared.kept.Stop.{Stop}
 use Rattle.actor_core.specs.Data.{bytes_of, length_of, first_difference}
-use Rattle.actor_core.specs.Endings.{gone, refused, stopped, opened, wrote_nothing, wrote, synced, closed, read_from, verified}
+use Rattle.actor_core.specs.Endings.{gone, refused, stopped, opened, wrote_nothing, wrote, synced, closed, read_from, verified, names_listed, recovered, renamed, told_of, truncated}
 use Rattle.actor_core.specs.Outcomes.{stuck_outcome, or_stuck, difference}
+use Rattle.actor_core.specs.Names.{names_program}
+use Rattle.actor_core.specs.Telling.{if_asked, if_relisted, tells_by, tells_of_file}
 use Rattle.actor_core.specs.Opened.{opens as opens_after, reader_opened}
 use Rattle.actor_core.specs.Readers.{opens_reader, if_listed, programs_from, reads, verifies, maps, closes_reader}
 use Rattle.actor_core.specs.Sharing.{by_itself}
 use Rattle.actor_core.specs.Statements.{is_built_statement, does, greeted, greeted_work, disarmed, work_of}
+use Rattle.actor_core.specs.ByName.{lists_names, recovers_file, renames_file, truncates_file}
 use Rattle.actor_core.specs.Stopping.{carried, is_due, due_bytes, stoppable, one_nearer}
 use Rattle.actor_core.specs.Work.{Work, finishes}
 use Rattle.actor_core.specs.Writers.{opens, writes, writes_bytes, syncs, closes}
 use Rattle.run_core.proofs.GoodLines.{EndsGood}
 use Rattle.run_core.proofs.EndsWell.{EndsIn, is_no_fault, ends_well, open_well, write_well, sync_well, close_well}
 use Rattle.run_core.proofs.Looking.{IsAnswered, Looks}
-use Rattle.run_core.proofs.ReaderLooks.{listing_looks, read_looks}
-use Rattle.run_core.proofs.OpeningLooks.{opening_looks}
+use Rattle.run_core.proofs.FilesWell.{attr_well, names_well, recover_well, rename_well, truncate_well}
+use Rattle.run_core.proofs.ReaderLooks.{listing_looks, open_at_looks, read_looks}
+use Rattle.run_core.proofs.OpeningLooks.{opening_looks, telling_looks}
 
 -- the reply fits, is no fault, and was not for want of memory
 abbrev pub IsWell : Ask → Reply → Type 0
@@ -85,7 +97,7 @@ looked_caused well (done r) stop next halted sofar looks goes stops = goes stop 
 looked_caused well (ask call k) stop next halted sofar looks goes stops = λ reply is.
     either_caused (is_due stop) halted (carried (k reply) (one_nearer stop) next halted) (λ _. stops) (λ later.
     let answered : IsAnswered call reply = record { fits = fits_unbroken call stop reply later is.2; has_memory = is.1; is_good = is.0 } in
-    looked_caused (well × IsAnswered call reply) (k reply) (one_nearer stop) next halted (sofar, answered) (looks.1 reply) goes stops)
+    looked_caused (well × IsAnswered call reply) (k reply) (one_nearer stop) next halted (sofar, answered) (looks reply) goes stops)
 
 -- ---- what lines say
 
@@ -188,6 +200,46 @@ closes_reader_caused kept (Some reader) = λ is. absurd (cc)
 gone_none : (kept : Kept) → IsCaused (finishes (gone kept))
 gone_none kept = λ is. absurd (cc)
 
+-- ---- whole files
+
+told_none : (kept : Kept) (result : Result Attr Stuck) → is_no_fault result ≡ true → IsCaused (finishes (told_of kept result))
+told_none kept result fine = or_stuck_none (λ (attr : Attr). of.Stat attr.size attr.stored attr.shares attr.truncs) result (λ attr is. absurd (cc)) fine
+
+relisted_caused : (kept : Kept) (stop : Option Stop) (result : Result Listing Stuck) → is_no_fault result ≡ true → IsCaused (if_relisted kept stop result)
+relisted_caused kept stop (Err why) fine = stuck_is_none Listing why fine
+relisted_caused kept stop (Ok listing) fine =
+    looked_caused ⊤ (by_itself (programs_from 1 listing 0) [] (tells_by listing)) stop (λ left result. finishes (told_of kept result)) (finishes (stopped kept)) tt (telling_looks listing ⊤)
+    (λ left result good. told_none kept result good) (stops_none kept)
+
+asked_caused : (kept : Kept) (stop : Option Stop) (result : Result AttrOut Stuck) → is_no_fault result ≡ true → IsCaused (if_asked kept stop result)
+asked_caused kept stop (Err why) fine = stuck_is_none AttrOut why fine
+asked_caused kept stop (Ok (Cached attr)) fine = λ is. absurd (cc)
+asked_caused kept stop (Ok (MustMerge room)) fine =
+    looked_caused ⊤ (open_at_program room) stop (if_relisted kept) (finishes (stopped kept)) tt (open_at_looks room ⊤) (λ left result good. relisted_caused kept left result good) (stops_none kept)
+
+tells_caused : (kept : Kept) (stop : Option Stop) (name : List ℕ) → IsCaused (tells_of_file kept stop name)
+tells_caused kept stop name = carried_caused is_no_fault (attr_program name) stop (if_asked kept) (finishes (stopped kept)) (attr_well name) (asked_caused kept) (stops_none kept)
+
+truncates_caused : (kept : Kept) (stop : Option Stop) (name : List ℕ) (size : ℕ) → IsCaused (truncates_file kept stop name size)
+truncates_caused kept stop name size =
+    carried_caused is_no_fault (truncate_program name size) stop (λ left result. finishes (truncated kept result)) (finishes (stopped kept)) (truncate_well name size)
+    (λ left result fine. or_stuck_none (λ stamp. of.Truncated stamp) result (λ stamp is. absurd (cc)) fine) (stops_none kept)
+
+renames_caused : (kept : Kept) (stop : Option Stop) (name to : List ℕ) → IsCaused (renames_file kept stop name to)
+renames_caused kept stop name to =
+    carried_caused is_no_fault (rename_program name to) stop (λ left result. finishes (renamed kept result)) (finishes (stopped kept)) (rename_well name to)
+    (λ left result fine. or_stuck_none (λ (made : ⊤). of.Renamed) result (λ made is. absurd (cc)) fine) (stops_none kept)
+
+recovers_caused : (kept : Kept) (stop : Option Stop) (name : List ℕ) → IsCaused (recovers_file kept stop name)
+recovers_caused kept stop name =
+    carried_caused is_no_fault (recover_program name) stop (λ left result. finishes (recovered kept result)) (finishes (stopped kept)) (recover_well name)
+    (λ left result fine. or_stuck_none (λ (r : WasRecovered). of.Recovered r.buried r.alive r.hold) result (λ r is. absurd (cc)) fine) (stops_none kept)
+
+lists_caused : (kept : Kept) (stop : Option Stop) → IsCaused (lists_names kept stop)
+lists_caused kept stop =
+    carried_caused is_no_fault names_program stop (λ left result. finishes (names_listed kept result)) (finishes (stopped kept)) names_well
+    (λ left result fine. or_stuck_none (λ (names : List (List ℕ)). of.Listed names) result (λ names is. absurd (cc)) fine) (stops_none kept)
+
 does_caused : (kept : Kept) (stop : Option Stop) (statement : Statement) → is_built_statement statement ≡ true → IsCaused (does kept stop statement)
 does_caused kept stop (Open name) built = opens_caused kept stop name kept.writer
 does_caused kept stop (Write at content) built = writes_caused kept stop at (bytes_of content) kept.writer
@@ -199,12 +251,12 @@ does_caused kept stop (Verify at content) built = verifies_caused kept stop at c
 does_caused kept stop Map built = maps_caused kept kept.reader
 does_caused kept stop Rclose built = closes_reader_caused kept kept.reader
 does_caused kept stop (Arms call bytes) built = λ is. absurd (cc)
-does_caused kept stop (Stat name) built = gone_none kept
+does_caused kept stop (Stat name) built = tells_caused kept stop name
 does_caused kept stop (Flatten name) built = gone_none kept
-does_caused kept stop (Recover name) built = gone_none kept
-does_caused kept stop (Truncs name size) built = gone_none kept
-does_caused kept stop (Rename name new) built = gone_none kept
-does_caused kept stop Ls built = gone_none kept
+does_caused kept stop (Recover name) built = recovers_caused kept stop name
+does_caused kept stop (Truncs name size) built = truncates_caused kept stop name size
+does_caused kept stop (Rename name new) built = renames_caused kept stop name new
+does_caused kept stop Ls built = lists_caused kept stop
 
 greeted_caused : (kept : Kept) (statement : Statement) → is_built_statement statement ≡ true → IsCaused (greeted_work kept statement)
 greeted_caused kept statement built = either_caused kept.gone (finishes (gone kept)) (does (disarmed kept) kept.armed statement) (λ _. gone_none kept) (λ _. does_caused (disarmed kept) kept.armed statement built)

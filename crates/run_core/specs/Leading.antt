@@ -25,3 +25,7 @@ MadeCall old caller ask reply new = Leads old (record { caller = caller; ask = a
 -- none of them was refused memory
 abbrev pub HadMemory : List Event → Type 0
 HadMemory events = AllByRecursion (λ (event : Event). event.reply ≢ NoMemory) events
+
+-- all of them are this caller's
+abbrev pub AreBy : ℕ → List Event → Type 0
+AreBy caller events = AllByRecursion (λ (event : Event). event.caller ≡ caller) events

@@ -5,7 +5,6 @@ pub mod Leading
 pub mod Play
 pub mod Conditions
 pub mod Faults
-pub mod Listing
 pub mod Players
 pub mod Moving
 pub mod World

@@ -4,18 +4,22 @@ use Rattle.mount_model.specs.declared.call.Ask.{Ask}
 use Rattle.mount_model.specs.declared.reply.Reply.{Reply}
 use Rattle.flow.specs.declared.trouble.Stuck.{Stuck}
 use Rattle.index_reader.specs.declared.sharing.Share.{Share}
-use Rattle.mount_sound.specs.Owed.{OwesNothing}
-use Rattle.story.specs.Process.{ends, pauses, tells, asks, shares}
+use Rattle.mount_model.specs.State.{State}
+use Rattle.mount_model.specs.Step.{IsStep}
+use Rattle.mount_sound.specs.Owed.{Permits}
+use Rattle.mount_sound.specs.Sound.{IsFine}
+use Rattle.story.specs.Process.{ends, pauses, tells}
+use Rattle.story.specs.Safe.{IsSafeProcess}
 use Rattle.story.specs.Performers.{Performer, performer}
 use Rattle.script_lang.specs.declared.line.Line.{Line}
 use Rattle.script_lang.specs.declared.script.Numbered.{Numbered}
 use Rattle.script_lang.specs.declared.script.Phase.{Phase}
 use Rattle.script_lang.specs.Ranges.{FitsStatement}
 use Rattle.actor_core.specs.declared.kept.Kept.{Kept}
-use Rattle.actor_core.specs.Work.{Work}
 use Rattle.actor_core.specs.Progress.{Progress, idle, going, asked, told}
 use Rattle.actor_core.specs.Standings.{progress_of}
 use Rattle.actor_core.specs.Statements.{is_built_statement}
+use Rattle.statement_laws.specs.Coming.{ComesToLine}
 use Rattle.run_core.specs.declared.player.Player.{Player}
 use Rattle.run_core.specs.Course.{Course, then_line, one_by_one, own, through}
 
@@ -37,28 +41,22 @@ playing later player = performer player.number (course_left player (through play
 abbrev pub resting : List Phase → Player → Performer Ask Reply (Result Share Stuck) Line
 resting later player = performer player.number (course_at (progress_of player.actor) player.queue.items (through player.number later)) player.ahead.items
 
--- for none of its calls anything is owed of the mount's state, and it ends with a line
-abbrev pub IsUnowed : Work → Type 0
-IsUnowed ends = ⊥
-IsUnowed (pauses work) = ⊥
-IsUnowed (tells ending work) = ⊤
-IsUnowed (asks question k) = OwesNothing question.call × ((reply : Reply) → IsUnowed (k reply))
-IsUnowed (shares programs k alone) = IsUnowed alone
-
--- between two calls; so is the rest of the statement in progress
-abbrev pub IsUnowedProgress : Progress → Type 0
-IsUnowedProgress (idle kept) = ⊤
-IsUnowedProgress (going number work) = IsUnowed work
-IsUnowedProgress (asked number k) = ⊥
-IsUnowedProgress (told line kept) = ⊤
+-- Between two calls: the rest of the statement in progress comes to its line, and the caller of this number may make each of its calls, whatever allowed calls
+-- others make before it.
+abbrev pub IsSafeProgress : ℕ → Progress → State → Type 0
+IsSafeProgress number (idle kept) state = ⊤
+IsSafeProgress number (going line work) state = ComesToLine work × IsSafeProcess IsStep Permits number work state
+IsSafeProgress number (asked line k) state = ⊥
+IsSafeProgress number (told line kept) state = ⊤
 
 -- a statement that an actor makes
 abbrev pub IsMade : Numbered → Type 0
 IsMade s = FitsStatement s.statement × (is_built_statement s.statement ≡ true)
 
--- the player may go on
-pub record IsFit (player : Player) : Type 0 where
-  pub unowed : IsUnowedProgress (progress_of player.actor)
+-- the player may go on from this state of the mount
+pub record IsFit (player : Player) (state : State) : Type 0 where
+  pub fine : IsFine state
+  pub safe : IsSafeProgress player.number (progress_of player.actor) state
   pub made : All IsMade player.queue.items
 
 -- one where a statement is in progress, or its line waits
@@ -70,8 +68,8 @@ in_progress _ = 1
 abbrev pub lines_left : Player → ℕ
 lines_left player = length player.ahead.items + in_progress (progress_of player.actor) + length player.queue.items
 
--- the player of this place, where in this phase these statements are not passed in writing
-pub record Stands (statements : List Numbered) (place : ℕ) (player : Player) : Type 0 where
+-- the player of this place may go on from this state, and in this phase these statements are not passed in writing
+pub record Stands (statements : List Numbered) (place : ℕ) (player : Player) (state : State) : Type 0 where
   pub number : player.number ≡ place
-  pub fit : IsFit player
+  pub fit : IsFit player state
   pub left : lines_left player ≡ length (own place statements)

@@ -2,6 +2,7 @@
 use Rattle.std.specs.Prelude.{◌≡◌, ℕ, List, [], ◌∷◌, ◌++◌, Some, length, map, set, slice_get}
 use Rattle.mount_model.specs.State.{State}
 use Rattle.mount_model.specs.History.{Event}
+use Rattle.mount_sound.specs.Sound.{IsFine}
 use Rattle.story.specs.InTurns.{AllInTurn, AllToEnd, PhaseInTurns, InTurns}
 use Rattle.script_lang.specs.declared.line.Line.{Line}
 use Rattle.script_lang.specs.declared.script.Numbered.{Numbered}
@@ -16,12 +17,13 @@ use Rattle.run_core.specs.Course.{own}
 use Rattle.run_core.specs.Moving.{Passes}
 use Rattle.run_core.specs.Players.{playing, resting, IsFit, lines_left, Stands}
 
--- each player stands so at its place, where these statements are not passed in writing
-abbrev pub AllStand : List Numbered → List Player → Type 0
-AllStand statements players = (place : ℕ) (player : Player) → slice_get players place ≡ Some player → Stands statements place player
+-- each player stands so at its place in this state, where these statements are not passed in writing
+abbrev pub AllStand : List Numbered → List Player → State → Type 0
+AllStand statements players state = (place : ℕ) (player : Player) → slice_get players place ≡ Some player → Stands statements place player state
 
-abbrev pub AllFit : List Player → Type 0
-AllFit players = (place : ℕ) (player : Player) → slice_get players place ≡ Some player → IsFit player
+-- each calls under its place, and may go on from this state
+abbrev pub AllFit : List Player → State → Type 0
+AllFit players state = (place : ℕ) (player : Player) → slice_get players place ≡ Some player → (player.number ≡ place) × IsFit player state
 
 -- the player at this place does so, and the others are as before
 pub record At (place : ℕ) (old : List Player) (Does : Player → Player → Type 0) (new : List Player) : Type 0 where
@@ -31,11 +33,10 @@ pub record At (place : ℕ) (old : List Player) (Does : Player → Player → Ty
   pub does : Does before after
   pub new_is : new ≡ set old place after
 
--- each has as many lines left as before, and may go on
+-- it has as many lines left as before
 pub record KeepsLines (old new : Player) : Type 0 where
   pub number : new.number ≡ old.number
   pub left : lines_left new ≡ lines_left old
-  pub fit : IsFit new
 
 abbrev pub AllKeep : List Player → List Player → Type 0
 AllKeep old new = (place : ℕ) (player : Player) → slice_get new place ≡ Some player → (before : Player) × (slice_get old place ≡ Some before) × KeepsLines before player
@@ -47,6 +48,7 @@ pub record TookTurns (turns : List ℕ) (old : List Player) (start : State) (new
   pub had_memory : HadMemory events
   pub took : (later : List Phase) → AllInTurn is_greeting turns (map (playing later) old) events (map (playing later) new)
   pub keep : AllKeep old new
+  pub fit : AllFit new end
   pub long : length new ≡ length old
 
 -- the statements of these players have these lines, and these statements are left
@@ -55,7 +57,7 @@ pub record CameToEnd (of : List ℕ) (lines : List Line) (left : List Numbered) 
   pub leads : Leads start events end
   pub had_memory : HadMemory events
   pub came : (later : List Phase) → AllToEnd of lines (map (playing later) old) events (map (playing later) new)
-  pub stand : AllStand left new
+  pub stand : AllStand left new end
   pub long : length new ≡ length old
 
 -- the lines grow by those that the statements have
@@ -84,7 +86,7 @@ pub record PlayedPhase (phase : Phase) (lines_old : List Line) (old : List Playe
   pub leads : Leads start events end
   pub had_memory : HadMemory events
   pub played : (later : List Phase) → PhaseInTurns is_greeting (written_of phase) (map (resting (phase ∷ later)) old) events told (map (resting later) new)
-  pub stand : AllStand [] new
+  pub stand : AllStand [] new end
   pub long : length new ≡ length old
 
 -- these phases were played, with these lines
@@ -95,7 +97,7 @@ pub record PlayedSoFar (phases : List Phase) (lines : List Line) (old : List Pla
   pub played : (later : List Phase) (more : List Event) (others : List Line)
       → InTurns is_greeting (map written_of later) (map (resting later) new) more others
       → InTurns is_greeting (map written_of (phases ++ later)) (map (resting (phases ++ later)) old) (events ++ more) (lines ++ others)
-  pub stand : AllStand [] new
+  pub stand : AllStand [] new end
   pub long : length new ≡ length old
 
 -- the player at this place passes a statement, and its line stands behind the others
@@ -107,5 +109,5 @@ pub record PassesAt (place : ℕ) (lines_old : List Line) (old : List Player) (s
 -- these are the declared actors, each at its place, which have done nothing yet
 pub record IsCast (actors : List ActorDecl) (players : List Player) : Type 0 where
   pub cast : (later : List Phase) → map (resting later) players ≡ cast_from 0 later actors
-  pub stand : AllStand [] players
+  pub stand : (state : State) → IsFine state → AllStand [] players state
   pub long : length players ≡ length actors

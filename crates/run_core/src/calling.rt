@@ -1,7 +1,6 @@
 //! Calls of the mount.
 ghost use Rattle.std.specs.Prelude.{◌≡◌};
-ghost use Rattle.mount_model.specs.Step.{IsOwed};
-ghost use Rattle.mount_sound.specs.Owed.{OwesNothing};
+ghost use Rattle.mount_sound.specs.Owed.{May};
 ghost use Rattle.run_core.specs.Leading.{MadeCall};
 ghost use Rattle.run_core.specs.Written.{greets as greets_test};
 
@@ -17,15 +16,14 @@ pub(crate) fn greets(call: &Call) -> bool
     matches!(call, Call::Greet)
 }
 
-/// Makes a call for which nothing is owed of the mount's state.
+/// Makes a call that its caller may make.
 #[tactic(auto, using(crate::proofs::Leading::called))]
 pub(crate) fn call<S: Store + Drop, C: Clock + Drop>(
     mount: &mut Mount<S, C>,
     caller: u64,
     ask: &Ask,
 ) -> Reply
-    requires numbers { IsOwed ask.now }
-    requires unowed { OwesNothing ask.now.call }
+    requires { May mount.old caller ask.now }
     ensures { MadeCall mount.old caller ask.now result mount.new }
 {
     mount.apply(caller, ask)

@@ -21,7 +21,7 @@ fn pass<S: Store + Drop, C: Clock + Drop>(
     lines: &mut Lines,
 ) -> Result<(), NoMemory>
     requires there { place < length players.old }
-    requires fit { (player : ThePlayer) → slice_get players.old place ≡ Some player → IsFit player }
+    requires fit { (player : ThePlayer) → slice_get players.old place ≡ Some player → IsFit player mount.old }
     requires some { (player : ThePlayer) → slice_get players.old place ≡ Some player → 1 ≤ lines_left player }
     ensures passes { OnOk result (PassesAt place lines.old players.old mount.old lines.new players.new mount.new) }
     ensures goes_on { GoesOn mount.old mount.new }
@@ -40,7 +40,7 @@ pub(crate) fn finish<S: Store + Drop, C: Clock + Drop>(
     lines: &mut Lines,
 ) -> Result<(), NoMemory>
     requires there { All (λ statement. statement.actor < length players.old) statements.now }
-    requires stand { AllStand statements.now players.old }
+    requires stand { AllStand statements.now players.old mount.old }
     ensures tells { OnOk result (Tells (whose statements.now) [] lines.old players.old mount.old lines.new players.new mount.new) }
     ensures goes_on { GoesOn mount.old mount.new }
 {

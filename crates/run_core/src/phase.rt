@@ -44,7 +44,7 @@ pub(crate) fn play_phase<S: Store + Drop, C: Clock + Drop>(
 ) -> Result<(), NoMemory>
     requires fits { FitsPhase (length players.old) phase.now }
     requires built { IsBuiltPhase phase.now }
-    requires stand { AllStand [] players.old }
+    requires stand { AllStand [] players.old mount.old }
     ensures plays { OnOk result (PlayedPhase phase.now lines.old players.old mount.old lines.new players.new mount.new) }
     ensures goes_on { GoesOn mount.old mount.new }
 {
@@ -66,7 +66,7 @@ pub(crate) fn play_all<S: Store + Drop, C: Clock + Drop>(
 ) -> Result<(), NoMemory>
     requires fits { All (FitsPhase (length players.old)) phases.now }
     requires built { All IsBuiltPhase phases.now }
-    requires stand { AllStand [] players.old }
+    requires stand { AllStand [] players.old mount.old }
     requires empty { lines.old ≡ [] }
     ensures played { OnOk result (PlayedSoFar phases.now lines.new players.old mount.old players.new mount.new) }
     ensures goes_on { GoesOn mount.old mount.new }

@@ -1,5 +1,5 @@
 //! One actor of a run.
-ghost use Rattle.std.specs.Prelude.{◌≡◌, [], ◌∷◌, ◌++◌, true, false, IfOk, OnOk, List};
+ghost use Rattle.std.specs.Prelude.{◌≡◌, [], ◌∷◌, ◌++◌, true, false, All, IfOk, OnOk, List};
 ghost use Rattle.std.specs.Option.{option_to_list};
 ghost use Rattle.actor_core.specs.Progress.{idle, fresh, IsIdle, waiting_line, line_taken};
 ghost use Rattle.actor_core.specs.Standings.{progress_of};
@@ -73,7 +73,7 @@ impl Player {
 impl Player {
     ghost use Rattle.std.specs.Prelude.{◌<◌, length};
     ghost use Rattle.run_core.specs.Leading.{GoesOn};
-    ghost use Rattle.run_core.specs.Players.{IsFit};
+    ghost use Rattle.run_core.specs.Players.{IsFit, IsMade};
     ghost use Rattle.run_core.specs.Moving.{Advances, Comes, Turns, Begins, IsDone};
 
     /// Goes on with the statement in progress: by a greeting, where one is due, and one call more. Without a further call its line is ahead.
@@ -81,7 +81,7 @@ impl Player {
         &mut self,
         mount: &mut Mount<S, C>,
     ) -> Result<bool, NoMemory>
-        requires { IsFit self.old }
+        requires { IsFit self.old mount.old }
         ensures called { IfOk result (λ called. called ≡ true → Advances Turns self.old mount.old self.new mount.new) }
         ensures ended { IfOk result (λ called. called ≡ false → Advances Comes self.old mount.old self.new mount.new) }
         ensures idle { IfOk result (λ called. called ≡ false → IsIdle (progress_of self.new.actor)) }
@@ -103,7 +103,7 @@ impl Player {
     /// Begins its next statement, and answers whether there was one.
     fn begin_next(&mut self) -> Result<bool, NoMemory>
         requires idle { IsIdle (progress_of self.old.actor) }
-        requires fit { IsFit self.old }
+        requires made { All IsMade self.old.queue.items }
         ensures begins { OnOk result (Begins self.old self.new) }
         ensures fewer { IfOk result (λ begun. begun ≡ true → length self.new.queue.items < length self.old.queue.items) }
         ensures none { IfOk result (λ begun. begun ≡ false → IsDone self.new) }
@@ -125,7 +125,7 @@ impl Player {
         &mut self,
         mount: &mut Mount<S, C>,
     ) -> Result<bool, NoMemory>
-        requires { IsFit self.old }
+        requires { IsFit self.old mount.old }
         ensures turns { OnOk result (Advances Turns self.old mount.old self.new mount.new) }
         ensures done { IfOk result (λ called. called ≡ false → IsDone self.new) }
         ensures goes_on { GoesOn mount.old mount.new }
@@ -144,12 +144,12 @@ impl Player {
 impl Player {
     ghost use Rattle.std.specs.Prelude.{◌≤◌};
     ghost use Rattle.run_core.specs.Leading.{GoesOn};
-    ghost use Rattle.run_core.specs.Players.{IsFit, lines_left};
+    ghost use Rattle.run_core.specs.Players.{IsFit, IsMade, lines_left};
     ghost use Rattle.run_core.specs.Moving.{Begins, Passes};
 
     /// Begins its next statement where none is in progress. It has one.
     fn begin_due(&mut self) -> Result<(), NoMemory>
-        requires fit { IsFit self.old }
+        requires made { All IsMade self.old.queue.items }
         requires some { 1 ≤ lines_left self.old }
         requires none_ahead { self.old.ahead.items ≡ [] }
         ensures begins { OnOk result (Begins self.old self.new) }
@@ -166,7 +166,7 @@ impl Player {
         &mut self,
         mount: &mut Mount<S, C>,
     ) -> Result<Line, NoMemory>
-        requires fit { IsFit self.old }
+        requires fit { IsFit self.old mount.old }
         requires busy { IsIdle (progress_of self.old.actor) → ⊥ }
         requires none_ahead { self.old.ahead.items ≡ [] }
         ensures passes { IfOk result (λ line. Passes line self.old mount.old self.new mount.new) }
@@ -187,7 +187,7 @@ impl Player {
         &mut self,
         mount: &mut Mount<S, C>,
     ) -> Result<Line, NoMemory>
-        requires fit { IsFit self.old }
+        requires fit { IsFit self.old mount.old }
         requires some { 1 ≤ lines_left self.old }
         ensures passes { IfOk result (λ line. Passes line self.old mount.old self.new mount.new) }
         ensures goes_on { GoesOn mount.old mount.new }

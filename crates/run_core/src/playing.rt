@@ -1,12 +1,13 @@
 //! Playing a script.
 ghost use Rattle.std.specs.Prelude.{◌≡◌, [], IfOk, All, length};
 ghost use Rattle.plfs_types.specs.Counts.{HasRisen};
+ghost use Rattle.mount_sound.specs.Sound.{IsFine};
 ghost use Rattle.script_lang.specs.Ranges.{FitsActor};
+ghost use Rattle.report_text.specs.Text.{HaveText};
 ghost use Rattle.run_core.specs.Conditions.{IsPlayable};
 ghost use Rattle.run_core.specs.Leading.{GoesOn};
 ghost use Rattle.run_core.specs.Play.{IsPlay};
 ghost use Rattle.run_core.specs.Faults.{HasFault};
-ghost use Rattle.run_core.specs.Listing.{ListNone};
 ghost use Rattle.run_core.specs.World.{IsCast};
 
 use crate::phase::play_all;
@@ -33,16 +34,18 @@ fn cast_of(alloc: Global, actors: &[ActorDecl]) -> Result<Vec<Player>, NoMemory>
 }
 
 /// Plays the script's actors by their written turns, each under its place in the declarations, and tells one line a statement, in the order in which the script has
-/// the statements. Statements go on after a fault or damage. Want of memory ends it.
+/// the statements. Statements go on after a fault or damage. Want of memory ends it. The mount's state is fine, as each is
+/// that was mounted and that its calls lead to.
 pub fn play<S: Store + Drop, C: Clock + Drop>(
     alloc: Global,
     mount: &mut Mount<S, C>,
     script: &Script,
 ) -> Result<Lines, NoMemory>
-    requires { IsPlayable script.now }
+    requires playable { IsPlayable script.now }
+    requires fine { IsFine mount.old }
     ensures plays { IfOk result (λ lines. IsPlay script.now mount.old lines mount.new) }
     ensures goes_on { GoesOn mount.old mount.new }
-    ensures names { IfOk result ListNone }
+    ensures text { IfOk result HaveText }
     ensures cause { IfOk result (λ lines. HasFault lines → HasRisen mount.old.store.faults mount.new.store.faults) }
 {
     let mut players = cast_of(alloc, script.actors.as_slice())?;

@@ -20,7 +20,7 @@ fn turn<S: Store + Drop, C: Clock + Drop>(
     place: usize,
 ) -> Result<bool, NoMemory>
     requires there { place < length players.old }
-    requires fit { AllFit players.old }
+    requires fit { AllFit players.old mount.old }
     ensures turned { OnOk result (At place players.old (λ before after. Advances Turns before mount.old after mount.new) players.new) }
     ensures done { IfOk result (λ called. called ≡ false → (player : ThePlayer) → slice_get players.new place ≡ Some player → IsDone player) }
     ensures goes_on { GoesOn mount.old mount.new }
@@ -37,7 +37,7 @@ fn turns_of<S: Store + Drop, C: Clock + Drop>(
     turned: Turned,
 ) -> Result<(), NoMemory>
     requires there { turned.actor < length players.old }
-    requires fit { AllFit players.old }
+    requires fit { AllFit players.old mount.old }
     ensures took { OnOk result (TookTurns (replicate turned.count turned.actor) players.old mount.old players.new mount.new) }
     ensures goes_on { GoesOn mount.old mount.new }
 {
@@ -56,7 +56,7 @@ pub(crate) fn take_turns<S: Store + Drop, C: Clock + Drop>(
     turns: &[Turned],
 ) -> Result<(), NoMemory>
     requires there { All (λ turned. turned.actor < length players.old) turns.now }
-    requires fit { AllFit players.old }
+    requires fit { AllFit players.old mount.old }
     ensures took { OnOk result (TookTurns (written_turns turns.now) players.old mount.old players.new mount.new) }
     ensures goes_on { GoesOn mount.old mount.new }
 {

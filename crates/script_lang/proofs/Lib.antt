@@ -8,6 +8,7 @@ mod DraftLemmas
 mod ExactLemmas
 mod FileNames
 mod FirstKinds
+mod GeneratedLemmas
 mod Keeping
 mod Keys
 mod KindLemmas

@@ -11,6 +11,8 @@ pub mod Phases
 pub mod Ranges
 pub mod Spelling
 pub mod Told
+-- A script that is generated.
+pub mod Generated
 -- Laws of it.
 pub mod Laws
 -- How scripts are read, step by step.

@@ -1,11 +1,12 @@
 //! Scripts, what they have their actors do, and the lines that tell what became of each statement. It stands on
-//! the shared values, on `indexmap` for the actors and on `hex` for data.
+//! the shared values, on `indexmap` for the actors, on `hex` for data and on `itoa` for the names of generated scripts.
 #![tactic(auto)]
 
 mod cast;
 mod data;
 mod draft;
 mod flaw;
+mod generated;
 mod line;
 mod meaning;
 mod names;
@@ -18,6 +19,7 @@ mod trouble;
 mod verb;
 mod words;
 
+pub use generated::generate;
 pub use line::{Line, Lines, MapText, Outcome, Why};
 pub use script::{
     ActorDecl, ActorList, Data, Numbered, Phase, PhaseList, Script, Statement, StatementList,

@@ -3,7 +3,7 @@ use Rattle.script_lang.specs.Told.{IsScriptTrouble}
 use Rattle.plfs_program.proofs.top.play_input.Goals as goal
 
 pub returns-in-Ok : goal.returns-in-Ok
-returns-in-Ok g c = c.play_script.ensures c.args.bytes.now c.in-Ok.ensures.script
+returns-in-Ok g c = c.play_read.ensures c.args.bytes.now c.in-Ok.ensures.script
 
 pub returns-in-Err-Fault : goal.returns-in-Err-Fault
 returns-in-Err-Fault g c =

@@ -1,9 +1,8 @@
-use Rattle.std.proofs.Common.{rules}
-use Rattle.plfs_program.specs.Course.{read}
-use Rattle.plfs_program.proofs.CourseLemmas.{course_of_slice}
+use Rattle.std.proofs.Common.{None, Some, ◌≡◌, sym, ◌∙◌}
 use Rattle.plfs_program.proofs.top.single.Goals as goal
 
-pub returns-in-Ok : goal.returns-in-Ok
-returns-in-Ok g c =
-    read c.in-Ok.bytes.items (search (rules, c.if-not-is_play.ensures.play)) c.in-Ok.ensures.whole
-    (course_of_slice c.in-Ok.bytes.items c.as_slice.result.now _ _ c.as_slice.ensures.value c.play_input.ensures)
+pub returns-in_default-command : goal.returns-in_default-command
+returns-in_default-command g c = c.refuse.ensures c.args.words.now _ _ (λ command built spelled. let bad : None ≡ Some command = sym c.in_default-command.is ∙ c.in-Ok.ensures.exact command spelled in cc)
+
+pub returns : goal.returns
+returns g c = c.obey.ensures c.args.words.now (rw c.in-Some.is at c.in-Ok.ensures.found) (λ other spelled. let same : Some other ≡ Some c.in-Some.command = sym (c.in-Ok.ensures.exact other spelled) ∙ c.in-Some.is in cc)

@@ -14,8 +14,8 @@ pass-requires-clause-fit g c = λ player here. (c.loop-statement.invariant.came.
 
 pub pass-requires-clause-some : goal.pass-requires-clause-some
 pass-requires-clause-some g c = λ player here.
-    has_line c.statement-item.result (drop (c.loop-statement.statement-index + 1) c.args.statements.now) c.loop-statement.players player
-    (subst (λ (z : List Numbered). AllStand z c.loop-statement.players) (left_item c.args.statements.now c.loop-statement.statement-index c.statement-item.result c.loop-statement-test.true c.statement-item.is) c.loop-statement.invariant.came.stand) here
+    has_line c.statement-item.result (drop (c.loop-statement.statement-index + 1) c.args.statements.now) c.loop-statement.players player c.loop-statement.mount
+    (subst (λ (z : List Numbered). AllStand z c.loop-statement.players c.loop-statement.mount) (left_item c.args.statements.now c.loop-statement.statement-index c.statement-item.result c.loop-statement-test.true c.statement-item.is) c.loop-statement.invariant.came.stand) here
 
 pub returns-in_err-pass-clause-goes_on : goal.returns-in_err-pass-clause-goes_on
 returns-in_err-pass-clause-goes_on g c =

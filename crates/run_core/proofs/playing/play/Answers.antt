@@ -8,7 +8,7 @@ use Rattle.run_core.specs.Conditions.{IsBuiltPhase}
 use Rattle.run_core.specs.World.{IsCast, PlayedSoFar}
 use Rattle.run_core.proofs.Phases.{is_play}
 use Rattle.run_core.proofs.Caused.{play_caused}
-use Rattle.run_core.proofs.WorksListNone.{play_lists_none}
+use Rattle.run_core.proofs.WorksText.{play_has_text}
 use Rattle.run_core.proofs.playing.play.Goals as goal
 
 pub play_all-requires-clause-fits : goal.play_all-requires-clause-fits
@@ -17,17 +17,17 @@ play_all-requires-clause-fits g c =
     let Casts : List ActorDecl × List Player → Type 0 = λ z. IsCast z.0 z.1 in
     let cast : IsCast c.args.script.now.actors c.deref_mut.result.now = subst Casts (λ i. (c.as_slice.ensures i, sym here i)) c.in_ok-players.ensures in
     let Fits : ℕ × List Phase → Type 0 = λ z. All (FitsPhase z.0) z.1 in
-    subst Fits (λ i. (sym cast.long i, sym c.as_slice-phases.ensures i)) c.requires.fits.phased
+    subst Fits (λ i. (sym cast.long i, sym c.as_slice-phases.ensures i)) c.requires.playable.fits.phased
 
 pub play_all-requires-clause-built : goal.play_all-requires-clause-built
-play_all-requires-clause-built g c = subst (λ (z : List Phase). All IsBuiltPhase z) (sym c.as_slice-phases.ensures) c.requires.built
+play_all-requires-clause-built g c = subst (λ (z : List Phase). All IsBuiltPhase z) (sym c.as_slice-phases.ensures) c.requires.playable.built
 
 pub play_all-requires-clause-stand : goal.play_all-requires-clause-stand
 play_all-requires-clause-stand g c =
     let here : c.deref_mut.result.now ≡ c.in_ok-players.players.items = c.deref_mut.ensures.value in
     let Casts : List ActorDecl × List Player → Type 0 = λ z. IsCast z.0 z.1 in
     let cast : IsCast c.args.script.now.actors c.deref_mut.result.now = subst Casts (λ i. (c.as_slice.ensures i, sym here i)) c.in_ok-players.ensures in
-    cast.stand
+    cast.stand c.args.mount.now c.requires.fine
 
 pub returns-clause-plays : goal.returns-clause-plays
 returns-clause-plays g c =
@@ -37,14 +37,14 @@ returns-clause-plays g c =
     is_play c.args.script.now c.play_all.new.lines c.deref_mut.result.now c.play_all.new.players c.args.mount.now c.play_all.new.mount cast
     (subst (λ (z : List Phase). PlayedSoFar z c.play_all.new.lines c.deref_mut.result.now c.args.mount.now c.play_all.new.players c.play_all.new.mount) c.as_slice-phases.ensures c.in_ok-play_all.ensures.played)
 
-pub returns-clause-names : goal.returns-clause-names
-returns-clause-names g c =
+pub returns-clause-text : goal.returns-clause-text
+returns-clause-text g c =
     let here : c.deref_mut.result.now ≡ c.in_ok-players.players.items = c.deref_mut.ensures.value in
     let Casts : List ActorDecl × List Player → Type 0 = λ z. IsCast z.0 z.1 in
     let cast : IsCast c.args.script.now.actors c.deref_mut.result.now = subst Casts (λ i. (c.as_slice.ensures i, sym here i)) c.in_ok-players.ensures in
     let play = is_play c.args.script.now c.play_all.new.lines c.deref_mut.result.now c.play_all.new.players c.args.mount.now c.play_all.new.mount cast
     (subst (λ (z : List Phase). PlayedSoFar z c.play_all.new.lines c.deref_mut.result.now c.args.mount.now c.play_all.new.players c.play_all.new.mount) c.as_slice-phases.ensures c.in_ok-play_all.ensures.played) in
-    play_lists_none c.args.script.now c.args.mount.now c.play_all.new.lines c.play_all.new.mount c.requires play
+    play_has_text c.args.script.now c.args.mount.now c.play_all.new.lines c.play_all.new.mount c.requires.playable play
 
 pub returns-clause-cause : goal.returns-clause-cause
 returns-clause-cause g c =
@@ -53,4 +53,4 @@ returns-clause-cause g c =
     let cast : IsCast c.args.script.now.actors c.deref_mut.result.now = subst Casts (λ i. (c.as_slice.ensures i, sym here i)) c.in_ok-players.ensures in
     let play = is_play c.args.script.now c.play_all.new.lines c.deref_mut.result.now c.play_all.new.players c.args.mount.now c.play_all.new.mount cast
     (subst (λ (z : List Phase). PlayedSoFar z c.play_all.new.lines c.deref_mut.result.now c.args.mount.now c.play_all.new.players c.play_all.new.mount) c.as_slice-phases.ensures c.in_ok-play_all.ensures.played) in
-    play_caused c.args.script.now c.args.mount.now c.play_all.new.lines c.play_all.new.mount c.requires play
+    play_caused c.args.script.now c.args.mount.now c.play_all.new.lines c.play_all.new.mount c.requires.playable play

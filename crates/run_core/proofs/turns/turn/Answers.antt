@@ -5,7 +5,7 @@ use Rattle.run_core.proofs.Tables.{set_here}
 use Rattle.run_core.proofs.turns.turn.Goals as goal
 
 pub take_turn-requires : goal.take_turn-requires
-take_turn-requires g c = c.requires.fit c.args.place (get_or c.args.players.now c.args.place c.index-players-place.result) (slice_get-get_or c.args.players.now c.args.place c.index-players-place.result c.requires.there)
+take_turn-requires g c = (c.requires.fit c.args.place (get_or c.args.players.now c.args.place c.index-players-place.result) (slice_get-get_or c.args.players.now c.args.place c.index-players-place.result c.requires.there)).1
 
 pub returns-clause-turned : goal.returns-clause-turned
 returns-clause-turned g c = record {

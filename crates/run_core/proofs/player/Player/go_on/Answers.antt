@@ -9,11 +9,11 @@ use Rattle.run_core.proofs.player.Player.go_on.Goals as goal
 pub loop-ask-init : goal.loop-ask-init
 loop-ask-init g c = record { so_far = not_yet c.args.self.now c.args.mount.now c.requires; queue = refl }
 
-pub call-reply-requires-clause-unowed : goal.call-reply-requires-clause-unowed
-call-reply-requires-clause-unowed g c = (asks_next (progress_of c.loop-ask.self.actor) c.in-Some.ask c.loop-ask.invariant.so_far.fit.unowed (sym c.in-Some.is ∙ c.in_ok-ask.ensures.ask)).owes
+pub call-reply-requires : goal.call-reply-requires
+call-reply-requires g c = (asks_next c.loop-ask.self.number c.loop-ask.mount (progress_of c.loop-ask.self.actor) c.in-Some.ask c.loop-ask.invariant.so_far.fit.safe (sym c.in-Some.is ∙ c.in_ok-ask.ensures.ask)).may
 
 pub take-requires : goal.take-requires
-take-requires g c = is_out (progress_of c.loop-ask.self.actor) c.in-Some.ask (asks_next (progress_of c.loop-ask.self.actor) c.in-Some.ask c.loop-ask.invariant.so_far.fit.unowed (sym c.in-Some.is ∙ c.in_ok-ask.ensures.ask)) (progress_of c.next.new.self) c.in_ok-ask.ensures.goes_on
+take-requires g c = is_out c.loop-ask.self.number c.loop-ask.mount (progress_of c.loop-ask.self.actor) c.in-Some.ask (asks_next c.loop-ask.self.number c.loop-ask.mount (progress_of c.loop-ask.self.actor) c.in-Some.ask c.loop-ask.invariant.so_far.fit.safe (sym c.in-Some.is ∙ c.in_ok-ask.ensures.ask)) (progress_of c.next.new.self) c.in_ok-ask.ensures.goes_on
 
 pub returns-in_err-take-clause-goes_on : goal.returns-in_err-take-clause-goes_on
 returns-in_err-take-clause-goes_on g c = went_on c.args.self.now c.loop-ask.self c.args.mount.now c.loop-ask.mount c.call-reply.new.mount c.loop-ask.invariant.so_far (went c.loop-ask.mount c.call-reply.new.mount _ c.call-reply.ensures)
@@ -21,7 +21,7 @@ returns-in_err-take-clause-goes_on g c = went_on c.args.self.now c.loop-ask.self
 pub returns-then-not-free-clause-called : goal.returns-then-not-free-clause-called
 returns-then-not-free-clause-called g c = λ is.
     turned c.args.self.now c.loop-ask.self _ c.args.mount.now c.loop-ask.mount c.call-reply.new.mount c.loop-ask.invariant.so_far
-    (called c.loop-ask.self _ c.loop-ask.mount c.call-reply.new.mount c.in-Some.ask c.call-reply.result c.loop-ask.invariant.so_far.fit (asks_next (progress_of c.loop-ask.self.actor) c.in-Some.ask c.loop-ask.invariant.so_far.fit.unowed (sym c.in-Some.is ∙ c.in_ok-ask.ensures.ask)) (sym c.greets-free.ensures ∙ c.if-not-free.true) c.call-reply.ensures (not_refused c.call-reply.result (λ bad. c.in_ok-take.ensures.no_memory bad)) (c.in_ok-take.ensures.goes_on ∙ ap (λ z. with_reply z c.call-reply.result) c.in_ok-ask.ensures.goes_on) (record { number = refl; queue = refl; ahead = refl }))
+    (called c.loop-ask.self _ c.loop-ask.mount c.call-reply.new.mount c.in-Some.ask c.call-reply.result c.loop-ask.invariant.so_far.fit (asks_next c.loop-ask.self.number c.loop-ask.mount (progress_of c.loop-ask.self.actor) c.in-Some.ask c.loop-ask.invariant.so_far.fit.safe (sym c.in-Some.is ∙ c.in_ok-ask.ensures.ask)) (sym c.greets-free.ensures ∙ c.if-not-free.true) c.call-reply.ensures (not_refused c.call-reply.result (λ bad. c.in_ok-take.ensures.no_memory bad)) (c.in_ok-take.ensures.goes_on ∙ ap (λ z. with_reply z c.call-reply.result) c.in_ok-ask.ensures.goes_on) (record { number = refl; queue = refl; ahead = refl }))
 
 pub returns-then-not-free-clause-goes_on : goal.returns-then-not-free-clause-goes_on
 returns-then-not-free-clause-goes_on g c = went_on c.args.self.now c.loop-ask.self c.args.mount.now c.loop-ask.mount c.call-reply.new.mount c.loop-ask.invariant.so_far (went c.loop-ask.mount c.call-reply.new.mount _ c.call-reply.ensures)
@@ -29,7 +29,7 @@ returns-then-not-free-clause-goes_on g c = went_on c.args.self.now c.loop-ask.se
 pub loop-ask-preserved : goal.loop-ask-preserved
 loop-ask-preserved g c = record {
   so_far = further c.args.self.now c.loop-ask.self _ c.args.mount.now c.loop-ask.mount c.call-reply.new.mount c.loop-ask.invariant.so_far
-      (greeted c.loop-ask.self _ c.loop-ask.mount c.call-reply.new.mount c.in-Some.ask c.call-reply.result c.loop-ask.invariant.so_far.fit (asks_next (progress_of c.loop-ask.self.actor) c.in-Some.ask c.loop-ask.invariant.so_far.fit.unowed (sym c.in-Some.is ∙ c.in_ok-ask.ensures.ask)) (sym c.greets-free.ensures ∙ c.if-not-free.false) c.call-reply.ensures (not_refused c.call-reply.result (λ bad. c.in_ok-take.ensures.no_memory bad)) (c.in_ok-take.ensures.goes_on ∙ ap (λ z. with_reply z c.call-reply.result) c.in_ok-ask.ensures.goes_on) (record { number = refl; queue = refl; ahead = refl }));
+      (greeted c.loop-ask.self _ c.loop-ask.mount c.call-reply.new.mount c.in-Some.ask c.call-reply.result c.loop-ask.invariant.so_far.fit (asks_next c.loop-ask.self.number c.loop-ask.mount (progress_of c.loop-ask.self.actor) c.in-Some.ask c.loop-ask.invariant.so_far.fit.safe (sym c.in-Some.is ∙ c.in_ok-ask.ensures.ask)) (sym c.greets-free.ensures ∙ c.if-not-free.false) c.call-reply.ensures (not_refused c.call-reply.result (λ bad. c.in_ok-take.ensures.no_memory bad)) (c.in_ok-take.ensures.goes_on ∙ ap (λ z. with_reply z c.call-reply.result) c.in_ok-ask.ensures.goes_on) (record { number = refl; queue = refl; ahead = refl }));
   queue = c.loop-ask.invariant.queue;
 }
 

@@ -1,0 +1,56 @@
+-- The statement that tells of a file: by the names of what its writers left, or by its index where somebody has it open.
+use Rattle.std.specs.Prelude.{ℕ, List, [], ◌∷◌, ◌++◌, Option, Result, Ok, Err}
+use Rattle.plfs_types.specs.declared.entries.Trunc.{Trunc}
+use Rattle.flat_format.specs.declared.flat.Flat.{Flat}
+use Rattle.story.specs.Program.{done, followed_by}
+use Rattle.flow.specs.declared.trouble.Stuck.{Stuck}
+use Rattle.attr_flow.specs.declared.attr.Attr.{Attr}
+use Rattle.attr_flow.specs.declared.attr_flow.AttrOut.{AttrOut}
+use Rattle.attr_flow.specs.declared.attr_flow.AttrOut.TheVariants.{Cached, MustMerge}
+use Rattle.attr_flow.specs.Asking.{attr_program}
+use Rattle.attr_flow.specs.Attributes.{gathered}
+use Rattle.index_reader.specs.declared.listing.Listing.{Listing}
+use Rattle.index_reader.specs.declared.sharing.Share.{Share}
+use Rattle.index_reader.specs.Replies.{Tries, on_ok}
+use Rattle.index_reader.specs.Opening.{open_at_program}
+use Rattle.index_reader.specs.Truncs.{trunc_program}
+use Rattle.index_reader.specs.Runs.{merged_of}
+use Rattle.index_reader.specs.Gathered.{covers_of, pieces_of_each}
+use Rattle.actor_core.specs.declared.kept.Stop.{Stop}
+use Rattle.actor_core.specs.declared.kept.Kept.{Kept}
+use Rattle.actor_core.specs.Stopping.{carried}
+use Rattle.actor_core.specs.Endings.{stopped, told_of}
+use Rattle.actor_core.specs.Opened.{first_covers}
+use Rattle.actor_core.specs.Readers.{programs_from}
+use Rattle.actor_core.specs.Sharing.{by_itself}
+use Rattle.actor_core.specs.Work.{Work, finishes}
+
+-- the index of what was listed and of the shares
+abbrev pub flat_of : Listing → List Share → Flat
+flat_of listing shares = record {
+  covers = first_covers (covers_of shares ++ listing.flat.covers);
+  pieces = merged_of (listing.flat.pieces ∷ pieces_of_each shares);
+}
+
+-- what the index and the truncates tell
+abbrev pub attr_of : Listing → List Share → List Trunc → Attr
+attr_of listing shares truncs = gathered (flat_of listing shares) truncs
+
+-- the truncates are listed behind the shares
+abbrev pub tells_by : Listing → List Share → Tries Attr
+tells_by listing shares = followed_by (trunc_program listing.room) (on_ok (λ truncs. done (Ok (attr_of listing shares truncs))))
+
+-- the index droppings are read as one share and then the truncates, unless the listing was stuck
+abbrev pub if_relisted : Kept → Option Stop → Result Listing Stuck → Work
+if_relisted kept stop (Err because) = finishes (told_of kept (Err because))
+if_relisted kept stop (Ok listing) =
+    carried (by_itself (programs_from 1 listing 0) [] (tells_by listing)) stop (λ left result. finishes (told_of kept result)) (finishes (stopped kept))
+
+-- where somebody has the file open, its index is gathered
+abbrev pub if_asked : Kept → Option Stop → Result AttrOut Stuck → Work
+if_asked kept stop (Err because) = finishes (told_of kept (Err because))
+if_asked kept stop (Ok (Cached attr)) = finishes (told_of kept (Ok attr))
+if_asked kept stop (Ok (MustMerge room)) = carried (open_at_program room) stop (if_relisted kept) (finishes (stopped kept))
+
+abbrev pub tells_of_file : Kept → Option Stop → List ℕ → Work
+tells_of_file kept stop name = carried (attr_program name) stop (if_asked kept) (finishes (stopped kept))

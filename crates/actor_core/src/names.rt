@@ -1,0 +1,82 @@
+//! The names of all files.
+ghost use Rattle.std.specs.Prelude.{◌≡◌};
+ghost use Rattle.flow.specs.Standing.{next_of};
+ghost use Rattle.actor_core.specs.Names.{is_logical as logical_test, logical_among, names_told};
+ghost use Rattle.actor_core.specs.Naming.{names_standing, names_left};
+
+use flow::{Flow, Stuck};
+use looks::failure;
+use mount_model::{Call, Reply};
+use plfs_types::{LogicalName, Name, NameList, NoMemory};
+
+/// Names all files by one call.
+#[derive(Drop)]
+pub(crate) enum NamesRead {
+    Asking,
+    Told(Result<NameList, Stuck>),
+}
+
+/// Whether a file may have this name.
+fn is_logical(name: &Name) -> bool
+    ensures { result ≡ logical_test name.now }
+{
+    LogicalName::read(name.bytes()).is_some()
+}
+
+/// The logical names among these, in their order. It takes no memory.
+fn logical(names: NameList) -> NameList
+    ensures { result ≡ logical_among names }
+{
+    let mut names = names.into_vec();
+    names.retain(|name| is_logical(name));
+    NameList::from_vec(names)
+}
+
+/// The names that the reply tells.
+fn told(reply: Reply) -> Result<NameList, Stuck>
+    ensures { result ≡ names_told reply }
+{
+    match reply {
+        Reply::Rooms(names) => Ok(logical(names)),
+        other => Err(failure(&other)),
+    }
+}
+
+impl NamesRead {
+    /// The call that is to be made, where there is one.
+    fn call(&self) -> Option<Call>
+        ensures { result ≡ next_of (names_standing self.now) }
+    {
+        match self {
+            NamesRead::Asking => Some(Call::Rooms),
+            NamesRead::Told(_) => None,
+        }
+    }
+}
+
+impl Flow for NamesRead {
+    type Out = Result<NameList, Stuck>;
+
+    ghost standing = { names_standing };
+
+    ghost left = { names_left };
+
+    fn next(&mut self) -> Result<Option<Call>, NoMemory> {
+        Ok(self.call())
+    }
+
+    fn take(&mut self, reply: Reply) -> Result<(), NoMemory> {
+        if let Reply::NoMemory = reply {
+            return Err(NoMemory);
+        }
+        *self = NamesRead::Told(told(reply));
+        Ok(())
+    }
+
+    fn out(self) -> Result<NameList, Stuck> {
+        match self {
+            NamesRead::Told(result) => result,
+            NamesRead::Asking => unreachable!(),
+        }
+    }
+}

@@ -1,0 +1,96 @@
+//! The end of a flattening.
+ghost use Rattle.flatten_core.specs.Stages.{IsUnderway};
+
+use crate::stages::Stage;
+use crate::starting::Started;
+use flat_format::{Flat, encode};
+use flow::{Flow, Stuck};
+use index_reader::OpenRead;
+use mount_model::{Call, Reply};
+use plfs_types::{Cover, CoverList, NoMemory};
+use std::alloc::Global;
+use std::mem;
+
+/// Installs a flattened index: lists the droppings of its container, syncs the log and the index dropping of each writer
+/// that it covers, by ascending id, then writes it to the temporary file, syncs that, and gives it its name.
+///
+/// It ends with the first trouble. After the listings a covered writer without an index dropping is damage, at its cover
+/// in the flattened index of this id.
+#[derive(Drop)]
+pub struct InstallFlow {
+    alloc: Global,
+    room: u64,
+    flat: u64,
+    stage: Stage,
+    ghost underway: { IsUnderway stage },
+}
+
+impl InstallFlow {
+    ghost use Rattle.std.specs.Prelude.{◌≡◌, IfOk};
+    ghost use Rattle.flat_format.specs.Spelling.{flat_spelling};
+    ghost use Rattle.flat_format.specs.Valid.{IsFlat};
+    ghost use Rattle.flow.specs.Standing.{ready};
+    ghost use Rattle.flatten_core.specs.Installing.{install_program};
+    ghost use Rattle.flatten_core.specs.InstallStages.{install_standing};
+
+    /// The covers as a list of their own.
+    fn copied(alloc: Global, covers: &[Cover]) -> Result<CoverList, NoMemory>
+        ensures { IfOk result (λ list. list ≡ covers.now) }
+    {
+        let mut list = Vec::new(alloc);
+        list.extend_from_slice(covers)?;
+        Ok(CoverList::from_vec(list))
+    }
+
+    /// Installs this content for a flattening that was begun.
+    pub fn new(alloc: Global, started: &Started, content: &Flat) -> Result<InstallFlow, NoMemory>
+        requires { IsFlat content.now }
+        ensures { IfOk result (λ flow. install_standing flow ≡ ready (install_program started.now.room started.now.flat content.now.covers (flat_spelling content.now))) }
+    {
+        let covers = Self::copied(alloc, content.covers.as_slice())?;
+        let bytes = encode(alloc, content)?;
+        Ok(InstallFlow {
+            alloc,
+            room: started.room,
+            flat: started.flat,
+            stage: Stage::Scanning {
+                scan: OpenRead::top(alloc, started.room),
+                covers,
+                bytes,
+            },
+        })
+    }
+}
+
+impl Flow for InstallFlow {
+    ghost use Rattle.flatten_core.specs.InstallStages.{install_standing, install_left};
+
+    type Out = Result<(), Stuck>;
+
+    ghost standing = { install_standing };
+
+    ghost left = { install_left };
+
+    fn next(&mut self) -> Result<Option<Call>, NoMemory> {
+        let stage = mem::replace(&mut self.stage, Stage::Ended(Err(Stuck::Fault)));
+        let (stage, call) = stage.give(self.room, self.flat)?;
+        self.stage = stage;
+        Ok(call)
+    }
+
+    fn take(&mut self, reply: Reply) -> Result<(), NoMemory> {
+        if let Reply::NoMemory = reply {
+            return Err(NoMemory);
+        }
+        let stage = mem::replace(&mut self.stage, Stage::Ended(Err(Stuck::Fault)));
+        self.stage = stage.after(self.alloc, self.room, self.flat, reply)?;
+        Ok(())
+    }
+
+    fn out(self) -> Result<(), Stuck> {
+        match self.stage {
+            Stage::Ended(outcome) => outcome,
+            _ => unreachable!(),
+        }
+    }
+}

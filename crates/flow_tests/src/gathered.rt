@@ -1,0 +1,126 @@
+//! What is made of shares: one share of several, an open reader, and what a gathered index tells of its file.
+ghost use Rattle.std.specs.Prelude.{IfOk, IfSome};
+ghost use Rattle.index_reader.specs.Listing as listed;
+
+use crate::cases::{Case, Machine, all_hold};
+use crate::playing::{Shown, Tell, outcome, show};
+use crate::readers::droppings;
+use crate::replies::Told;
+use attr_flow::attr_of;
+use flat_format::Flat;
+use index_reader::{
+    Gathered, Listing, OpenReader, Reading, Share, ShareList, ShareRead, gather, join_shares,
+};
+use plain_file::{PieceList, Pieces};
+use plfs_types::{Bytes, CoverList, NoMemory, Trunc, TruncList};
+use std::alloc::Global;
+use std::test::Fail;
+
+// The share of this writer's dropping, where nothing is covered.
+fn share_of(alloc: Global, writer: u64, told: &[Told]) -> Result<Share, Fail> {
+    let droppings = droppings(alloc, writer, false)?;
+    let flow = ShareRead::new(alloc, 1, droppings, CoverList::new(alloc));
+    let out = outcome(alloc, flow, told, &mut String::new(alloc))?;
+    let share = out.ok_or("no outcome")?.ok().ok_or("no share")?;
+    Ok(share)
+}
+
+impl Tell for Bytes {
+    fn tell(&self, line: &mut String) -> Result<(), NoMemory> {
+        for byte in self.as_slice() {
+            line.push(char::from(*byte))?;
+        }
+        Ok(())
+    }
+}
+
+// The entries of the writer 9: of 5 bytes, and of 3 that overlap them in the file.
+const FIRST: [Told; 3] = [
+    Told::Long(80),
+    Told::Long(8),
+    Told::Spelled(b"", &[0, 5, 0, 11, 9, 4, 3, 5, 12, 9]),
+];
+
+// The entry of another writer, which is the newest.
+const OTHER: [Told; 3] = [
+    Told::Long(40),
+    Told::Long(2),
+    Told::Spelled(b"", &[6, 2, 0, 13, 3]),
+];
+
+#[test]
+fn a_joined_share_has_each_writer_and_the_newest_bytes(rt: HostRuntime) -> Result<(), Fail> {
+    let alloc = rt.alloc();
+    let first = share_of(alloc, 9, &FIRST)?;
+    let other = share_of(alloc, 3, &OTHER)?;
+    let shares = ShareList::from_vec(vec![in alloc; first, other]?);
+    let mut line = String::new(alloc);
+    join_shares(&rt, alloc, shares, 2)?.tell(&mut line)?;
+    assert!(rt; line.as_str() == "share 3:1 9:2 0+4 4+2 6+2", "{line}");
+    Ok(())
+}
+
+// What was gathered of the file of the two entries, which was truncated so.
+fn gathered(alloc: Global, truncs: TruncList) -> Result<Gathered, Fail>
+    ensures { IfOk result (λ all. listed.AreByWriter all.droppings) }
+{
+    let share = share_of(alloc, 9, &FIRST)?;
+    let pieces = Pieces::read(PieceList::new(alloc)).ok().ok_or("pieces")?;
+    let flat = Flat {
+        covers: CoverList::new(alloc),
+        pieces,
+    };
+    let listing = Listing {
+        room: 1,
+        droppings: droppings(alloc, 9, false)?,
+        flat,
+    };
+    let all = gather(
+        alloc,
+        listing,
+        ShareList::from_vec(vec![in alloc; share]?),
+        truncs,
+    )?;
+    Ok(all)
+}
+
+#[test]
+fn a_gathered_index_tells_of_its_file(rt: HostRuntime) -> Result<(), Fail> {
+    let alloc = rt.alloc();
+    let trunc = Trunc { stamp: 20, size: 3 };
+    let all = gathered(alloc, TruncList::from_vec(vec![in alloc; trunc]?))?;
+    let attr = attr_of(alloc, &all.flat, &all.truncs)?;
+    let mut line = String::new(alloc);
+    attr.tell(&mut line)?;
+    assert!(rt;
+        line.as_str() == "size 3 stored 8 9=8 truncates 20:3",
+        "{line}"
+    );
+    Ok(())
+}
+
+pub(crate) fn read(alloc: Global, told: &[Told], shown: &mut Shown) -> Result<(), Fail> {
+    let reader = OpenReader::new(alloc, gathered(alloc, TruncList::new(alloc))?)?;
+    show(alloc, Reading::new(alloc, &reader, 0, 100)?, told, shown)
+}
+
+const CASES: [Case; 2] = [
+    Case {
+        machine: Machine::Read,
+        told: &[Told::Text(b"hell"), Told::Text(b"abc")],
+        asks: "read log.7.9 0 4 read log.7.9 5 3",
+        ends: "hellabc",
+    },
+    // a log that is too short for a part
+    Case {
+        machine: Machine::Read,
+        told: &[Told::Text(b"hell"), Told::Text(b"a")],
+        asks: "read log.7.9 0 4 read log.7.9 5 3",
+        ends: "damaged hostdir.7/log.7.9 6",
+    },
+];
+
+#[test]
+fn a_read_asks_a_log_once_for_each_part(rt: HostRuntime) -> Result<(), Fail> {
+    all_hold(&rt, rt.alloc(), &CASES)
+}

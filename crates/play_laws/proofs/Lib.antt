@@ -1,0 +1,14 @@
+mod Carrying
+mod Others
+mod Standing
+mod Finding
+mod Listings
+mod Dealing
+mod Alone
+mod ByWorkers
+mod Opened
+mod ReadLines
+mod Openings
+mod Statements
+mod Actors
+mod Casts

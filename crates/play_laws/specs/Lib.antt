@@ -1,0 +1,6 @@
+pub mod OneFile
+pub mod Opening
+pub mod Ending
+pub mod Comparing
+pub mod Showing
+pub mod Readers

@@ -1,0 +1,52 @@
+-- How a statement opens a reader.
+use Rattle.std.specs.Prelude.{◌≡◌, ◌≤◌, ℕ, List, ◌∷◌, ◌++◌, Some}
+use Rattle.std.specs.List.{All, Any}
+use Rattle.plfs_types.specs.declared.entries.Trunc.{Trunc}
+use Rattle.store_api.specs.declared.tree.Tree.{Tree}
+use Rattle.store_laws.specs.There.{IsRoomOf}
+use Rattle.mount_model.specs.Paths.{Name}
+use Rattle.mount_model.specs.declared.call.Call.TheVariants.{Find, Greet}
+use Rattle.mount_model.specs.declared.reply.Reply.TheVariants.{Room}
+use Rattle.mount_model.specs.History.{Event}
+use Rattle.gathering.specs.Moments.{Moment, Dropping, moment_after}
+use Rattle.gathering.specs.Seen.{Asked, asked_in, calls_of}
+use Rattle.gathering.specs.Gathering.{Gathered}
+use Rattle.mount_sound.specs.Owed.{IsLawful}
+use Rattle.gathering.specs.Listing.{AreTruncsAt}
+use Rattle.gathering.specs.Opening.{ListsTruncs, HasView}
+use Rattle.gathering.specs.View.{IsAboveCut}
+use Rattle.gathering.specs.Bounds.{IsSyncedIn}
+use Rattle.play_laws.specs.OneFile.{OneFile}
+
+-- a stretch of a history, and all that went before it
+pub record Stretch : Type 0 where
+  pub before : List Event
+  pub events : List Event
+
+-- the room of this number is the first that has this name, as the store tells its rooms
+abbrev pub IsRoomNamed : Moment → Name → ℕ → Type 0
+IsRoomNamed moment name room = (tree : Tree) → moment.state.store.tree ≡ Some tree → IsRoomOf tree name room
+
+-- In this stretch the caller opened the file of this name. Its first call found the container, a later one listed its truncates, which are the file's.
+-- The cut has of each writer at least what had landed at the first call, and so all that was synced by then, and at most what had landed at the
+-- listing; and it misses no writer whose dropping stood at the first call. Truncates that come later are above all its writes.
+pub record OpensOneFile (start : Moment) (caller : ℕ) (stretch : Stretch) (name : Name) (file : OneFile) : Type 0 where
+  pub room : ℕ
+  pub earlier : List Event
+  pub first : Event
+  pub more : List Event
+  pub listing : Event
+  pub later : List Event
+  pub split : stretch.events ≡ earlier ++ (first ∷ more ++ listing ∷ later)
+  -- but for a greeting the caller makes no call before the first
+  pub waits : All (λ (a : Asked). a.ask.call ≡ Greet) (calls_of caller earlier)
+  pub begins : first.caller ≡ caller
+  pub finds : first.ask.call ≡ Find name
+  pub found : first.reply ≡ Room room
+  pub named : IsRoomNamed (moment_after start (stretch.before ++ earlier)) name room
+  pub lists : listing.caller ≡ caller
+  pub truncates : ListsTruncs room file.truncs (asked_in listing)
+  pub until : file.moment ≡ moment_after start (stretch.before ++ (earlier ++ first ∷ more))
+  pub sees : HasView (moment_after start (stretch.before ++ earlier)) file.moment room file.cut file.truncs
+  pub synced : (d : Dropping) (count : ℕ) → d.room ≡ room → IsSyncedIn (stretch.before ++ earlier) d count → Any (λ (g : Gathered). (g.dropping ≡ d) × (count ≤ g.count)) file.cut
+  pub above : (events : List Event) (ts : List Trunc) → IsLawful file.moment.state events → AreTruncsAt (moment_after file.moment events) room ts → (more : List Trunc) × (ts ≡ file.truncs ++ more) × All (IsAboveCut file.moment file.cut) more

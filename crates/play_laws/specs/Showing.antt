@@ -1,0 +1,86 @@
+-- What the lines of a reader's statements show of its one file.
+use Rattle.std.specs.Prelude.{◌≡◌, ◌≢◌, ⊤, ℕ, List, length, Option, Some, None}
+use Rattle.plfs_types.specs.declared.entries.Trunc.{Trunc}
+use Rattle.plfs_types.specs.declared.entries.WriterCount.{WriterCount}
+use Rattle.plain_file.specs.declared.pieces.Piece.{Piece}
+use Rattle.plain_file.specs.File.{slice}
+use Rattle.mount_model.specs.Paths.{Name}
+use Rattle.script_lang.specs.declared.line.Outcome.{Outcome}
+use Rattle.script_lang.specs.declared.line.Outcome.TheVariants.{Reader, Read as WasRead, Same, Differs, Map as Mapped, ReaderClosed, Gone}
+use Rattle.script_lang.specs.declared.line.Why.TheVariants.{AlreadyOpen, NotOpen}
+use Rattle.script_lang.specs.declared.script.Data.{Data}
+use Rattle.script_lang.specs.declared.script.Statement.{Statement}
+use Rattle.script_lang.specs.declared.script.Statement.TheVariants.{Ropen, Read, Verify, Map, Rclose}
+use Rattle.actor_core.specs.Data.{bytes_of, length_of}
+use Rattle.actor_core.specs.Outcomes.{map_text}
+use Rattle.gathering.specs.Moments.{Moment}
+use Rattle.play_laws.specs.OneFile.{OneFile, seen_bytes, ArePiecesSeen, printed_cut}
+use Rattle.play_laws.specs.Opening.{Stretch, OpensOneFile}
+use Rattle.play_laws.specs.Comparing.{FirstDifference}
+use Rattle.play_laws.specs.Ending.{EndsEarly, DoesNothing, OpensNone}
+
+-- ---- the line of an opening
+
+-- the size, the counts and the truncates are those of the file
+pub record TellsOneFile (size : ℕ) (cut : List WriterCount) (truncs : List Trunc) (file : OneFile) : Type 0 where
+  pub size_is : size ≡ length (seen_bytes file)
+  pub counts : cut ≡ printed_cut file.cut
+  pub truncates : truncs ≡ file.truncs
+
+-- it opens a file, which the actor has then, or it has none
+abbrev pub ShowsOpening : Moment → ℕ → Stretch → Name → Outcome → Option OneFile → Type 0
+ShowsOpening start caller stretch name (Reader size cut truncs) new = (file : OneFile) × (new ≡ Some file) × OpensOneFile start caller stretch name file × TellsOneFile size cut truncs file
+ShowsOpening start caller stretch name other new = (new ≡ None) × OpensNone start stretch other
+
+-- ---- the lines of an open reader
+
+-- the bytes from there on
+abbrev pub ShowsRead : Moment → Stretch → OneFile → ℕ → ℕ → Outcome → Type 0
+ShowsRead start stretch file at len (WasRead place content) = (place ≡ at) × (content ≡ slice (seen_bytes file) at len)
+ShowsRead start stretch file at len other = EndsEarly start stretch other
+
+-- whether the bytes from there on are the data
+abbrev pub ShowsVerified : Moment → Stretch → OneFile → ℕ → Data → Outcome → Type 0
+ShowsVerified start stretch file at content Same = slice (seen_bytes file) at (length_of content) ≡ bytes_of content
+ShowsVerified start stretch file at content (Differs place) = FirstDifference at (bytes_of content) (slice (seen_bytes file) at (length_of content)) place
+ShowsVerified start stretch file at content other = EndsEarly start stretch other
+
+-- the pieces
+abbrev pub ShowsMap : OneFile → Outcome → Type 0
+ShowsMap file (Mapped text) = (pieces : List Piece) × ArePiecesSeen file pieces × (text ≡ map_text pieces)
+ShowsMap file other = other ≡ Gone
+
+-- ---- statements
+
+-- it goes so where a file is open, and else nothing is done
+abbrev pub IfOpen : Option OneFile → Outcome → (OneFile → Type 0) → Type 0
+IfOpen None outcome shows = DoesNothing NotOpen outcome
+IfOpen (Some file) outcome shows = shows file
+
+abbrev pub UnlessOpen : Option OneFile → Outcome → Option OneFile → Type 0 → Type 0
+UnlessOpen None outcome new shows = shows
+UnlessOpen (Some file) outcome new shows = (new ≡ Some file) × DoesNothing AlreadyOpen outcome
+
+-- it is closed, unless its actor was stopped before
+abbrev pub ShowsClosing : Option OneFile → Outcome → Option OneFile → Type 0
+ShowsClosing old ReaderClosed new = (old ≢ None) × (new ≡ None)
+ShowsClosing old other new = (new ≡ old) × IfOpen old other (λ file. other ≡ Gone)
+
+-- no line of a reader's statement
+abbrev pub ShowsNone : Outcome → Type 0
+ShowsNone (Reader size cut truncs) = ⊥
+ShowsNone (WasRead place content) = ⊥
+ShowsNone Same = ⊥
+ShowsNone (Differs place) = ⊥
+ShowsNone (Mapped text) = ⊥
+ShowsNone ReaderClosed = ⊥
+ShowsNone other = ⊤
+
+-- In this stretch the caller makes a statement. It had this file open before it, or none, and has that one or none after it. Its line shows so much.
+abbrev pub Shows : Moment → ℕ → Stretch → Option OneFile → Statement → Outcome → Option OneFile → Type 0
+Shows start caller stretch old (Ropen name workers) outcome new = UnlessOpen old outcome new (ShowsOpening start caller stretch name outcome new)
+Shows start caller stretch old (Read at len) outcome new = (new ≡ old) × IfOpen old outcome (λ file. ShowsRead start stretch file at len outcome)
+Shows start caller stretch old (Verify at content) outcome new = (new ≡ old) × IfOpen old outcome (λ file. ShowsVerified start stretch file at content outcome)
+Shows start caller stretch old Map outcome new = (new ≡ old) × IfOpen old outcome (λ file. ShowsMap file outcome)
+Shows start caller stretch old Rclose outcome new = ShowsClosing old outcome new
+Shows start caller stretch old other outcome new = (new ≡ old) × ShowsNone outcome

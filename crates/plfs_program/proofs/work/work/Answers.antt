@@ -1,0 +1,24 @@
+use Rattle.plfs_types.specs.Counts.{HasRisen}
+use Rattle.mount_sound.proofs.Facts.{mounted_fine}
+use Rattle.plfs_program.specs.Calling.{broke_off}
+use Rattle.plfs_program.proofs.Lines.{play_cause}
+use Rattle.plfs_program.proofs.MountLemmas.{all_unmounted, all_caused}
+use Rattle.plfs_program.proofs.work.work.Goals as goal
+
+pub play-lines-requires-clause-fine : goal.play-lines-requires-clause-fine
+play-lines-requires-clause-fine g c = mounted_fine 0 (g.C.Clock.times c.args.clock) (g.S.Store.stored c.args.store) c.in-Ok.mount c.in-Ok.ensures.ok
+
+pub returns-in-Ok-clause-cause : goal.returns-in-Ok-clause-cause
+returns-in-Ok-clause-cause g c =
+    play_cause (g.C.Clock.times c.args.clock) (g.S.Store.stored c.args.store) (g.S.Store.stored c.close.result) c.in-Ok.mount c.play-lines.new.mount c.play-lines.result c.in-Ok.ensures.ok c.close.ensures c.play-lines.ensures.cause
+
+pub returns-in-Err-clause-left : goal.returns-in-Err-clause-left
+returns-in-Err-clause-left g c = broke_off c.in-Err.trouble c.in-Err.ensures.err
+
+pub returns-in-Err-clause-in_turn : goal.returns-in-Err-clause-in_turn
+returns-in-Err-clause-in_turn g c =
+    all_unmounted (g.C.Clock.times c.args.clock) (g.S.Store.stored c.args.store) (g.S.Store.stored c.in-Err.store) c.in-Err.trouble c.args.script.now c.mounting_line.result c.in-Err.ensures.err c.mounting_line.ensures
+
+pub returns-in-Err-clause-cause : goal.returns-in-Err-clause-cause
+returns-in-Err-clause-cause g c =
+    all_caused c.in-Err.trouble c.mounting_line.result (HasRisen (g.S.Store.stored c.args.store).faults (g.S.Store.stored c.in-Err.store).faults) c.mounting_line.ensures c.in-Err.ensures.fault

@@ -1,0 +1,90 @@
+//! A store is mounted, and a script is played on it.
+ghost use Rattle.std.specs.Prelude.{◌≡◌, true, Some, IfOk};
+ghost use Rattle.plfs_types.specs.Counts.{HasRisen};
+ghost use Rattle.report_text.specs.Text.{HaveText};
+ghost use Rattle.mount_model.specs.Paths.{marks_folder};
+ghost use Rattle.run_core.specs.Conditions.{IsPlayable};
+ghost use Rattle.plfs_program.specs.Calling.{Leaves};
+ghost use Rattle.plfs_program.specs.Lines.{AreLinesOf};
+ghost use Rattle.plfs_program.specs.Mounting.{unmounted_of, IsUnmounted};
+ghost use Rattle.plfs_program.specs.Outcomes.{has_line, is_fault};
+
+use edge_io::Clock;
+use mount_core::{Mount, MountTrouble};
+use plfs_types::{Name, NoMemory};
+use run_core::play;
+use script_lang::{Line, Lines, Outcome, Script, Why};
+use std::alloc::Global;
+use store_api::Store;
+
+// A file among the marks is damaged.
+fn damaged_marks(file: Name) -> Outcome
+    ensures { result ≡ Outcome.Damaged marks_folder file 0 }
+{
+    Outcome::Damaged {
+        folder: Name::from_bytes(b"mounts").unwrap(),
+        file,
+        place: 0,
+    }
+}
+
+// What the line says of a mounting that broke off. Want of memory has no line.
+fn unmounted(trouble: MountTrouble) -> Result<Outcome, NoMemory>
+    ensures { IfOk result (λ outcome. unmounted_of trouble ≡ Some outcome) }
+{
+    match trouble {
+        MountTrouble::Damaged { file } => Ok(damaged_marks(file)),
+        MountTrouble::NoMarks => Ok(damaged_marks(Name::empty())),
+        MountTrouble::Spent => Ok(Outcome::Refused {
+            why: Why::MountsSpent,
+        }),
+        MountTrouble::Fault => Ok(Outcome::Fault),
+        MountTrouble::NoMemory => Err(NoMemory),
+    }
+}
+
+// The line of a mounting that broke off.
+fn mounting_line(alloc: Global, trouble: MountTrouble) -> Result<Lines, NoMemory>
+    ensures { IfOk result (IsUnmounted trouble) }
+{
+    let mut lines = Lines::new(alloc);
+    let outcome = unmounted(trouble)?;
+    lines.push(Line { number: 0, outcome })?;
+    Ok(lines)
+}
+
+/// What the work on a store leaves.
+#[derive(Drop)]
+pub(crate) struct Worked<S> {
+    pub(crate) store: S,
+    pub(crate) lines: Result<Lines, NoMemory>,
+}
+
+/// Mounts a store, and plays the script on it.
+pub(crate) fn work<S: Store + Drop, C: Clock + Drop>(
+    alloc: Global,
+    store: S,
+    clock: C,
+    script: &Script,
+) -> Worked<S>
+    requires { IsPlayable script.now }
+    ensures left { Leaves (C.times clock) (S.stored store) (S.stored result.store) }
+    ensures in_turn { IfOk result.lines (AreLinesOf (C.times clock) (S.stored store) (S.stored result.store) script.now) }
+    ensures text { IfOk result.lines HaveText }
+    ensures cause { IfOk result.lines (λ lines. has_line is_fault lines ≡ true → HasRisen (S.stored store).faults (S.stored result.store).faults) }
+{
+    match Mount::open(alloc, store, clock) {
+        Ok(mount) => {
+            let mut mount = mount;
+            let lines = play(alloc, &mut mount, script);
+            Worked {
+                store: mount.close(),
+                lines,
+            }
+        }
+        Err((store, trouble)) => Worked {
+            store,
+            lines: mounting_line(alloc, trouble),
+        },
+    }
+}

@@ -1,0 +1,14 @@
+use Rattle.std.proofs.Common.{◌≡◌, ◌%◌, ◌*◌, [], ◌∷◌, ◌∙◌, arith}
+use Rattle.script_lang.specs.declared.script.Statement.TheVariants.{Open}
+use Rattle.script_lang.specs.Generated.{file_of, said}
+use Rattle.script_lang.proofs.GeneratedLemmas.{lines_so_far, says_more}
+use Rattle.script_lang.proofs.generated.opens.Goals as goal
+
+pub say-requires : goal.say-requires
+say-requires c = let count = lines_so_far ([]) (λ i. said i (Open (file_of c.args.n))) c.args.first c.loop-i.i c.loop-i.written.list c.loop-i.invariant.so_far in omega (arith, count, c.loop-i.invariant.line, c.requires.first, c.requires.few, c.loop-i.auto.i-end)
+
+pub loop-i-preserved : goal.loop-i-preserved
+loop-i-preserved c = record {
+  line = c.in_ok-say.ensures.first ∙ c.loop-i.invariant.line;
+  so_far = says_more ([]) (λ i. said i (Open (file_of c.args.n))) c.args.first c.loop-i.written.first c.loop-i.i c.loop-i.written.list c.say.new.self.list _ c.loop-i.invariant.line c.loop-i.invariant.so_far c.in_ok-say.ensures.list (λ i. said c.loop-i.i (Open (c.in_ok-name.ensures i)));
+}

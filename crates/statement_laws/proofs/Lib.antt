@@ -1,0 +1,4 @@
+mod Coming
+mod Safety
+mod Works
+pub mod Facts
