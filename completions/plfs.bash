@@ -19,7 +19,7 @@ _plfs() {
         fi
         ;;
     2)
-        mapfile -t COMPREPLY < <(compgen -W 'play map' -- "$word")
+        mapfile -t COMPREPLY < <(compgen -W 'play gen cat stat map trunc rename recover ls' -- "$word")
         ;;
     esac
 }

@@ -110,6 +110,13 @@ def a_file_is_mapped_without_a_script(trial):
 
 
 @check
+def a_file_is_written_out_without_a_script(trial):
+    trial.ends(0, WORK)
+    trial.ends(1, "", words=["cat", "g"], lines="0 refused no-file\n")
+    trial.ends(0, "", words=["cat", "f"], lines="hello")
+
+
+@check
 def other_words_print_the_usage_line_and_do_nothing(trial):
     for words in ([], ["fly"], ["play", "twice"], ["-v"]):
         ended = trial.ends(2, WORK, words=words)
@@ -152,3 +159,36 @@ def each_run_that_failed_says_why_in_one_line_on_standard_error(trial):
 @check
 def a_run_that_was_refused_says_nothing_on_standard_error(trial):
     same("standard error", trial.ends(1, "actor a\na sync\n").err, "")
+
+
+@check
+def damage_that_is_found_while_a_file_is_written_out_says_where(trial):
+    trial.ends(0, WORK)
+    log = trial.root / "f" / "hostdir.0" / "log.0.4294967297"
+    index = trial.root / "f" / "hostdir.0" / "index.0.4294967297"
+    index.write_bytes(bytes(40))
+    ended = trial.ends(7, "", words=["cat", "f"], lines="0 damaged hostdir.0/index.0.4294967297 0\n")
+    same("standard error", ended.err, f"plfs: {index}: damaged: restore it from a copy\n")
+    true("the log is away", log.exists())
+
+
+@check
+def a_generated_checkpoint_is_summed_up(trial):
+    summary = "lines 134\nrefused 0\nfaults 0\ndamaged 0\nsame 64\ndiffers 0\nsize 3008512\n"
+    for _ in range(2):
+        trial.ends(0, "", words=["gen", "2"], lines=summary)
+    summary = "lines 4226\nrefused 0\nfaults 0\ndamaged 0\nsame 2048\ndiffers 0\nsize 96272384\n"
+    trial.ends(0, "", words=["gen", "64"], lines=summary)
+    told = trial.ends(0, "", words=["stat", "gen2"]).out
+    true(f"it printed {told!r}", told.startswith("0 stat 3008512 6017024 by 4294967297:1504256,"))
+
+
+@check
+def a_file_is_cut_renamed_recovered_and_listed_without_a_script(trial):
+    trial.ends(0, WORK.replace("a close\n", "a write 5 text:lost\n"))
+    trial.ends(1, "", words=["trunc", "f", "4"], lines="0 refused busy 0 4294967297\n")
+    trial.ends(0, "", words=["recover", "f"], lines="0 recovered 4294967297:1 alive - hold no\n")
+    trial.ends(0, "", words=["trunc", "f", "4"], lines="0 truncated STAMP\n")
+    trial.ends(0, "", words=["rename", "f", "g"], lines="0 renamed\n")
+    trial.ends(0, "", words=["ls"], lines="0 ls g\n")
+    trial.ends(0, "", words=["cat", "g"], lines="hell")

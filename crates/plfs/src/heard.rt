@@ -30,19 +30,22 @@ impl<'a, R: Read> Read for Heard<'a, R> {
 /// The first line that was written of damage, up to its 1024th byte, and why the writing failed last.
 #[derive(Drop)]
 pub struct Said {
+    pub has_lines: bool,
     line: Vec<u8>,
     is_of_damage: bool,
     pub error: Option<io::Error>,
 }
 
 impl Said {
-    /// Nothing was written.
-    pub fn new(alloc: Global) -> Said
+    /// Nothing was written. What is written has lines, or it is the bytes of a file, which are not looked at.
+    pub fn new(alloc: Global, has_lines: bool) -> Said
+        ensures lines { result.has_lines ≡ has_lines }
         ensures line { result.line.items ≡ [] }
         ensures none { result.is_of_damage ≡ false }
         ensures well { result.error ≡ None }
     {
         Said {
+            has_lines,
             line: Vec::new(alloc),
             is_of_damage: false,
             error: None,
@@ -64,6 +67,9 @@ impl Said {
     }
 
     fn hear(&mut self, bytes: &[u8]) {
+        if !self.has_lines {
+            return;
+        }
         for byte in bytes {
             if !self.is_of_damage {
                 self.hear_byte(*byte);

@@ -109,7 +109,7 @@ fn run<H: Threads + Wait, S: Store + Drop>(
     store: S,
 ) -> Ran<S> {
     let input = Cell::new(None);
-    let said = RefCell::new(Said::new(rt.alloc()));
+    let said = RefCell::new(Said::new(rt.alloc(), !writes_a_file(command)));
     let mut source = StdSource::new(Heard {
         reader: rt.reader(),
         error: &input,
@@ -179,7 +179,7 @@ fn tell_several(
             };
             let store = stores.as_slice().get(place);
             match folders.get(place) {
-                Some(folder) if status == 4 || is_of_command(&said) => {
+                Some(folder) if status == 4 || !is_of_script(&said) => {
                     tell(rt, status, folder, store, input, &said, standard);
                 }
                 _ => tell(rt, status, root.as_str(), None, input, &said, standard),
@@ -189,9 +189,20 @@ fn tell_several(
     ExitCode::from(status)
 }
 
-// Whether what is damaged was told of a command's one statement, whose last step was made where it is.
-fn is_of_command(said: &Said) -> bool {
-    said.damage().starts_with("0 ")
+// Whether the command writes the bytes of a file, and no lines.
+fn writes_a_file(command: &[Word]) -> bool {
+    match command.first() {
+        Some(word) => word.as_str() == "cat",
+        None => false,
+    }
+}
+
+// Whether what is damaged was told at a line of a script. Else the last step was made where it is.
+fn is_of_script(said: &Said) -> bool {
+    match said.damage().split_once(' ') {
+        Some((line, _)) => line != "0",
+        None => false,
+    }
 }
 
 // Says where the store failed, and why.
@@ -258,7 +269,8 @@ fn tell_stream(rt: &HostRuntime, stream: &str, is_closed: bool, error: Option<io
     };
 }
 
-// Says what is damaged, and at which line of the script that showed. Where it was no line of a script the store has the room.
+// Says what is damaged, and at which line of the script that showed. Where it was found by a command's one statement, or while a file
+// was written out, the store's last step was made there; a summary tells no place.
 fn tell_damage(
     rt: &HostRuntime,
     root: &str,
@@ -266,12 +278,14 @@ fn tell_damage(
     said: &Said,
 ) {
     let place = match store {
-        Some(store) => Place::of_room(store.place().room),
+        Some(store) => store.place(),
         None => Place::root(),
     };
+    let room = Place::of_room(place.room);
     let _ = match said.damage().split_once(' ') {
-        Some(("0", what)) => eprintln!(rt; "plfs: {root}{place}: {what}: {CURE}"),
+        Some(("0", what)) => eprintln!(rt; "plfs: {root}{room}: {what}: {CURE}"),
         Some((line, what)) => eprintln!(rt; "plfs: {root}: line {line}: {what}: {CURE}"),
+        None if said.has_lines => eprintln!(rt; "plfs: {root}: damaged: {CURE}"),
         None => eprintln!(rt; "plfs: {root}{place}: damaged: {CURE}"),
     };
 }

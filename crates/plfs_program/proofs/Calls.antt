@@ -1,5 +1,5 @@
 -- What a mount's calls lead to.
-use Rattle.std.proofs.Common.{ℕ, ◌≡◌, List, Option, Some, refl, sym, ◌∙◌, subst}
+use Rattle.std.proofs.Common.{ℕ, ◌≡◌, List, Option, Some, sym, subst}
 use Rattle.store_api.specs.declared.tree.Tree.{Tree}
 use Rattle.store_api.specs.Acts.{Stored}
 use Rattle.mount_model.specs.State.{State}

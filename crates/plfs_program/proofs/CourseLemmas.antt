@@ -1,15 +1,16 @@
 -- From the parts of a run to its course.
-use Rattle.std.proofs.Common.{ℕ, ◌≡◌, ◌⊎◌, true, List, Some, Result, Ok, Err, IfOk, ap, subst, sym, ◌∙◌, inl, inr}
+use Rattle.std.proofs.Common.{ℕ, ◌≡◌, ◌⊎◌, true, List, Some, subst, inl, inr}
 use Rattle.plfs_types.specs.Counts.{HasRisen}
 use Rattle.store_api.specs.Acts.{Stored}
 use Rattle.script_lang.specs.declared.line.Line.{Line}
 use Rattle.script_lang.specs.declared.script.Script.{Script}
-use Rattle.report_text.specs.Text.{text_of}
 use Rattle.plfs_program.specs.Calling.{Leaves}
 use Rattle.plfs_program.specs.Lines.{AreLinesOf}
 use Rattle.plfs_program.specs.Outcomes.{has_line, is_fault, status_of}
 use Rattle.plfs_program.specs.Output.{IsPrinted, IsCutOff}
-use Rattle.plfs_program.specs.Course.{Ends, IsSaid, IsPlayedAs, IsStoreLeft, InputCourse, PlayCourse, printed, cut_off, exhausted}
+use Rattle.plfs_program.specs.Ends.{Ends, IsSaid}
+use Rattle.plfs_program.specs.Playing.{PlayCourse, printed, cut_off, exhausted}
+use Rattle.plfs_program.specs.Course.{InputCourse}
 use Rattle.plfs_program.specs.Showing.{Shows}
 
 -- what was said of a text is said of a line that is the same
@@ -25,21 +26,19 @@ pub left_so : (script : Script) (shows : Shows) (e : Ends) (status : ℕ) (after
 left_so script shows e status after is lawful untold told = exhausted (record { after = after; left = is; lawful = lawful }) untold told
 
 -- how the printing of what is shown ended
-abbrev pub Reported : List Line → Ends → ℕ → Type 0
-Reported shown e status =
-    ((status ≡ status_of shown) × IsPrinted (text_of shown) e.taking e.taking_after)
-    ⊎ ((status ≡ 6) × IsCutOff (text_of shown) e.taking e.taking_after)
+abbrev pub Reported : Shows → List Line → Ends → ℕ → Type 0
+Reported shows lines e status =
+    ((status ≡ status_of (shows.decide lines)) × IsPrinted (shows.text lines) e.taking e.taking_after)
+    ⊎ ((status ≡ 6) × IsCutOff (shows.text lines) e.taking e.taking_after)
     ⊎ ((status ≡ 3) × (e.taking_after ≡ e.taking))
 
 -- a script whose lines were printed, or cut off, or for which memory was refused at last
-pub reported : (script : Script) (shows : Shows) (lines shown : List Line) (e : Ends) (status : ℕ) (after : Stored)
+pub reported : (script : Script) (shows : Shows) (lines : List Line) (e : Ends) (status : ℕ) (after : Stored)
     → e.stored_after ≡ Some after → Leaves e.times e.stored after → AreLinesOf e.times e.stored after script lines → (has_line is_fault lines ≡ true → HasRisen e.stored.faults after.faults)
-    → shows.text lines ≡ text_of shown → shows.decide lines ≡ shown → Reported shown e status → PlayCourse script shows e status
-reported script shows lines shown e status after is lawful in_turn cause text decide (inl (told, all)) =
-    let P : List ℕ → Type 0 = λ t. IsPrinted t e.taking e.taking_after in
-    printed lines (record { after = after; left = is; in_turn = in_turn; cause = cause }) (subst P (sym text) all) (told ∙ ap status_of (sym decide))
-reported script shows lines shown e status after is lawful in_turn cause text decide (inr (inl (told, part))) =
-    let P : List ℕ → Type 0 = λ t. IsCutOff t e.taking e.taking_after in
-    cut_off lines (record { after = after; left = is; in_turn = in_turn; cause = cause }) (subst P (sym text) part) told
-reported script shows lines shown e status after is lawful in_turn cause text decide (inr (inr (told, untold))) =
+    → Reported shows lines e status → PlayCourse script shows e status
+reported script shows lines e status after is lawful in_turn cause (inl (told, all)) =
+    printed lines (record { after = after; left = is; in_turn = in_turn; cause = cause }) all told
+reported script shows lines e status after is lawful in_turn cause (inr (inl (told, part))) =
+    cut_off lines (record { after = after; left = is; in_turn = in_turn; cause = cause }) part told
+reported script shows lines e status after is lawful in_turn cause (inr (inr (told, untold))) =
     left_so script shows e status after is lawful untold told

@@ -1,4 +1,7 @@
 mod Calls
+mod CatCourses
+mod CatLemmas
+mod CommandLemmas
 mod CourseLemmas
 mod Lines
 mod ListingLemmas

@@ -1,6 +1,5 @@
 -- From the lines of a play to what is shown of them.
-use Rattle.std.proofs.Common.{ℕ, zero, suc, ◌≡◌, ◌≤◌, ◌<◌, Bool, true, false, if◌then◌else◌, List, [], ◌∷◌, length, Option, Some, None, Result, Ok, Err, IfOk, refl, ap, sym, subst, ◌∙◌, inl, inr, arith}
-use Rattle.std.specs.List.{Any}
+use Rattle.std.proofs.Common.{ℕ, zero, suc, ◌≡◌, ◌≤◌, true, false, if◌then◌else◌, List, [], ◌∷◌, Option, Result, Ok, Err, IfOk, refl, ap, sym, subst, inl, inr, arith}
 use Rattle.std.proofs.lemmas.List.Folds.{Any-from_list_any}
 use Rattle.plfs_types.specs.Counts.{HasRisen}
 use Rattle.store_api.specs.declared.store.Trouble.TheVariants.{Fault, NoMemory}

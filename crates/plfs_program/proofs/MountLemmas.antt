@@ -311,7 +311,7 @@ by_trouble trouble.Fault outcome R is cause bad = cause refl
 by_trouble trouble.NoMemory outcome R is cause bad = absurd (cc)
 
 -- the line of a mounting that broke off is a fault only where the mounting had one
-fault_line_alone : (why : MountTrouble) (outcome : Outcome) (lines : List Line) (R : Type 0) → unmounted_of why ≡ Some outcome → lines ≡ (record { number = 0; outcome = outcome }) ∷ [] → (why ≡ trouble.Fault → R) → has_line is_fault lines ≡ true → R
+pub fault_line_alone : (why : MountTrouble) (outcome : Outcome) (lines : List Line) (R : Type 0) → unmounted_of why ≡ Some outcome → lines ≡ (record { number = 0; outcome = outcome }) ∷ [] → (why ≡ trouble.Fault → R) → has_line is_fault lines ≡ true → R
 fault_line_alone why outcome lines R is only cause bad =
     let here : (is_fault outcome || false) ≡ true = ap (λ ls. has_line is_fault ls) (sym only) ∙ bad in
     by_trouble why outcome R is cause here

@@ -1,71 +1,28 @@
 -- How a run goes, from its words to its status.
-use Rattle.std.specs.Prelude.{ℕ, ◌≡◌, ◌⊎◌, ◌+◌, ◌^◌, true, false, List, Option, Some, codes}
+use Rattle.std.specs.Prelude.{ℕ, ◌≡◌, ◌+◌, ◌^◌, true, false, List, codes}
 use Rattle.plfs_types.specs.Counts.{HasRisen}
-use Rattle.edge_io.specs.Sink.{Taking}
 use Rattle.edge_io.specs.Source.{Given}
-use Rattle.store_api.specs.Acts.{Stored}
-use Rattle.script_lang.specs.declared.line.Line.{Line}
 use Rattle.script_lang.specs.declared.script.Script.{Script}
 use Rattle.script_lang.specs.Faults.{Fault, HasFault}
 use Rattle.script_lang.specs.Grammar.{IsScript}
 use Rattle.command_line.specs.declared.commands.Command.{Command}
-use Rattle.command_line.specs.declared.commands.Command.TheVariants.{Play, Map}
+use Rattle.command_line.specs.declared.commands.Command.TheVariants.{Play, Cat}
 use Rattle.command_line.specs.Commands.{IsCommand}
 use Rattle.plfs_program.specs.Built.{is_built}
-use Rattle.plfs_program.specs.Commands.{IsBuiltCommand, map_script}
+use Rattle.plfs_program.specs.Catting.{CatCourse}
+use Rattle.plfs_program.specs.Commands.{IsBuiltCommand, IsPlanned}
+use Rattle.plfs_program.specs.Ends.{Ends, IsUntouched, IsSaid}
 use Rattle.plfs_program.specs.Faults.{fault_line}
 use Rattle.plfs_program.specs.Input.{IsWholeInput}
-use Rattle.plfs_program.specs.Calling.{Leaves}
-use Rattle.plfs_program.specs.Lines.{AreLinesOf}
-use Rattle.plfs_program.specs.Outcomes.{has_line, is_fault, status_of}
-use Rattle.plfs_program.specs.Output.{IsPrinted, IsCutOff}
-use Rattle.plfs_program.specs.Showing.{Shows, all_lines, past_opening}
+use Rattle.plfs_program.specs.Playing.{PlayCourse}
+use Rattle.plfs_program.specs.Showing.{all_lines, shows_of}
+use Rattle.plfs_program.specs.declared.commands.Plan.{Plan}
 
 abbrev pub usage_line : List ℕ
 usage_line = codes "usage: plfs ROOT run|play|gen N|cat NAME|stat NAME|map NAME|flatten NAME|trunc NAME SIZE|rename OLD NEW|recover NAME|ls\n"
 
 abbrev pub unbuilt_line : List ℕ
 unbuilt_line = codes "script 0 unbuilt\n"
-
--- the clock's times to come, and the sink and the store before and after
-pub record Ends : Type 0 where
-  pub times : Option (List ℕ)
-  pub taking : Taking
-  pub taking_after : Taking
-  pub stored : Stored
-  pub stored_after : Option Stored
-
-abbrev pub ends_of : Option (List ℕ) → Taking → Taking → Stored → Option Stored → Ends
-ends_of times taking taking_after stored stored_after = record { times = times; taking = taking; taking_after = taking_after; stored = stored; stored_after = stored_after }
-
--- no act was made
-abbrev pub IsUntouched : Ends → Type 0
-IsUntouched e = e.stored_after ≡ Some e.stored
-
--- the line was printed, or a front of it where the sink broke
-abbrev pub IsSaid : List ℕ → Ends → Type 0
-IsSaid line e = IsPrinted line e.taking e.taking_after ⊎ IsCutOff line e.taking e.taking_after
-
--- These are the lines of the script. There is none for a fault that isn't the store's own.
-pub record IsPlayedAs (script : Script) (lines : List Line) (e : Ends) : Type 0 where
-  pub after : Stored
-  pub left : e.stored_after ≡ Some after
-  pub in_turn : AreLinesOf e.times e.stored after script lines
-  pub cause : has_line is_fault lines ≡ true → HasRisen e.stored.faults after.faults
-
--- memory was refused from the mounting on, and the store is as the mounting or the mount's calls left it
-pub record IsStoreLeft (e : Ends) : Type 0 where
-  pub after : Stored
-  pub left : e.stored_after ≡ Some after
-  pub lawful : Leaves e.times e.stored after
-
--- What becomes of a script that is played, of whose lines this is shown: the text that is printed, and the lines that decide
--- the status.
-pub data PlayCourse (script : Script) (shows : Shows) (e : Ends) (status : ℕ) : Type 0 where
-  printed : (lines : List Line) → IsPlayedAs script lines e → IsPrinted (shows.text lines) e.taking e.taking_after → status ≡ status_of (shows.decide lines)
-      → PlayCourse script shows e status
-  cut_off : (lines : List Line) → IsPlayedAs script lines e → IsCutOff (shows.text lines) e.taking e.taking_after → status ≡ 6 → PlayCourse script shows e status
-  exhausted : IsStoreLeft e → e.taking_after ≡ e.taking → status ≡ 3 → PlayCourse script shows e status
 
 -- What becomes of an input of these bytes. Memory was refused before the mounting where it is starved.
 pub data InputCourse (bytes : List ℕ) (e : Ends) (status : ℕ) : Type 0 where
@@ -86,5 +43,6 @@ pub data Course (words : List (List ℕ)) (given after : Given) (e : Ends) (stat
       → Course words given after e status
   unread : IsCommand words Play → HasRisen given.faults after.faults → IsUntouched e → e.taking_after ≡ e.taking → status ≡ 5 → Course words given after e status
   read : (bytes : List ℕ) → IsCommand words Play → IsInput bytes given after → InputCourse bytes e status → Course words given after e status
-  maps : (name : List ℕ) → IsCommand words (Map name) → after ≡ given → PlayCourse (map_script name) past_opening e status → Course words given after e status
+  planned : (command : Command) (plan : Plan) → IsCommand words command → IsPlanned command plan → after ≡ given → PlayCourse plan.script (shows_of plan.shown) e status → Course words given after e status
+  cats : (name : List ℕ) → IsCommand words (Cat name) → after ≡ given → CatCourse name e status → Course words given after e status
   hungry : IsUntouched e → e.taking_after ≡ e.taking → status ≡ 3 → Course words given after e status

@@ -1,11 +1,16 @@
 pub mod Built
 pub mod Calling
+pub mod Cat
+pub mod Catting
 pub mod Commands
 pub mod Course
+pub mod Ends
 pub mod Faults
 pub mod Input
 pub mod Lines
 pub mod Mounting
 pub mod Outcomes
 pub mod Output
+pub mod Playing
 pub mod Showing
+pub mod Summary

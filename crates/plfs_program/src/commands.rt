@@ -1,37 +1,37 @@
 //! The scripts that commands play.
 ghost use Rattle.std.specs.Prelude.{◌≡◌, IfOk, IfSome, IfNone};
-ghost use Rattle.plfs_program.specs.Built.{command_of};
-ghost use Rattle.plfs_program.specs.Commands.{IsBuiltCommand, FitsCommand, actor as actor_of, of_command as numbered_of, script_of as script_with, map_script as map_of};
+ghost use Rattle.plfs_program.specs.Commands.{IsBuiltCommand, IsBuiltAs, IsIfBuilt, FitsCommand, actor as actor_of, of_command as numbered_of, script_of as script_with, one_script as one_of, map_script as map_of, plan as plan_with};
 
+use crate::built::is_built;
+use crate::showing::Shown;
 use command_line::Command;
 use plfs_types::{LogicalName, Name, NoMemory};
 use script_lang::{
     ActorDecl, ActorList, Numbered, Phase, PhaseList, Script, Statement, StatementList, TurnList,
+    generate,
 };
 use std::alloc::Global;
 
+/// A script that a command plays, and what is shown of its lines.
+#[derive(Drop)]
+pub(crate) struct Plan {
+    pub(crate) script: Script,
+    pub(crate) shown: Shown,
+}
+
 /// A command that is built.
-#[derive(Clone, Copy)]
+#[derive(Drop)]
 pub(crate) enum Built {
+    /// Its script comes from the input.
     Play,
-    Map { name: LogicalName },
+    /// It writes this file out.
+    Cat { name: LogicalName },
+    /// Its words tell its script.
+    Planned(Plan),
 }
 
-/// The command, where it is built.
-pub(crate) fn built_command(command: Command) -> Option<Built>
-    requires { FitsCommand command }
-    ensures same { IfSome result (λ built. command ≡ command_of built) }
-    ensures fits { IfSome result (λ built. FitsCommand (command_of built)) }
-    ensures other { IfNone result (IsBuiltCommand command → ⊥) }
-{
-    match command {
-        Command::Play => Some(Built::Play),
-        Command::Map { name } => Some(Built::Map { name }),
-        _ => None,
-    }
-}
-
-fn actor() -> ActorDecl
+/// The one actor of a command.
+pub(crate) fn actor() -> ActorDecl
     ensures { result ≡ actor_of }
 {
     ActorDecl {
@@ -41,7 +41,8 @@ fn actor() -> ActorDecl
     }
 }
 
-fn of_command(statement: Statement) -> Numbered
+/// Its statements have no line of a script.
+pub(crate) fn of_command(statement: Statement) -> Numbered
     ensures { result ≡ numbered_of statement }
 {
     Numbered {
@@ -65,12 +66,58 @@ fn script_of(alloc: Global, statements: StatementList) -> Result<Script, NoMemor
     Ok(Script { actors, phases })
 }
 
-/// The script of the command `map`.
-pub(crate) fn map_script(alloc: Global, name: LogicalName) -> Result<Script, NoMemory>
+fn one_script(alloc: Global, statement: Statement) -> Result<Script, NoMemory>
+    ensures { IfOk result (λ script. script ≡ one_of statement) }
+{
+    let mut statements = StatementList::new(alloc);
+    statements.push(of_command(statement))?;
+    script_of(alloc, statements)
+}
+
+fn map_script(alloc: Global, name: LogicalName) -> Result<Script, NoMemory>
     ensures { IfOk result (λ script. script ≡ map_of name) }
 {
     let mut statements = StatementList::new(alloc);
     statements.push(of_command(Statement::Ropen { name, workers: 1 }))?;
     statements.push(of_command(Statement::Map))?;
     script_of(alloc, statements)
+}
+
+// The script, where all of its statements are ones that actors make.
+fn planned(script: Script, shown: Shown) -> Option<Built>
+    ensures { IsIfBuilt (plan_with script shown) result }
+{
+    if is_built(&script) {
+        Some(Built::Planned(Plan { script, shown }))
+    } else {
+        None
+    }
+}
+
+// One statement of one actor, where actors make it.
+fn of_one(alloc: Global, statement: Statement) -> Result<Option<Built>, NoMemory>
+    ensures { IfOk result (IsIfBuilt (plan_with (one_of statement) Shown.All)) }
+{
+    Ok(planned(one_script(alloc, statement)?, Shown::All))
+}
+
+/// The command, where it is built.
+pub(crate) fn built_command(alloc: Global, command: Command) -> Result<Option<Built>, NoMemory>
+    requires { FitsCommand command }
+    ensures same { IfOk result (λ found. IfSome found (IsBuiltAs command)) }
+    ensures other { IfOk result (λ found. IfNone found (IsBuiltCommand command → ⊥)) }
+{
+    match command {
+        Command::Play => Ok(Some(Built::Play)),
+        Command::Cat { name } => Ok(Some(Built::Cat { name })),
+        Command::Gen { writers } => Ok(planned(generate(alloc, writers)?, Shown::Summed)),
+        Command::Map { name } => Ok(planned(map_script(alloc, name)?, Shown::PastOpening)),
+        Command::Stat { name } => of_one(alloc, Statement::Stat { name }),
+        Command::Flatten { name } => of_one(alloc, Statement::Flatten { name }),
+        Command::Recover { name } => of_one(alloc, Statement::Recover { name }),
+        Command::Trunc { name, size } => of_one(alloc, Statement::Trunc { name, size }),
+        Command::Rename { name, to } => of_one(alloc, Statement::Rename { name, to }),
+        Command::Ls => of_one(alloc, Statement::Ls),
+        Command::Run | Command::Migrate { .. } => Ok(None),
+    }
 }

@@ -2,12 +2,15 @@
 #![tactic(auto)]
 
 mod built;
+mod cat;
 mod commands;
 mod faults;
 mod input;
 mod laws;
 mod output;
+mod reporting;
 mod showing;
+mod summary;
 mod top;
 mod work;
 

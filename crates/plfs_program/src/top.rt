@@ -1,33 +1,36 @@
 //! The whole of a run: words, input, script, mount, work, output, status.
 ghost use Rattle.std.specs.Prelude.{◌≡◌, ◌⊎◌, ℕ, List, true, Option, Some, option_map};
-ghost use Rattle.plfs_types.specs.Names.{IsLogicalName};
 ghost use Rattle.command_line.specs.Commands.{IsCommand};
 ghost use Rattle.edge_io.specs.Source.{Given};
 ghost use Rattle.command_line.specs.declared.commands.Command.{Command as Asked};
-ghost use Rattle.command_line.specs.declared.commands.Command.TheVariants.{Play, Map};
-ghost use Rattle.plfs_program.specs.Commands.{IsBuiltCommand, FitsCommand};
+ghost use Rattle.command_line.specs.declared.commands.Command.TheVariants.{Play, Cat};
+ghost use Rattle.plfs_types.specs.Names.{IsLogicalName};
+ghost use Rattle.plfs_program.specs.Commands.{IsBuiltCommand, IsPlanned, FitsCommand};
+ghost use Rattle.plfs_program.specs.Built.{is_built as is_played};
 ghost use Rattle.script_lang.specs.Faults.{HasFault};
 ghost use Rattle.script_lang.specs.Grammar.{IsScript};
 ghost use Rattle.script_lang.specs.Ranges.{FitsScript};
-ghost use Rattle.report_text.specs.Text.{HaveText, text_of};
 ghost use Rattle.run_core.specs.Conditions.{IsPlayable};
-ghost use Rattle.plfs_program.specs.Course.{Course, InputCourse, PlayCourse, ends_of, IsSaid};
-ghost use Rattle.plfs_program.specs.Outcomes.{status_of as status};
+ghost use Rattle.plfs_program.specs.Course.{Course, InputCourse};
+ghost use Rattle.plfs_program.specs.Playing.{PlayCourse};
+ghost use Rattle.plfs_program.specs.Ends.{ends_of, IsSaid};
 ghost use Rattle.plfs_program.specs.Output.{IsPrinted, IsCutOff};
-ghost use Rattle.plfs_program.specs.Showing.{all_lines, past_opening};
+ghost use Rattle.plfs_program.specs.Showing.{shows_of};
 
 use crate::built::is_built;
-use crate::commands::{Built, built_command, map_script};
+use crate::cat::{cat_mounted, say_unmounted};
+use crate::commands::{Built, Plan, built_command};
 use crate::faults::fault_line;
 use crate::input::{NoInput, read_input};
 use crate::output::write_out;
-use crate::showing::{behind_opening, status_of};
+use crate::reporting::report;
+use crate::showing::Shown;
 use crate::work::{Worked, work};
 use command_line::Command;
 use edge_io::{Clock, Gate, Sink, Source};
+use mount_core::Mount;
 use plfs_types::{LogicalName, Word};
-use report_text::print;
-use script_lang::{Kind, Lines, Script, ScriptTrouble};
+use script_lang::{Kind, Script, ScriptTrouble};
 use std::alloc::Global;
 use std::sync::Wait;
 use std::thread::Threads;
@@ -68,57 +71,23 @@ fn say<O: Sink>(out: &mut O, line: &[u8])
     let _ = write_out(out, line);
 }
 
-// Prints the lines, and ends with their status: with 6 where the sink broke, with 3 where memory was refused.
-fn report<O: Sink>(alloc: Global, out: &mut O, lines: &Lines) -> u8
-    requires { HaveText lines.now }
-    ensures told { ((result ≡ status lines.now) × IsPrinted (text_of lines.now) (O.taking out.old) (O.taking out.new))
-        ⊎ ((result ≡ 6) × IsCutOff (text_of lines.now) (O.taking out.old) (O.taking out.new))
-        ⊎ ((result ≡ 3) × (O.taking out.new ≡ O.taking out.old)) }
-{
-    let Ok(text) = print(alloc, lines) else {
-        return 3;
-    };
-    match write_out(out, text.as_slice()) {
-        Ok(()) => status_of(lines.as_slice()),
-        Err(_) => 6,
-    }
-}
-
-// Plays the script on the store, and prints its lines.
+// Plays the script on the store, and prints what is shown of its lines.
 fn play_script<S: Store + Drop, C: Clock + Drop, O: Sink>(
     alloc: Global,
     script: &Script,
+    shown: Shown,
     out: &mut O,
     store: S,
     clock: C,
 ) -> Ended<S>
     requires { IsPlayable script.now }
-    ensures { PlayCourse script.now all_lines (ends_of (C.times clock) (O.taking out.old) (O.taking out.new) (S.stored store) (option_map S.stored result.store)) result.status }
+    ensures { PlayCourse script.now (shows_of shown) (ends_of (C.times clock) (O.taking out.old) (O.taking out.new) (S.stored store) (option_map S.stored result.store)) result.status }
 {
     let Worked { store, lines } = work(alloc, store, clock, script);
     let Ok(lines) = lines else {
         return ends(store, 3);
     };
-    let status = report(alloc, out, &lines);
-    ends(store, status)
-}
-
-// Opens a reader, and prints its pieces.
-fn map_file<S: Store + Drop, C: Clock + Drop, O: Sink>(
-    alloc: Global,
-    script: &Script,
-    out: &mut O,
-    store: S,
-    clock: C,
-) -> Ended<S>
-    requires { IsPlayable script.now }
-    ensures { PlayCourse script.now past_opening (ends_of (C.times clock) (O.taking out.old) (O.taking out.new) (S.stored store) (option_map S.stored result.store)) result.status }
-{
-    let Worked { store, lines } = work(alloc, store, clock, script);
-    let Ok(lines) = lines else {
-        return ends(store, 3);
-    };
-    let status = report(alloc, out, &behind_opening(lines));
+    let status = report(alloc, out, lines, shown);
     ends(store, status)
 }
 
@@ -154,7 +123,7 @@ fn play_read<S: Store + Drop, C: Clock + Drop, O: Sink>(
         say(out, UNBUILT);
         return ends(store, 2);
     }
-    play_script(alloc, script, out, store, clock)
+    play_script(alloc, script, Shown::All, out, store, clock)
 }
 
 // Plays the script that these bytes are.
@@ -191,8 +160,24 @@ fn play<S: Store + Drop, C: Clock + Drop, I: Source, O: Sink>(
     }
 }
 
-// Maps the file.
-fn map<S: Store + Drop, C: Clock + Drop, I: Source, O: Sink>(
+// Plays the script that the words of a command tell.
+fn play_plan<S: Store + Drop, C: Clock + Drop, I: Source, O: Sink>(
+    alloc: Global,
+    plan: &Plan,
+    input: &mut I,
+    out: &mut O,
+    store: S,
+    clock: C,
+) -> Ended<S>
+    requires built { is_played plan.now.script ≡ true }
+    requires fits { FitsScript plan.now.script }
+    ensures { (words : List (List ℕ)) (command : Asked) → IsCommand words command → IsPlanned command plan.now → Course words (I.given input.old) (I.given input.new) (ends_of (C.times clock) (O.taking out.old) (O.taking out.new) (S.stored store) (option_map S.stored result.store)) result.status }
+{
+    play_script(alloc, &plan.script, plan.shown, out, store, clock)
+}
+
+// Writes a file out.
+fn cat<S: Store + Drop, C: Clock + Drop, I: Source, O: Sink>(
     alloc: Global,
     name: LogicalName,
     input: &mut I,
@@ -201,12 +186,19 @@ fn map<S: Store + Drop, C: Clock + Drop, I: Source, O: Sink>(
     clock: C,
 ) -> Ended<S>
     requires { IsLogicalName name }
-    ensures { (words : List (List ℕ)) → IsCommand words (Map name) → Course words (I.given input.old) (I.given input.new) (ends_of (C.times clock) (O.taking out.old) (O.taking out.new) (S.stored store) (option_map S.stored result.store)) result.status }
+    ensures { (words : List (List ℕ)) → IsCommand words (Cat name) → Course words (I.given input.old) (I.given input.new) (ends_of (C.times clock) (O.taking out.old) (O.taking out.new) (S.stored store) (option_map S.stored result.store)) result.status }
 {
-    let Ok(script) = map_script(alloc, name) else {
-        return ends(store, 3);
-    };
-    map_file(alloc, &script, out, store, clock)
+    match Mount::open(alloc, store, clock) {
+        Ok(mount) => {
+            let mut mount = mount;
+            let status = cat_mounted(alloc, &mut mount, name, out);
+            ends(mount.close(), status)
+        }
+        Err((store, trouble)) => {
+            let status = say_unmounted(alloc, out, trouble);
+            ends(store, status)
+        }
+    }
 }
 
 // Prints the usage line.
@@ -231,21 +223,27 @@ fn obey<S: Store + Drop, C: Clock + Drop, I: Source, O: Sink>(
     ensures { (words : List (List ℕ)) → IsCommand words command → ((other : Asked) → IsCommand words other → other ≡ command)
         → Course words (I.given input.old) (I.given input.new) (ends_of (C.times clock) (O.taking out.old) (O.taking out.new) (S.stored store) (option_map S.stored result.store)) result.status }
 {
-    let Some(built) = built_command(command) else {
+    let Ok(built) = built_command(alloc, command) else {
+        return ends(store, 3);
+    };
+    let Some(built) = built else {
         return refuse(out, store);
     };
     match built {
         Built::Play => play(alloc, input, out, store, clock),
-        Built::Map { name } => map(alloc, name, input, out, store, clock),
+        Built::Cat { name } => cat(alloc, name, input, out, store, clock),
+        Built::Planned(plan) => play_plan(alloc, &plan, input, out, store, clock),
     }
 }
 
 /// Runs a command that waits for nobody: reads the words, the input and the script, mounts the store, works, and
 /// prints a line for each statement.
 ///
-/// The commands so far are `play`, which reads a script from the input, and `map`. A script of which a statement isn't
-/// made yet prints `script 0 unbuilt`, a script with a fault prints `script`, the fault's line and its kind, and all
-/// other words print the usage line.
+/// `play` reads a script from the input. A script of which a statement isn't made yet prints `script 0 unbuilt`, a script
+/// with a fault prints `script`, the fault's line and its kind. `stat`, `recover`, `trunc`, `rename`, `ls` and `flatten` make
+/// this one statement of one actor, and print its line with number 0; `map` opens a reader first, whose line is shown where
+/// it is none. `cat` writes a file out, each piece before the next one is read; a trouble behind the opening has no line. `gen` plays the generated script, and prints how many lines of each kind it has, and the file's size. Words
+/// that are no command, or one with a statement that isn't made yet, print the usage line.
 ///
 /// What is printed is the text of the lines of a play: from the mounting to the end, the script's actors made their calls in
 /// the order of the written turns, each call following from the replies before it, and these are the lines of their

@@ -43,9 +43,10 @@ fn unmounted(trouble: MountTrouble) -> Result<Outcome, NoMemory>
     }
 }
 
-// The line of a mounting that broke off.
-fn mounting_line(alloc: Global, trouble: MountTrouble) -> Result<Lines, NoMemory>
-    ensures { IfOk result (IsUnmounted trouble) }
+/// The line of a mounting that broke off.
+pub(crate) fn mounting_line(alloc: Global, trouble: MountTrouble) -> Result<Lines, NoMemory>
+    ensures line { IfOk result (IsUnmounted trouble) }
+    ensures text { IfOk result HaveText }
 {
     let mut lines = Lines::new(alloc);
     let outcome = unmounted(trouble)?;

@@ -11,9 +11,12 @@ const UNBUILT: &str = "script 0 unbuilt\n";
 const OTHERS: &[&[&str]] = &[
     &["run", "play"],
     &["run"],
-    &["ls"],
+    &["ls", "f"],
     &["map"],
     &["map", ".f"],
+    &["trunc", "f", "007"],
+    &["cat", "--", "f"],
+    &["gen", "0"],
     &[],
 ];
 

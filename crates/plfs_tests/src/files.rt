@@ -2,7 +2,7 @@
 use crate::rows::{Row, play_rows};
 use std::test::Fail;
 
-const FILES: &[Row] = &[
+pub(crate) const FILES: &[Row] = &[
     // A truncate hides what was written before it, a further one upward shows zeros, and later writes come after both.
     (
         "actor a\na open f\na write 0 text:ABCDEF\na close\na trunc f 2\na trunc f 4\na ropen f\na read 0 9\na rclose\na open f\na write 3 text:Z\na close\na ropen f\na read 0 9\n",

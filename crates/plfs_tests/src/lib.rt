@@ -15,8 +15,12 @@ mod folder;
 #[cfg(test)]
 mod marks;
 #[cfg(test)]
+mod pieces;
+#[cfg(test)]
 mod rows;
 #[cfg(test)]
 mod runs;
 #[cfg(test)]
 mod sessions;
+#[cfg(test)]
+mod several;

@@ -99,6 +99,26 @@ const COMMANDS: &[Session] = &[
             (&["play"], HELLO, 0, HELLO_LINES),
             (&["map", "f"], "", 0, "0 map 0+5=10.4294967297@0\n"),
             (&["map", "g"], "", 1, "0 refused no-file\n"),
+            (&["cat", "f"], "", 0, "hello"),
+            (&["cat", "g"], "", 1, "0 refused no-file\n"),
+            (
+                &["stat", "f"],
+                "",
+                0,
+                "0 stat 5 5 by 4294967297:5 trunc -\n",
+            ),
+            (&["trunc", "f", "2"], "", 0, "0 truncated 11\n"),
+            (&["cat", "f"], "", 0, "he"),
+            (&["rename", "f", "g"], "", 0, "0 renamed\n"),
+            (&["rename", "f", "h"], "", 1, "0 refused no-file\n"),
+            (&["recover", "g"], "", 0, "0 recovered - alive - hold no\n"),
+            (
+                &["stat", "g"],
+                "",
+                0,
+                "0 stat 2 5 by 4294967297:5 trunc 11:2\n",
+            ),
+            (&["ls"], "", 0, "0 ls g\n"),
         ],
     ),
     // A run that ends leaves its open writer as it is, until a recovery buries it.
@@ -111,17 +131,52 @@ const COMMANDS: &[Session] = &[
                 0,
                 "2 open 4294967297\n3 wrote 0 2 10\n4 synced 1\n5 wrote 2 1 11\n",
             ),
+            (&["trunc", "f", "0"], "", 1, "0 refused busy 0 4294967297\n"),
             (
-                &["play"],
-                "actor a\na trunc f 0\na stat f\na recover f\na trunc f 0\na stat f\n",
-                1,
-                "2 refused busy 0 4294967297\n3 stat 2 2 by 4294967297:2 trunc -\n4 recovered 4294967297:1 alive - hold no\n5 truncated 11\n6 stat 0 2 by 4294967297:2 trunc 11:0\n",
+                &["stat", "f"],
+                "",
+                0,
+                "0 stat 2 2 by 4294967297:2 trunc -\n",
+            ),
+            (
+                &["recover", "f"],
+                "",
+                0,
+                "0 recovered 4294967297:1 alive - hold no\n",
+            ),
+            (&["trunc", "f", "0"], "", 0, "0 truncated 11\n"),
+            (&["cat", "f"], "", 0, ""),
+        ],
+    ),
+];
+
+#[test]
+fn commands_are_statements_of_their_own(rt: HostRuntime) -> Result<(), Fail> {
+    play_sessions(&rt, rt.alloc(), COMMANDS)
+}
+
+const SUMMARY: &str =
+    "lines 134\nrefused 0\nfaults 0\ndamaged 0\nsame 64\ndiffers 0\nsize 3008512\n";
+
+const GENERATED: &[Session] = &[
+    // The mounting broke off.
+    (&[(1, 0)], &[(&["gen", "2"], "", 4, "0 fault\n")]),
+    (
+        &[],
+        &[
+            (&["gen", "2"], "", 0, SUMMARY),
+            (&["gen", "2"], "", 0, SUMMARY),
+            (
+                &["stat", "gen2"],
+                "",
+                0,
+                "0 stat 3008512 6017024 by 4294967297:1504256,4294967298:1504256,8589934593:1504256,8589934594:1504256 trunc -\n",
             ),
         ],
     ),
 ];
 
 #[test]
-fn later_runs_go_on(rt: HostRuntime) -> Result<(), Fail> {
-    play_sessions(&rt, rt.alloc(), COMMANDS)
+fn generated_checkpoints_are_read_back_whole(rt: HostRuntime) -> Result<(), Fail> {
+    play_sessions(&rt, rt.alloc(), GENERATED)
 }

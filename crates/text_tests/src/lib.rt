@@ -5,6 +5,8 @@
 #[cfg(test)]
 mod commands;
 #[cfg(test)]
+mod generated;
+#[cfg(test)]
 mod reports;
 #[cfg(test)]
 mod scripts;

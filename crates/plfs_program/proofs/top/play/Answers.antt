@@ -1,4 +1,3 @@
-use Rattle.std.proofs.Common.{rules}
 use Rattle.plfs_program.specs.Course.{read}
 use Rattle.plfs_program.proofs.CourseLemmas.{course_of_slice}
 use Rattle.plfs_program.proofs.top.play.Goals as goal

@@ -1,4 +1,4 @@
-use Rattle.std.proofs.Common.{refl, rules}
+use Rattle.std.proofs.Common.{rules}
 use Rattle.plfs_program.specs.Course.{unbuilt, played}
 use Rattle.plfs_program.proofs.top.play_read.Goals as goal
 

@@ -1,14 +1,14 @@
-use Rattle.std.proofs.Common.{Some, refl, ap, sym}
+use Rattle.std.proofs.Common.{ap, sym}
 use Rattle.std.specs.Option.{option_map}
-use Rattle.plfs_program.specs.Course.{ends_of, Ends}
-use Rattle.plfs_program.specs.Showing.{all_lines}
+use Rattle.plfs_program.specs.Ends.{ends_of, Ends}
+use Rattle.plfs_program.specs.Showing.{shows_of}
 use Rattle.plfs_program.proofs.CourseLemmas.{reported}
 use Rattle.plfs_program.proofs.top.play_script.Goals as goal
 
 pub returns : goal.returns
 returns g c =
     let e : Ends = ends_of (g.C.Clock.times c.args.clock) (g.O.Sink.taking c.args.out.now) (g.O.Sink.taking c.report-status.new.out) (g.S.Store.stored c.args.store) (option_map g.S.Store.stored c.ends-2.result.store) in
-    reported c.args.script.now all_lines c.in-Ok.lines c.in-Ok.lines e c.ends-2.result.status (g.S.Store.stored c.work-store.result.store)
+    reported c.args.script.now (shows_of c.args.shown) c.in-Ok.lines e c.ends-2.result.status (g.S.Store.stored c.work-store.result.store)
     (ap (option_map g.S.Store.stored) c.ends-2.ensures.store)
     c.work-store.ensures.left (rw c.in-Ok.is at c.work-store.ensures.in_turn) (rw c.in-Ok.is at c.work-store.ensures.cause)
-    refl refl (rw (sym c.ends-2.ensures.status) at c.report-status.ensures.told)
+    (rw (sym c.ends-2.ensures.status) at c.report-status.ensures.told)

@@ -17,8 +17,8 @@ returns-in-Err-clause-left g c = broke_off c.in-Err.trouble c.in-Err.ensures.err
 
 pub returns-in-Err-clause-in_turn : goal.returns-in-Err-clause-in_turn
 returns-in-Err-clause-in_turn g c =
-    all_unmounted (g.C.Clock.times c.args.clock) (g.S.Store.stored c.args.store) (g.S.Store.stored c.in-Err.store) c.in-Err.trouble c.args.script.now c.mounting_line.result c.in-Err.ensures.err c.mounting_line.ensures
+    all_unmounted (g.C.Clock.times c.args.clock) (g.S.Store.stored c.args.store) (g.S.Store.stored c.in-Err.store) c.in-Err.trouble c.args.script.now c.mounting_line.result c.in-Err.ensures.err c.mounting_line.ensures.line
 
 pub returns-in-Err-clause-cause : goal.returns-in-Err-clause-cause
 returns-in-Err-clause-cause g c =
-    all_caused c.in-Err.trouble c.mounting_line.result (HasRisen (g.S.Store.stored c.args.store).faults (g.S.Store.stored c.in-Err.store).faults) c.mounting_line.ensures c.in-Err.ensures.fault
+    all_caused c.in-Err.trouble c.mounting_line.result (HasRisen (g.S.Store.stored c.args.store).faults (g.S.Store.stored c.in-Err.store).faults) c.mounting_line.ensures.line c.in-Err.ensures.fault

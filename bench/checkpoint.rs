@@ -1,0 +1,284 @@
+//! What the program `plfs` is measured against: its work done by hand in plain Rust, with the same files, names and syncs.
+//!
+//! checkpoint write FOLDER N           a checkpoint of N writers in 32 rounds, written and read back with every block compared
+//! checkpoint make FOLDER W E          a container of W writers and E strided entries, whose logs are holes
+//! checkpoint open FOLDER              its index droppings read and merged by a heap, in order of logical offsets
+//!
+//! FOLDER is what `plfs` takes as ROOT, and the container in it is `f`. Each prints the seconds that it took, and `open` the pieces.
+//! It runs on Unix.
+
+use std::collections::BinaryHeap;
+use std::fs::{self, File, OpenOptions};
+use std::io::{self, Error, ErrorKind, Result};
+use std::os::unix::fs::FileExt;
+use std::path::{Path, PathBuf};
+use std::time::Instant;
+use std::{env, process};
+
+const ROUNDS: u64 = 32;
+const BLOCK: usize = 47008;
+const PENDING: usize = 64;
+const FOLDERS: u64 = 32;
+const FIRST_ID: u64 = (1 << 32) + 1;
+const ENTRY: usize = 40;
+const READ: usize = 4096 * ENTRY;
+const STRIDE: u64 = 4096;
+
+#[derive(Clone, Copy, PartialEq, Eq, PartialOrd, Ord)]
+struct Entry {
+    at: u64,
+    len: u64,
+    physical: u64,
+    stamp: u64,
+    writer: u64,
+}
+
+impl Entry {
+    fn bytes(&self) -> [u8; ENTRY] {
+        let mut bytes = [0; ENTRY];
+        let fields = [self.at, self.len, self.physical, self.stamp, self.writer];
+        for (place, field) in bytes.chunks_exact_mut(8).zip(fields) {
+            place.copy_from_slice(&field.to_le_bytes());
+        }
+        bytes
+    }
+
+    fn read(bytes: &[u8]) -> Entry {
+        let field = |k: usize| u64::from_le_bytes(bytes[8 * k..8 * k + 8].try_into().unwrap());
+        Entry { at: field(0), len: field(1), physical: field(2), stamp: field(3), writer: field(4) }
+    }
+}
+
+fn wrong(what: &str) -> Error {
+    Error::new(ErrorKind::InvalidData, what.to_string())
+}
+
+fn sync_folder(folder: &Path) -> Result<()> {
+    File::open(folder)?.sync_all()
+}
+
+/// A new file whose name is synced.
+fn new_file(folder: &Path, name: &str) -> Result<File> {
+    let file = OpenOptions::new().read(true).write(true).create_new(true).open(folder.join(name))?;
+    sync_folder(folder)?;
+    Ok(file)
+}
+
+fn new_folder(above: &Path, name: &str) -> Result<PathBuf> {
+    let folder = above.join(name);
+    match fs::create_dir(&folder) {
+        Ok(()) => sync_folder(above)?,
+        Err(error) if error.kind() == ErrorKind::AlreadyExists => {}
+        Err(error) => return Err(error),
+    }
+    Ok(folder)
+}
+
+/// The mark of a first mount, and an empty container.
+fn new_container(root: &Path) -> Result<PathBuf> {
+    let marks = new_folder(&new_folder(root, ".plfs")?, "mounts")?;
+    new_file(&marks, "1")?;
+    let aside = new_folder(root, ".new.0")?;
+    for name in ["openhosts", "metadata", "truncs", "flats"] {
+        new_folder(&aside, name)?;
+    }
+    new_file(&aside, "access")?;
+    let container = root.join("f");
+    fs::rename(&aside, &container)?;
+    sync_folder(root)?;
+    Ok(container)
+}
+
+struct Writer {
+    host: u64,
+    id: u64,
+    log: File,
+    index: File,
+    stored: u64,
+    landed: u64,
+    end: u64,
+    stamp: u64,
+    pending: Vec<u8>,
+}
+
+impl Writer {
+    fn open(container: &Path, host: u64) -> Result<Writer> {
+        let id = FIRST_ID + host;
+        new_file(&container.join("openhosts"), &format!("{host}.{id}"))?;
+        fs::read_dir(container.join("truncs"))?.count();
+        let folder = new_folder(container, &format!("hostdir.{}", host % FOLDERS))?;
+        let index = new_file(&folder, &format!("index.{host}.{id}"))?;
+        let log = new_file(&folder, &format!("log.{host}.{id}"))?;
+        Ok(Writer { host, id, log, index, stored: 0, landed: 0, end: 0, stamp: 0, pending: Vec::with_capacity(PENDING * ENTRY) })
+    }
+
+    fn note(&mut self, at: u64, len: u64, stamp: u64) {
+        let entry = Entry { at, len, physical: self.stored, stamp, writer: self.id };
+        self.pending.extend_from_slice(&entry.bytes());
+        self.stored += len;
+        self.end = self.end.max(at + len);
+        self.stamp = stamp;
+    }
+
+    fn flush(&mut self) -> Result<()> {
+        self.index.write_all_at(&self.pending, ENTRY as u64 * self.landed)?;
+        self.landed += (self.pending.len() / ENTRY) as u64;
+        self.pending.clear();
+        Ok(())
+    }
+
+    fn write(&mut self, at: u64, block: &[u8], stamp: u64) -> Result<()> {
+        if self.pending.len() == PENDING * ENTRY {
+            self.flush()?;
+        }
+        self.log.write_all_at(block, self.stored)?;
+        self.note(at, block.len() as u64, stamp);
+        Ok(())
+    }
+
+    fn close(mut self, container: &Path) -> Result<()> {
+        self.log.sync_all()?;
+        self.flush()?;
+        self.index.sync_all()?;
+        let Writer { host, id, stored, end, stamp, .. } = self;
+        new_file(&container.join("metadata"), &format!("{end}.{stored}.{stamp}.{host}.{id}"))?;
+        fs::remove_file(container.join(format!("openhosts/{host}.{id}")))?;
+        sync_folder(&container.join("openhosts"))
+    }
+}
+
+/// All entries of a container, in order of their logical offsets, with the log of each writer.
+fn opened(container: &Path) -> Result<(Vec<Entry>, Vec<(u64, File)>)> {
+    let mut lists = Vec::new();
+    let mut logs = Vec::new();
+    for folder in fs::read_dir(container)? {
+        let folder = folder?;
+        if !folder.file_name().to_string_lossy().starts_with("hostdir.") {
+            continue;
+        }
+        for file in fs::read_dir(folder.path())? {
+            let file = file?;
+            let name = file.file_name().to_string_lossy().into_owned();
+            let Some(of) = name.strip_prefix("index.") else { continue };
+            let id = of.split('.').nth(1).and_then(|id| id.parse().ok()).ok_or_else(|| wrong(&name))?;
+            let log = File::open(folder.path().join(format!("log.{of}")))?;
+            lists.push(entries_of(&File::open(file.path())?, log.metadata()?.len())?);
+            logs.push((id, log));
+        }
+    }
+    logs.sort_by_key(|log| log.0);
+    Ok((merged(lists), logs))
+}
+
+fn entries_of(index: &File, log: u64) -> Result<Vec<Entry>> {
+    let whole = index.metadata()?.len() as usize / ENTRY * ENTRY;
+    let mut entries = Vec::with_capacity(whole / ENTRY);
+    let mut bytes = vec![0; READ.min(whole)];
+    let mut place = 0;
+    while place < whole {
+        let part = &mut bytes[..READ.min(whole - place)];
+        index.read_exact_at(part, place as u64)?;
+        entries.extend(part.chunks_exact(ENTRY).map(Entry::read));
+        place += part.len();
+    }
+    if entries.iter().any(|entry| entry.len == 0 || entry.physical + entry.len > log) {
+        return Err(wrong("an entry past its log"));
+    }
+    Ok(entries)
+}
+
+/// The lists as one, by a heap of their first entries. No entry may overlap another.
+fn merged(lists: Vec<Vec<Entry>>) -> Vec<Entry> {
+    let mut all = Vec::with_capacity(lists.iter().map(Vec::len).sum());
+    let mut lists: Vec<_> = lists.into_iter().map(Vec::into_iter).collect();
+    let mut heap = BinaryHeap::new();
+    for (place, list) in lists.iter_mut().enumerate() {
+        if let Some(entry) = list.next() {
+            heap.push(std::cmp::Reverse((entry, place)));
+        }
+    }
+    while let Some(mut top) = heap.peek_mut() {
+        let (entry, place) = top.0;
+        all.push(entry);
+        match lists[place].next() {
+            Some(next) => top.0.0 = next,
+            None => drop(std::collections::binary_heap::PeekMut::pop(top)),
+        }
+    }
+    all
+}
+
+/// Writes a checkpoint of so many writers, reads it back, and compares each block.
+fn write(root: &Path, writers: u64) -> Result<()> {
+    let table: Vec<u8> = (0..BLOCK + 256).map(|j| j as u8).collect();
+    let block = |round: u64, writer: u64| {
+        let from = ((round + writer) % 256) as usize;
+        &table[from..from + BLOCK]
+    };
+    let container = new_container(root)?;
+    let mut open = (0..writers).map(|host| Writer::open(&container, host)).collect::<Result<Vec<_>>>()?;
+    let mut stamp = 0;
+    for round in 0..ROUNDS {
+        for writer in &mut open {
+            stamp += 1;
+            let at = (round * writers + writer.host) * BLOCK as u64;
+            writer.write(at, block(round, writer.host), stamp)?;
+        }
+    }
+    for writer in open {
+        writer.close(&container)?;
+    }
+    let (entries, logs) = opened(&container)?;
+    let mut bytes = vec![0; BLOCK];
+    for (place, entry) in entries.iter().enumerate() {
+        let log = logs.binary_search_by_key(&entry.writer, |log| log.0).map_err(|_| wrong("no log"))?;
+        logs[log].1.read_exact_at(&mut bytes, entry.physical)?;
+        let (round, writer) = (place as u64 / writers, place as u64 % writers);
+        if entry.at != place as u64 * BLOCK as u64 || bytes != block(round, writer) {
+            return Err(wrong("a block"));
+        }
+    }
+    Ok(())
+}
+
+/// Makes a container whose blocks of 4096 bytes are of one writer after the other. The logs are holes.
+fn make(root: &Path, writers: u64, entries: u64) -> Result<()> {
+    let container = new_container(root)?;
+    let mut open = (0..writers).map(|host| Writer::open(&container, host)).collect::<Result<Vec<_>>>()?;
+    for k in 0..entries {
+        let writer = &mut open[(k % writers) as usize];
+        if writer.pending.len() == PENDING * ENTRY {
+            writer.flush()?;
+        }
+        writer.note(k * STRIDE, STRIDE, k + 1);
+    }
+    for writer in open {
+        writer.log.set_len(writer.stored)?;
+        writer.close(&container)?;
+    }
+    Ok(())
+}
+
+fn run(words: &[String]) -> Result<String> {
+    let words: Vec<&str> = words.iter().map(String::as_str).collect();
+    let number = |word: &str| word.parse::<u64>().map_err(|_| Error::new(ErrorKind::InvalidInput, "a number"));
+    match words[..] {
+        ["write", root, writers] => write(Path::new(root), number(writers)?).map(|()| String::new()),
+        ["make", root, writers, entries] => make(Path::new(root), number(writers)?, number(entries)?).map(|()| String::new()),
+        ["open", root] => opened(&Path::new(root).join("f")).map(|(entries, _)| format!(" {}", entries.len())),
+        _ => Err(Error::new(ErrorKind::InvalidInput, "usage: checkpoint write FOLDER N | make FOLDER W E | open FOLDER")),
+    }
+}
+
+fn main() -> io::Result<()> {
+    let words: Vec<String> = env::args().skip(1).collect();
+    let begun = Instant::now();
+    match run(&words) {
+        Ok(told) => println!("{:.6}{told}", begun.elapsed().as_secs_f64()),
+        Err(error) => {
+            eprintln!("checkpoint: {error}");
+            process::exit(70);
+        }
+    }
+    Ok(())
+}

@@ -1,0 +1,5 @@
+mod Calls
+pub mod Facts
+mod Plays
+mod Steps
+mod Works

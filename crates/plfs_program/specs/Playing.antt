@@ -1,0 +1,33 @@
+-- What becomes of a script that is played.
+use Rattle.std.specs.Prelude.{ℕ, ◌≡◌, true, List, Some}
+use Rattle.plfs_types.specs.Counts.{HasRisen}
+use Rattle.store_api.specs.Acts.{Stored}
+use Rattle.script_lang.specs.declared.line.Line.{Line}
+use Rattle.script_lang.specs.declared.script.Script.{Script}
+use Rattle.plfs_program.specs.Calling.{Leaves}
+use Rattle.plfs_program.specs.Ends.{Ends}
+use Rattle.plfs_program.specs.Lines.{AreLinesOf}
+use Rattle.plfs_program.specs.Outcomes.{has_line, is_fault, status_of}
+use Rattle.plfs_program.specs.Output.{IsPrinted, IsCutOff}
+use Rattle.plfs_program.specs.Showing.{Shows}
+
+-- These are the lines of the script. There is none for a fault that isn't the store's own.
+pub record IsPlayedAs (script : Script) (lines : List Line) (e : Ends) : Type 0 where
+  pub after : Stored
+  pub left : e.stored_after ≡ Some after
+  pub in_turn : AreLinesOf e.times e.stored after script lines
+  pub cause : has_line is_fault lines ≡ true → HasRisen e.stored.faults after.faults
+
+-- memory was refused from the mounting on, and the store is as the mounting or the mount's calls left it
+pub record IsStoreLeft (e : Ends) : Type 0 where
+  pub after : Stored
+  pub left : e.stored_after ≡ Some after
+  pub lawful : Leaves e.times e.stored after
+
+-- What becomes of a script that is played, of whose lines this is shown: the text that is printed, and the lines that decide
+-- the status.
+pub data PlayCourse (script : Script) (shows : Shows) (e : Ends) (status : ℕ) : Type 0 where
+  printed : (lines : List Line) → IsPlayedAs script lines e → IsPrinted (shows.text lines) e.taking e.taking_after → status ≡ status_of (shows.decide lines)
+      → PlayCourse script shows e status
+  cut_off : (lines : List Line) → IsPlayedAs script lines e → IsCutOff (shows.text lines) e.taking e.taking_after → status ≡ 6 → PlayCourse script shows e status
+  exhausted : IsStoreLeft e → e.taking_after ≡ e.taking → status ≡ 3 → PlayCourse script shows e status

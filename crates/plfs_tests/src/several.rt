@@ -1,0 +1,84 @@
+//! The same scripts over three stores in memory as one.
+ghost use Rattle.std.specs.Prelude.{◌≡◌, All, IfOk, length};
+ghost use Rattle.plfs_tests.specs.Fresh.{IsFresh};
+
+use crate::files::FILES;
+use crate::runs::{Setup, ends, playing, run_on};
+use plfs_types::NoMemory;
+use spread_store::{Spread, StoreList};
+use std::alloc::Global;
+use std::test::Fail;
+use store_memory::{FailList, MemoryStore};
+
+// Three stores without a room.
+fn fresh(alloc: Global) -> Result<StoreList<MemoryStore>, NoMemory>
+    ensures three { IfOk result (λ stores. length stores ≡ 3) }
+    ensures fresh { IfOk result (λ stores. All IsFresh stores) }
+{
+    let first = MemoryStore::new(alloc, FailList::new(alloc))?;
+    let second = MemoryStore::new(alloc, FailList::new(alloc))?;
+    let third = MemoryStore::new(alloc, FailList::new(alloc))?;
+    let mut stores = StoreList::new(alloc);
+    stores.push(first)?;
+    stores.push(second)?;
+    stores.push(third)?;
+    Ok(stores)
+}
+
+fn three(alloc: Global) -> Result<Spread<MemoryStore>, NoMemory> {
+    let stores = fresh(alloc)?;
+    match Spread::open(alloc, stores) {
+        Ok(spread) => Ok(spread),
+        Err(_) => Err(NoMemory),
+    }
+}
+
+#[test]
+fn files_over_three_stores_have_the_same_lines(rt: HostRuntime) -> Result<(), Fail> {
+    for (script, times, status, output) in FILES {
+        let setup = Setup {
+            times,
+            ..playing(script.as_bytes())
+        };
+        let run = run_on(rt.alloc(), three(rt.alloc())?, setup)?;
+        ends(&rt, &run, *status, output);
+    }
+    Ok(())
+}
+
+#[test]
+fn a_checkpoint_over_three_stores_is_found_again(rt: HostRuntime) -> Result<(), Fail> {
+    let whole = Setup {
+        words: &["gen", "64"],
+        ..playing(b"")
+    };
+    let run = run_on(rt.alloc(), three(rt.alloc())?, whole)?;
+    ends(
+        &rt,
+        &run,
+        0,
+        "lines 4226\nrefused 0\nfaults 0\ndamaged 0\nsame 2048\ndiffers 0\nsize 96272384\n",
+    );
+    // The containers lie in stores by their names, and a later run finds them all.
+    let mut store = run.store.ok_or("no store")?;
+    for (words, script, output) in [
+        (
+            "play",
+            "actor a\na open f\na close\na open g\na close\na open h\na close\n",
+            "2 open 8589934593\n3 closed 0\n4 open 8589934594\n5 closed 0\n6 open 8589934595\n7 closed 0\n",
+        ),
+        ("ls", "", "0 ls f,g,gen64,h\n"),
+    ] {
+        let run = run_on(
+            rt.alloc(),
+            store,
+            Setup {
+                words: &[words],
+                ..playing(script.as_bytes())
+            },
+        )?;
+        ends(&rt, &run, 0, output);
+        store = run.store.ok_or("no store")?;
+    }
+    Ok(())
+}
