@@ -17,15 +17,15 @@ use Rattle.actor_core.specs.declared.kept.Stop.{Stop}
 use Rattle.actor_core.specs.declared.kept.Kept.{Kept}
 use Rattle.actor_core.specs.declared.doing.Doing.{Doing}
 use Rattle.actor_core.specs.declared.doing.Doing.TheVariants.{Known, Opening, Writing, Syncing, Closing, Listing, Gathering, Reading, Verifying, Telling, Truncating, Renaming, Recovering, Naming}
-use Rattle.actor_core.specs.declared.gathering.Gathering.{Gathering as Gathers}
-use Rattle.actor_core.specs.declared.gathering.Gathering.TheVariants.{Shares, Truncs, Ended}
+use Rattle.gather_flow.specs.declared.gathering.Gathering.{Gathering as Gathers}
+use Rattle.gather_flow.specs.declared.gathering.Gathering.TheVariants.{Shares, Truncs, Ended}
 use Rattle.actor_core.specs.Stopping.{is_due, one_nearer}
 use Rattle.actor_core.specs.declared.purpose.Purpose.{Purpose}
 use Rattle.actor_core.specs.Endings.{stopped, opened, wrote, synced, closed, read_from, verified, truncated, renamed, recovered, names_listed}
 use Rattle.actor_core.specs.Telling.{if_asked}
 use Rattle.actor_core.specs.Purposes.{if_listed_for, ended_for}
 use Rattle.actor_core.specs.Naming.{names_standing}
-use Rattle.actor_core.specs.Gathering.{gather_rest}
+use Rattle.gather_flow.specs.Gathering.{gather_rest}
 use Rattle.actor_core.specs.Work.{finishes}
 use Rattle.actor_core.specs.Progress.{going, IsAsked, with_reply}
 use Rattle.actor_core.specs.Standings.{busy, doing_ready, doing_asked, doing_left, AwaitsReply}

@@ -1,5 +1,5 @@
 -- How a container that is gathered goes on.
-use Rattle.std.proofs.Common.{◌≡◌, ◌≤◌, ◌<◌, ℕ, ◌+◌, ◌-◌, ◌*◌, ◌^◌, arith, List, [], Option, Some, None, Result, Ok, Err, refl, sym, ap, ◌∙◌}
+use Rattle.std.proofs.Common.{◌≡◌, ℕ, ◌-◌, [], Option, Some, None, Result, Ok, Err, refl, sym, ap, ◌∙◌}
 use Rattle.std.specs.Prelude.{option_map}
 use Rattle.std.proofs.lemmas.Option.{none-some}
 use Rattle.story.specs.Program.{done, ask}
@@ -7,97 +7,31 @@ use Rattle.flow.specs.declared.trouble.Stuck.{Stuck}
 use Rattle.flow.specs.Standing.{Standing, ready, asked as out, Rest, over, next_of, rest_of}
 use Rattle.mount_model.specs.declared.call.Call.{Call}
 use Rattle.mount_model.specs.declared.reply.Reply.{Reply}
-use Rattle.mount_model.specs.Step.{OwedBy}
 use Rattle.index_reader.specs.declared.listing.Listing.{Listing}
-use Rattle.index_reader.specs.declared.sharing.Share.{Share}
-use Rattle.index_reader.specs.declared.sharing.ShareRead.{ShareRead}
-use Rattle.index_reader.specs.declared.truncs.TruncRead.{TruncRead}
-use Rattle.index_reader.specs.Replies.{on_ok}
-use Rattle.index_reader.specs.Stages.{share_standing, share_left}
-use Rattle.index_reader.specs.TruncStages.{trunc_standing, trunc_left}
 use Rattle.actor_core.specs.declared.kept.Stop.{Stop}
 use Rattle.actor_core.specs.declared.kept.Kept.{Kept}
-use Rattle.actor_core.specs.declared.all_read.AllRead.{AllRead}
+use Rattle.gather_flow.specs.declared.all_read.AllRead.{AllRead}
 use Rattle.actor_core.specs.declared.doing.Doing.TheVariants as doing
-use Rattle.actor_core.specs.declared.gathering.Gathering.{Gathering}
-use Rattle.actor_core.specs.declared.gathering.Gathering.TheVariants.{Shares, Truncs, Ended}
-use Rattle.actor_core.specs.declared.gathering.Tried.TheVariants as tried
-use Rattle.actor_core.specs.declared.gathering.Called.TheVariants as called
+use Rattle.gather_flow.specs.declared.gathering.Gathering.{Gathering}
+use Rattle.gather_flow.specs.declared.gathering.Gathering.TheVariants.{Shares, Truncs, Ended}
+use Rattle.gather_flow.specs.declared.gathering.Called.TheVariants as called
 use Rattle.actor_core.specs.declared.purpose.Purpose.{Purpose}
 use Rattle.actor_core.specs.declared.purpose.Purpose.TheVariants.{Opens, Tells}
 use Rattle.actor_core.specs.Stopping.{stoppable, carried}
 use Rattle.actor_core.specs.Endings.{ending, stopped, told_of}
-use Rattle.actor_core.specs.Outcomes.{stuck_outcome}
+use Rattle.outcomes.specs.Outcomes.{stuck_outcome}
 use Rattle.actor_core.specs.Work.{Work, finishes}
-use Rattle.actor_core.specs.Opened.{opens, reader_of, reader_opened}
-use Rattle.actor_core.specs.Telling.{attr_of, tells_by}
+use Rattle.actor_core.specs.Opened.{opens, reader_opened}
+use Rattle.gather_flow.specs.OneIndex.{reader_of, attr_of}
+use Rattle.actor_core.specs.Telling.{tells_by}
 use Rattle.actor_core.specs.Purposes.{workers_of, if_listed_for, ended_for}
-use Rattle.actor_core.specs.Sharing.{by_itself}
-use Rattle.actor_core.specs.Readers.{programs_from}
+use Rattle.gather_flow.specs.Shares.{by_itself, programs_from}
 use Rattle.actor_core.specs.Progress.{Progress, going, told, IsReady, ask_of, given, line_of}
 use Rattle.actor_core.specs.Standings.{ready_of, asked_of, busy, doing_ready, doing_asked}
-use Rattle.actor_core.specs.Gathering.{if_truncs_listed, after_share, shares_from, gather_standing, gather_rest, gather_left, share_bound, shares_bound}
-use Rattle.actor_core.specs.Called.{IsTried, IsCalled}
+use Rattle.gather_flow.specs.Gathering.{shares_from, gather_standing, gather_rest}
+use Rattle.gather_flow.specs.Called.{IsCalled}
 use Rattle.actor_core.proofs.Carrying.{asks_so, ends_so}
-use Rattle.actor_core.proofs.Throughs.{asks_then, rests_then, through, same_then}
 use Rattle.actor_core.proofs.Making.{made_alone}
-
--- ---- the machine at work
-
-pub share_asks : (old new : ShareRead) (listed : Listing) (workers worker : ℕ) (sofar : List Share) (call : Call)
-    → Some call ≡ next_of (share_standing old) → rest_of (share_standing new) ≡ rest_of (share_standing old) → OwedBy call → share_left new ≡ share_left old
-    → IsTried (Shares old listed workers worker sofar) (tried.Asks call (Shares new listed workers worker sofar))
-share_asks old new listed workers worker sofar call some same owed left = (
-  asks_then (share_standing old) (after_share workers listed worker sofar) call some,
-  rests_then (share_standing old) (share_standing new) (after_share workers listed worker sofar) call some same,
-  owed,
-  omega (arith, left),
-)
-
-pub share_through : (old new : ShareRead) (listed : Listing) (workers worker : ℕ) (sofar : List Share)
-    → None ≡ next_of (share_standing old) → rest_of (share_standing new) ≡ rest_of (share_standing old) → share_left new ≡ share_left old
-    → IsTried (Shares old listed workers worker sofar) (tried.Through (Shares new listed workers worker sofar))
-share_through old new listed workers worker sofar none same left =
-    let is = through (share_standing old) (share_standing new) tt none same in
-    (is, same_then (share_standing old) (share_standing new) (after_share workers listed worker sofar) same is, omega (arith, left), omega arith)
-
-pub trunc_asks : (old new : TruncRead) (listed : Listing) (shares : List Share) (call : Call)
-    → Some call ≡ next_of (trunc_standing old) → rest_of (trunc_standing new) ≡ rest_of (trunc_standing old) → OwedBy call → trunc_left new ≡ trunc_left old
-    → IsTried (Truncs old listed shares) (tried.Asks call (Truncs new listed shares))
-trunc_asks old new listed shares call some same owed left = (
-  asks_then (trunc_standing old) (on_ok (if_truncs_listed listed shares)) call some,
-  rests_then (trunc_standing old) (trunc_standing new) (on_ok (if_truncs_listed listed shares)) call some same,
-  owed,
-  omega (arith, left),
-)
-
-pub trunc_through : (old new : TruncRead) (listed : Listing) (shares : List Share)
-    → None ≡ next_of (trunc_standing old) → rest_of (trunc_standing new) ≡ rest_of (trunc_standing old) → trunc_left new ≡ trunc_left old
-    → IsTried (Truncs old listed shares) (tried.Through (Truncs new listed shares))
-trunc_through old new listed shares none same left =
-    let is = through (trunc_standing old) (trunc_standing new) tt none same in
-    (is, same_then (trunc_standing old) (trunc_standing new) (on_ok (if_truncs_listed listed shares)) same is, omega (arith, left), omega arith)
-
--- ---- the machines one after the other
-
-pub called_asks : (old mid new : Gathering) (call : Call) → gather_standing mid ≡ gather_standing old → gather_left mid ≤ gather_left old
-    → IsTried mid (tried.Asks call new) → IsCalled old (called.Asks call new)
-called_asks old mid new call same fewer is = (is.0 ∙ ap (λ s. next_of s) same, is.1 ∙ ap (λ s. rest_of s) same, is.2, omega (arith, fewer, is.3))
-
-pub called_over : (old mid : Gathering) (made : Result AllRead Stuck) → gather_standing mid ≡ gather_standing old
-    → IsTried mid (tried.Over made) → IsCalled old (called.Over made)
-called_over old mid made same is = sym same ∙ is
-
--- so many calls are left where one share more is to come
-pub one_share : (workers worker left count : ℕ) → worker < workers → count ≤ 2 ^ 64 → left ≤ count * (2 ^ 64 + 3)
-    → left + shares_bound (workers - (worker + 1)) ≤ shares_bound (workers - worker)
-one_share workers worker left count lt few bound =
-    let e : workers - worker ≡ (workers - (worker + 1)) + 1 = omega arith in
-    let most : left ≤ share_bound = omega (arith, few, bound) in
-    let more : (workers - worker) * share_bound ≡ (workers - (worker + 1)) * share_bound + share_bound = omega (arith, e) in
-    omega (arith, most, more)
-
--- ---- in the actor
 
 gather_ready : (number : ℕ) (kept : Kept) (stop : Option Stop) (g : Gathering) (purpose : Purpose) → IsReady (busy number (doing_ready kept stop (doing.Gathering g purpose)))
 gather_ready number kept stop (Shares flow listed workers worker sofar) purpose = tt

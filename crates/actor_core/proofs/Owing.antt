@@ -34,16 +34,18 @@ use Rattle.script_lang.specs.declared.script.Statement.TheVariants.{Open, Write,
 use Rattle.actor_core.specs.declared.kept.Stop.{Stop}
 use Rattle.actor_core.specs.declared.kept.Kept.{Kept}
 use Rattle.actor_core.specs.Stopping.{carried, is_due, one_nearer}
-use Rattle.actor_core.specs.Dealing.{dealt_to}
+use Rattle.gather_flow.specs.Dealing.{dealt_to}
 use Rattle.actor_core.specs.Endings.{refused, stopped, gone, wrote_nothing, opened, wrote, synced, closed, read_from, verified, told_of, renamed, names_listed}
-use Rattle.actor_core.specs.Data.{bytes_of, length_of}
+use Rattle.outcomes.specs.Data.{bytes_of, length_of}
 use Rattle.actor_core.specs.Work.{Work, finishes}
-use Rattle.actor_core.specs.Sharing.{by_itself, all_of}
+use Rattle.gather_flow.specs.Shares.{by_itself, programs_from, worker_program}
+use Rattle.actor_core.specs.Sharing.{all_of}
 use Rattle.actor_core.specs.Opened.{opens as opens_after, if_truncs, reader_opened}
 use Rattle.actor_core.specs.Writers.{opens, writes, writes_bytes, syncs, closes}
-use Rattle.actor_core.specs.Readers.{opens_reader, if_listed, programs_from, worker_program, reads, verifies, maps, closes_reader}
+use Rattle.actor_core.specs.Readers.{opens_reader, if_listed, reads, verifies, maps, closes_reader}
 use Rattle.actor_core.specs.Names.{names_program}
-use Rattle.actor_core.specs.Telling.{attr_of, tells_by, if_relisted, if_asked, tells_of_file}
+use Rattle.gather_flow.specs.OneIndex.{attr_of}
+use Rattle.actor_core.specs.Telling.{tells_by, if_relisted, if_asked, tells_of_file}
 use Rattle.actor_core.specs.ByName.{renames_file, lists_names}
 use Rattle.actor_core.specs.Statements.{is_harmless_statement, does, disarmed, greeted, greeted_work, work_of}
 use Rattle.actor_core.specs.Owed.{IsHarmless, WorkAsksOnly, EachAsksOnly}

@@ -13,7 +13,7 @@ use Rattle.script_lang.specs.declared.line.Outcome.TheVariants.{Wrote, Map, Read
 use Rattle.script_lang.specs.declared.line.Why.{Why}
 use Rattle.actor_core.specs.declared.kept.Stop.{Stop}
 use Rattle.actor_core.specs.declared.kept.Kept.{Kept}
-use Rattle.actor_core.specs.Outcomes.{open_outcome, write_outcome, sync_outcome, close_outcome, read_outcome, verify_outcome, map_text, stat_outcome, truncate_outcome, rename_outcome, recover_outcome, list_outcome}
+use Rattle.outcomes.specs.Outcomes.{open_outcome, write_outcome, sync_outcome, close_outcome, read_outcome, verify_outcome, map_text, stat_outcome, truncate_outcome, rename_outcome, recover_outcome, list_outcome}
 
 pub record Ending : Type 0 where
   pub outcome : Outcome

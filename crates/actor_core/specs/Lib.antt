@@ -1,10 +1,7 @@
 pub mod Stopping
-pub mod Data
 pub mod Names
-pub mod Outcomes
 pub mod Endings
 pub mod Work
-pub mod Dealing
 pub mod Sharing
 pub mod Opened
 pub mod Writers
@@ -13,8 +10,6 @@ pub mod Telling
 pub mod ByName
 pub mod Purposes
 pub mod Naming
-pub mod Gathering
-pub mod Called
 pub mod Statements
 pub mod Progress
 pub mod Standings

@@ -1,37 +1,25 @@
 -- The statements on a reader.
-use Rattle.std.specs.Prelude.{ℕ, ◌-◌, List, map, Option, Some, None, Result, Ok, Err}
-use Rattle.std.specs.List.{range_with_len}
+use Rattle.std.specs.Prelude.{ℕ, List, Option, Some, None, Result, Ok, Err}
 use Rattle.flow.specs.declared.trouble.Stuck.{Stuck}
 use Rattle.script_lang.specs.declared.script.Data.{Data}
 use Rattle.script_lang.specs.declared.line.Why.TheVariants.{AlreadyOpen, NotOpen}
 use Rattle.read_plan.specs.Plan.{plan_of}
 use Rattle.index_reader.specs.declared.opened.OpenReader.{OpenReader}
 use Rattle.index_reader.specs.declared.listing.Listing.{Listing}
-use Rattle.index_reader.specs.declared.sharing.Share.{Share}
-use Rattle.index_reader.specs.Replies.{Tries}
 use Rattle.index_reader.specs.Opening.{open_read_program}
-use Rattle.index_reader.specs.Sharing.{share_program}
 use Rattle.index_reader.specs.Reading.{read_program}
 use Rattle.actor_core.specs.declared.kept.Stop.{Stop}
 use Rattle.actor_core.specs.declared.kept.Kept.{Kept}
-use Rattle.actor_core.specs.Data.{length_of}
+use Rattle.outcomes.specs.Data.{length_of}
 use Rattle.actor_core.specs.Stopping.{carried}
-use Rattle.actor_core.specs.Dealing.{dealt_to}
-use Rattle.actor_core.specs.Outcomes.{stuck_outcome}
+use Rattle.gather_flow.specs.Shares.{programs_from}
+use Rattle.outcomes.specs.Outcomes.{stuck_outcome}
 use Rattle.actor_core.specs.Endings.{ending, refused, stopped, read_from, verified, mapped, reader_closed}
 use Rattle.actor_core.specs.Work.{Work, finishes}
 use Rattle.actor_core.specs.Sharing.{shared}
 use Rattle.actor_core.specs.Opened.{opens, reader_opened}
 
 -- ---- it is opened
-
--- one worker's share of the droppings, behind what the flattened index covers
-abbrev pub worker_program : ℕ → Listing → ℕ → Tries Share
-worker_program workers listing worker = share_program listing.room (dealt_to workers worker 0 listing.droppings) listing.flat.covers
-
--- those of so many workers from this one on
-abbrev pub programs_from : ℕ → Listing → ℕ → List (Tries Share)
-programs_from workers listing worker = map (worker_program workers listing) (range_with_len worker (workers - worker))
 
 -- the shares are read and then the truncates, unless the listing was stuck
 abbrev pub if_listed : Kept → ℕ → Option Stop → Result Listing Stuck → Work

@@ -1,12 +1,12 @@
 -- The shares of a container's droppings, which workers read, or the actor itself.
-use Rattle.std.specs.Prelude.{List, [], ◌∷◌, ◌++◌, map, Option, Some, None, Result, Ok, Err}
-use Rattle.story.specs.Program.{followed_by}
+use Rattle.std.specs.Prelude.{List, [], ◌∷◌, map, Option, Some, None, Result, Ok, Err}
 use Rattle.story.specs.Process.{shares}
 use Rattle.flow.specs.declared.trouble.Stuck.{Stuck}
 use Rattle.flow.specs.Running.{asking}
 use Rattle.index_reader.specs.declared.opened.OpenReader.{OpenReader}
 use Rattle.index_reader.specs.declared.sharing.Share.{Share}
 use Rattle.index_reader.specs.Replies.{Tries, on_ok}
+use Rattle.gather_flow.specs.Shares.{by_itself}
 use Rattle.actor_core.specs.declared.kept.Stop.{Stop}
 use Rattle.actor_core.specs.Stopping.{carried}
 use Rattle.actor_core.specs.Work.{Work}
@@ -20,11 +20,6 @@ abbrev pub all_of : List (Result Share Stuck) → Result (List Share) Stuck
 all_of [] = Ok []
 all_of (Ok share ∷ results) = and_share share (all_of results)
 all_of (Err because ∷ results) = Err because
-
--- the actor reads the shares by itself, one after the other, behind those so far; the first trouble ends it
-abbrev pub by_itself : {R : Type 0} → List (Tries Share) → List Share → (List Share → Tries R) → Tries R
-by_itself [] sofar opens = opens sofar
-by_itself (program ∷ programs) sofar opens = followed_by program (on_ok (λ share. by_itself programs (sofar ++ share ∷ []) opens))
 
 -- Workers read the shares, or the actor itself. Where a stop is armed the actor does, since the stop counts its own calls.
 abbrev pub shared : Option Stop → List (Tries Share) → (List Share → Tries OpenReader) → (Option Stop → Result OpenReader Stuck → Work) → Work → Work

@@ -28,7 +28,7 @@ use Rattle.actor_core.specs.Endings.{ending, stopped, opened, wrote, synced, clo
 use Rattle.actor_core.specs.Telling.{if_asked}
 use Rattle.actor_core.specs.Purposes.{workers_of, if_listed_for, ended_for}
 use Rattle.actor_core.specs.Naming.{names_standing, names_left}
-use Rattle.actor_core.specs.Gathering.{gather_standing, gather_rest, gather_left, shares_bound}
+use Rattle.gather_flow.specs.Gathering.{gather_standing, gather_rest, gather_left, shares_bound}
 use Rattle.actor_core.specs.Work.{Work, finishes}
 use Rattle.actor_core.specs.Progress.{Progress, idle, going, asked, told}
 

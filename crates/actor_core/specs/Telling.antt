@@ -1,40 +1,23 @@
 -- The statement that tells of a file: by the names of what its writers left, or by its index where somebody has it open.
-use Rattle.std.specs.Prelude.{ℕ, List, [], ◌∷◌, ◌++◌, Option, Result, Ok, Err}
-use Rattle.plfs_types.specs.declared.entries.Trunc.{Trunc}
-use Rattle.flat_format.specs.declared.flat.Flat.{Flat}
+use Rattle.std.specs.Prelude.{ℕ, List, [], Option, Result, Ok, Err}
 use Rattle.story.specs.Program.{done, followed_by}
 use Rattle.flow.specs.declared.trouble.Stuck.{Stuck}
 use Rattle.attr_flow.specs.declared.attr.Attr.{Attr}
 use Rattle.attr_flow.specs.declared.attr_flow.AttrOut.{AttrOut}
 use Rattle.attr_flow.specs.declared.attr_flow.AttrOut.TheVariants.{Cached, MustMerge}
 use Rattle.attr_flow.specs.Asking.{attr_program}
-use Rattle.attr_flow.specs.Attributes.{gathered}
 use Rattle.index_reader.specs.declared.listing.Listing.{Listing}
 use Rattle.index_reader.specs.declared.sharing.Share.{Share}
 use Rattle.index_reader.specs.Replies.{Tries, on_ok}
 use Rattle.index_reader.specs.Opening.{open_at_program}
 use Rattle.index_reader.specs.Truncs.{trunc_program}
-use Rattle.index_reader.specs.Runs.{merged_of}
-use Rattle.index_reader.specs.Gathered.{covers_of, pieces_of_each}
 use Rattle.actor_core.specs.declared.kept.Stop.{Stop}
 use Rattle.actor_core.specs.declared.kept.Kept.{Kept}
 use Rattle.actor_core.specs.Stopping.{carried}
 use Rattle.actor_core.specs.Endings.{stopped, told_of}
-use Rattle.actor_core.specs.Opened.{first_covers}
-use Rattle.actor_core.specs.Readers.{programs_from}
-use Rattle.actor_core.specs.Sharing.{by_itself}
+use Rattle.gather_flow.specs.OneIndex.{attr_of}
+use Rattle.gather_flow.specs.Shares.{programs_from, by_itself}
 use Rattle.actor_core.specs.Work.{Work, finishes}
-
--- the index of what was listed and of the shares
-abbrev pub flat_of : Listing → List Share → Flat
-flat_of listing shares = record {
-  covers = first_covers (covers_of shares ++ listing.flat.covers);
-  pieces = merged_of (listing.flat.pieces ∷ pieces_of_each shares);
-}
-
--- what the index and the truncates tell
-abbrev pub attr_of : Listing → List Share → List Trunc → Attr
-attr_of listing shares truncs = gathered (flat_of listing shares) truncs
 
 -- the truncates are listed behind the shares
 abbrev pub tells_by : Listing → List Share → Tries Attr

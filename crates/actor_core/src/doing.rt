@@ -1,8 +1,8 @@
 //! The statement that an actor is at work on.
-use crate::gathering::Gathering;
 use crate::names::NamesRead;
 use crate::purpose::Purpose;
 use attr_flow::AttrFlow;
+use gather_flow::Gathering;
 use index_reader::{OpenRead, Reading};
 use script_lang::{Data, Outcome};
 use torn_tail::RecoverFlow;

@@ -1,25 +1,19 @@
 //! An actor of a script: its statements become calls of the mount, and the replies become their lines.
 //!
 //! The crate owns what each statement does: which machines make its calls, when it is refused, within which call an armed
-//! stop ends it, and what its one line says. An actor keeps at most one writer and one reader between its statements. It
-//! stands on the machines of each statement, and needs no mount: who drives an actor makes its calls wherever it likes.
+//! stop ends it, and with which outcome. An actor keeps at most one writer and one reader between its statements. It stands
+//! on the machines of each statement and on `outcomes`, which says what its line tells of their results, and needs no
+//! mount: who drives an actor makes its calls wherever it likes.
 #![tactic(auto)]
 
 mod actor;
-mod all_read;
 mod by_name;
-mod copying;
-mod data;
-mod dealing;
 mod doing;
-mod gathering;
 mod kept;
 mod laws;
-mod listed;
 mod machines;
 mod names;
 mod opening;
-mod outcomes;
 mod purpose;
 mod reading;
 mod starting;
@@ -33,5 +27,4 @@ pub use kept::{Kept, Stop};
 pub use laws::{
     listed_names_are_logical, statements_owe_nothing, truncates_and_recoveries_ask_along,
 };
-pub use outcomes::why_of;
-pub use starting::{is_built_statement, is_harmless_statement};
+pub use starting::is_built_statement;

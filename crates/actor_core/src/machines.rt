@@ -11,10 +11,10 @@ ghost use Rattle.actor_core.specs.Standings.{progress_of, calls_left, busy, doin
 use crate::actor::{Actor, State};
 use crate::doing::Doing;
 use crate::kept::Stop;
-use crate::outcomes::{close_outcome, stuck_outcome, sync_outcome, write_outcome};
 use crate::stopping::stoppable;
 use flow::Flow;
 use mount_model::Ask;
+use outcomes::{close_outcome, stuck_outcome, sync_outcome, write_outcome};
 use plfs_types::NoMemory;
 use script_lang::{Line, Outcome};
 use writer_flow::{CloseFlow, OpenWrite, SyncFlow, WriteFlow};

@@ -5,64 +5,19 @@ ghost use Rattle.actor_core.specs.declared.actor.State.TheVariants.{Idle};
 ghost use Rattle.actor_core.specs.Progress.{IsReady, going, ask_of, given};
 ghost use Rattle.actor_core.specs.Purposes.{ended_for};
 ghost use Rattle.actor_core.specs.Work.{finishes};
-ghost use Rattle.actor_core.specs.Opened.{counted, cut_of};
 ghost use Rattle.actor_core.specs.Standings.{progress_of, calls_left, busy, doing_ready, doing_left};
 
 use crate::actor::{Actor, State};
-use crate::all_read::AllRead;
-use crate::copying::copied;
 use crate::doing::Doing;
-use crate::gathering::{Called, Gathering};
-use crate::listed::Listed;
 use crate::machines::next_ask;
-use crate::outcomes::{stat_outcome, stuck_outcome};
 use crate::purpose::Purpose;
 use crate::stopping::stoppable;
 use flow::Flow;
-use index_reader::{OpenRead, OpenReader};
+use gather_flow::{AllRead, Called, Gathering, Listed};
+use index_reader::OpenRead;
 use mount_model::Ask;
-use plfs_types::{CountList, Cover, NoMemory, WriterCount};
-use script_lang::Outcome;
-use std::alloc::{AllocError, Global};
-
-fn count_of(cover: &Cover) -> WriterCount
-    ensures { result ≡ counted cover.now }
-{
-    WriterCount {
-        writer: cover.writer,
-        count: cover.count,
-    }
-}
-
-fn counts(alloc: Global, covers: &[Cover]) -> Result<Vec<WriterCount>, AllocError>
-    ensures { IfOk result (λ counts. counts.items ≡ cut_of covers.now) }
-{
-    covers
-        .iter()
-        .filter(|cover| cover.count > 0)
-        .map(|cover| count_of(cover))
-        .collect(alloc)
-}
-
-/// How many entries of each writer there are.
-fn cut(alloc: Global, covers: &[Cover]) -> Result<CountList, NoMemory>
-    ensures { IfOk result (λ cut. cut ≡ cut_of covers.now) }
-{
-    Ok(CountList::from_vec(counts(alloc, covers)?))
-}
-
-/// What the line says of the reader.
-fn reader_outcome(alloc: Global, reader: &OpenReader) -> Result<Outcome, NoMemory>
-    ensures { IfOk result (λ outcome. outcome ≡ Outcome.Reader reader.now.size (cut_of reader.now.covers) reader.now.truncs) }
-{
-    let cut = cut(alloc, reader.covers().as_slice())?;
-    let truncs = copied(alloc, reader.truncs().as_slice())?;
-    Ok(Outcome::Reader {
-        size: reader.size(),
-        cut,
-        truncs,
-    })
-}
+use outcomes::{reader_outcome, stat_outcome, stuck_outcome};
+use plfs_types::NoMemory;
 
 impl Actor {
     pub(crate) fn next_listing(

@@ -8,10 +8,10 @@ ghost use Rattle.actor_core.specs.Standings.{progress_of, calls_left, busy, doin
 use crate::actor::{Actor, State};
 use crate::doing::Doing;
 use crate::machines::next_ask;
-use crate::outcomes::{read_outcome, verify_outcome};
 use flow::Flow;
 use index_reader::Reading;
 use mount_model::Ask;
+use outcomes::{read_outcome, verify_outcome};
 use plfs_types::NoMemory;
 use script_lang::Data;
 

@@ -1,23 +1,22 @@
 //! How a statement begins.
 ghost use Rattle.std.specs.Prelude.{◌≡◌, ◌≤◌, ◌^◌, true, IfOk, OnOk};
 ghost use Rattle.script_lang.specs.Ranges.{FitsData, FitsStatement};
-ghost use Rattle.actor_core.specs.Data.{bytes_of};
+ghost use Rattle.outcomes.specs.Data.{bytes_of};
 ghost use Rattle.actor_core.specs.Endings.{armed};
 ghost use Rattle.actor_core.specs.Work.{finishes};
 ghost use Rattle.actor_core.specs.Writers.{opens, writes, syncs, closes};
 ghost use Rattle.actor_core.specs.Readers.{opens_reader, reads, verifies, maps, closes_reader};
-ghost use Rattle.actor_core.specs.Statements.{is_built_statement as built, is_harmless_statement as harmless, greeted_work};
+ghost use Rattle.actor_core.specs.Statements.{is_built_statement as built, greeted_work};
 ghost use Rattle.actor_core.specs.Standings.{goes, doing_ready};
 
 use crate::actor::Actor;
-use crate::data::{block, length};
 use crate::doing::Doing;
 use crate::kept::Stop;
 use crate::names::NamesRead;
-use crate::outcomes::map_text;
 use crate::purpose::Purpose;
 use attr_flow::AttrFlow;
 use index_reader::{OpenRead, Reading};
+use outcomes::{block, length, map_text};
 use plfs_types::{LogicalName, NoMemory};
 use script_lang::{Data, Outcome, Statement, Why};
 use torn_tail::RecoverFlow;
@@ -35,17 +34,6 @@ pub fn is_built_statement(statement: &Statement) -> bool
     ensures { result ≡ built statement.now }
 {
     !matches!(statement, Statement::Flatten { .. })
-}
-
-/// Whether no call of the statement owes anything of the mount's state: all but a truncate's, a recovery's and a
-/// flattening's.
-pub fn is_harmless_statement(statement: &Statement) -> bool
-    ensures { result ≡ harmless statement.now }
-{
-    !matches!(
-        statement,
-        Statement::Flatten { .. } | Statement::Recover { .. } | Statement::Trunc { .. }
-    )
 }
 
 impl Actor {

@@ -5,16 +5,16 @@ ghost use Rattle.actor_core.specs.declared.kept.Stop.{Stop as AStop};
 ghost use Rattle.actor_core.specs.Stopping.{is_due as due_test, one_nearer as nearer};
 ghost use Rattle.actor_core.specs.declared.actor.State.TheVariants.{Idle};
 ghost use Rattle.flow.specs.Standing.{Awaits};
-ghost use Rattle.actor_core.specs.Gathering.{gather_rest};
+ghost use Rattle.gather_flow.specs.Gathering.{gather_rest};
 ghost use Rattle.actor_core.specs.Progress.{IsAsked, with_reply};
 ghost use Rattle.actor_core.specs.Standings.{AwaitsReply, progress_of, calls_left, busy, doing_ready, doing_asked, doing_left};
 
 use crate::actor::{Actor, State};
 use crate::doing::Doing;
-use crate::gathering::Gathering;
 use crate::purpose::Purpose;
 use crate::stopping::{is_due, one_nearer};
 use flow::Flow;
+use gather_flow::Gathering;
 use mount_model::Reply;
 use plfs_types::NoMemory;
 use script_lang::Outcome;

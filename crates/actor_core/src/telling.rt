@@ -8,12 +8,12 @@ ghost use Rattle.actor_core.specs.Standings.{progress_of, calls_left, busy, doin
 use crate::actor::{Actor, State};
 use crate::doing::Doing;
 use crate::machines::next_ask;
-use crate::outcomes::{stat_outcome, stuck_outcome};
 use crate::purpose::Purpose;
 use attr_flow::{AttrFlow, AttrOut};
 use flow::Flow;
 use index_reader::OpenRead;
 use mount_model::Ask;
+use outcomes::{stat_outcome, stuck_outcome};
 use plfs_types::NoMemory;
 
 impl Actor {

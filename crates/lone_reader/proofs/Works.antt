@@ -22,8 +22,8 @@ use Rattle.actor_core.specs.Endings.{gone, stopped, read_from}
 use Rattle.actor_core.specs.Opened.{opens as opens_after, reader_opened}
 use Rattle.actor_core.specs.Owed.{IsHarmless, WorkAsksOnly}
 use Rattle.actor_core.specs.Progress.{idle}
-use Rattle.actor_core.specs.Readers.{opens_reader, if_listed, programs_from, reads}
-use Rattle.actor_core.specs.Sharing.{by_itself}
+use Rattle.actor_core.specs.Readers.{opens_reader, if_listed, reads}
+use Rattle.gather_flow.specs.Shares.{programs_from, by_itself}
 use Rattle.actor_core.specs.Standings.{Underway, goes, waits, busy, greeting, greeting_out, doing_ready, doing_asked, progress_of, state_progress}
 use Rattle.actor_core.specs.Statements.{is_built_statement, is_harmless_statement, does, greeted, greeted_work, disarmed, work_of}
 use Rattle.actor_core.specs.Stopping.{carried, is_due, one_nearer}

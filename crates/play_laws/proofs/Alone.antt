@@ -19,10 +19,10 @@ use Rattle.index_reader.specs.Replies.{on_ok}
 use Rattle.index_reader.specs.Sharing.{share_program}
 use Rattle.index_reader.specs.Truncs.{trunc_program}
 use Rattle.reader_laws.specs.Opening.{Portion, droppings_of, shares_of, ReadsInTurn}
-use Rattle.actor_core.specs.Dealing.{dealt_to}
-use Rattle.actor_core.specs.Opened.{reader_of, opens, if_truncs}
-use Rattle.actor_core.specs.Readers.{worker_program}
-use Rattle.actor_core.specs.Sharing.{by_itself}
+use Rattle.gather_flow.specs.Dealing.{dealt_to}
+use Rattle.gather_flow.specs.OneIndex.{reader_of}
+use Rattle.actor_core.specs.Opened.{opens, if_truncs}
+use Rattle.gather_flow.specs.Shares.{worker_program, by_itself}
 use Rattle.play_laws.proofs.Dealing.{dealt_all}
 
 -- ---- runs of programs

@@ -12,8 +12,8 @@ use Rattle.index_reader.specs.declared.listing.Listing.{Listing}
 use Rattle.index_reader.specs.declared.sharing.Share.{Share}
 use Rattle.index_reader.specs.Sharing.{share_program}
 use Rattle.reader_laws.specs.Opening.{droppings_of, shares_of, Work, portions_of}
-use Rattle.actor_core.specs.Dealing.{dealt_to}
-use Rattle.actor_core.specs.Readers.{worker_program}
+use Rattle.gather_flow.specs.Dealing.{dealt_to}
+use Rattle.gather_flow.specs.Shares.{worker_program}
 use Rattle.actor_core.specs.Sharing.{and_share, all_of}
 use Rattle.play_laws.proofs.Dealing.{dealt_all}
 

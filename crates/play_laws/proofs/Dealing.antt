@@ -12,7 +12,7 @@ use Rattle.index_reader.specs.Listing.{AreByWriter}
 use Rattle.gathering.specs.Listing.{IsAmong}
 use Rattle.gathering.proofs.Facts.{among_left, among_right, is_among}
 use Rattle.reader_laws.specs.Opening.{Portion, droppings_of, WritersDiffer, AreDealt}
-use Rattle.actor_core.specs.Dealing.{its_own, dealt_to}
+use Rattle.gather_flow.specs.Dealing.{its_own, dealt_to}
 
 -- ---- members
 

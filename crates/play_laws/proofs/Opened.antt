@@ -43,8 +43,9 @@ use Rattle.reader_laws.specs.Opened.{IsReaderOf, HasOpenReader, HasOpenedIn}
 use Rattle.reader_laws.proofs.Facts.{AreRunsOf, IsBounded, answered, calls_append, calls_are, runs_are}
 use Rattle.script_lang.specs.declared.script.Statement.{Statement}
 use Rattle.actor_core.specs.Endings.{Ending}
-use Rattle.actor_core.specs.Opened.{first_covers, reader_of, counted, cut_of}
-use Rattle.actor_core.proofs.Facts.{first_is, first_rise}
+use Rattle.gather_flow.specs.OneIndex.{first_covers, reader_of}
+use Rattle.outcomes.specs.Counts.{counted, cut_of}
+use Rattle.gather_flow.proofs.CoverLemmas.{first_is, first_rise}
 use Rattle.play_laws.specs.OneFile.{OneFile, printed_cut}
 use Rattle.play_laws.specs.Opening.{OpensOneFile}
 use Rattle.play_laws.specs.Showing.{Shows, TellsOneFile}

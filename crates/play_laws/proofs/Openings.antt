@@ -39,14 +39,16 @@ use Rattle.reader_laws.specs.Opened.{IsReaderOf, HasOpenedIn}
 use Rattle.reader_laws.specs.Opening.{Portion, droppings_of, shares_of, Work, portions_of, Lists, ReadsInTurn}
 use Rattle.reader_laws.specs.Sharing.{in_room}
 use Rattle.reader_laws.proofs.Facts.{first_of, listing_fails, listing_run, opens_alone, opens_each, share_gathered, shares_fail, truncates_fail}
-use Rattle.actor_core.specs.Dealing.{dealt_to}
+use Rattle.gather_flow.specs.Dealing.{dealt_to}
 use Rattle.actor_core.specs.declared.kept.Kept.{Kept}
 use Rattle.actor_core.specs.declared.kept.Stop.{Stop}
 use Rattle.actor_core.specs.Endings.{ending, stopped}
-use Rattle.actor_core.specs.Opened.{reader_of, opens, reader_opened}
-use Rattle.actor_core.specs.Outcomes.{stuck_outcome}
-use Rattle.actor_core.specs.Readers.{programs_from, if_listed, opens_reader}
-use Rattle.actor_core.specs.Sharing.{all_of, by_itself, shared}
+use Rattle.gather_flow.specs.OneIndex.{reader_of}
+use Rattle.actor_core.specs.Opened.{opens, reader_opened}
+use Rattle.outcomes.specs.Outcomes.{stuck_outcome}
+use Rattle.gather_flow.specs.Shares.{programs_from, by_itself}
+use Rattle.actor_core.specs.Readers.{if_listed, opens_reader}
+use Rattle.actor_core.specs.Sharing.{all_of, shared}
 use Rattle.actor_core.specs.Stopping.{carried}
 use Rattle.actor_core.specs.Work.{Work as Doing, finishes}
 use Rattle.run_core.specs.Course.{Course, then_line}

@@ -24,11 +24,10 @@ use Rattle.attr_flow.specs.declared.attr_flow.AttrOut.TheVariants.{Cached, MustM
 use Rattle.attr_flow.specs.Asking.{attr_program}
 use Rattle.index_reader.specs.declared.listing.Listing.{Listing}
 use Rattle.index_reader.specs.Opening.{open_at_program}
-use Rattle.actor_core.specs.Readers.{programs_from}
-use Rattle.actor_core.specs.Sharing.{by_itself}
+use Rattle.gather_flow.specs.Shares.{programs_from, by_itself}
 use Rattle.actor_core.specs.Telling.{tells_by, if_relisted, if_asked, tells_of_file}
 use Rattle.actor_core.specs.Endings.{ending, told_of, Ending, stopped, opened, wrote_nothing, wrote, synced, closed}
-use Rattle.actor_core.specs.Outcomes.{stuck_outcome, or_stuck}
+use Rattle.outcomes.specs.Outcomes.{stuck_outcome, or_stuck}
 use Rattle.actor_core.specs.Stopping.{carried, is_due, one_nearer}
 use Rattle.actor_core.specs.Work.{Work, finishes}
 use Rattle.actor_core.specs.Writers.{opens, writes, writes_bytes, syncs, closes}

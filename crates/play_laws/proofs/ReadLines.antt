@@ -27,11 +27,11 @@ use Rattle.gathering.specs.View.{view, writes_in}
 use Rattle.gathering.proofs.Facts.{follows}
 use Rattle.reader_laws.specs.Failing.{FailsByStore}
 use Rattle.reader_laws.proofs.Facts.{reads_bytes, reads_trouble}
-use Rattle.actor_core.specs.Data.{ramp_byte, bytes_of, length_of, first_difference, place_past}
+use Rattle.outcomes.specs.Data.{ramp_byte, bytes_of, length_of, first_difference, place_past}
 use Rattle.actor_core.specs.declared.kept.Kept.{Kept}
 use Rattle.actor_core.specs.declared.kept.Stop.{Stop}
 use Rattle.actor_core.specs.Endings.{refused, stopped, read_from, verified, mapped, reader_closed}
-use Rattle.actor_core.specs.Outcomes.{stuck_outcome, read_outcome, verify_outcome, difference}
+use Rattle.outcomes.specs.Outcomes.{stuck_outcome, read_outcome, verify_outcome, difference}
 use Rattle.actor_core.specs.Readers.{reads, verifies, maps, closes_reader}
 use Rattle.actor_core.specs.Work.{finishes}
 use Rattle.run_core.specs.Course.{Course, then_line}

@@ -23,7 +23,7 @@ use Rattle.reader_laws.proofs.Facts.{calls_append}
 use Rattle.torn_tail.specs.Recovering.{recover_program}
 use Rattle.trunc_rename.specs.Renaming.{rename_program}
 use Rattle.trunc_rename.specs.Truncating.{truncate_program}
-use Rattle.actor_core.specs.Data.{bytes_of}
+use Rattle.outcomes.specs.Data.{bytes_of}
 use Rattle.actor_core.specs.Names.{names_program}
 use Rattle.actor_core.specs.declared.kept.Kept.{Kept}
 use Rattle.actor_core.specs.declared.kept.Stop.{Stop}

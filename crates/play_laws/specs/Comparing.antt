@@ -1,6 +1,6 @@
 -- Where bytes differ from what is wanted.
 use Rattle.std.specs.Prelude.{◌≡◌, ◌≢◌, ⊤, ℕ, List, [], ◌∷◌, ◌++◌, length}
-use Rattle.actor_core.specs.Data.{place_past}
+use Rattle.outcomes.specs.Data.{place_past}
 
 -- it has ended, or it begins with another byte
 abbrev pub BeginsOtherwise : ℕ → List ℕ → Type 0

@@ -11,8 +11,8 @@ use Rattle.script_lang.specs.declared.line.Why.TheVariants.{AlreadyOpen, NotOpen
 use Rattle.script_lang.specs.declared.script.Data.{Data}
 use Rattle.script_lang.specs.declared.script.Statement.{Statement}
 use Rattle.script_lang.specs.declared.script.Statement.TheVariants.{Ropen, Read, Verify, Map, Rclose}
-use Rattle.actor_core.specs.Data.{bytes_of, length_of}
-use Rattle.actor_core.specs.Outcomes.{map_text}
+use Rattle.outcomes.specs.Data.{bytes_of, length_of}
+use Rattle.outcomes.specs.Outcomes.{map_text}
 use Rattle.gathering.specs.Moments.{Moment}
 use Rattle.play_laws.specs.OneFile.{OneFile, seen_bytes, ArePiecesSeen, printed_cut}
 use Rattle.play_laws.specs.Opening.{Stretch, OpensOneFile}

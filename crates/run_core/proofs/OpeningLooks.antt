@@ -7,11 +7,11 @@ use Rattle.index_reader.specs.declared.opened.OpenReader.{OpenReader}
 use Rattle.index_reader.specs.declared.sharing.Share.{Share}
 use Rattle.index_reader.specs.Replies.{Tries}
 use Rattle.index_reader.specs.Truncs.{trunc_program}
-use Rattle.actor_core.specs.Dealing.{dealt_to}
+use Rattle.gather_flow.specs.Dealing.{dealt_to}
 use Rattle.actor_core.specs.Opened.{opens, if_truncs}
-use Rattle.actor_core.specs.Readers.{programs_from, worker_program}
-use Rattle.actor_core.specs.Sharing.{by_itself}
-use Rattle.actor_core.specs.Telling.{attr_of, tells_by}
+use Rattle.gather_flow.specs.Shares.{programs_from, worker_program, by_itself}
+use Rattle.gather_flow.specs.OneIndex.{attr_of}
+use Rattle.actor_core.specs.Telling.{tells_by}
 use Rattle.run_core.proofs.Looking.{Looks, then_looks}
 use Rattle.run_core.proofs.ReaderLooks.{share_looks, truncs_look}
 

@@ -39,14 +39,14 @@ use Rattle.script_lang.specs.declared.script.Statement.{Statement}
 use Rattle.script_lang.specs.declared.script.Statement.TheVariants.{Open, Write, Sync, Close, Ropen, Read, Verify, Map, Rclose, Stat, Flatten, Recover, Trunc as Truncs, Rename, Ls, Stop as Arms}
 use Rattle.actor_core.specs.declared.kept.Kept.{Kept}
 use Rattle.actor_core.specs.declared.kept.Stop.{Stop}
-use Rattle.actor_core.specs.Data.{bytes_of, length_of, first_difference}
+use Rattle.outcomes.specs.Data.{bytes_of, length_of, first_difference}
 use Rattle.actor_core.specs.Endings.{gone, refused, stopped, opened, wrote_nothing, wrote, synced, closed, read_from, verified, names_listed, recovered, renamed, told_of, truncated}
-use Rattle.actor_core.specs.Outcomes.{stuck_outcome, or_stuck, difference}
+use Rattle.outcomes.specs.Outcomes.{stuck_outcome, or_stuck, difference}
 use Rattle.actor_core.specs.Names.{names_program, names_told}
 use Rattle.actor_core.specs.Telling.{if_asked, if_relisted, tells_by, tells_of_file}
 use Rattle.actor_core.specs.Opened.{opens as opens_after, reader_opened}
-use Rattle.actor_core.specs.Readers.{opens_reader, if_listed, programs_from, reads, verifies, maps, closes_reader}
-use Rattle.actor_core.specs.Sharing.{by_itself}
+use Rattle.actor_core.specs.Readers.{opens_reader, if_listed, reads, verifies, maps, closes_reader}
+use Rattle.gather_flow.specs.Shares.{programs_from, by_itself}
 use Rattle.actor_core.specs.Statements.{is_built_statement, does, greeted, greeted_work, disarmed, work_of}
 use Rattle.actor_core.specs.ByName.{lists_names, recovers_file, renames_file, truncates_file}
 use Rattle.actor_core.proofs.Facts.{logical_names}

@@ -26,14 +26,14 @@ use Rattle.script_lang.specs.declared.script.Statement.{Statement}
 use Rattle.script_lang.specs.declared.script.Statement.TheVariants.{Open, Write, Sync, Close, Ropen, Read, Verify, Map, Rclose, Stat, Flatten, Recover, Trunc, Rename, Ls, Stop as Arms}
 use Rattle.actor_core.specs.declared.kept.Kept.{Kept}
 use Rattle.actor_core.specs.declared.kept.Stop.{Stop}
-use Rattle.actor_core.specs.Data.{bytes_of, length_of}
+use Rattle.outcomes.specs.Data.{bytes_of, length_of}
 use Rattle.script_lang.specs.declared.line.Why.TheVariants.{NotOpen}
 use Rattle.actor_core.specs.Endings.{gone, refused, stopped, opened, wrote_nothing, wrote, synced, closed, read_from, verified, names_listed, recovered, renamed, told_of, truncated}
 use Rattle.actor_core.specs.Names.{names_program}
 use Rattle.actor_core.specs.Telling.{if_asked, if_relisted, tells_by, tells_of_file}
 use Rattle.actor_core.specs.Opened.{opens as opens_after, reader_opened}
-use Rattle.actor_core.specs.Readers.{opens_reader, if_listed, programs_from, reads, verifies, maps, closes_reader}
-use Rattle.actor_core.specs.Sharing.{by_itself}
+use Rattle.actor_core.specs.Readers.{opens_reader, if_listed, reads, verifies, maps, closes_reader}
+use Rattle.gather_flow.specs.Shares.{programs_from, by_itself}
 use Rattle.actor_core.specs.Statements.{is_built_statement, does, greeted, greeted_work, disarmed, work_of}
 use Rattle.actor_core.specs.Stopping.{carried, is_due, one_nearer}
 use Rattle.actor_core.specs.Work.{Work, finishes}

@@ -1,5 +1,5 @@
 use Rattle.actor_core.specs.Endings.{stopped}
-use Rattle.actor_core.specs.Gathering.{gather_rest, gather_standing}
+use Rattle.gather_flow.specs.Gathering.{gather_rest, gather_standing}
 use Rattle.actor_core.specs.Purposes.{ended_for}
 use Rattle.actor_core.specs.Work.{finishes}
 use Rattle.actor_core.proofs.Carrying.{replied_so}

@@ -1,9 +1,9 @@
 use Rattle.std.proofs.Common.{Some, ap, ◌∙◌, subst}
 use Rattle.actor_core.specs.declared.actor.State.TheVariants.{Asked}
 use Rattle.actor_core.specs.declared.doing.Doing.TheVariants.{Gathering}
-use Rattle.actor_core.specs.declared.gathering.Called.{Called}
-use Rattle.actor_core.specs.declared.gathering.Called.TheVariants as called
-use Rattle.actor_core.specs.Called.{IsCalled}
+use Rattle.gather_flow.specs.declared.gathering.Called.{Called}
+use Rattle.gather_flow.specs.declared.gathering.Called.TheVariants as called
+use Rattle.gather_flow.specs.Called.{IsCalled}
 use Rattle.actor_core.specs.Stopping.{stoppable}
 use Rattle.actor_core.proofs.Carrying.{placed}
 use Rattle.actor_core.proofs.Gatherings.{gather_asks, gather_out}

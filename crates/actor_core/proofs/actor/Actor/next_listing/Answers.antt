@@ -7,7 +7,7 @@ use Rattle.actor_core.specs.declared.doing.Doing.TheVariants.{Listing}
 use Rattle.actor_core.specs.declared.actor.State.TheVariants.{Asked}
 use Rattle.actor_core.specs.Endings.{stopped}
 use Rattle.actor_core.specs.Purposes.{workers_of, if_listed_for}
-use Rattle.actor_core.specs.Gathering.{gather_standing, shares_from}
+use Rattle.gather_flow.specs.Gathering.{gather_standing, shares_from}
 use Rattle.actor_core.specs.Progress.{Progress}
 use Rattle.actor_core.specs.Standings.{progress_of}
 use Rattle.actor_core.specs.Work.{finishes}

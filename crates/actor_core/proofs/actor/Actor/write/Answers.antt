@@ -2,8 +2,8 @@ use Rattle.std.proofs.Common.{ap, ◌∙◌, sym}
 use Rattle.flow.specs.Standing.{ready}
 use Rattle.writer_flow.specs.Writing.{write_program}
 use Rattle.writer_flow.specs.WritingStages.{write_standing}
-use Rattle.actor_core.specs.Data.{bytes_of}
-use Rattle.actor_core.proofs.DataLemmas.{length_is}
+use Rattle.outcomes.specs.Data.{bytes_of}
+use Rattle.outcomes.proofs.DataLemmas.{length_is}
 use Rattle.actor_core.proofs.Carrying.{written}
 use Rattle.actor_core.proofs.actor.Actor.write.Goals as goal
 

@@ -1,0 +1,5 @@
+pub mod CoverLemmas
+pub mod Throughs
+pub mod ReaderLemmas
+pub mod Machines
+pub mod Making
