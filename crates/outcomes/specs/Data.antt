@@ -1,5 +1,5 @@
 -- The bytes that a script writes or compares.
-use Rattle.std.specs.Prelude.{ℕ, ◌+◌, ◌%◌, ◌^◌, ◌-◌, ◌==◌, min, if◌then◌else◌, List, [], ◌∷◌, length, map, replicate, Option, Some, None}
+use Rattle.std.specs.Prelude.{ℕ, ◌+◌, ◌%◌, ◌^◌, ◌-◌, ◌==◌, ◌≡◌, ◌≤◌, min, if◌then◌else◌, List, [], ◌∷◌, length, map, replicate, take, drop, Option, Some, None}
 use Rattle.std.specs.List.{range_with_len}
 use Rattle.script_lang.specs.declared.script.Data.{Data}
 use Rattle.script_lang.specs.declared.script.Data.TheVariants.{Hex, Text, Fill, Ramp}
@@ -26,6 +26,10 @@ abbrev pub first_difference : ℕ → List ℕ → List ℕ → Option ℕ
 first_difference place [] found = None
 first_difference place (b ∷ wanted) [] = Some place
 first_difference place (b ∷ wanted) (c ∷ found) = if b == c then first_difference (place + 1) wanted found else Some place
+
+-- so many bytes are there, and each is the one that stands so many places before it
+abbrev pub Repeats : ℕ → ℕ → List ℕ → Type 0
+Repeats len period found = (len ≤ length found) × (take (len - period) (drop period found) ≡ take (len - period) found)
 
 -- so many bytes past a place
 abbrev pub place_past : ℕ → ℕ → ℕ

@@ -1,12 +1,12 @@
 //! The bytes that a script writes or compares.
-ghost use Rattle.std.specs.Prelude.{◌≡◌, ◌<◌, ◌≤◌, ◌^◌, length, map, replicate, slice_index, IfOk};
+ghost use Rattle.std.specs.Prelude.{◌≡◌, ◌<◌, ◌≤◌, ◌^◌, length, map, replicate, slice_index, take, true, None, IfOk};
 ghost use Rattle.std.specs.List.{range_with_len};
 ghost use Rattle.script_lang.specs.Ranges.{FitsData};
-ghost use Rattle.outcomes.specs.Data.{length_of, bytes_of, ramp_byte as byte_of_ramp, first_difference as first_of};
+ghost use Rattle.outcomes.specs.Data.{length_of, bytes_of, ramp_byte as byte_of_ramp, Repeats, first_difference as first_of};
 
 use plfs_types::{Block, Bytes, NoMemory};
 use script_lang::Data;
-use std::alloc::Global;
+use std::alloc::{AllocError, Global};
 
 /// How many bytes there are.
 pub fn length(content: &Data) -> u64
@@ -20,20 +20,36 @@ pub fn length(content: &Data) -> u64
     }
 }
 
+/// After how many bytes a ramp begins again.
+const PERIOD: usize = 256;
+
 fn ramp_byte(first: u8, j: usize) -> u8
     ensures { result ≡ byte_of_ramp first j }
 {
     ((usize::from(first) + j % 256) % 256) as u8
 }
 
-/// The bytes of a ramp.
+/// The bytes of a ramp, one by one, up to where it begins again.
+fn period(alloc: Global, first: u8) -> Result<Vec<u8>, AllocError>
+    ensures { IfOk result (λ bytes. bytes.items ≡ map (byte_of_ramp first) (range_with_len 0 256)) }
+{
+    let mut bytes = Vec::new(alloc);
+    for j in 0..PERIOD {
+        bytes.push(ramp_byte(first, j))?;
+    }
+    Ok(bytes)
+}
+
+/// The bytes of a ramp. They are copied period by period, since one by one takes many times as long.
 fn ramp(alloc: Global, len: usize, first: u8) -> Result<Bytes, NoMemory>
     ensures { IfOk result (λ bytes. bytes ≡ map (byte_of_ramp first) (range_with_len 0 len)) }
 {
-    let mut bytes = Vec::new(alloc);
-    for j in 0..len {
-        bytes.push(ramp_byte(first, j))?;
+    let period = period(alloc, first)?;
+    let mut bytes = Vec::with_capacity(alloc, len)?;
+    for _whole in 0..len / PERIOD {
+        bytes.extend_from_slice(period.as_slice())?;
     }
+    bytes.extend_from_slice(&period.as_slice()[..len % PERIOD])?;
     Ok(Bytes::from_vec(bytes))
 }
 
@@ -81,8 +97,8 @@ fn byte_at(content: &Data, j: usize) -> u8
     }
 }
 
-/// The first place of the data, from 0, where what was read differs or has ended. The data is not built.
-pub fn first_difference(content: &Data, found: &[u8]) -> Option<u64>
+/// The first place of the data where what was read differs or has ended, looked for byte by byte.
+fn difference_by_bytes(content: &Data, found: &[u8]) -> Option<u64>
     ensures { result ≡ first_of 0 (bytes_of content.now) found.now }
 {
     let len = length(content) as usize;
@@ -92,4 +108,81 @@ pub fn first_difference(content: &Data, found: &[u8]) -> Option<u64>
         }
     }
     None
+}
+
+/// Whether what was read begins with these bytes.
+fn begins_with(found: &[u8], wanted: &[u8]) -> bool
+    ensures { result ≡ true → first_of 0 wanted.now found.now ≡ None }
+{
+    if found.len() < wanted.len() {
+        return false;
+    }
+    let beginning = &found[..wanted.len()];
+    beginning == wanted
+}
+
+/// Whether so many bytes were read, each the one that stands `period` places before it.
+fn repeats(found: &[u8], len: u64, period: usize) -> bool
+    ensures { result ≡ true → Repeats len period found.now }
+{
+    let len = len as usize;
+    if found.len() < len {
+        return false;
+    }
+    if len < period {
+        return true;
+    }
+    let later = &found[period..len];
+    let earlier = &found[..len - period];
+    later == earlier
+}
+
+/// Whether what was read begins with so many times this byte.
+fn begins_with_fill(found: &[u8], len: u64, byte: u8) -> bool
+    ensures { result ≡ true → first_of 0 (replicate len byte) found.now ≡ None }
+{
+    if repeats(found, len, 1) {
+        let beginning = Data::Fill {
+            len: len.min(1),
+            byte,
+        };
+        return difference_by_bytes(&beginning, found).is_none();
+    }
+    false
+}
+
+/// Whether what was read begins with this ramp.
+fn begins_with_ramp(found: &[u8], len: u64, first: u8) -> bool
+    ensures { result ≡ true → first_of 0 (map (byte_of_ramp first) (range_with_len 0 len)) found.now ≡ None }
+{
+    if repeats(found, len, PERIOD) {
+        let beginning = Data::Ramp {
+            len: len.min(256),
+            first,
+        };
+        return difference_by_bytes(&beginning, found).is_none();
+    }
+    false
+}
+
+/// Whether what was read begins with the data. Slices are compared, since bytes one by one take many times as long.
+fn agrees(content: &Data, found: &[u8]) -> bool
+    ensures { result ≡ true → first_of 0 (bytes_of content.now) found.now ≡ None }
+{
+    match content {
+        Data::Hex(bytes) => begins_with(found, bytes.as_slice()),
+        Data::Text(bytes) => begins_with(found, bytes.as_slice()),
+        Data::Fill { len, byte } => begins_with_fill(found, *len, *byte),
+        Data::Ramp { len, first } => begins_with_ramp(found, *len, *first),
+    }
+}
+
+/// The first place of the data, from 0, where what was read differs or has ended. The data is not built.
+pub fn first_difference(content: &Data, found: &[u8]) -> Option<u64>
+    ensures { result ≡ first_of 0 (bytes_of content.now) found.now }
+{
+    if agrees(content, found) {
+        return None;
+    }
+    difference_by_bytes(content, found)
 }

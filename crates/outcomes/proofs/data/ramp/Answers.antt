@@ -1,12 +1,18 @@
-use Rattle.std.proofs.Common.{◌++◌, ◌∷◌, [], map, ap, ◌∙◌, sym, arith}
-use Rattle.std.specs.List.{range_with_len}
-use Rattle.std.proofs.lemmas.List.FromFn.{map-range_with_len_more}
-use Rattle.outcomes.specs.Data.{ramp_byte}
+use Rattle.std.proofs.Common.{◌≡◌, ◌≤◌, ◌*◌, ◌/◌, ◌%◌, ◌++◌, List, ℕ, take, ap, ◌∙◌, arith}
+use Rattle.outcomes.proofs.Agreeing.{ramp_of, one_period_more, last_part}
 use Rattle.outcomes.proofs.data.ramp.Goals as goal
 
-pub loop-j-preserved : goal.loop-j-preserved
-loop-j-preserved c =
-    c.in_ok-push.ensures.items
-    ∙ ap (λ xs. xs ++ c.ramp_byte.result ∷ []) c.loop-j.invariant
-    ∙ ap (λ b. map (ramp_byte c.args.first) (range_with_len 0 c.loop-j.j) ++ b ∷ []) c.ramp_byte.ensures
-    ∙ sym (map-range_with_len_more (ramp_byte c.args.first) 0 c.loop-j.j c.loop-j.j (omega arith))
+pub loop-whole-preserved : goal.loop-whole-preserved
+loop-whole-preserved c =
+    let period = c.as_slice.ensures.value ∙ c.in_ok-period.ensures in
+    c.in_ok-extend_from_slice.ensures.items
+    ∙ (λ i. c.loop-whole.invariant i ++ period i)
+    ∙ one_period_more c.args.first c.loop-whole._whole
+
+pub returns : goal.returns
+returns c =
+    let all : c.loop-whole._whole ≡ c.args.len / 256 = omega (arith, c.loop-whole-test.false, c.loop-whole.auto._whole-end) in
+    let least : c.args.len % 256 ≤ 256 = omega arith in
+    let whole = c.loop-whole.invariant ∙ ap (λ n. ramp_of c.args.first (256 * n)) all in
+    let part = ap (λ (xs : List ℕ). take (c.args.len % 256) xs) (c.as_slice-2.ensures.value ∙ c.in_ok-period.ensures) in
+    c.from_vec.ensures ∙ c.in_ok-extend_from_slice-2.ensures.items ∙ (λ i. whole i ++ part i) ∙ last_part c.args.first c.args.len least

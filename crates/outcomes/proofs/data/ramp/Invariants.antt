@@ -1,7 +1,6 @@
-use Rattle.std.proofs.Common.{◌≡◌, map}
-use Rattle.std.specs.List.{range_with_len}
-use Rattle.outcomes.specs.Data.{ramp_byte}
+use Rattle.std.proofs.Common.{◌≡◌, ◌*◌}
+use Rattle.outcomes.proofs.Agreeing.{ramp_of}
 use Rattle.outcomes.proofs.data.ramp.Given as goal
 
-abbrev pub invariant-loop-j : goal.invariant-loop-j
-invariant-loop-j l = l.bytes.items ≡ map (ramp_byte l.first) (range_with_len 0 l.j)
+abbrev pub invariant-loop-whole : goal.invariant-loop-whole
+invariant-loop-whole l = l.bytes.items ≡ ramp_of l.first (256 * l._whole)

@@ -1,8 +1,8 @@
 use Rattle.std.proofs.Common.{◌<◌, ◌≤◌, length, drop, sym, ◌∙◌, arith}
 use Rattle.outcomes.specs.Data.{bytes_of}
 use Rattle.outcomes.proofs.DataLemmas.{length_is, none_past, ended_at, differs_at}
-use Rattle.outcomes.proofs.data.first_difference.Goals as goal
-use Rattle.outcomes.proofs.data.first_difference.Goals.{then-j-found-via-then-j-found, then-j-found-via-else-j-found+then-found-j}
+use Rattle.outcomes.proofs.data.difference_by_bytes.Goals as goal
+use Rattle.outcomes.proofs.data.difference_by_bytes.Goals.{then-j-found-via-then-j-found, then-j-found-via-else-j-found+then-found-j}
 
 pub returns-then-j-found : goal.returns-then-j-found
 returns-then-j-found c =
