@@ -8,7 +8,7 @@ use Rattle.gather_flow.specs.declared.all_read.AllRead.{AllRead}
 use Rattle.actor_core.specs.declared.purpose.Purpose.{Purpose}
 use Rattle.actor_core.specs.declared.purpose.Purpose.TheVariants.{Opens, Tells}
 use Rattle.actor_core.specs.Endings.{Ending, told_of}
-use Rattle.gather_flow.specs.OneIndex.{reader_of, attr_of}
+use Rattle.gather_flow.specs.OneIndex.{reader_of, attr_of, made_of}
 use Rattle.actor_core.specs.Opened.{reader_opened}
 use Rattle.actor_core.specs.Readers.{if_listed}
 use Rattle.actor_core.specs.Telling.{if_relisted}
