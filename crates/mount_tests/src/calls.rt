@@ -106,7 +106,8 @@ impl Cast {
                 path: path(folder, file),
             },
             Does::LengthOf(folder, begins) => {
-                let file = format!(in self.alloc; "{begins}{self.writer}")?;
+                let writer = self.writer;
+                let file = format!(in self.alloc; "{begins}{writer}")?;
                 Look::Length {
                     path: path(folder, file.as_str()),
                 }

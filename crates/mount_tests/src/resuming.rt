@@ -24,29 +24,14 @@ const LIFE: [Row; 12] = [
 // The id that the second mount draws first.
 const NEXT: u64 = 8589934593;
 
-const ENTERS: &[Row] = &[
+const GOES_ON: &[Row] = &[
     (ONE, Does::Make("f"), "room 1"),
     (ONE, Does::Enter(1, 0), "entered 8589934593"),
-];
-
-// Where the first writer left no metadata dropping, and where it left one, whose greatest stamp is 10.
-const BESIDE_NONE: &[Row] = &[
     (ONE, Does::Floor(ITS), "floored 0"),
     (ONE, Does::Hostdir(ITS), "done"),
     (ONE, Does::Index(ITS), "done"),
     (ONE, Does::Log(ITS), "done"),
     (ONE, Does::Write(ITS), "wrote 10"),
-];
-
-const BEHIND: &[Row] = &[
-    (ONE, Does::Floor(ITS), "floored 10"),
-    (ONE, Does::Hostdir(ITS), "done"),
-    (ONE, Does::Index(ITS), "done"),
-    (ONE, Does::Log(ITS), "done"),
-    (ONE, Does::Write(ITS), "wrote 11"),
-];
-
-const LEAVES: &[Row] = &[
     (ONE, Does::SyncLog(ITS), "done"),
     (ONE, Does::Flush(ITS), "flushed 1"),
     (ONE, Does::SyncIndex(ITS), "synced 1"),
@@ -55,14 +40,8 @@ const LEAVES: &[Row] = &[
     (ONE, Does::LengthOf("hostdir.0", "index.0."), "length 40"),
 ];
 
-// The call at this place is broken off after so many bytes, and then the second mount's writer goes so.
-fn goes_on<R: Abort>(
-    rt: &R,
-    alloc: Global,
-    place: usize,
-    bytes: u64,
-    goes: &[Row],
-) -> Result<(), Fail>
+// The call at this place is broken off after so many bytes.
+fn goes_on<R: Abort>(rt: &R, alloc: Global, place: usize, bytes: u64) -> Result<(), Fail>
     requires { place < 12 }
 {
     let first = Cast {
@@ -72,34 +51,22 @@ fn goes_on<R: Abort>(
     let mut mount = mounted(alloc, sound(alloc)?)?;
     hold(rt, &first, &mut mount, &LIFE[..place])?;
     let (_, call, _) = LIFE[place];
-    hold(
-        rt,
-        &first,
-        &mut mount,
-        &[(By::Stopped(1, bytes), call, "stopped")],
-    )?;
+    let stop = [(By::Stopped(1, bytes), call, "stopped")];
+    hold(rt, &first, &mut mount, &stop)?;
     let mut other = mounted(alloc, mount.close())?;
     let next = Cast {
         alloc,
         writer: NEXT,
     };
-    for rows in [ENTERS, goes, LEAVES] {
-        hold(rt, &next, &mut other, rows)?;
-    }
-    Ok(())
+    hold(rt, &next, &mut other, GOES_ON)
 }
 
-// The last two calls are the making of the metadata dropping, which is made where it is broken off after a byte, and
-// the leaving.
 #[test]
 fn another_mount_goes_on_after_each_stop(rt: HostRuntime) -> Result<(), Fail> {
-    for bytes in [0, 1, 41, 120] {
-        for place in 0..10 {
-            goes_on(&rt, rt.alloc(), place, bytes, BESIDE_NONE)?;
+    for place in 0..12 {
+        for bytes in [0, 1, 41, 120] {
+            goes_on(&rt, rt.alloc(), place, bytes)?;
         }
-        let goes = if bytes == 0 { BESIDE_NONE } else { BEHIND };
-        goes_on(&rt, rt.alloc(), 10, bytes, goes)?;
-        goes_on(&rt, rt.alloc(), 11, bytes, BEHIND)?;
     }
     Ok(())
 }
