@@ -18,10 +18,10 @@ pub(crate) enum Machine {
     Find,
     /// It lists the container of room 1.
     List,
-    /// It reads the index dropping of writer 9 of host 7, of which so many entries are covered, 0 or 1.
+    /// It reads the index dropping of writer 9 of host 7, of which so many entries are covered, 0 to 2.
     Share { covered: u64 },
     /// It reads the packed index of that writer.
-    Packed,
+    Packed { covered: u64 },
     Truncates,
     /// It reads the bytes of a file of two entries.
     Read,
@@ -49,7 +49,7 @@ fn play(alloc: Global, case: &Case, shown: &mut Shown) -> Result<(), Fail> {
         Machine::Find => readers::find(alloc, case.told, shown),
         Machine::List => readers::list(alloc, case.told, shown),
         Machine::Share { covered } => readers::share(alloc, covered, false, case.told, shown),
-        Machine::Packed => readers::share(alloc, 0, true, case.told, shown),
+        Machine::Packed { covered } => readers::share(alloc, covered, true, case.told, shown),
         Machine::Truncates => readers::truncates(alloc, case.told, shown),
         Machine::Read => gathered::read(alloc, case.told, shown),
         Machine::Open => writers::open(alloc, case.told, shown),

@@ -8,7 +8,7 @@ use crate::playing::{Shown, Tell, show};
 use crate::replies::Told;
 use crate::spelling::{pair, say};
 use index_reader::{Dropping, DroppingList, Listing, OpenRead, Share, ShareRead, TruncRead};
-use plfs_types::{Cover, CoverList, NoMemory, TruncList};
+use plfs_types::{Cover, CoverList, MAX_LOG, NoMemory, TruncList};
 use std::alloc::Global;
 use std::test::Fail;
 
@@ -70,7 +70,7 @@ pub(crate) fn droppings(alloc: Global, writer: u64, packed: bool) -> Result<Drop
     Ok(DroppingList::from_vec(vec![in alloc; dropping]?))
 }
 
-// A cover of the writer's first entry, or of no entry.
+// A cover of the writer's first entry, of 5 bytes, or of two entries of 2^56 - 2 bytes, or of no entry.
 fn covers(alloc: Global, count: u64) -> Result<CoverList, NoMemory>
     ensures { IfOk result covered.AreByWriter }
 {
@@ -80,7 +80,7 @@ fn covers(alloc: Global, count: u64) -> Result<CoverList, NoMemory>
     let cover = Cover {
         writer: 9,
         count,
-        bytes: 5,
+        bytes: if count == 1 { 5 } else { MAX_LOG - 2 },
         stamp: 11,
     };
     Ok(CoverList::from_vec(vec![in alloc; cover]?))

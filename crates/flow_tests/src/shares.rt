@@ -239,6 +239,8 @@ fn reads_go_on_past_the_log_and_end_early(rt: HostRuntime) -> Result<(), Fail> {
     all_hold(&rt, rt.alloc(), &LONG)
 }
 
+const PACKED_INDEX: Machine = Machine::Packed { covered: 0 };
+
 const PACKED_ASKS: &str = "length index2.7.9 read index2.7.9 0 24 read index2.7.9 24 64";
 
 // What lies behind the head of the packed index of two entries of 5 bytes.
@@ -246,28 +248,28 @@ const RUN: Told = Told::Spelled(b"", &[0, 5, 5, 2, 0, 11, 1, 9]);
 
 const PACKED: [Case; 5] = [
     Case {
-        machine: Machine::Packed,
+        machine: PACKED_INDEX,
         told: &[Told::Long(88), Told::Spelled(b"PLFSIDX2", &[2, 1]), RUN],
         asks: PACKED_ASKS,
         ends: "share 9:2 0+5 5+5",
     },
     // another length than the number of runs says
     Case {
-        machine: Machine::Packed,
+        machine: PACKED_INDEX,
         told: &[Told::Long(87), Told::Spelled(b"PLFSIDX2", &[2, 1])],
         asks: "length index2.7.9 read index2.7.9 0 24",
         ends: "damaged hostdir.7/index2.7.9 16",
     },
     // a run whose entries don't fit the number of entries
     Case {
-        machine: Machine::Packed,
+        machine: PACKED_INDEX,
         told: &[Told::Long(88), Told::Spelled(b"PLFSIDX2", &[3, 1]), RUN],
         asks: PACKED_ASKS,
         ends: "damaged hostdir.7/index2.7.9 8",
     },
     // a run with a stride past the greatest size
     Case {
-        machine: Machine::Packed,
+        machine: PACKED_INDEX,
         told: &[
             Told::Long(88),
             Told::Spelled(b"PLFSIDX2", &[2, 1]),
@@ -278,7 +280,7 @@ const PACKED: [Case; 5] = [
     },
     // another writer
     Case {
-        machine: Machine::Packed,
+        machine: PACKED_INDEX,
         told: &[
             Told::Long(88),
             Told::Spelled(b"PLFSIDX2", &[2, 1]),
