@@ -1,3 +1,4 @@
+pub mod Facts
 mod Acting
 mod Containers
 mod Looking

@@ -27,7 +27,7 @@ use Rattle.reader_laws.proofs.Tails.{either}
 
 -- ---- one entry
 
-next_true : (c : Cover) (e : Entry) → MayFollow c.writer c.stamp c.bytes e → c.bytes + e.len ≤ 2 ^ 56 → is_next c e ≡ true
+pub next_true : (c : Cover) (e : Entry) → MayFollow c.writer c.stamp c.bytes e → c.bytes + e.len ≤ 2 ^ 56 → is_next c e ≡ true
 next_true c e f small =
     let some : nat_lt 0 e.len ≡ true = (let h = f.some in grind (arith, nat_tests)) in
     let at : nat_le e.at (2 ^ 40) ≡ true = le_true e.at (2 ^ 40) (omega (arith, f.within)) in
@@ -46,7 +46,7 @@ next_true c e f small =
     eq_true : (a b : ℕ) → a ≡ b → (a == b) ≡ true
     eq_true a b l = grind (arith, nat_tests)
 
-follows_fits : (writer last before : ℕ) (e : Entry) → writer < 2 ^ 64 → before < 2 ^ 64 → MayFollow writer last before e → FitsPlaces e
+pub follows_fits : (writer last before : ℕ) (e : Entry) → writer < 2 ^ 64 → before < 2 ^ 64 → MayFollow writer last before e → FitsPlaces e
 follows_fits writer last before e fits small f =
     let valid : IsValidEntry e = record { not_empty = f.some; near = f.within; stamped = omega (arith, f.later); stamp_fits = f.in_range } in
     valid_fits_places e valid (omega (arith, f.place, small)) (omega (arith, f.owner, fits))

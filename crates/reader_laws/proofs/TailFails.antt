@@ -83,7 +83,7 @@ logged_more : (n k : ℕ) (es : List Entry) → n ≤ k → logged (take n es) �
 logged_more n k es l = omega (arith, ap logged (take_less n k es l), logged_take n (take k es))
 
 -- All whole entries of an index dropping are in order; the first are those that have landed, and the next ends past the log.
-record HasEntries (m : Moment) (d : Dropping) (index : List ℕ) : Type 0 where
+pub record HasEntries (m : Moment) (d : Dropping) (index : List ℕ) : Type 0 where
   pub entries : List Entry
   pub tail : List ℕ
   pub spelled : index ≡ spelling_all entries ++ tail
@@ -94,7 +94,7 @@ record HasEntries (m : Moment) (d : Dropping) (index : List ℕ) : Type 0 where
   pub front : (n : ℕ) → n ≤ landed m d → take n entries ≡ take n (entries_in (issued_by m d))
   pub past : (n : ℕ) → landed m d < n → n ≤ length entries → length (bytes_of (log_then m d)) < logged (take n entries)
 
-has_entries : (m : Moment) (s : IsSoundAt m) (d : Dropping) (index : List ℕ) → IsNamed d → index_then m d ≡ Some index → HasEntries m d index
+pub has_entries : (m : Moment) (s : IsSoundAt m) (d : Dropping) (index : List ℕ) → IsNamed d → index_then m d ≡ Some index → HasEntries m d index
 has_entries m s d index named there =
     let st = stands m s d index named there in
     let es : List Entry = entries_in (issued_by m d) in
