@@ -1,7 +1,7 @@
 -- The droppings of a container are dealt to workers, each once.
 use Rattle.std.proofs.Common.{◌≡◌, ◌≢◌, ℕ, zero, suc, ◌+◌, ◌-◌, ◌<◌, ◌≤◌, ◌%◌, ◌⊎◌, inl, inr, Bool, true, false, List, [], ◌∷◌, ◌++◌, map, refl, sym, ap, ◌∙◌, subst, arith, eq-eqb, ne_eqb}
 use Rattle.std.specs.Prelude.{◌==◌}
-use Rattle.std.specs.List.{AllByRecursion, flat_map, range_with_len}
+use Rattle.std.specs.List.{All, AllByRecursion, flat_map, range_with_len}
 use mathlib.Core.Logic.{dite}
 use native.Mathlib.Decide.{ℕ_discrete}
 use Rattle.std.proofs.lemmas.List.Elements.{All-from_recursion, recursion_from_All}
@@ -38,6 +38,10 @@ dealt_among workers worker j (x ∷ ds) d a = elim (in_either d (its_own (j % wo
   | inl here ↦ inl (own_is (j % workers == worker) x d here).1
   | inr later ↦ inr (dealt_among workers worker (j + 1) ds d later)
 ]
+
+-- each of them was listed
+pub dealt_listed : (workers worker : ℕ) (ds : List Listed) → All (λ (d : Listed). IsAmong d ds) (dealt_to workers worker 0 ds)
+dealt_listed workers worker ds = All-from_recursion (λ (d : Listed). IsAmong d ds) _ (all_members (λ (d : Listed). IsAmong d ds) (dealt_to workers worker 0 ds) (λ d a. is_among ds d (dealt_among workers worker 0 ds d a)))
 
 -- the number of a worker that has it
 its_worker : (workers j : ℕ) (ds : List Listed) (d : Listed) → 1 ≤ workers → Among d ds → (worker : ℕ) × (worker < workers) × Among d (dealt_to workers worker j ds)

@@ -1,3 +1,4 @@
+pub mod Facts
 mod Carrying
 mod Others
 mod Standing
@@ -5,10 +6,12 @@ mod Finding
 mod Listings
 mod Dealing
 mod Alone
+mod Behind
 mod ByWorkers
 mod Opened
 mod ReadLines
 mod Openings
+mod Told
 mod Statements
 mod Actors
 mod Casts

@@ -32,11 +32,11 @@ use Rattle.reader_laws.proofs.Facts.{first_of}
 
 module _ {R : Type 0} (P : R → Type 0) where
   -- where it ends well, its result is such
-  abbrev IsSuch : Result R Stuck → Type 0
+  abbrev pub IsSuch : Result R Stuck → Type 0
   IsSuch (Ok r) = P r
   IsSuch (Err why) = Unit {0}
 
-  abbrev Gives : Tries R → Type 0
+  abbrev pub Gives : Tries R → Type 0
   Gives (done result) = IsSuch result
   Gives (ask call k) = (reply : Reply) → Gives (k reply)
 
@@ -52,14 +52,14 @@ module _ {R : Type 0} (P : R → Type 0) where
   gives_then (done result) next all = gives_on next result all
   gives_then {A} (ask call k) next all = λ reply. gives_then (k reply) next all
 
-  made_such : (p : Tries R) (calls : List Event) (r : R) → Gives p → AreCallsOf (asking p) calls (Ok r) → P r
+  pub made_such : (p : Tries R) (calls : List Event) (r : R) → Gives p → AreCallsOf (asking p) calls (Ok r) → P r
   made_such (done result) calls r all made = subst IsSuch made.1 all
   made_such (ask call k) [] r all made = absurd made
   made_such (ask call k) (e ∷ calls) r all made = made_such (k e.reply) calls r (all e.reply) made.1
 
 -- ---- the room
 
-abbrev IsOf : ℕ → Listing → Type 0
+abbrev pub IsOf : ℕ → Listing → Type 0
 IsOf room listing = listing.room ≡ room
 
 abbrev item_in : {A : Type 0} → List A → Type 0
@@ -87,7 +87,7 @@ newest_of : (room : ℕ) (found : Option ℕ) → Gives (IsOf room) (if_newest r
 newest_of room None = top_of room 0 no_flat
 newest_of room (Some id) = gives_then (IsOf room) (flat_program room id) (λ flat. top_program room id flat) (λ flat. top_of room id flat)
 
-open_at_of : (room : ℕ) → Gives (IsOf room) (open_at_program room)
+pub open_at_of : (room : ℕ) → Gives (IsOf room) (open_at_program room)
 open_at_of room = λ reply. gives_given (IsOf room) (names_in reply) _ _ (λ names. gives_on (IsOf room) (if_newest room) (newest_in names None) (λ found. newest_of room found))
 
 -- ---- the first call

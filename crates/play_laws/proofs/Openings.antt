@@ -30,15 +30,13 @@ use Rattle.index_reader.specs.Replies.{on_ok}
 use Rattle.index_reader.specs.Sharing.{share_program}
 use Rattle.gathering.specs.Moments.{Moment, IsNamed, IsSoundAt, moment_after}
 use Rattle.gathering.specs.Seen.{Asked, calls_of}
-use Rattle.gathering.specs.Listing.{IsAmong}
-use Rattle.gathering.proofs.Facts.{among_left, among_right, is_among, legal_first, legal_rest, sound_after}
-use Rattle.plain_file.proofs.Facts.{Among, All-Among}
+use Rattle.gathering.proofs.Facts.{legal_first, legal_rest, sound_after}
+use Rattle.plain_file.proofs.Facts.{Among}
 use Rattle.reader_laws.specs.Failing.{FailsByStore}
-use Rattle.reader_laws.specs.Listing.{HasListed}
 use Rattle.reader_laws.specs.Opened.{IsReaderOf, HasOpenedIn}
-use Rattle.reader_laws.specs.Opening.{Portion, droppings_of, shares_of, Work, portions_of, Lists, ReadsInTurn}
+use Rattle.reader_laws.specs.Opening.{droppings_of, shares_of, Work, portions_of, Lists}
 use Rattle.reader_laws.specs.Sharing.{in_room}
-use Rattle.reader_laws.proofs.Facts.{first_of, listing_fails, listing_run, opens_alone, opens_each, share_gathered, shares_fail, truncates_fail}
+use Rattle.reader_laws.proofs.Facts.{first_of, listing_fails, opens_alone, opens_each, shares_fail, truncates_fail}
 use Rattle.gather_flow.specs.Dealing.{dealt_to}
 use Rattle.actor_core.specs.declared.kept.Kept.{Kept}
 use Rattle.actor_core.specs.declared.kept.Stop.{Stop}
@@ -55,10 +53,11 @@ use Rattle.run_core.specs.Course.{Course, then_line}
 use Rattle.play_laws.specs.Opening.{Stretch}
 use Rattle.play_laws.specs.Showing.{ShowsOpening}
 use Rattle.play_laws.proofs.Alone.{OpensSo, err_is, opens_so, ReadAll, read_alone}
+use Rattle.play_laws.proofs.Behind.{all_named, pieces_run, runs_by_workers, runs_in_turn, was_listed}
 use Rattle.play_laws.proofs.ByWorkers.{CallsIn, WorkerFailed, none_both, read_by_workers, calls_wider}
 use Rattle.play_laws.proofs.Carrying.{EndsSo, carried_on, ended_behind}
-use Rattle.play_laws.proofs.Dealing.{dealt, all_among, dealt_among, all_members}
-use Rattle.play_laws.proofs.Listings.{finds_first, flat_runs}
+use Rattle.play_laws.proofs.Dealing.{dealt, dealt_listed, all_among}
+use Rattle.play_laws.proofs.Listings.{finds_first}
 use Rattle.play_laws.proofs.Opened.{Good, Keeps, HasOpenedFile, parts_of, parts_gathered, reader_made, file_opened}
 use Rattle.play_laws.proofs.Standing.{AllOf, Both, FailedHere, Next, failed_within, keeps_first, up_to}
 
@@ -93,49 +92,12 @@ module _ (start : Moment) (sound : IsSoundAt start) (n : ℕ) (before greeting :
       lists : Lists (open_read_program name)
       lists = inl (name, refl)
 
-      -- the listing, in the events of an opening
-      was_listed : (rest : List Event) → Next start (before ++ greeting) (scanning ++ rest) → HasListed listing (calls_of n scanning)
-      was_listed rest next = listing_run n (open_read_program name) Here scanning listing (legal_first Here scanning rest next.lawful) next.sound lists scans
-
-      -- the pieces of what was read are in order
+      -- the pieces of what was read are in order, and the droppings have their names
       runs_all : (rest : List Event) (shares : List Share) → Next start (before ++ greeting) (scanning ++ rest) → AllByRecursion (λ (s : Share). AreRuns s.pieces) shares → AllByRecursion AreRuns (listing.flat.pieces ∷ pieces_of_each shares)
-      runs_all rest shares next all = (flat_runs n Here listing scanning (was_listed rest next) (legal_first Here scanning rest next.lawful) next.sound, of shares all)
-        where
-          of : (ss : List Share) → AllByRecursion (λ (s : Share). AreRuns s.pieces) ss → AllByRecursion AreRuns (pieces_of_each ss)
-          of [] a = tt
-          of (s ∷ ss) a = (a.0, of ss a.1)
-
-      -- each of a worker's droppings was listed, and has its name
-      worker_listed : (worker : ℕ) → All (λ (d : Listed). IsAmong d listing.droppings) (dealt_to workers worker 0 listing.droppings)
-      worker_listed worker = All-from_recursion (λ (d : Listed). IsAmong d listing.droppings) _ (all_members (λ (d : Listed). IsAmong d listing.droppings) (dealt_to workers worker 0 listing.droppings) (λ d a. is_among listing.droppings d (dealt_among workers worker 0 listing.droppings d a)))
-
-      share_runs : (k : ℕ) (m : Moment) (events : List Event) (p : Portion) → AllByRecursion (λ (d : Listed). IsNamed (in_room listing.room d)) listing.droppings → ((d : Listed) → Among d p.droppings → Among d listing.droppings) → IsLawful m.state events → IsSoundAt m
-          → Runs k (share_program listing.room p.droppings listing.flat.covers) events (Ok p.share) → AreRuns p.share.pieces
-      share_runs k m events p all its lawful sound_m runs =
-          let P : Listed → Type 0 = λ (d : Listed). IsNamed (in_room listing.room d) in
-          let named : All P p.droppings = All-from_recursion P p.droppings (all_members P p.droppings (λ d a. All-Among P listing.droppings d all (its d a))) in
-          (share_gathered k listing.room m events p.droppings listing.flat.covers p.share lawful sound_m named runs).2.pieces_are.runs
-
-      runs_in_turn : (m : Moment) (portions : List Portion) (events : List Event) → AllByRecursion (λ (d : Listed). IsNamed (in_room listing.room d)) listing.droppings → ((d : Listed) → Among d (droppings_of portions) → Among d listing.droppings) → IsLawful m.state events → IsSoundAt m
-          → ReadsInTurn n listing.room listing.flat.covers portions events → AllByRecursion (λ (s : Share). AreRuns s.pieces) (shares_of portions)
-      runs_in_turn m [] events all its lawful sound_m reads = tt
-      runs_in_turn m (p ∷ portions) events all its lawful sound_m (mine, rest, split, runs, more) =
-          let both : IsLawful m.state (mine ++ rest) = subst (IsLawful m.state) split lawful in
-          let first = legal_first m mine rest both in (
-            share_runs n m mine p all (λ d a. its d (among_left d p.droppings (droppings_of portions) a)) first sound_m runs,
-            runs_in_turn (moment_after m mine) portions rest all (λ d a. its d (among_right d p.droppings (droppings_of portions) a)) (legal_rest m mine rest both) (sound_after m mine first sound_m) more,
-          )
-
-      runs_by_workers : (m : Moment) (works : List Work) (events : List Event) → AllByRecursion (λ (d : Listed). IsNamed (in_room listing.room d)) listing.droppings → ((d : Listed) → Among d (droppings_of (portions_of works)) → Among d listing.droppings) → IsLawful m.state events → IsSoundAt m
-          → AllByRecursion (λ (w : Work). Runs w.worker (share_program listing.room w.portion.droppings listing.flat.covers) events (Ok w.portion.share)) works → AllByRecursion (λ (s : Share). AreRuns s.pieces) (shares_of (portions_of works))
-      runs_by_workers m [] events all its lawful sound_m reads = tt
-      runs_by_workers m (w ∷ works) events all its lawful sound_m reads = (
-        share_runs w.worker m events w.portion all (λ d a. its d (among_left d w.portion.droppings (droppings_of (portions_of works)) a)) lawful sound_m reads.0,
-        runs_by_workers m works events all (λ d a. its d (among_right d w.portion.droppings (droppings_of (portions_of works)) a)) lawful sound_m reads.1,
-      )
+      runs_all rest shares next all = pieces_run n Here next.sound (open_read_program name) lists listing scanning scans rest shares next.lawful all
 
       named_all : (rest : List Event) → Next start (before ++ greeting) (scanning ++ rest) → AllByRecursion (λ (d : Listed). IsNamed (in_room listing.room d)) listing.droppings
-      named_all rest next = recursion_from_All (λ (d : Listed). IsNamed (in_room listing.room d)) listing.droppings (was_listed rest next).droppings.named
+      named_all rest next = all_named n Here next.sound (open_read_program name) lists listing scanning scans rest next.lawful
 
       abbrev numbers : List ℕ
       numbers = range_with_len 0 (workers - 0)
@@ -152,26 +114,26 @@ module _ (start : Moment) (sound : IsSoundAt start) (n : ℕ) (before greeting :
       -- ---- the actor reads the shares by itself
 
       alone_came : (mine : List Event) (result : Result OpenReader Stuck) → Both start before greeting (scanning ++ mine) → Runs n (by_itself (programs_from workers listing 0) [] (opens listing)) mine result → Came (scanning ++ mine) result
-      alone_came mine result b runs = elim (read_alone n workers listing numbers [] mine result runs) as (λ _. Came (scanning ++ mine) result) [
+      alone_came mine result b runs = elim (read_alone reader_of n workers listing numbers [] mine result runs) as (λ _. Came (scanning ++ mine) result) [
         | inl r ↦ read_came result r
         | inr f ↦
             let fails : FailsByStore n (state_after Here.state (scanning ++ f.between)) f.reading f.why =
-            shares_fail n n (open_read_program name) Here scanning f.between f.reading listing (dealt_to workers f.worker 0 listing.droppings) f.why (subst (λ es. IsLawful Here.state (scanning ++ es)) f.split b.next.lawful) b.next.sound lists scans (worker_listed f.worker) f.runs in
+            shares_fail n n (open_read_program name) Here scanning f.between f.reading listing (dealt_to workers f.worker 0 listing.droppings) f.why (subst (λ es. IsLawful Here.state (scanning ++ es)) f.split b.next.lawful) b.next.sound lists scans (dealt_listed workers f.worker listing.droppings) f.runs in
             let split : scanning ++ mine ≡ (scanning ++ f.between) ++ (f.reading ++ []) = ap (λ z. scanning ++ z) f.split ∙ sym (append_assoc scanning f.between f.reading) ∙ ap (λ z. (scanning ++ f.between) ++ z) (sym (append-nil f.reading)) in
             subst (Came (scanning ++ mine)) (sym f.is) (failed_within n start before greeting (scanning ++ mine) (scanning ++ f.between) f.reading [] f.why b.whole split fails)
       ]
         where
-          read_came : (out : Result OpenReader Stuck) → ReadAll n workers listing numbers [] mine out → Came (scanning ++ mine) out
+          read_came : (out : Result OpenReader Stuck) → ReadAll reader_of n workers listing numbers [] mine out → Came (scanning ++ mine) out
           read_came (Err why) r =
               let fails : FailsByStore n (state_after Here.state (scanning ++ r.gathering)) r.rest why =
               truncates_fail n n (open_read_program name) Here scanning r.gathering r.rest listing why (subst (λ es. IsLawful Here.state (scanning ++ es)) r.split b.next.lawful) b.next.sound lists scans r.opened in
               let split : scanning ++ mine ≡ (scanning ++ r.gathering) ++ (r.rest ++ []) = ap (λ z. scanning ++ z) r.split ∙ sym (append_assoc scanning r.gathering r.rest) ∙ ap (λ z. (scanning ++ r.gathering) ++ z) (sym (append-nil r.rest)) in
               failed_within n start before greeting (scanning ++ mine) (scanning ++ r.gathering) r.rest [] why b.whole split fails
           read_came (Ok reader) r =
-              let h = was_listed mine b.next in
+              let h = was_listed n Here b.next.sound (open_read_program name) lists listing scanning scans mine b.next.lawful in
               let parted : IsLawful (moment_after Here scanning).state (r.gathering ++ r.rest) = subst (IsLawful (moment_after Here scanning).state) r.split (legal_rest Here scanning mine b.next.lawful) in
               let its : (d : Listed) → Among d (droppings_of r.portions) → Among d listing.droppings = λ d a. all_among workers listing.droppings numbers d (subst (Among d) r.dealt a) in
-              let all = runs_in_turn (moment_after Here scanning) r.portions r.gathering (named_all mine b.next) its (legal_first (moment_after Here scanning) r.gathering r.rest parted) (sound_after Here scanning (legal_first Here scanning mine b.next.lawful) b.next.sound) r.reads in
+              let all = runs_in_turn n listing (moment_after Here scanning) r.portions r.gathering (named_all mine b.next) its (legal_first (moment_after Here scanning) r.gathering r.rest parted) (sound_after Here scanning (legal_first Here scanning mine b.next.lawful) b.next.sound) r.reads in
               reader_came mine (shares_of r.portions) r.opened.truncs reader b all r.opened.is
               (λ parts made gathered reads. opens_alone n Here (scanning ++ mine) listing r.portions r.opened.truncs parts made b.next.lawful b.next.sound (record {
                 program = open_read_program name;
@@ -200,7 +162,7 @@ module _ (start : Moment) (sound : IsSoundAt start) (n : ℕ) (before greeting :
           → AreCallsOfEach (map asking (programs_from workers listing 0)) these results → Runs n (on_ok (opens listing) (all_of results)) following result → Came (scanning ++ (first ++ (during ++ following))) result
       workers_came first during following tail these results result b none_first none_during here whole made runs =
           elim (read_by_workers workers listing numbers (first ++ (during ++ [])) these results (in_part [] following refl refl) made) as (λ _. Came mine result) [
-            | inl r ↦ read_so result r.shares (opens_so n listing (shares_of (portions_of r.works)) following result (subst (λ o. Runs n (on_ok (opens listing) o) following result) r.shares runs))
+            | inl r ↦ read_so result r.shares (opens_so reader_of n listing (shares_of (portions_of r.works)) following result (subst (λ o. Runs n (on_ok (opens listing) o) following result) r.shares runs))
             | inr f ↦ failed_so result f (subst (λ o. Runs n (on_ok (opens listing) o) following result) f.is runs)
           ]
         where
@@ -218,16 +180,16 @@ module _ (start : Moment) (sound : IsSoundAt start) (n : ℕ) (before greeting :
           failed_so : (out : Result OpenReader Stuck) (f : WorkerFailed workers listing (first ++ (during ++ [])) results) → Runs n (on_ok (opens listing) (Err f.why)) following out → Came mine out
           failed_so (Ok reader) f over = (let clash : ◌≡◌ {A = Result OpenReader Stuck} (Err f.why) (Ok reader) = over.1 in absurd (cc))
           failed_so (Err why) f over =
-              let same : f.why ≡ why = err_is f.why why over.1 in
+              let same : f.why ≡ why = err_is {R = OpenReader} f.why why over.1 in
               let part : List Event = first ++ (during ++ []) in
               let split : mine ≡ (scanning ++ []) ++ (part ++ following) =
               ap (λ z. z ++ (first ++ (during ++ following))) (sym (append-nil scanning)) ∙ ap (λ z. (scanning ++ []) ++ z) (sym (append_assoc first (during ++ []) following ∙ ap (λ z. first ++ z) (append_assoc during [] following))) in
               let lawful : IsLawful Here.state (scanning ++ ([] ++ part)) = legal_first Here (scanning ++ part) following (subst (IsLawful Here.state) (split ∙ ap (λ z. z ++ (part ++ following)) (append-nil scanning) ∙ sym (append_assoc scanning part following)) b.next.lawful) in
               let fails : FailsByStore f.caller (state_after Here.state (scanning ++ [])) part f.why =
-              shares_fail n f.caller (open_read_program name) Here scanning [] part listing (dealt_to workers f.worker 0 listing.droppings) f.why lawful b.next.sound lists scans (worker_listed f.worker) f.runs in
+              shares_fail n f.caller (open_read_program name) Here scanning [] part listing (dealt_to workers f.worker 0 listing.droppings) f.why lawful b.next.sound lists scans (dealt_listed workers f.worker listing.droppings) f.runs in
               subst (FailedHere start before (greeting ++ mine)) same (failed_within f.caller start before greeting mine (scanning ++ []) part following f.why b.whole split fails)
 
-          read_so : {shares : List Share} (out : Result OpenReader Stuck) → all_of results ≡ Ok shares → OpensSo n listing shares following out → Came mine out
+          read_so : {shares : List Share} (out : Result OpenReader Stuck) → all_of results ≡ Ok shares → OpensSo reader_of n listing shares following out → Came mine out
           read_so {shares} (Err why) told reads =
               let split : mine ≡ (scanning ++ (first ++ during)) ++ (following ++ []) =
               ap (λ z. scanning ++ z) (sym (append_assoc first during following)) ∙ sym (append_assoc scanning (first ++ during) following) ∙ ap (λ z. (scanning ++ (first ++ during)) ++ z) (sym (append-nil following)) in
@@ -240,13 +202,13 @@ module _ (start : Moment) (sound : IsSoundAt start) (n : ℕ) (before greeting :
               elim (read_by_workers workers listing numbers part these results (in_part f.before (f.event ∷ f.later) f.split f.waits) made) as (λ _. Came mine (Ok reader)) [
                 | inl r ↦
                     let same : shares ≡ shares_of (portions_of r.works) = same_shares shares (shares_of (portions_of r.works)) (sym told ∙ r.shares) in
-                    let h = was_listed (first ++ (during ++ following)) b.next in
+                    let h = was_listed n Here b.next.sound (open_read_program name) lists listing scanning scans (first ++ (during ++ following)) b.next.lawful in
                     let split : first ++ (during ++ following) ≡ part ++ f.event ∷ f.later =
                     ap (λ z. first ++ (during ++ z)) f.split ∙ ap (λ z. first ++ z) (sym (append_assoc during f.before (f.event ∷ f.later))) ∙ sym (append_assoc first (during ++ f.before) (f.event ∷ f.later)) in
                     let there : Moment = moment_after Here scanning in
                     let lawful : IsLawful there.state part = legal_first there part (f.event ∷ f.later) (subst (IsLawful there.state) split (legal_rest Here scanning (first ++ (during ++ following)) b.next.lawful)) in
                     let its : (d : Listed) → Among d (droppings_of (portions_of r.works)) → Among d listing.droppings = λ d a. all_among workers listing.droppings numbers d (subst (Among d) r.dealt a) in
-                    let all = runs_by_workers there r.works part (named_all (first ++ (during ++ following)) b.next) its lawful (sound_after Here scanning (legal_first Here scanning (first ++ (during ++ following)) b.next.lawful) b.next.sound) r.reads in
+                    let all = runs_by_workers listing there r.works part (named_all (first ++ (during ++ following)) b.next) its lawful (sound_after Here scanning (legal_first Here scanning (first ++ (during ++ following)) b.next.lawful) b.next.sound) r.reads in
                     reader_came (first ++ (during ++ following)) (shares_of (portions_of r.works)) l.truncs reader b all (l.is ∙ ap (λ ss. reader_of listing ss l.truncs) same)
                     (λ parts made_reader gathered reads. opens_each n Here mine listing r.works l.truncs parts made_reader b.next.lawful b.next.sound (record {
                       program = open_read_program name;

@@ -27,7 +27,7 @@ use Rattle.outcomes.specs.Data.{bytes_of}
 use Rattle.actor_core.specs.Names.{names_program}
 use Rattle.actor_core.specs.declared.kept.Kept.{Kept}
 use Rattle.actor_core.specs.declared.kept.Stop.{Stop}
-use Rattle.actor_core.specs.Endings.{Ending, gone, refused}
+use Rattle.actor_core.specs.Endings.{Ending, armed, gone, refused}
 use Rattle.actor_core.specs.Readers.{opens_reader}
 use Rattle.actor_core.specs.Statements.{does, disarmed, greeted, greeted_work, work_of}
 use Rattle.actor_core.specs.Work.{finishes}
@@ -38,8 +38,10 @@ use Rattle.play_laws.specs.Showing.{Shows}
 use Rattle.play_laws.proofs.Carrying.{EndsSo, ended, ends_later}
 use Rattle.play_laws.proofs.Opened.{Good, Keeps, keeps_later, no_calls}
 use Rattle.play_laws.proofs.Openings.{opening_ends}
-use Rattle.play_laws.proofs.Others.{AllEnd, LeavesReader, comes_to_end, open_leaves, write_leaves, sync_leaves, close_leaves, named_leaves, stat_leaves}
+use Rattle.play_laws.proofs.Others.{Leaves, LeavesReader, at_once, open_leaves, write_leaves, sync_leaves, close_leaves, named_leaves, names_end}
+use Rattle.trouble_laws.proofs.Facts.{recover_ends, rename_ends, truncate_ends}
 use Rattle.play_laws.proofs.ReadLines.{read_ends, verify_ends, map_ends, close_ends}
+use Rattle.play_laws.proofs.Told.{look_ends}
 use Rattle.play_laws.proofs.Standing.{AllOf, Both, Next, all_of_later, next_is, up_to}
 
 module _ (start : Moment) (sound : IsSoundAt start) (n : ℕ) (before greeting : List Event) (greets : All (λ (a : Asked). a.ask.call ≡ Greet) (calls_of n greeting)) (number : ℕ) (next : Kept → Course) where
@@ -53,10 +55,10 @@ module _ (start : Moment) (sound : IsSoundAt start) (n : ℕ) (before greeting :
   abbrev IsOther : Statement → Type 0
   IsOther statement = (mine : List Event) (old : Option OneFile) (ending : Ending) → LeavesReader ending.kept.reader ending → Shows start n (record { before = before; events = greeting ++ mine }) old statement ending.outcome old
 
-  others_end : (kept : Kept) (stop : Option Stop) (statement : Statement) (old : Option OneFile) (part : List Event) (ws : List (List Event)) (lines : List Line) (left : Course) → IsOther statement → AllEnd (LeavesReader kept.reader) (does kept stop statement) → Keeps Now kept.reader old → Next start before (greeting ++ part)
+  others_end : (kept : Kept) (stop : Option Stop) (statement : Statement) (old : Option OneFile) (part : List Event) (ws : List (List Event)) (lines : List Line) (left : Course) → IsOther statement → Leaves start n before greeting number next kept stop (does kept stop statement) → Keeps Now kept.reader old → Next start before (greeting ++ part)
       → Plays n (then_line number next (does kept stop statement)) part ws lines left → Ends old statement part ws lines left
-  others_end kept stop statement old part ws lines left other all keeps whole plays =
-      let e = comes_to_end n number next (LeavesReader kept.reader) (does kept stop statement) part ws lines left all plays in
+  others_end kept stop statement old part ws lines left other leaves keeps whole plays =
+      let e = leaves part ws lines left whole plays in
       let b : Both start before greeting e.mine = up_to start before greeting part e.mine e.rest whole e.all in
       record {
         mine = e.mine;
@@ -81,6 +83,26 @@ module _ (start : Moment) (sound : IsSoundAt start) (n : ℕ) (before greeting :
   ropen_ends kept stop name workers (Some reader) (Some file) part ws lines left some is keeps whole all plays =
       ended n number next (refused kept AlreadyOpen) ends part ws lines left (Good start n before greeting (Some file) (Ropen name workers)) plays (Some file, (refl, refl), subst (λ x. Keeps Now x (Some file)) (sym is) keeps)
 
+  -- what is told of a file
+  stat_ends : (kept : Kept) (stop : Option Stop) (name : List ℕ) (old : Option OneFile) (part : List Event) (ws : List (List Event)) (lines : List Line) (left : Course) → Keeps Now kept.reader old → Next start before (greeting ++ part)
+      → Plays n (then_line number next (does kept stop (Stat name))) part ws lines left → Ends old (Stat name) part ws lines left
+  stat_ends kept stop name old part ws lines left keeps whole plays =
+      let e = look_ends start sound n before greeting greets name number next kept stop part ws lines left whole plays in
+      let b : Both start before greeting e.mine = up_to start before greeting part e.mine e.rest whole e.all in
+      record {
+        mine = e.mine;
+        rest = e.rest;
+        spent = e.spent;
+        others = e.others;
+        ending = e.ending;
+        more = e.more;
+        all = e.all;
+        are = e.are;
+        told = e.told;
+        goes_on = e.goes_on;
+        good = (old, (refl, e.good.1), subst (λ r. Keeps (moment_after Now e.mine) r old) (sym e.good.0) (keeps_later Now kept.reader old e.mine b.next.lawful keeps));
+      }
+
   does_end : (kept : Kept) (stop : Option Stop) (statement : Statement) (old : Option OneFile) (part : List Event) (ws : List (List Event)) (lines : List Line) (left : Course) → FitsStatement statement → Keeps Now kept.reader old → Next start before (greeting ++ part) → AllOf (before ++ greeting) part ws
       → Plays n (then_line number next (does kept stop statement)) part ws lines left → Ends old statement part ws lines left
   does_end kept stop (Ropen name workers) old part ws lines left fits keeps whole all plays = ropen_ends kept stop name workers kept.reader old part ws lines left fits.0 refl keeps whole all plays
@@ -88,17 +110,17 @@ module _ (start : Moment) (sound : IsSoundAt start) (n : ℕ) (before greeting :
   does_end kept stop (Verify at content) old part ws lines left fits keeps whole all plays = verify_ends start n before greeting number next kept stop at content kept.reader old part ws lines left refl keeps whole plays
   does_end kept stop Map old part ws lines left fits keeps whole all plays = map_ends start n before greeting number next kept stop kept.reader old part ws lines left refl keeps plays
   does_end kept stop Rclose old part ws lines left fits keeps whole all plays = close_ends start n before greeting number next kept stop kept.reader old part ws lines left refl keeps plays
-  does_end kept stop (Open name) old part ws lines left fits keeps whole all plays = others_end kept stop (Open name) old part ws lines left (λ m o e l. (refl, l.none)) (open_leaves kept stop name kept.writer) keeps whole plays
-  does_end kept stop (Write at content) old part ws lines left fits keeps whole all plays = others_end kept stop (Write at content) old part ws lines left (λ m o e l. (refl, l.none)) (write_leaves kept stop at (bytes_of content) kept.writer) keeps whole plays
-  does_end kept stop Sync old part ws lines left fits keeps whole all plays = others_end kept stop Sync old part ws lines left (λ m o e l. (refl, l.none)) (sync_leaves kept stop kept.writer) keeps whole plays
-  does_end kept stop Close old part ws lines left fits keeps whole all plays = others_end kept stop Close old part ws lines left (λ m o e l. (refl, l.none)) (close_leaves kept stop kept.writer) keeps whole plays
-  does_end kept stop (Stat name) old part ws lines left fits keeps whole all plays = others_end kept stop (Stat name) old part ws lines left (λ m o e l. (refl, l.none)) (stat_leaves kept stop name) keeps whole plays
-  does_end kept stop (Flatten name) old part ws lines left fits keeps whole all plays = others_end kept stop (Flatten name) old part ws lines left (λ m o e l. (refl, l.none)) (record { same = refl; none = tt }) keeps whole plays
-  does_end kept stop (Recover name) old part ws lines left fits keeps whole all plays = others_end kept stop (Recover name) old part ws lines left (λ m o e l. (refl, l.none)) (named_leaves kept stop (recover_program name) _ (λ r. tt)) keeps whole plays
-  does_end kept stop (Trunc name size) old part ws lines left fits keeps whole all plays = others_end kept stop (Trunc name size) old part ws lines left (λ m o e l. (refl, l.none)) (named_leaves kept stop (truncate_program name size) _ (λ r. tt)) keeps whole plays
-  does_end kept stop (Rename name to) old part ws lines left fits keeps whole all plays = others_end kept stop (Rename name to) old part ws lines left (λ m o e l. (refl, l.none)) (named_leaves kept stop (rename_program name to) _ (λ r. tt)) keeps whole plays
-  does_end kept stop Ls old part ws lines left fits keeps whole all plays = others_end kept stop Ls old part ws lines left (λ m o e l. (refl, l.none)) (named_leaves kept stop names_program _ (λ r. tt)) keeps whole plays
-  does_end kept stop (Arms call bytes) old part ws lines left fits keeps whole all plays = others_end kept stop (Arms call bytes) old part ws lines left (λ m o e l. (refl, l.none)) (record { same = refl; none = tt }) keeps whole plays
+  does_end kept stop (Open name) old part ws lines left fits keeps whole all plays = others_end kept stop (Open name) old part ws lines left (λ m o e l. (refl, l.none)) (open_leaves start n before greeting number next kept stop name kept.writer) keeps whole plays
+  does_end kept stop (Write at content) old part ws lines left fits keeps whole all plays = others_end kept stop (Write at content) old part ws lines left (λ m o e l. (refl, l.none)) (write_leaves start n before greeting number next kept stop at (bytes_of content) kept.writer) keeps whole plays
+  does_end kept stop Sync old part ws lines left fits keeps whole all plays = others_end kept stop Sync old part ws lines left (λ m o e l. (refl, l.none)) (sync_leaves start n before greeting number next kept stop kept.writer) keeps whole plays
+  does_end kept stop Close old part ws lines left fits keeps whole all plays = others_end kept stop Close old part ws lines left (λ m o e l. (refl, l.none)) (close_leaves start n before greeting number next kept stop kept.writer) keeps whole plays
+  does_end kept stop (Stat name) old part ws lines left fits keeps whole all plays = stat_ends kept stop name old part ws lines left keeps whole plays
+  does_end kept stop (Flatten name) old part ws lines left fits keeps whole all plays = others_end kept stop (Flatten name) old part ws lines left (λ m o e l. (refl, l.none)) (at_once start n before greeting number next kept stop (gone kept) (record { same = refl; none = tt })) keeps whole plays
+  does_end kept stop (Recover name) old part ws lines left fits keeps whole all plays = others_end kept stop (Recover name) old part ws lines left (λ m o e l. (refl, l.none)) (named_leaves start n before greeting number next kept stop (recover_program name) _ (recover_ends n name) (λ r. tt)) keeps whole plays
+  does_end kept stop (Trunc name size) old part ws lines left fits keeps whole all plays = others_end kept stop (Trunc name size) old part ws lines left (λ m o e l. (refl, l.none)) (named_leaves start n before greeting number next kept stop (truncate_program name size) _ (truncate_ends n name size) (λ r. tt)) keeps whole plays
+  does_end kept stop (Rename name to) old part ws lines left fits keeps whole all plays = others_end kept stop (Rename name to) old part ws lines left (λ m o e l. (refl, l.none)) (named_leaves start n before greeting number next kept stop (rename_program name to) _ (rename_ends n name to) (λ r. tt)) keeps whole plays
+  does_end kept stop Ls old part ws lines left fits keeps whole all plays = others_end kept stop Ls old part ws lines left (λ m o e l. (refl, l.none)) (named_leaves start n before greeting number next kept stop names_program _ (names_end n) (λ r. tt)) keeps whole plays
+  does_end kept stop (Arms call bytes) old part ws lines left fits keeps whole all plays = others_end kept stop (Arms call bytes) old part ws lines left (λ m o e l. (refl, l.none)) (at_once start n before greeting number next kept stop (armed kept (record { call = call; bytes = bytes })) (record { same = refl; none = tt })) keeps whole plays
 
   -- ---- an actor that was stopped before
 

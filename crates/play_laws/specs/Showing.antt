@@ -6,17 +6,18 @@ use Rattle.plain_file.specs.declared.pieces.Piece.{Piece}
 use Rattle.plain_file.specs.File.{slice}
 use Rattle.mount_model.specs.Paths.{Name}
 use Rattle.script_lang.specs.declared.line.Outcome.{Outcome}
-use Rattle.script_lang.specs.declared.line.Outcome.TheVariants.{Reader, Read as WasRead, Same, Differs, Map as Mapped, ReaderClosed, Gone}
+use Rattle.script_lang.specs.declared.line.Outcome.TheVariants.{Reader, Read as WasRead, Same, Differs, Map as Mapped, ReaderClosed, Stat as Told, Damaged, Gone}
 use Rattle.script_lang.specs.declared.line.Why.TheVariants.{AlreadyOpen, NotOpen}
 use Rattle.script_lang.specs.declared.script.Data.{Data}
 use Rattle.script_lang.specs.declared.script.Statement.{Statement}
-use Rattle.script_lang.specs.declared.script.Statement.TheVariants.{Ropen, Read, Verify, Map, Rclose}
+use Rattle.script_lang.specs.declared.script.Statement.TheVariants.{Ropen, Read, Verify, Map, Rclose, Stat}
 use Rattle.outcomes.specs.Data.{bytes_of, length_of}
 use Rattle.outcomes.specs.Outcomes.{map_text}
 use Rattle.gathering.specs.Moments.{Moment}
 use Rattle.play_laws.specs.OneFile.{OneFile, seen_bytes, ArePiecesSeen, printed_cut}
 use Rattle.play_laws.specs.Opening.{Stretch, OpensOneFile}
 use Rattle.play_laws.specs.Comparing.{FirstDifference}
+use Rattle.play_laws.specs.Telling.{ShowsTold}
 use Rattle.play_laws.specs.Ending.{EndsEarly, DoesNothing, OpensNone}
 
 -- ---- the line of an opening
@@ -66,7 +67,7 @@ abbrev pub ShowsClosing : Option OneFile → Outcome → Option OneFile → Type
 ShowsClosing old ReaderClosed new = (old ≢ None) × (new ≡ None)
 ShowsClosing old other new = (new ≡ old) × IfOpen old other (λ file. other ≡ Gone)
 
--- no line of a reader's statement
+-- no line of a reader's statement, nor one of damage
 abbrev pub ShowsNone : Outcome → Type 0
 ShowsNone (Reader size cut truncs) = ⊥
 ShowsNone (WasRead place content) = ⊥
@@ -74,7 +75,13 @@ ShowsNone Same = ⊥
 ShowsNone (Differs place) = ⊥
 ShowsNone (Mapped text) = ⊥
 ShowsNone ReaderClosed = ⊥
+ShowsNone (Damaged folder file place) = ⊥
 ShowsNone other = ⊤
+
+-- what is told of a file is that of one plain file; no other line is one of a reader, nor of damage
+abbrev pub ShowsLook : Moment → ℕ → Stretch → Name → Outcome → Type 0
+ShowsLook start caller stretch name (Told size stored shares truncs) = ShowsTold start caller stretch name size stored shares truncs
+ShowsLook start caller stretch name other = ShowsNone other
 
 -- In this stretch the caller makes a statement. It had this file open before it, or none, and has that one or none after it. Its line shows so much.
 abbrev pub Shows : Moment → ℕ → Stretch → Option OneFile → Statement → Outcome → Option OneFile → Type 0
@@ -83,4 +90,5 @@ Shows start caller stretch old (Read at len) outcome new = (new ≡ old) × IfOp
 Shows start caller stretch old (Verify at content) outcome new = (new ≡ old) × IfOpen old outcome (λ file. ShowsVerified start stretch file at content outcome)
 Shows start caller stretch old Map outcome new = (new ≡ old) × IfOpen old outcome (λ file. ShowsMap file outcome)
 Shows start caller stretch old Rclose outcome new = ShowsClosing old outcome new
+Shows start caller stretch old (Stat name) outcome new = (new ≡ old) × ShowsLook start caller stretch name outcome
 Shows start caller stretch old other outcome new = (new ≡ old) × ShowsNone outcome

@@ -1,7 +1,7 @@
 //! What the lines of a play tell, in any lawful history from a sound state, whatever order its actors call in.
 //!
-//! The crate owns the law that the lines of each reader are those of one plain file: it joins what the statements of an actor run to what the machines of a
-//! reader make of a container. There is no code in it.
+//! The crate owns the law that the lines of each reader, and of each look at a file, are those of one plain file: it joins what the statements of an actor run to
+//! what the machines of a reader make of a container. There is no code in it.
 #![tactic(auto)]
 
 mod laws;
