@@ -1,0 +1,2 @@
+mod Undamaging
+pub mod Facts

@@ -1,0 +1,16 @@
+//! The laws of the lines of a script.
+ghost use Rattle.std.specs.Prelude.{List};
+ghost use Rattle.mount_model.specs.State.{State};
+ghost use Rattle.mount_sound.specs.Sound.{IsClean, IsFine};
+ghost use Rattle.script_lang.specs.declared.line.Line.{Line};
+ghost use Rattle.script_lang.specs.declared.script.Script.{Script};
+ghost use Rattle.script_lang.specs.Ranges.{FitsScript};
+ghost use Rattle.run_core.specs.Play.{IsPlay, IsRight};
+ghost use Rattle.line_laws.specs.Undamaged.{AreUndamaged};
+
+/// A law: no statement of a script finds a damaged item in a tree that was sound as the script began, whatever fault the store answers and in whatever
+/// order the actors call. So a line that tells of damage tells of a tree that something else damaged.
+pub fn no_line_is_damaged()
+    ensures right { (script : Script) (start : State) (lines : List Line) (end : State) → FitsScript script → IsFine start → IsClean start → IsRight script start lines end → AreUndamaged lines }
+    ensures played { (script : Script) (start : State) (lines : List Line) (end : State) → FitsScript script → IsFine start → IsClean start → IsPlay script start lines end → AreUndamaged lines }
+{}
