@@ -244,15 +244,14 @@ fn write(root: &Path, writers: u64) -> Result<()> {
 /// Makes a container whose blocks of 4096 bytes are of one writer after the other. The logs are holes.
 fn make(root: &Path, writers: u64, entries: u64) -> Result<()> {
     let container = new_container(root)?;
-    let mut open = (0..writers).map(|host| Writer::open(&container, host)).collect::<Result<Vec<_>>>()?;
-    for k in 0..entries {
-        let writer = &mut open[(k % writers) as usize];
-        if writer.pending.len() == PENDING * ENTRY {
-            writer.flush()?;
+    for host in 0..writers {
+        let mut writer = Writer::open(&container, host)?;
+        for k in (host..entries).step_by(writers as usize) {
+            if writer.pending.len() == PENDING * ENTRY {
+                writer.flush()?;
+            }
+            writer.note(k * STRIDE, STRIDE, k + 1);
         }
-        writer.note(k * STRIDE, STRIDE, k + 1);
-    }
-    for writer in open {
         writer.log.set_len(writer.stored)?;
         writer.close(&container)?;
     }
