@@ -13,6 +13,8 @@ mod files;
 #[cfg(test)]
 mod folder;
 #[cfg(test)]
+mod losses;
+#[cfg(test)]
 mod marks;
 #[cfg(test)]
 mod pieces;
