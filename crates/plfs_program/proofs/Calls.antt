@@ -3,24 +3,38 @@ use Rattle.std.proofs.Common.{ℕ, ◌≡◌, List, Option, Some, sym, subst}
 use Rattle.store_api.specs.declared.tree.Tree.{Tree}
 use Rattle.store_api.specs.Acts.{Stored}
 use Rattle.mount_model.specs.State.{State}
+use Rattle.mount_model.specs.Failing.{FailsToMount}
 use Rattle.mount_model.specs.Mounting.{IsMounted}
+use Rattle.mount_model.specs.declared.trouble.MountTrouble.{MountTrouble}
 use Rattle.mount_sound.specs.Sound.{IsSoundFor, IsSoundTree}
 use Rattle.mount_sound.specs.Issued.{issued}
 use Rattle.mount_sound.proofs.Facts.{mounted_sound, history_keeps, left_sound}
 use Rattle.script_lang.specs.declared.line.Line.{Line}
 use Rattle.script_lang.specs.declared.script.Script.{Script}
+use Rattle.script_lang.specs.Ranges.{FitsScript}
 use Rattle.run_core.specs.Leading.{GoesOn}
 use Rattle.run_core.specs.Play.{IsPlay}
-use Rattle.plfs_program.specs.Calling.{IsRun, IsPlayedOn}
+use Rattle.run_core.proofs.Facts.{went_both}
+use Rattle.plfs_program.specs.Calling.{IsRun, IsPlayedOn, Leaves, broke_off, ran}
+use Rattle.plfs_program.specs.Catting.{WentOn}
+use Rattle.plfs_program.specs.SoundTrees.{TellsSoundTree}
+use Rattle.plfs_program.proofs.Plain.{plain_on}
 
 -- a mount was made, and its calls led to what is left
 pub was_run : (times : Option (List ℕ)) (before after : Stored) (start end : State) → IsMounted 0 times before start → GoesOn start end → after ≡ end.store → IsRun times before after
 was_run times before after start end mounted called left = record { start = start; end = end; mounted = mounted; called = called; left = sym left }
 
 -- a mount was made, and the script was played on it
-pub was_played : (times : Option (List ℕ)) (before after : Stored) (script : Script) (lines : List Line) (start end : State) → IsMounted 0 times before start → IsPlay script start lines end → after ≡ end.store
+pub was_played : (times : Option (List ℕ)) (before after : Stored) (script : Script) (lines : List Line) (start end : State) → FitsScript script → IsMounted 0 times before start → IsPlay script start lines end → after ≡ end.store
     → IsPlayedOn times before script lines after
-was_played times before after script lines start end mounted play left = record { start = start; end = end; mounted = mounted; play = play; left = sym left }
+was_played times before after script lines start end fits mounted play left = record {
+  start = start;
+  end = end;
+  mounted = mounted;
+  play = play;
+  left = sym left;
+  plain = plain_on times before script lines start end fits mounted play;
+}
 
 -- the tree that a mount's calls left of a sound one
 pub leaves_sound : (times : Option (List ℕ)) (before after : Stored) (tree : Tree) → IsRun times before after → before.tree ≡ Some tree → IsSoundTree tree → (left : Tree) × (after.tree ≡ Some left) × IsSoundTree left
@@ -40,4 +54,23 @@ play_runs times before after script lines played = record {
   mounted = played.mounted;
   called = record { events = played.play.history; leads = played.play.leads };
   left = played.left;
+}
+
+-- what a mounting that broke off leaves of a sound tree is sound
+abbrev pub FailingLeavesSound : Type 0
+FailingLeavesSound = (opened left : Stored) (trouble : MountTrouble) (tree : Tree) → FailsToMount opened trouble left → opened.tree ≡ Some tree → IsSoundTree tree → (after : Tree) × (left.tree ≡ Some after) × IsSoundTree after
+
+-- so is what a mount's calls leave
+pub all_leave_sound : (times : Option (List ℕ)) (before after : Stored) → FailingLeavesSound → Leaves times before after → TellsSoundTree before → TellsSoundTree after
+all_leave_sound times before after failing (broke_off why failed) (tree, told, sound) = failing before after why tree failed told sound
+all_leave_sound times before after failing (ran run) (tree, told, sound) = leaves_sound times before after tree run told sound
+
+-- the calls behind a play of a file that is written out are calls of a mount
+pub went_runs : (name : List ℕ) (times : Option (List ℕ)) (before after : Stored) (lines : List Line) (start end : State) → IsMounted 0 times before start → WentOn name start lines end → end.store ≡ after → IsRun times before after
+went_runs name times before after lines start end mounted went left = record {
+  start = start;
+  end = end;
+  mounted = mounted;
+  called = went_both start went.mid end (record { events = went.play.history; leads = went.play.leads }) went.later;
+  left = left;
 }

@@ -26,18 +26,22 @@ use Rattle.run_core.specs.Play.{IsPlay}
 use Rattle.run_core.proofs.Facts.{play_caused, play_has_text}
 use Rattle.plfs_program.specs.Calling.{ran, broke_off}
 use Rattle.plfs_program.specs.Cat.{unopened, unsaid, hungry, opening, reading, cat_statements, cat_script, reader_size}
-use Rattle.plfs_program.specs.Catting.{CatsOn, CatCourse, WentOn, IsLeftBehind}
+use Rattle.plfs_program.specs.Catting.{CatsOn, CatCourse, WentOn, IsLeftBehind, IsReadOut}
 use Rattle.plfs_program.specs.Ends.{Ends}
 use Rattle.plfs_program.specs.Lines.{unmounted, mounted}
 use Rattle.plfs_program.specs.Mounting.{unmounted_of, IsUnmounted}
 use Rattle.plfs_program.specs.Outcomes.{status_of}
 use Rattle.plfs_program.specs.Output.{IsPrinted, IsCutOff}
 use Rattle.plfs_program.specs.Playing.{IsPlayedAs, IsStoreLeft}
+use Rattle.plfs_program.specs.ReadOut.{ShowOneFile}
+use Rattle.plfs_program.specs.SoundTrees.{TellsSoundTree}
 use Rattle.plfs_program.proofs.Calls.{was_run, was_played}
 use Rattle.plfs_program.proofs.CatLemmas.{seen_so}
 use Rattle.plfs_program.proofs.CommandLemmas.{statements_fit}
 use Rattle.plfs_program.proofs.Lines.{play_cause}
 use Rattle.plfs_program.proofs.MountLemmas.{fault_line_alone}
+use Rattle.plfs_program.proofs.Pieces.{cat_shows}
+use Rattle.plfs_program.proofs.Plain.{plain_on}
 
 -- ---- its script is played
 
@@ -62,16 +66,27 @@ pub played_as : (name : List ℕ) (count : ℕ) (lines : List Line) (e : Ends) (
 played_as name count lines e start end after is made left play = record {
   after = after;
   left = is;
-  in_turn = mounted (was_played e.times e.stored after (cat_script name count) lines start end made play left);
+  in_turn = mounted (was_played e.times e.stored after (cat_script name count) lines start end (cat_playable name count).fits made play left);
   cause = play_cause {E = Unit {0}} e.times e.stored after start end (Ok lines) made left (play_caused (cat_script name count) start lines end (cat_playable name count) play);
+}
+
+-- the pieces are those of one plain file, where the tree was sound
+shown_on : (name : List ℕ) (count : ℕ) (times : Option (List ℕ)) (before : Stored) (lines : List Line) (start end : State) → IsMounted 0 times before start → (play : IsPlay (cat_script name count) start lines end) → TellsSoundTree before → ShowOneFile start play.history name lines
+shown_on name count times before lines start end made play told =
+    cat_shows name count start end lines play (plain_on times before (cat_script name count) lines start end (cat_playable name count).fits made play told)
+
+pub read_out : (name : List ℕ) (count : ℕ) (lines : List Line) (e : Ends) (start end : State) (after : Stored) → e.stored_after ≡ Some after → IsMounted 0 e.times e.stored start → after ≡ end.store → IsPlay (cat_script name count) start lines end → IsReadOut name count lines e
+read_out name count lines e start end after is made left play = record {
+  played = played_as name count lines e start end after is made left play;
+  plain = shown_on name count e.times e.stored lines start end made play;
 }
 
 pub mounted_so : (name : List ℕ) (e : Ends) (status : ℕ) (start end : State) (after : Stored) → e.stored_after ≡ Some after → IsMounted 0 e.times e.stored start → after ≡ end.store → CatsOn name start e.taking end e.taking_after status → CatCourse name e status
 mounted_so name e status start end after is made left cats =
-    seen_so name (λ count lines. IsPlay (cat_script name count) start lines end) (λ count lines. IsPlayedAs (cat_script name count) lines e) (GoesOn start end) (IsStoreLeft e) (λ lines. WentOn name start lines end) (λ lines. IsLeftBehind name lines e)
-    (λ count lines play. played_as name count lines e start end after is made left play)
+    seen_so name (λ count lines. IsPlay (cat_script name count) start lines end) (λ count lines. IsReadOut name count lines e) (GoesOn start end) (IsStoreLeft e) (λ lines. WentOn name start lines end) (λ lines. IsLeftBehind name lines e)
+    (λ count lines play. read_out name count lines e start end after is made left play)
     (λ goes_on. record { after = after; left = is; lawful = ran (was_run e.times e.stored after start end made goes_on left) })
-    (λ lines w. record { after = after; left = is; start = start; end = end; mounted = made; went = w; is = sym left })
+    (λ lines w. record { after = after; left = is; start = start; end = end; mounted = made; went = w; is = sym left; plain = shown_on name w.count e.times e.stored lines start w.mid made w.play })
     e.taking e.taking_after status cats
 
 -- ---- without a mount
@@ -94,11 +109,14 @@ pub unmounted_so : (name : List ℕ) (e : Ends) (status : ℕ) (why : MountTroub
 unmounted_so name e status why after is failed cause (inl (lines, (outcome, told, only), said)) =
     let line : Line = record { number = 0; outcome = outcome } in
     let none = no_reader_size why outcome told in
-    let played : IsPlayedAs (cat_script name 0) (line ∷ []) e = record {
-      after = after;
-      left = is;
-      in_turn = unmounted why failed (outcome, told, refl);
-      cause = fault_line_alone why outcome (line ∷ []) (HasRisen e.stored.faults after.faults) told refl cause;
+    let played : IsReadOut name 0 (line ∷ []) e = record {
+      played = record {
+        after = after;
+        left = is;
+        in_turn = unmounted why failed (outcome, told, refl);
+        cause = fault_line_alone why outcome (line ∷ []) (HasRisen e.stored.faults after.faults) told refl cause;
+      };
+      plain = λ sound. tt;
     } in
     let Says : List Line → Type 0 = λ z. ((status ≡ status_of z) × IsPrinted (text_of z) e.taking e.taking_after) ⊎ ((status ≡ 6) × IsCutOff (text_of z) e.taking e.taking_after) in
     elim (subst Says only said) as (λ _. CatCourse name e status) [

@@ -36,10 +36,10 @@ taken_both first second (Some before) mid new a b =
     subst P a b ∙ ap Some (append_assoc before first second)
 
 none_printed : (taking : Taking) → IsPrinted [] taking taking
-none_printed taking = record { bytes = none_taken taking.taken }
+none_printed taking = record { bytes = none_taken taking.taken; faults = omega arith; stalls = omega arith }
 
 printed_both : (first second : List ℕ) (old mid new : Taking) → IsPrinted first old mid → IsPrinted second mid new → IsPrinted (first ++ second) old new
-printed_both first second old mid new a b = record { bytes = taken_both first second old.taken mid.taken new.taken a.bytes b.bytes }
+printed_both first second old mid new a b = record { bytes = taken_both first second old.taken mid.taken new.taken a.bytes b.bytes; faults = omega (arith, a.faults, b.faults); stalls = omega (arith, a.stalls, b.stalls) }
 
 contents_more : (lines : List Line) (line : Line) → contents (lines ++ line ∷ []) ≡ contents lines ++ content_of line.outcome
 contents_more [] line = append-nil (content_of line.outcome)
@@ -47,10 +47,10 @@ contents_more (l ∷ lines) line = ap (λ z. content_of l.outcome ++ z) (content
 
 -- ---- what was read
 
-abbrev IsFirst : Numbered → Type 0
+abbrev pub IsFirst : Numbered → Type 0
 IsFirst s = s.actor ≡ 0
 
-all_first : (name : List ℕ) (count : ℕ) → All IsFirst (cat_statements name count)
+pub all_first : (name : List ℕ) (count : ℕ) → All IsFirst (cat_statements name count)
 all_first name count = All-cons IsFirst (opening name) (map reading (range_with_len 0 count)) refl (All-map IsFirst reading (range_with_len 0 count) (λ k d lt. refl))
 
 is_play : (name : List ℕ) (count : ℕ) (start end : State) (lines : List Line) (kept : Kept) → HasMade actor (cat_statements name count) start lines kept end → IsPlay (cat_script name count) start lines end

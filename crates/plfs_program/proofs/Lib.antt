@@ -2,6 +2,7 @@ mod Calls
 mod CatCourses
 mod CatLemmas
 mod CommandLemmas
+mod CourseLaws
 mod CourseLemmas
 mod Lines
 mod ListingLemmas
@@ -9,3 +10,5 @@ mod MarkLaws
 mod MountLemmas
 mod InputLemmas
 mod OutputLemmas
+mod Pieces
+mod Plain

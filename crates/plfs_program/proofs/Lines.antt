@@ -53,7 +53,7 @@ mounting_keeps times before start m =
     let third = acts_keep (mark_step start.marks start.mount) d.listed start.store (Ok Made) d.marked in
     omega (arith, first, second, third)
 
-risen_since : (a b c : ℕ) → a ≤ b → HasRisen b c → HasRisen a c
+pub risen_since : (a b c : ℕ) → a ≤ b → HasRisen b c → HasRisen a c
 risen_since a b c le (inl less) = inl (omega (arith, le, less))
 risen_since a b c le (inr most) = inr most
 

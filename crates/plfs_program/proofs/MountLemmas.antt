@@ -24,6 +24,8 @@ use Rattle.store_api.specs.Step.{Name, Step}
 use Rattle.script_lang.specs.declared.line.Line.{Line}
 use Rattle.script_lang.specs.declared.line.Outcome.{Outcome}
 use Rattle.script_lang.specs.declared.script.Script.{Script}
+use Rattle.script_lang.specs.Ranges.{FitsScript}
+use Rattle.run_core.specs.Play.{IsPlay}
 use Rattle.mount_model.specs.Making.{Told}
 use Rattle.mount_model.specs.Paths.{marks_name, marks_folder}
 use Rattle.mount_model.specs.State.{State}
@@ -32,12 +34,12 @@ use Rattle.mount_model.specs.Mounting.{marks_step, list_step, mark_step, room_to
 use Rattle.mount_model.specs.declared.trouble.MountTrouble.{MountTrouble}
 use Rattle.mount_model.specs.declared.trouble.MountTrouble.TheVariants as trouble
 use Rattle.mount_model.specs.Failing.{names_told, made_told, trouble_of, LeavesNone, FailsToMount, no_room, no_names, no_next, no_mark}
-use Rattle.plfs_program.specs.Calling.{IsPlayedOn}
 use Rattle.plfs_program.specs.Mounting.{listed_in, listed_or_none, listed_in_room, listed_marks, AreWhy, HaveNext, unmounted_of, IsUnmounted}
 use Rattle.script_lang.specs.declared.line.Outcome.TheVariants as of
 use Rattle.script_lang.specs.declared.line.Why.TheVariants.{MountsSpent}
 use Rattle.plfs_program.specs.Lines.{AreLinesOf, unmounted, mounted}
 use Rattle.plfs_program.specs.Outcomes.{has_line, is_fault}
+use Rattle.plfs_program.proofs.Calls.{was_played}
 use Rattle.plfs_program.proofs.ListingLemmas.{of_listed}
 use Rattle.plfs_program.proofs.MarkLaws.{IsUpTo, above_greatest}
 
@@ -293,10 +295,10 @@ has_next serial times opened new m tree is =
 
 -- ---- the lines, where memory wasn't refused
 
-pub all_mounted : {E : Type 0} (times : Option (List ℕ)) (before after : Stored) (script : Script) (result : Result (List Line) E) → IfOk result (λ lines. IsPlayedOn times before script lines after)
-    → IfOk result (AreLinesOf times before after script)
-all_mounted times before after script (Ok lines) played = mounted played
-all_mounted times before after script (Err e) played = tt
+pub all_mounted : {E : Type 0} (times : Option (List ℕ)) (before after : Stored) (script : Script) (start end : State) (result : Result (List Line) E) → FitsScript script → IsMounted 0 times before start → after ≡ end.store
+    → IfOk result (λ lines. IsPlay script start lines end) → IfOk result (AreLinesOf times before after script)
+all_mounted times before after script start end (Ok lines) fits made left play = mounted (was_played times before after script lines start end fits made play left)
+all_mounted times before after script start end (Err e) fits made left play = tt
 
 pub all_unmounted : {E : Type 0} (times : Option (List ℕ)) (before after : Stored) (why : MountTrouble) (script : Script) (result : Result (List Line) E) → FailsToMount before why after → IfOk result (IsUnmounted why)
     → IfOk result (AreLinesOf times before after script)

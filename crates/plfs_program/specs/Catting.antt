@@ -16,6 +16,8 @@ use Rattle.plfs_program.specs.Ends.{Ends}
 use Rattle.plfs_program.specs.Playing.{IsPlayedAs, IsStoreLeft}
 use Rattle.plfs_program.specs.Outcomes.{status_of}
 use Rattle.plfs_program.specs.Output.{IsPrinted, IsCutOff}
+use Rattle.plfs_program.specs.ReadOut.{AreOfOneFile, ShowOneFile}
+use Rattle.plfs_program.specs.SoundTrees.{TellsSoundTree}
 
 -- Calls followed a play with these lines.
 pub record WentOn (name : List ℕ) (start : State) (lines : List Line) (end : State) : Type 0 where
@@ -52,7 +54,12 @@ pub data FailsAt (k : ℕ) (reader : LoneReader) (now : State) (taking : Taking)
   breaks : ((kept : Kept) → Keeps reader kept → (line : Line) × (left : Kept) × Makes (reading k) kept now line left later × IsRead line × IsCutOff (content_of line.outcome) taking taking_after)
       → status ≡ 6 → FailsAt k reader now taking later taking_after status
 
--- a mount was made, and calls followed a play with these lines
+-- These are the lines of the script with so many pieces. Where the store told a sound tree, the pieces are those of one plain file.
+pub record IsReadOut (name : List ℕ) (count : ℕ) (lines : List Line) (e : Ends) : Type 0 where
+  pub played : IsPlayedAs (cat_script name count) lines e
+  pub plain : TellsSoundTree e.stored → AreOfOneFile name lines played.in_turn
+
+-- A mount was made, and calls followed a play with these lines. Where the store told a sound tree, they are those of one plain file.
 pub record IsLeftBehind (name : List ℕ) (lines : List Line) (e : Ends) : Type 0 where
   pub after : Stored
   pub left : e.stored_after ≡ Some after
@@ -61,8 +68,9 @@ pub record IsLeftBehind (name : List ℕ) (lines : List Line) (e : Ends) : Type 
   pub mounted : IsMounted 0 e.times e.stored start
   pub went : WentOn name start lines end
   pub is : end.store ≡ after
+  pub plain : TellsSoundTree e.stored → ShowOneFile start went.play.history name lines
 
 -- what becomes of a file that is written out
 abbrev pub CatCourse : List ℕ → Ends → ℕ → Type 0
 CatCourse name e status =
-    CatEnds name (λ count lines. IsPlayedAs (cat_script name count) lines e) (IsStoreLeft e) (λ lines. IsLeftBehind name lines e) e.taking e.taking_after status
+    CatEnds name (λ count lines. IsReadOut name count lines e) (IsStoreLeft e) (λ lines. IsLeftBehind name lines e) e.taking e.taking_after status

@@ -12,5 +12,7 @@ pub mod Mounting
 pub mod Outcomes
 pub mod Output
 pub mod Playing
+pub mod ReadOut
 pub mod Showing
+pub mod SoundTrees
 pub mod Summary

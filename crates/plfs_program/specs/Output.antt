@@ -1,11 +1,13 @@
 -- What was written to a sink.
-use Rattle.std.specs.Prelude.{ℕ, ◌⊎◌, List, take}
+use Rattle.std.specs.Prelude.{ℕ, ◌≤◌, ◌⊎◌, List, take}
 use Rattle.plfs_types.specs.Counts.{HasRisen}
 use Rattle.edge_io.specs.Sink.{Taking, TakesOn}
 
--- all of the text was taken
+-- all of the text was taken, and no count has fallen
 pub record IsPrinted (text : List ℕ) (old new : Taking) : Type 0 where
   pub bytes : TakesOn text old.taken new.taken
+  pub faults : old.faults ≤ new.faults
+  pub stalls : old.stalls ≤ new.stalls
 
 -- a front of the text was taken, and then the sink failed, or took nothing of a piece that isn't empty
 pub record IsCutOff (text : List ℕ) (old new : Taking) : Type 0 where

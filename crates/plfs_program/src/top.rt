@@ -16,6 +16,7 @@ ghost use Rattle.plfs_program.specs.Playing.{PlayCourse};
 ghost use Rattle.plfs_program.specs.Ends.{ends_of, IsSaid};
 ghost use Rattle.plfs_program.specs.Output.{IsPrinted, IsCutOff};
 ghost use Rattle.plfs_program.specs.Showing.{shows_of};
+ghost use Rattle.plfs_program.specs.SoundTrees.{TellsSoundTree, LeavesSoundTree};
 
 use crate::built::is_built;
 use crate::cat::{cat_mounted, say_unmounted};
@@ -29,6 +30,7 @@ use crate::work::{Worked, work};
 use command_line::Command;
 use edge_io::{Clock, Gate, Sink, Source};
 use mount_core::Mount;
+use mount_sound::a_failed_mounting_leaves_a_sound_tree;
 use plfs_types::{LogicalName, Word};
 use script_lang::{Kind, Script, ScriptTrouble};
 use std::alloc::Global;
@@ -236,22 +238,8 @@ fn obey<S: Store + Drop, C: Clock + Drop, I: Source, O: Sink>(
     }
 }
 
-/// Runs a command that waits for nobody: reads the words, the input and the script, mounts the store, works, and
-/// prints a line for each statement.
-///
-/// `play` reads a script from the input. A script of which a statement isn't made yet prints `script 0 unbuilt`, a script
-/// with a fault prints `script`, the fault's line and its kind. `stat`, `recover`, `trunc`, `rename`, `ls` and `flatten` make
-/// this one statement of one actor, and print its line with number 0; `map` opens a reader first, whose line is shown where
-/// it is none. `cat` writes a file out, each piece before the next one is read; a trouble behind the opening has no line. `gen` plays the generated script, and prints how many lines of each kind it has, and the file's size. Words
-/// that are no command, or one with a statement that isn't made yet, print the usage line.
-///
-/// What is printed is the text of the lines of a play: from the mounting to the end, the script's actors made their calls in
-/// the order of the written turns, each call following from the replies before it, and these are the lines of their
-/// statements. What is left of the store is what these calls made of it, or where the mounting broke off. That is line 0
-/// alone: a fault, `refused mounts-spent`, or damage in `mounts`. `marks_are_why` says what a told tree's marks have to do
-/// with it, `marks_decide` that its answers exclude each other, and `a_run_leaves_a_sound_tree` that a mount's calls leave a
-/// sound tree where there was one.
-pub fn single<S: Store + Drop, C: Clock + Drop, I: Source, O: Sink>(
+// Reads the words, and does what they ask for.
+fn follow<S: Store + Drop, C: Clock + Drop, I: Source, O: Sink>(
     alloc: Global,
     words: &[Word],
     input: &mut I,
@@ -270,6 +258,38 @@ pub fn single<S: Store + Drop, C: Clock + Drop, I: Source, O: Sink>(
     obey(alloc, command, input, out, store, clock)
 }
 
+/// Runs a command that waits for nobody: reads the words, the input and the script, mounts the store, works, and
+/// prints a line for each statement.
+///
+/// `play` reads a script from the input. A script of which a statement isn't made yet prints `script 0 unbuilt`, a script
+/// with a fault prints `script`, the fault's line and its kind. `stat`, `recover`, `trunc`, `rename`, `ls` and `flatten` make
+/// this one statement of one actor, and print its line with number 0; `map` opens a reader first, whose line is shown where
+/// it is none. `cat` writes a file out, each piece before the next one is read; a trouble behind the opening has no line. `gen` plays the generated script, and prints how many lines of each kind it has, and the file's size. Words
+/// that are no command, or one with a statement that isn't made yet, print the usage line.
+///
+/// What is printed is the text of the lines of a play: from the mounting to the end, the script's actors made their calls in
+/// the order of the written turns, each call following from the replies before it, and these are the lines of their
+/// statements. What is left of the store is what these calls made of it, or where the mounting broke off. That is line 0
+/// alone: a fault, `refused mounts-spent`, or damage in `mounts`. `marks_are_why` says what a told tree's marks have to do
+/// with it, and `marks_decide` that its answers exclude each other.
+///
+/// Where the store told a sound tree, the lines of each reader of the play are those of one plain file, which `cat` writes,
+/// or a front of it; and a sound tree is left.
+pub fn single<S: Store + Drop, C: Clock + Drop, I: Source, O: Sink>(
+    alloc: Global,
+    words: &[Word],
+    input: &mut I,
+    out: &mut O,
+    store: S,
+    clock: C,
+) -> Ended<S>
+    ensures course { Course words.now (I.given input.old) (I.given input.new) (ends_of (C.times clock) (O.taking out.old) (O.taking out.new) (S.stored store) (option_map S.stored result.store)) result.status }
+    ensures sound { TellsSoundTree (S.stored store) → LeavesSoundTree (option_map S.stored result.store) }
+{
+    a_failed_mounting_leaves_a_sound_tree();
+    follow(alloc, words, input, out, store, clock)
+}
+
 /// Runs a command. So far no command waits or starts threads, and this is `single`.
 pub fn plfs<R: Threads + Wait, S: Store + Drop, C: Clock + Drop, I: Source, O: Sink, G: Gate>(
     _rt: &R,
@@ -281,7 +301,8 @@ pub fn plfs<R: Threads + Wait, S: Store + Drop, C: Clock + Drop, I: Source, O: S
     clock: C,
     _gate: &G,
 ) -> Ended<S>
-    ensures { Course words.now (I.given input.old) (I.given input.new) (ends_of (C.times clock) (O.taking out.old) (O.taking out.new) (S.stored store) (option_map S.stored result.store)) result.status }
+    ensures course { Course words.now (I.given input.old) (I.given input.new) (ends_of (C.times clock) (O.taking out.old) (O.taking out.new) (S.stored store) (option_map S.stored result.store)) result.status }
+    ensures sound { TellsSoundTree (S.stored store) → LeavesSoundTree (option_map S.stored result.store) }
 {
     single(alloc, words, input, out, store, clock)
 }

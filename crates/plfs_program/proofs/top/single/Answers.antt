@@ -1,8 +1,9 @@
-use Rattle.std.proofs.Common.{None, Some, ◌≡◌, sym, ◌∙◌}
+use Rattle.std.specs.Option.{option_map}
+use Rattle.plfs_program.specs.Ends.{ends_of, Ends}
+use Rattle.plfs_program.proofs.CourseLaws.{course_leaves}
 use Rattle.plfs_program.proofs.top.single.Goals as goal
 
-pub returns-in_default-command : goal.returns-in_default-command
-returns-in_default-command g c = c.refuse.ensures c.args.words.now _ _ (λ command built spelled. let bad : None ≡ Some command = sym c.in_default-command.is ∙ c.in-Ok.ensures.exact command spelled in cc)
-
-pub returns : goal.returns
-returns g c = c.obey.ensures c.args.words.now (rw c.in-Some.is at c.in-Ok.ensures.found) (λ other spelled. let same : Some other ≡ Some c.in-Some.command = sym (c.in-Ok.ensures.exact other spelled) ∙ c.in-Some.is in cc)
+pub returns-clause-sound : goal.returns-clause-sound
+returns-clause-sound g c =
+    let e : Ends = ends_of (g.C.Clock.times c.args.clock) (g.O.Sink.taking c.args.out.now) (g.O.Sink.taking c.follow.new.out) (g.S.Store.stored c.args.store) (option_map g.S.Store.stored c.follow.result.store) in
+    course_leaves c.a_failed_mounting_leaves_a_sound_tree.ensures c.args.words.now (g.I.Source.given c.args.input.now) (g.I.Source.given c.follow.new.input) e c.follow.result.status c.follow.ensures

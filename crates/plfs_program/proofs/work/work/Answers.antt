@@ -2,11 +2,15 @@ use Rattle.plfs_types.specs.Counts.{HasRisen}
 use Rattle.mount_sound.proofs.Facts.{mounted_fine}
 use Rattle.plfs_program.specs.Calling.{broke_off}
 use Rattle.plfs_program.proofs.Lines.{play_cause}
-use Rattle.plfs_program.proofs.MountLemmas.{all_unmounted, all_caused}
+use Rattle.plfs_program.proofs.MountLemmas.{all_mounted, all_unmounted, all_caused}
 use Rattle.plfs_program.proofs.work.work.Goals as goal
 
 pub play-lines-requires-clause-fine : goal.play-lines-requires-clause-fine
 play-lines-requires-clause-fine g c = mounted_fine 0 (g.C.Clock.times c.args.clock) (g.S.Store.stored c.args.store) c.in-Ok.mount c.in-Ok.ensures.ok
+
+pub returns-in-Ok-clause-in_turn : goal.returns-in-Ok-clause-in_turn
+returns-in-Ok-clause-in_turn g c =
+    all_mounted (g.C.Clock.times c.args.clock) (g.S.Store.stored c.args.store) (g.S.Store.stored c.close.result) c.args.script.now c.in-Ok.mount c.play-lines.new.mount c.play-lines.result c.requires.fits c.in-Ok.ensures.ok c.close.ensures c.play-lines.ensures.plays
 
 pub returns-in-Ok-clause-cause : goal.returns-in-Ok-clause-cause
 returns-in-Ok-clause-cause g c =
