@@ -41,7 +41,8 @@ use Rattle.plfs_program.proofs.CommandLemmas.{statements_fit}
 use Rattle.plfs_program.proofs.Lines.{play_cause}
 use Rattle.plfs_program.proofs.MountLemmas.{fault_line_alone}
 use Rattle.plfs_program.proofs.Pieces.{cat_shows}
-use Rattle.plfs_program.proofs.Plain.{plain_on}
+use Rattle.plfs_program.proofs.Plain.{plain_on, undamaged_on}
+use Rattle.plfs_program.proofs.SoundMarks.{unmounted_undamaged}
 
 -- ---- its script is played
 
@@ -68,6 +69,7 @@ played_as name count lines e start end after is made left play = record {
   left = is;
   in_turn = mounted (was_played e.times e.stored after (cat_script name count) lines start end (cat_playable name count).fits made play left);
   cause = play_cause {E = Unit {0}} e.times e.stored after start end (Ok lines) made left (play_caused (cat_script name count) start lines end (cat_playable name count) play);
+  undamaged = undamaged_on e.times e.stored (cat_script name count) lines start end (cat_playable name count).fits made play;
 }
 
 -- the pieces are those of one plain file, where the tree was sound
@@ -115,6 +117,7 @@ unmounted_so name e status why after is failed cause (inl (lines, (outcome, told
         left = is;
         in_turn = unmounted why failed (outcome, told, refl);
         cause = fault_line_alone why outcome (line ∷ []) (HasRisen e.stored.faults after.faults) told refl cause;
+        undamaged = unmounted_undamaged e.stored after why (line ∷ []) failed (outcome, told, refl);
       };
       plain = λ sound. tt;
     } in

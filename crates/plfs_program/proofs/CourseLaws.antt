@@ -1,5 +1,7 @@
--- What a run over a sound tree leaves.
-use Rattle.std.proofs.Common.{ℕ, ◌≡◌, List, ◌∷◌, Option, Some}
+-- What a run over a sound tree leaves, and which status it never has.
+use Rattle.std.proofs.Common.{ℕ, ◌≡◌, ◌≢◌, ◌+◌, Bool, true, false, ◌||◌, if◌then◌else◌, List, [], ◌∷◌, ◌++◌, length, Option, Some, refl, sym, ap, ◌∙◌, subst}
+use Rattle.std.specs.Prelude.{◌==◌}
+use Rattle.std.proofs.lemmas.List.Folds.{list_any-append}
 use Rattle.edge_io.specs.Source.{Given}
 use Rattle.store_api.specs.Acts.{Stored}
 use Rattle.mount_model.specs.State.{State}
@@ -12,9 +14,12 @@ use Rattle.plfs_program.specs.Catting.{CatCourse, IsLeftBehind, IsReadOut}
 use Rattle.plfs_program.specs.Course.{Course, InputCourse, faulty, unbuilt, played, starved as unplayed, usage, unread, read, planned, cats, hungry}
 use Rattle.plfs_program.specs.Ends.{Ends, IsUntouched}
 use Rattle.plfs_program.specs.Lines.{AreLinesOf, unmounted, mounted}
+use Rattle.plfs_program.specs.Outcomes.{has_line, is_damage, is_fault, is_refusal, status_of}
 use Rattle.plfs_program.specs.Playing.{IsPlayedAs, IsStoreLeft, PlayCourse, printed, cut_off, exhausted}
-use Rattle.plfs_program.specs.Showing.{Shows, all_lines, shows_of}
+use Rattle.plfs_program.specs.Showing.{Shows, all_lines, behind_opening, is_reader, shows_of}
 use Rattle.plfs_program.specs.SoundTrees.{TellsSoundTree, LeavesSoundTree}
+use Rattle.plfs_program.specs.declared.showing.Shown.{Shown}
+use Rattle.plfs_program.specs.declared.showing.Shown.TheVariants as shown
 use Rattle.plfs_program.proofs.Calls.{FailingLeavesSound, all_leave_sound, play_runs, went_runs}
 
 -- ---- a sound tree is left
@@ -66,3 +71,70 @@ module _ (failing : FailingLeavesSound) where
   course_leaves words given after e status (planned command plan spelled plans same play) told = play_leaves plan.script (shows_of plan.shown) e status play told
   course_leaves words given after e status (cats name command same cat) told = cat_leaves name e status cat told
   course_leaves words given after e status (hungry untouched none is) told = untouched_leaves e untouched told
+
+-- ---- no status tells of damage
+
+apart : (status other : ℕ) → status ≡ other → (other == 7) ≡ false → status ≢ 7
+apart status other is differs same = let bad : true ≡ false = ap (λ n. n == 7) (sym same ∙ is) ∙ differs in cc
+
+lesser : (d f r : Bool) → d ≡ false → ((if d then 7 else if f then 4 else if r then 1 else 0) == 7) ≡ false
+lesser true f r none = cc
+lesser false true r none = refl
+lesser false false true none = refl
+lesser false false false none = refl
+
+none_damaged : (lines : List Line) (status : ℕ) → has_line is_damage lines ≡ false → status ≡ status_of lines → status ≢ 7
+none_damaged lines status none is = apart status (status_of lines) is (lesser (has_line is_damage lines) (has_line is_fault lines) (has_line is_refusal lines) none)
+
+both_false : (a b : Bool) → (a || b) ≡ false → (a ≡ false) × (b ≡ false)
+both_false true b is = cc
+both_false false b is = (refl, is)
+
+behind_undamaged : (lines : List Line) → has_line is_damage lines ≡ false → has_line is_damage (behind_opening lines) ≡ false
+behind_undamaged [] none = none
+behind_undamaged (line ∷ lines) none =
+    let both = both_false (is_damage line.outcome) (has_line is_damage lines) none in
+    elim (is_reader line.outcome) as (λ b. has_line is_damage (if b then lines else line ∷ []) ≡ false) [
+      | true ↦ both.1
+      | false ↦ ap (λ b. b || false) both.0
+    ]
+
+-- what is shown of lines without damage shows none
+abbrev pub ShowsNone : Shows → Type 0
+ShowsNone shows = (lines : List Line) → has_line is_damage lines ≡ false → has_line is_damage (shows.decide lines) ≡ false
+
+pub shown_none : (s : Shown) → ShowsNone (shows_of s)
+shown_none shown.All = λ lines none. none
+shown_none shown.PastOpening = behind_undamaged
+shown_none shown.Summed = λ lines none. none
+
+play_undamaged : (script : Script) (shows : Shows) (e : Ends) (status : ℕ) → ShowsNone shows → PlayCourse script shows e status → TellsSoundTree e.stored → status ≢ 7
+play_undamaged script shows e status keeps (printed lines p all is) told = none_damaged (shows.decide lines) status (keeps lines (p.undamaged told)) is
+play_undamaged script shows e status keeps (cut_off lines p part is) told = apart status 6 is refl
+play_undamaged script shows e status keeps (exhausted left same is) told = apart status 3 is refl
+
+pub last_undamaged : (lines : List Line) (last : Line) → has_line is_damage (lines ++ last ∷ []) ≡ false → has_line is_damage (last ∷ []) ≡ false
+last_undamaged lines last none = (both_false (has_line is_damage lines) (has_line is_damage (last ∷ [])) (sym (list_any-append (λ (line : Line). is_damage line.outcome) lines (last ∷ [])) ∙ none)).1
+
+cat_undamaged : (name : List ℕ) (e : Ends) (status : ℕ) → CatCourse name e status → TellsSoundTree e.stored → status ≢ 7
+cat_undamaged name e status (unopened line p none all is) told = none_damaged (line ∷ []) status (p.played.undamaged told) is
+cat_undamaged name e status (unsaid line p none part is) told = apart status 6 is refl
+cat_undamaged name e status (whole opened reads size tells p all out is) told = apart status 0 is refl
+cat_undamaged name e status (stuck opened reads last size tells within p all not_read out is) told = none_damaged (last ∷ []) status (last_undamaged (opened ∷ reads) last (p.played.undamaged told)) is
+cat_undamaged name e status (broken opened reads last size mid tells within p all last_read out part is) told = apart status 6 is refl
+cat_undamaged name e status (starved opened reads b all out is) told = apart status 3 is refl
+cat_undamaged name e status (wants left same is) told = apart status 3 is refl
+
+input_undamaged : (bytes : List ℕ) (e : Ends) (status : ℕ) → InputCourse bytes e status → TellsSoundTree e.stored → status ≢ 7
+input_undamaged bytes e status (faulty fault has same says is) told = apart status 2 is refl
+input_undamaged bytes e status (unbuilt script reads none same says is) told = apart status 2 is refl
+input_undamaged bytes e status (played script reads made play) told = play_undamaged script all_lines e status (shown_none shown.All) play told
+input_undamaged bytes e status (unplayed same none is) told = apart status 3 is refl
+
+pub course_undamaged : (words : List (List ℕ)) (given after : Given) (e : Ends) (status : ℕ) → Course words given after e status → TellsSoundTree e.stored → status ≢ 7
+course_undamaged words given after e status (usage none same untouched says is) told = apart status 2 is refl
+course_undamaged words given after e status (unread command risen untouched none is) told = apart status 5 is refl
+course_undamaged words given after e status (read bytes command input course) told = input_undamaged bytes e status course told
+course_undamaged words given after e status (planned command plan spelled plans same play) told = play_undamaged plan.script (shows_of plan.shown) e status (shown_none plan.shown) play told
+course_undamaged words given after e status (cats name command same cat) told = cat_undamaged name e status cat told
+course_undamaged words given after e status (hungry untouched none is) told = apart status 3 is refl

@@ -1,17 +1,18 @@
 -- From the parts of a run to its course.
-use Rattle.std.proofs.Common.{ℕ, ◌≡◌, ◌⊎◌, true, List, Some, subst, inl, inr}
+use Rattle.std.proofs.Common.{ℕ, ◌≡◌, ◌⊎◌, true, false, List, Some, subst, inl, inr}
 use Rattle.plfs_types.specs.Counts.{HasRisen}
 use Rattle.store_api.specs.Acts.{Stored}
 use Rattle.script_lang.specs.declared.line.Line.{Line}
 use Rattle.script_lang.specs.declared.script.Script.{Script}
 use Rattle.plfs_program.specs.Calling.{Leaves}
 use Rattle.plfs_program.specs.Lines.{AreLinesOf}
-use Rattle.plfs_program.specs.Outcomes.{has_line, is_fault, status_of}
+use Rattle.plfs_program.specs.Outcomes.{has_line, is_damage, is_fault, status_of}
 use Rattle.plfs_program.specs.Output.{IsPrinted, IsCutOff}
 use Rattle.plfs_program.specs.Ends.{Ends, IsSaid}
 use Rattle.plfs_program.specs.Playing.{PlayCourse, printed, cut_off, exhausted}
 use Rattle.plfs_program.specs.Course.{InputCourse}
 use Rattle.plfs_program.specs.Showing.{Shows}
+use Rattle.plfs_program.specs.SoundTrees.{TellsSoundTree}
 
 -- what was said of a text is said of a line that is the same
 pub said_as : (line shown : List ℕ) (e : Ends) → shown ≡ line → IsSaid shown e → IsSaid line e
@@ -34,11 +35,11 @@ Reported shows lines e status =
 
 -- a script whose lines were printed, or cut off, or for which memory was refused at last
 pub reported : (script : Script) (shows : Shows) (lines : List Line) (e : Ends) (status : ℕ) (after : Stored)
-    → e.stored_after ≡ Some after → Leaves e.times e.stored after → AreLinesOf e.times e.stored after script lines → (has_line is_fault lines ≡ true → HasRisen e.stored.faults after.faults)
+    → e.stored_after ≡ Some after → Leaves e.times e.stored after → AreLinesOf e.times e.stored after script lines → (has_line is_fault lines ≡ true → HasRisen e.stored.faults after.faults) → (TellsSoundTree e.stored → has_line is_damage lines ≡ false)
     → Reported shows lines e status → PlayCourse script shows e status
-reported script shows lines e status after is lawful in_turn cause (inl (told, all)) =
-    printed lines (record { after = after; left = is; in_turn = in_turn; cause = cause }) all told
-reported script shows lines e status after is lawful in_turn cause (inr (inl (told, part))) =
-    cut_off lines (record { after = after; left = is; in_turn = in_turn; cause = cause }) part told
-reported script shows lines e status after is lawful in_turn cause (inr (inr (told, untold))) =
+reported script shows lines e status after is lawful in_turn cause undamaged (inl (told, all)) =
+    printed lines (record { after = after; left = is; in_turn = in_turn; cause = cause; undamaged = undamaged }) all told
+reported script shows lines e status after is lawful in_turn cause undamaged (inr (inl (told, part))) =
+    cut_off lines (record { after = after; left = is; in_turn = in_turn; cause = cause; undamaged = undamaged }) part told
+reported script shows lines e status after is lawful in_turn cause undamaged (inr (inr (told, untold))) =
     left_so script shows e status after is lawful untold told

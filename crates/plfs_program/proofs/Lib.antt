@@ -12,3 +12,4 @@ mod InputLemmas
 mod OutputLemmas
 mod Pieces
 mod Plain
+mod SoundMarks

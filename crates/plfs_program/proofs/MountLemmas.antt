@@ -38,10 +38,12 @@ use Rattle.plfs_program.specs.Mounting.{listed_in, listed_or_none, listed_in_roo
 use Rattle.script_lang.specs.declared.line.Outcome.TheVariants as of
 use Rattle.script_lang.specs.declared.line.Why.TheVariants.{MountsSpent}
 use Rattle.plfs_program.specs.Lines.{AreLinesOf, unmounted, mounted}
-use Rattle.plfs_program.specs.Outcomes.{has_line, is_fault}
+use Rattle.plfs_program.specs.Outcomes.{has_line, is_damage, is_fault}
+use Rattle.plfs_program.specs.SoundTrees.{TellsSoundTree}
 use Rattle.plfs_program.proofs.Calls.{was_played}
 use Rattle.plfs_program.proofs.ListingLemmas.{of_listed}
 use Rattle.plfs_program.proofs.MarkLaws.{IsUpTo, above_greatest}
+use Rattle.plfs_program.proofs.Plain.{undamaged_on}
 
 -- ---- lists
 
@@ -58,11 +60,11 @@ somewhere xs n i true below is = let same : n ≡ i = cc in let less : n < lengt
 somewhere xs n i false below is = cc
 
 -- where no place has it, none is found
-find_nowhere : {X : Type 0} (p : X → Bool) (xs : List X) → position p xs ≡ None → find p xs ≡ None
+pub find_nowhere : {X : Type 0} (p : X → Bool) (xs : List X) → position p xs ≡ None → find p xs ≡ None
 find_nowhere p xs is = find_at p xs ∙ nowhere xs (position_or_len p xs) _ refl is
 
 -- what stands at the first place is found
-find_there : {X : Type 0} (p : X → Bool) (xs : List X) (i : ℕ) → position p xs ≡ Some i → (slice_get xs i ≡ find p xs) × (i < length xs)
+pub find_there : {X : Type 0} (p : X → Bool) (xs : List X) (i : ℕ) → position p xs ≡ Some i → (slice_get xs i ≡ find p xs) × (i < length xs)
 find_there p xs i is =
     let at = somewhere xs (position_or_len p xs) i _ refl is in
     (rw (at.0) (sym (find_at p xs)), at.1)
@@ -83,7 +85,7 @@ set_found (y ∷ ys) (suc i) x is = ap (λ l. y ∷ l) (set_found ys i x is)
 
 -- ---- the room of the marks is found or made
 
-abbrev is_marks_room : Room → Bool
+abbrev pub is_marks_room : Room → Bool
 is_marks_room room = same_name room.name marks_name
 
 -- the room that was told lists what the tree listed before
@@ -299,6 +301,11 @@ pub all_mounted : {E : Type 0} (times : Option (List ℕ)) (before after : Store
     → IfOk result (λ lines. IsPlay script start lines end) → IfOk result (AreLinesOf times before after script)
 all_mounted times before after script start end (Ok lines) fits made left play = mounted (was_played times before after script lines start end fits made play left)
 all_mounted times before after script start end (Err e) fits made left play = tt
+
+pub all_undamaged : {E : Type 0} (times : Option (List ℕ)) (before : Stored) (script : Script) (start end : State) (result : Result (List Line) E) → FitsScript script → IsMounted 0 times before start
+    → IfOk result (λ lines. IsPlay script start lines end) → IfOk result (λ lines. TellsSoundTree before → has_line is_damage lines ≡ false)
+all_undamaged times before script start end (Ok lines) fits made play = undamaged_on times before script lines start end fits made play
+all_undamaged times before script start end (Err e) fits made play = tt
 
 pub all_unmounted : {E : Type 0} (times : Option (List ℕ)) (before after : Stored) (why : MountTrouble) (script : Script) (result : Result (List Line) E) → FailsToMount before why after → IfOk result (IsUnmounted why)
     → IfOk result (AreLinesOf times before after script)

@@ -1,5 +1,6 @@
 -- What the lines of a play over a sound tree show.
-use Rattle.std.proofs.Common.{ℕ, List, Option, ap, ◌∙◌}
+use Rattle.std.proofs.Common.{ℕ, ◌≡◌, false, List, Option, refl, ap, ◌∙◌}
+use Rattle.std.proofs.lemmas.List.Folds.{list_any_none}
 use Rattle.store_api.specs.Acts.{Stored}
 use Rattle.mount_model.specs.State.{State}
 use Rattle.mount_model.specs.Mounting.{IsMounted}
@@ -7,10 +8,15 @@ use Rattle.mount_sound.specs.Sound.{IsClean}
 use Rattle.mount_sound.proofs.Facts.{mounted_fine}
 use Rattle.script_lang.specs.Ranges.{FitsScript}
 use Rattle.script_lang.specs.declared.line.Line.{Line}
+use Rattle.script_lang.specs.declared.line.Outcome.{Outcome}
+use Rattle.script_lang.specs.declared.line.Outcome.TheVariants as of
 use Rattle.script_lang.specs.declared.script.Script.{Script}
 use Rattle.run_core.specs.Play.{IsPlay}
 use Rattle.play_laws.specs.Readers.{PlayShows}
 use Rattle.play_laws.proofs.Facts.{play_shows}
+use Rattle.line_laws.specs.Undamaged.{IsUndamaged}
+use Rattle.line_laws.proofs.Facts.{play_undamaged}
+use Rattle.plfs_program.specs.Outcomes.{has_line, is_damage}
 use Rattle.plfs_program.specs.SoundTrees.{TellsSoundTree}
 
 -- a mount over a store that told a sound tree begins clean
@@ -20,3 +26,34 @@ mounted_clean times before start made (tree, told, sound) = (tree, ap (λ (s : S
 -- the lines of each reader are those of one plain file
 pub plain_on : (times : Option (List ℕ)) (before : Stored) (script : Script) (lines : List Line) (start end : State) → FitsScript script → IsMounted 0 times before start → (play : IsPlay script start lines end) → TellsSoundTree before → PlayShows script start lines end play
 plain_on times before script lines start end fits made play told = play_shows script start lines end fits (mounted_fine 0 times before start made) (mounted_clean times before start made told) play
+
+-- ---- no line is damaged
+
+not_damage : (outcome : Outcome) → IsUndamaged outcome → is_damage outcome ≡ false
+not_damage (of.Damaged folder file place) none = absurd none
+not_damage of.Fault none = refl
+not_damage (of.Listed names) none = refl
+not_damage (of.Opened writer) none = refl
+not_damage (of.Wrote at len stamp) none = refl
+not_damage (of.Synced landed) none = refl
+not_damage (of.Closed landed) none = refl
+not_damage (of.Reader size cut truncs) none = refl
+not_damage (of.Read at content) none = refl
+not_damage of.Same none = refl
+not_damage (of.Differs place) none = refl
+not_damage (of.Map pieces) none = refl
+not_damage of.ReaderClosed none = refl
+not_damage (of.Stat size stored shares truncs) none = refl
+not_damage (of.Truncated stamp) none = refl
+not_damage of.Renamed none = refl
+not_damage (of.Flattened flat pieces cut) none = refl
+not_damage (of.Recovered buried alive hold) none = refl
+not_damage of.Armed none = refl
+not_damage of.Stopped none = refl
+not_damage of.Gone none = refl
+not_damage (of.Refused why) none = refl
+
+pub undamaged_on : (times : Option (List ℕ)) (before : Stored) (script : Script) (lines : List Line) (start end : State) → FitsScript script → IsMounted 0 times before start → IsPlay script start lines end → TellsSoundTree before → has_line is_damage lines ≡ false
+undamaged_on times before script lines start end fits made play told =
+    let all = play_undamaged script start lines end fits (mounted_fine 0 times before start made) (mounted_clean times before start made told) play in
+    list_any_none (λ (line : Line). is_damage line.outcome) lines (λ k d lt. not_damage _ (all k d lt))

@@ -1,5 +1,5 @@
 -- What becomes of a script that is played.
-use Rattle.std.specs.Prelude.{ℕ, ◌≡◌, true, List, Some}
+use Rattle.std.specs.Prelude.{ℕ, ◌≡◌, true, false, List, Some}
 use Rattle.plfs_types.specs.Counts.{HasRisen}
 use Rattle.store_api.specs.Acts.{Stored}
 use Rattle.script_lang.specs.declared.line.Line.{Line}
@@ -7,16 +7,18 @@ use Rattle.script_lang.specs.declared.script.Script.{Script}
 use Rattle.plfs_program.specs.Calling.{Leaves}
 use Rattle.plfs_program.specs.Ends.{Ends}
 use Rattle.plfs_program.specs.Lines.{AreLinesOf}
-use Rattle.plfs_program.specs.Outcomes.{has_line, is_fault, status_of}
+use Rattle.plfs_program.specs.Outcomes.{has_line, is_damage, is_fault, status_of}
 use Rattle.plfs_program.specs.Output.{IsPrinted, IsCutOff}
 use Rattle.plfs_program.specs.Showing.{Shows}
+use Rattle.plfs_program.specs.SoundTrees.{TellsSoundTree}
 
--- These are the lines of the script. There is none for a fault that isn't the store's own.
+-- These are the lines of the script. There is none for a fault that isn't the store's own, and none of damage where the store told a sound tree.
 pub record IsPlayedAs (script : Script) (lines : List Line) (e : Ends) : Type 0 where
   pub after : Stored
   pub left : e.stored_after ≡ Some after
   pub in_turn : AreLinesOf e.times e.stored after script lines
   pub cause : has_line is_fault lines ≡ true → HasRisen e.stored.faults after.faults
+  pub undamaged : TellsSoundTree e.stored → has_line is_damage lines ≡ false
 
 -- memory was refused from the mounting on, and the store is as the mounting or the mount's calls left it
 pub record IsStoreLeft (e : Ends) : Type 0 where

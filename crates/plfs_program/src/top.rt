@@ -1,5 +1,5 @@
 //! The whole of a run: words, input, script, mount, work, output, status.
-ghost use Rattle.std.specs.Prelude.{◌≡◌, ◌⊎◌, ℕ, List, true, Option, Some, option_map};
+ghost use Rattle.std.specs.Prelude.{◌≡◌, ◌≢◌, ◌⊎◌, ℕ, List, true, Option, Some, option_map};
 ghost use Rattle.command_line.specs.Commands.{IsCommand};
 ghost use Rattle.edge_io.specs.Source.{Given};
 ghost use Rattle.command_line.specs.declared.commands.Command.{Command as Asked};
@@ -274,7 +274,7 @@ fn follow<S: Store + Drop, C: Clock + Drop, I: Source, O: Sink>(
 /// with it, and `marks_decide` that its answers exclude each other.
 ///
 /// Where the store told a sound tree, the lines of each reader of the play are those of one plain file, which `cat` writes,
-/// or a front of it; and a sound tree is left.
+/// or a front of it; no line tells of damage, and the status is not 7; and a sound tree is left.
 pub fn single<S: Store + Drop, C: Clock + Drop, I: Source, O: Sink>(
     alloc: Global,
     words: &[Word],
@@ -284,6 +284,7 @@ pub fn single<S: Store + Drop, C: Clock + Drop, I: Source, O: Sink>(
     clock: C,
 ) -> Ended<S>
     ensures course { Course words.now (I.given input.old) (I.given input.new) (ends_of (C.times clock) (O.taking out.old) (O.taking out.new) (S.stored store) (option_map S.stored result.store)) result.status }
+    ensures undamaged { TellsSoundTree (S.stored store) → result.status ≢ 7 }
     ensures sound { TellsSoundTree (S.stored store) → LeavesSoundTree (option_map S.stored result.store) }
 {
     a_failed_mounting_leaves_a_sound_tree();
@@ -302,6 +303,7 @@ pub fn plfs<R: Threads + Wait, S: Store + Drop, C: Clock + Drop, I: Source, O: S
     _gate: &G,
 ) -> Ended<S>
     ensures course { Course words.now (I.given input.old) (I.given input.new) (ends_of (C.times clock) (O.taking out.old) (O.taking out.new) (S.stored store) (option_map S.stored result.store)) result.status }
+    ensures undamaged { TellsSoundTree (S.stored store) → result.status ≢ 7 }
     ensures sound { TellsSoundTree (S.stored store) → LeavesSoundTree (option_map S.stored result.store) }
 {
     single(alloc, words, input, out, store, clock)

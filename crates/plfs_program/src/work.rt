@@ -1,5 +1,5 @@
 //! A store is mounted, and a script is played on it.
-ghost use Rattle.std.specs.Prelude.{◌≡◌, true, Some, IfOk};
+ghost use Rattle.std.specs.Prelude.{◌≡◌, true, false, Some, IfOk};
 ghost use Rattle.plfs_types.specs.Counts.{HasRisen};
 ghost use Rattle.report_text.specs.Text.{HaveText};
 ghost use Rattle.mount_model.specs.Paths.{marks_folder};
@@ -7,7 +7,8 @@ ghost use Rattle.run_core.specs.Conditions.{IsPlayable};
 ghost use Rattle.plfs_program.specs.Calling.{Leaves};
 ghost use Rattle.plfs_program.specs.Lines.{AreLinesOf};
 ghost use Rattle.plfs_program.specs.Mounting.{unmounted_of, IsUnmounted};
-ghost use Rattle.plfs_program.specs.Outcomes.{has_line, is_fault};
+ghost use Rattle.plfs_program.specs.Outcomes.{has_line, is_damage, is_fault};
+ghost use Rattle.plfs_program.specs.SoundTrees.{TellsSoundTree};
 
 use edge_io::Clock;
 use mount_core::{Mount, MountTrouble};
@@ -73,6 +74,7 @@ pub(crate) fn work<S: Store + Drop, C: Clock + Drop>(
     ensures in_turn { IfOk result.lines (AreLinesOf (C.times clock) (S.stored store) (S.stored result.store) script.now) }
     ensures text { IfOk result.lines HaveText }
     ensures cause { IfOk result.lines (λ lines. has_line is_fault lines ≡ true → HasRisen (S.stored store).faults (S.stored result.store).faults) }
+    ensures undamaged { IfOk result.lines (λ lines. TellsSoundTree (S.stored store) → has_line is_damage lines ≡ false) }
 {
     match Mount::open(alloc, store, clock) {
         Ok(mount) => {

@@ -2,7 +2,8 @@ use Rattle.plfs_types.specs.Counts.{HasRisen}
 use Rattle.mount_sound.proofs.Facts.{mounted_fine}
 use Rattle.plfs_program.specs.Calling.{broke_off}
 use Rattle.plfs_program.proofs.Lines.{play_cause}
-use Rattle.plfs_program.proofs.MountLemmas.{all_mounted, all_unmounted, all_caused}
+use Rattle.plfs_program.proofs.MountLemmas.{all_mounted, all_undamaged, all_unmounted, all_caused}
+use Rattle.plfs_program.proofs.SoundMarks.{all_unmounted_undamaged}
 use Rattle.plfs_program.proofs.work.work.Goals as goal
 
 pub play-lines-requires-clause-fine : goal.play-lines-requires-clause-fine
@@ -11,6 +12,10 @@ play-lines-requires-clause-fine g c = mounted_fine 0 (g.C.Clock.times c.args.clo
 pub returns-in-Ok-clause-in_turn : goal.returns-in-Ok-clause-in_turn
 returns-in-Ok-clause-in_turn g c =
     all_mounted (g.C.Clock.times c.args.clock) (g.S.Store.stored c.args.store) (g.S.Store.stored c.close.result) c.args.script.now c.in-Ok.mount c.play-lines.new.mount c.play-lines.result c.requires.fits c.in-Ok.ensures.ok c.close.ensures c.play-lines.ensures.plays
+
+pub returns-in-Ok-clause-undamaged : goal.returns-in-Ok-clause-undamaged
+returns-in-Ok-clause-undamaged g c =
+    all_undamaged (g.C.Clock.times c.args.clock) (g.S.Store.stored c.args.store) c.args.script.now c.in-Ok.mount c.play-lines.new.mount c.play-lines.result c.requires.fits c.in-Ok.ensures.ok c.play-lines.ensures.plays
 
 pub returns-in-Ok-clause-cause : goal.returns-in-Ok-clause-cause
 returns-in-Ok-clause-cause g c =
@@ -26,3 +31,6 @@ returns-in-Err-clause-in_turn g c =
 pub returns-in-Err-clause-cause : goal.returns-in-Err-clause-cause
 returns-in-Err-clause-cause g c =
     all_caused c.in-Err.trouble c.mounting_line.result (HasRisen (g.S.Store.stored c.args.store).faults (g.S.Store.stored c.in-Err.store).faults) c.mounting_line.ensures.line c.in-Err.ensures.fault
+
+pub returns-in-Err-clause-undamaged : goal.returns-in-Err-clause-undamaged
+returns-in-Err-clause-undamaged g c = all_unmounted_undamaged (g.S.Store.stored c.args.store) (g.S.Store.stored c.in-Err.store) c.in-Err.trouble c.mounting_line.result c.in-Err.ensures.err c.mounting_line.ensures.line
