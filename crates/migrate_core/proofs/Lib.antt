@@ -1,0 +1,7 @@
+pub mod EntryLemmas
+pub mod Facts
+pub mod FollowLemmas
+pub mod LongestLemmas
+pub mod ReadLemmas
+pub mod StepLemmas
+pub mod TopLemmas

@@ -1,0 +1,11 @@
+pub mod Longest
+pub mod Entries
+pub mod Counting
+pub mod Chosen
+pub mod Writers
+pub mod Migrating
+pub mod Follows
+pub mod Steps
+pub mod Stages
+pub mod MigrateStages
+pub mod Words

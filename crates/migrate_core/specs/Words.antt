@@ -1,0 +1,16 @@
+-- Words by which other crates speak of a migration.
+use Rattle.migrate_core.specs.declared.entries.Tail.{Tail as TheTail}
+use Rattle.migrate_core.specs.declared.migrated.Fate.{Fate as TheFate}
+use Rattle.migrate_core.specs.declared.migrated.Packed.{Packed as ThePacked}
+
+-- what was read of an index dropping
+abbrev pub Tail : Type 0
+Tail = TheTail
+
+-- what becomes of a writer
+abbrev pub Fate : Type 0
+Fate = TheFate
+
+-- how many entries and runs a packed index has
+abbrev pub Packed : Type 0
+Packed = ThePacked
