@@ -1,0 +1,6 @@
+mod Left
+mod Looking
+mod Migrating
+mod Reading
+mod Starting
+mod Writers
