@@ -1,7 +1,7 @@
 //! Cases, and whether they hold.
 use crate::playing::Shown;
 use crate::replies::Told;
-use crate::{gathered, keepers, readers, writers};
+use crate::{gathered, keepers, migrating, readers, writers};
 use std::alloc::Global;
 use std::process::Abort;
 use std::test::Fail;
@@ -14,6 +14,7 @@ pub(crate) enum Machine {
     Rename,
     Attr,
     Recover,
+    Migrate,
     /// It lists a container that it finds by its name.
     Find,
     /// It lists the container of room 1.
@@ -46,6 +47,7 @@ fn play(alloc: Global, case: &Case, shown: &mut Shown) -> Result<(), Fail> {
         Machine::Rename => keepers::rename(alloc, case.told, shown),
         Machine::Attr => keepers::attr(alloc, case.told, shown),
         Machine::Recover => keepers::recover(alloc, case.told, shown),
+        Machine::Migrate => migrating::migrate(alloc, case.told, shown),
         Machine::Find => readers::find(alloc, case.told, shown),
         Machine::List => readers::list(alloc, case.told, shown),
         Machine::Share { covered } => readers::share(alloc, covered, false, case.told, shown),

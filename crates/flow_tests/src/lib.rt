@@ -1,5 +1,5 @@
 //! Tests of the machines: how one is driven, and the calls of a writer, of a reader, and of who truncates, renames, looks
-//! at or recovers a file. They stand apart, so that no crate is proved twice for them.
+//! at, recovers or migrates a file. They stand apart, so that no crate is proved twice for them.
 //!
 //! A test is a table of cases. Each says which machine runs, what its calls are told, which calls it makes of that, and
 //! how it ends. One function takes a machine through the replies, and one compares. Beside them stand sets of writes,
@@ -18,6 +18,8 @@ mod keepers;
 mod listings;
 #[cfg(test)]
 mod machines;
+#[cfg(test)]
+mod migrating;
 #[cfg(test)]
 mod newest;
 #[cfg(test)]

@@ -16,6 +16,7 @@ pub(crate) enum Told {
     Synced(u64),
     Holding(u64),
     Marked(u64),
+    Started(u64),
     Made,
     Refused(Refusal),
     Foreign,
@@ -32,6 +33,9 @@ pub(crate) enum Told {
     Spelled(&'static [u8], &'static [u64]),
     /// These numbers, and then as many zeros as make so many bytes.
     Padded(&'static [u64], usize),
+    /// So many entries of a writer, each of 47008 bytes, the first at 0 and each next one 94016 further on, with stamps from
+    /// this one on.
+    Strided(u64, u64, u64),
 }
 
 fn listed(alloc: Global, of: &[&str]) -> Result<Answer, NoMemory> {
@@ -54,6 +58,22 @@ fn spelled(alloc: Global, letters: &[u8], numbers: &[u64], len: usize) -> Result
     Ok(Answer::Bytes(Bytes::from_vec(all)))
 }
 
+fn strided(alloc: Global, writer: u64, stamp: u64, count: u64) -> Result<Answer, NoMemory> {
+    let mut all = Vec::new(alloc);
+    for index in 0..count.min(4096) {
+        for number in [
+            94016 * index,
+            47008,
+            47008 * index,
+            stamp.wrapping_add(index),
+            writer,
+        ] {
+            all.extend_from_slice(&number.to_le_bytes())?;
+        }
+    }
+    Ok(Answer::Bytes(Bytes::from_vec(all)))
+}
+
 fn answer(alloc: Global, told: Told) -> Result<Answer, NoMemory> {
     match told {
         Told::Names(names) => listed(alloc, names),
@@ -62,6 +82,7 @@ fn answer(alloc: Global, told: Told) -> Result<Answer, NoMemory> {
         Told::Text(bytes) => spelled(alloc, bytes, &[], 0),
         Told::Spelled(letters, numbers) => spelled(alloc, letters, numbers, 0),
         Told::Padded(numbers, len) => spelled(alloc, b"", numbers, len),
+        Told::Strided(writer, stamp, count) => strided(alloc, writer, stamp, count),
         _ => Ok(Answer::Absent),
     }
 }
@@ -77,6 +98,7 @@ pub(crate) fn reply_of(alloc: Global, told: Told) -> Result<Reply, NoMemory> {
         Told::Synced(landed) => Reply::Synced { landed },
         Told::Holding(holder) => Reply::Holding { holder },
         Told::Marked(stamp) => Reply::Marked { stamp },
+        Told::Started(flat) => Reply::Started { flat },
         Told::Made => Reply::Mended { made: true },
         Told::Refused(why) => Reply::Refused(why),
         Told::Foreign => Reply::Damaged {

@@ -72,6 +72,36 @@ fn writers(line: &mut String, call: &Call) -> Result<(), NoMemory> {
     }
 }
 
+/// The number of 8 bytes at this place, as far as they are there, the least first.
+fn number_at(bytes: &[u8], place: usize) -> u64 {
+    let mut number = [0; 8];
+    for index in 0..8 {
+        if place < bytes.len() && index < bytes.len() - place {
+            number[index] = bytes[place + index];
+        }
+    }
+    u64::from_le_bytes(number)
+}
+
+/// The call of who packs an index dropping. Of a packed index its length and its numbers are told.
+fn packers(line: &mut String, call: &Call) -> Result<(), NoMemory> {
+    match call {
+        Call::StartPack { host, writer, .. } => say(line, "pack", &[*host as u64, *writer]),
+        Call::PutFlat { flat, bytes } => {
+            let bytes = bytes.as_slice();
+            say(line, "put", &[*flat, bytes.len() as u64])?;
+            for index in 1..(bytes.len() / 8).min(100) {
+                line.push_str(" ")?;
+                line.push_str(Buffer::new().format(number_at(bytes, 8 * index)))?;
+            }
+            Ok(())
+        }
+        Call::SyncFlat { flat } => say(line, "sync-flat", &[*flat]),
+        Call::InstallFlat { flat } => say(line, "install", &[*flat]),
+        _ => writers(line, call),
+    }
+}
+
 /// A call behind those that the line has.
 pub(crate) fn spell(line: &mut String, call: &Call) -> Result<(), NoMemory> {
     match call {
@@ -87,7 +117,7 @@ pub(crate) fn spell(line: &mut String, call: &Call) -> Result<(), NoMemory> {
         Call::MendMeta { last, .. } => say(line, "meta", &[*last]),
         Call::Bury { writer, .. } => say(line, "bury", &[*writer]),
         Call::MendHold { room } => say(line, "mend-hold", &[*room]),
-        _ => writers(line, call),
+        _ => packers(line, call),
     }
 }
 
