@@ -39,7 +39,7 @@ const ENTERS: Does = Does::Enter(1, 0);
 
 const ENTERED: Row = (By::Again, ENTERS, "entered 4294967297");
 
-const LEAVES: Row = (By::Again, Does::Exit(ITS), "done");
+const LEAVES: &[Row] = &[(By::Again, Does::Exit(ITS), "done")];
 
 // Acts of which one fails and leaves such a part, the writer that enters then, and how it does and how it leaves.
 struct Case {
@@ -48,7 +48,7 @@ struct Case {
     parts: &'static [u64],
     writer: u64,
     enters: &'static [Row],
-    leaves: Row,
+    leaves: &'static [Row],
 }
 
 const CASES: [Case; 7] = [
@@ -110,7 +110,7 @@ const CASES: [Case; 7] = [
         parts: &[0, 20, 40],
         writer: FIRST,
         enters: &[MADE, ENTERED],
-        leaves: (By::Again, Does::Exit(ITS), "not open"),
+        leaves: &[(By::Again, Does::Exit(ITS), "not open")],
     },
 ];
 
@@ -121,9 +121,10 @@ fn faults<R: Abort>(rt: &R, alloc: Global, case: &Case, act: u64, part: u64) -> 
         writer: case.writer,
     };
     let mut mount = mounted(alloc, failing(alloc, act, part)?)?;
-    for rows in [case.enters, LIFE, &[case.leaves], LEFT] {
-        hold(rt, &cast, &mut mount, rows)?;
-    }
+    hold(rt, &cast, &mut mount, case.enters)?;
+    hold(rt, &cast, &mut mount, LIFE)?;
+    hold(rt, &cast, &mut mount, case.leaves)?;
+    hold(rt, &cast, &mut mount, LEFT)?;
     Ok(mount.close().faults())
 }
 

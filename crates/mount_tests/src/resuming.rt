@@ -1,4 +1,6 @@
 //! Each call of a writer's life is broken off in turn, and then another mount on the same store goes on.
+ghost use Rattle.std.specs.Prelude.{◌<◌};
+
 use crate::calls::{Cast, Does, FIRST, ITS};
 use crate::playing::{By, ONE, Row, hold, mounted, sound};
 use std::alloc::Global;

@@ -36,16 +36,24 @@ impl Site for Several {
     }
 }
 
+// A store with these planned faults that has these rooms.
+fn one(
+    alloc: Global,
+    faults: &[(u64, u64)],
+    rooms: &[&'static str],
+) -> Result<MemoryStore, NoMemory> {
+    let mut store = new_store(alloc, faults)?;
+    for room in rooms {
+        let _ = answer(alloc, &mut store, Act::MakeRoom(room, &[], &[]))?;
+    }
+    Ok(store)
+}
+
 // Two stores that have these rooms, the second of which has these planned faults.
 fn two(alloc: Global, case: &Case) -> Result<StoreList<MemoryStore>, NoMemory> {
     let mut stores = StoreList::new(alloc);
-    for faults in [&[], case.faults] {
-        let mut store = new_store(alloc, faults)?;
-        for room in case.before {
-            let _ = answer(alloc, &mut store, Act::MakeRoom(room, &[], &[]))?;
-        }
-        stores.push(store)?;
-    }
+    stores.push(one(alloc, &[], case.before)?)?;
+    stores.push(one(alloc, case.faults, case.before)?)?;
     Ok(stores)
 }
 
