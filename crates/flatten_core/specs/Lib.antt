@@ -4,3 +4,4 @@ pub mod StartStages
 pub mod Installing
 pub mod Stages
 pub mod InstallStages
+pub mod Flattening

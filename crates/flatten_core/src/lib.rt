@@ -6,9 +6,11 @@
 #![tactic(auto)]
 
 mod covered;
+mod flattening;
 mod installing;
 mod stages;
 mod starting;
 
+pub use flattening::Flattened;
 pub use installing::InstallFlow;
 pub use starting::{StartFlow, Started};
