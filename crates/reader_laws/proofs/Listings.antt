@@ -229,7 +229,7 @@ were_listed room found last goes named =
 
 -- ---- the top, and all behind it
 
-record HasTop (caller room : ℕ) (flat : Flat) (events : List Event) (listing : Listing) : Type 0 where
+pub record HasTop (caller room : ℕ) (flat : Flat) (events : List Event) (listing : Listing) : Type 0 where
   pub found : List Dropping
   pub scans : IsScan room found (calls_of caller events)
   pub room_is : listing.room ≡ room
@@ -245,7 +245,7 @@ range_below from (suc n) = (omega arith, wider (range_with_len (from + 1) n) (ra
     wider [] all = tt
     wider (k ∷ ks) all = (omega (arith, all.0), wider ks all.1)
 
-top_run : (caller room id : ℕ) (flat : Flat) (start : Moment) (events : List Event) (listing : Listing) → IsLawful start.state events → IsSoundAt start → Runs caller (top_program room id flat) events (Ok listing) → HasTop caller room flat events listing
+pub top_run : (caller room id : ℕ) (flat : Flat) (start : Moment) (events : List Event) (listing : Listing) → IsLawful start.state events → IsSoundAt start → Runs caller (top_program room id flat) events (Ok listing) → HasTop caller room flat events listing
 top_run caller room id flat start events listing lawful sound runs =
     let f = first_of caller _ _ events (Ok listing) runs in
     let e : Event = f.event in
@@ -283,7 +283,7 @@ top_run caller room id flat start events listing lawful sound runs =
 -- ---- the listing
 
 -- a listing of a room of this number
-record HasListedAt (caller room : ℕ) (events : List Event) (listing : Listing) : Type 0 where
+pub record HasListedAt (caller room : ℕ) (events : List Event) (listing : Listing) : Type 0 where
   pub room_is : listing.room ≡ room
   pub flattened : List Asked
   pub scan : List Asked
@@ -340,7 +340,7 @@ by_newest caller room first names start events later (Some id) listing calls lis
       packs = t.packs;
     }
 
-at_run : (caller room : ℕ) (start : Moment) (events : List Event) (listing : Listing) → IsLawful start.state events → IsSoundAt start → Runs caller (open_at_program room) events (Ok listing) → HasListedAt caller room events listing
+pub at_run : (caller room : ℕ) (start : Moment) (events : List Event) (listing : Listing) → IsLawful start.state events → IsSoundAt start → Runs caller (open_at_program room) events (Ok listing) → HasListedAt caller room events listing
 at_run caller room start events listing lawful sound runs =
     let f = first_of caller _ _ events (Ok listing) runs in
     let e : Event = f.event in
