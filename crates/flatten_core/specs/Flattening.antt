@@ -1,7 +1,8 @@
 -- The calls of a whole flattening: it begins, gathers the container as one share, and installs what was gathered.
-use Rattle.std.specs.Prelude.{[], length, Ok}
+use Rattle.std.specs.Prelude.{[], length, Result, Ok}
 use Rattle.flat_format.specs.declared.flat.Flat.{Flat}
 use Rattle.flat_format.specs.Spelling.{flat_spelling}
+use Rattle.flow.specs.declared.trouble.Stuck.{Stuck}
 use Rattle.story.specs.Program.{done, followed_by}
 use Rattle.mount_model.specs.Paths.{Name}
 use Rattle.looks.specs.Replies.{Tries, on_ok}
@@ -19,10 +20,14 @@ use Rattle.flatten_core.specs.Installing.{install_program}
 abbrev pub flattened : Started → Flat → Flattened
 flattened started index = record { flat = started.flat; pieces = length index.pieces; covers = index.covers }
 
+-- it is told in the end, unless there was a trouble
+abbrev pub tells : Flattened → Result (Unit {0}) Stuck → Tries Flattened
+tells told = on_ok (λ installed. done (Ok told))
+
 -- an index is installed in its one spelling
 abbrev pub installs_index : Started → Flat → Tries Flattened
 installs_index started index =
-    followed_by (install_program started.room started.flat index.covers (flat_spelling index)) (on_ok (λ installed. done (Ok (flattened started index))))
+    followed_by (install_program started.room started.flat index.covers (flat_spelling index)) (tells (flattened started index))
 
 -- all that was gathered is one index, whatever the truncates took away
 abbrev pub installs_gathered : Started → AllRead → Tries Flattened

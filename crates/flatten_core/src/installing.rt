@@ -1,9 +1,11 @@
 //! The end of a flattening.
+ghost use Rattle.std.specs.Prelude.{◌≡◌, IfOk};
 ghost use Rattle.flatten_core.specs.Stages.{IsUnderway};
 
+use crate::spelling::spelled;
 use crate::stages::Stage;
 use crate::starting::Started;
-use flat_format::{Flat, encode};
+use flat_format::Flat;
 use flow::{Flow, Stuck};
 use index_reader::OpenRead;
 use mount_model::{Call, Reply};
@@ -25,30 +27,27 @@ pub struct InstallFlow {
     ghost underway: { IsUnderway stage },
 }
 
+/// The covers as a list of their own.
+pub(crate) fn copied(alloc: Global, covers: &[Cover]) -> Result<CoverList, NoMemory>
+    ensures { IfOk result (λ list. list ≡ covers.now) }
+{
+    let mut list = Vec::new(alloc);
+    list.extend_from_slice(covers)?;
+    Ok(CoverList::from_vec(list))
+}
+
 impl InstallFlow {
-    ghost use Rattle.std.specs.Prelude.{◌≡◌, IfOk};
     ghost use Rattle.flat_format.specs.Spelling.{flat_spelling};
-    ghost use Rattle.flat_format.specs.Valid.{IsFlat};
     ghost use Rattle.flow.specs.Standing.{ready};
     ghost use Rattle.flatten_core.specs.Installing.{install_program};
     ghost use Rattle.flatten_core.specs.InstallStages.{install_standing};
 
-    /// The covers as a list of their own.
-    fn copied(alloc: Global, covers: &[Cover]) -> Result<CoverList, NoMemory>
-        ensures { IfOk result (λ list. list ≡ covers.now) }
-    {
-        let mut list = Vec::new(alloc);
-        list.extend_from_slice(covers)?;
-        Ok(CoverList::from_vec(list))
-    }
-
     /// Installs this content for a flattening that was begun.
     pub fn new(alloc: Global, started: &Started, content: &Flat) -> Result<InstallFlow, NoMemory>
-        requires { IsFlat content.now }
         ensures { IfOk result (λ flow. install_standing flow ≡ ready (install_program started.now.room started.now.flat content.now.covers (flat_spelling content.now))) }
     {
-        let covers = Self::copied(alloc, content.covers.as_slice())?;
-        let bytes = encode(alloc, content)?;
+        let covers = copied(alloc, content.covers.as_slice())?;
+        let bytes = spelled(alloc, content)?;
         Ok(InstallFlow {
             alloc,
             room: started.room,

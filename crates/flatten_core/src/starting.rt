@@ -1,5 +1,6 @@
 //! The beginning of a flattening.
-ghost use Rattle.std.specs.Prelude.{◌≡◌, ◌<◌};
+ghost use Rattle.std.specs.Prelude.{◌≡◌, ◌<◌, IfSome};
+ghost use Rattle.mount_model.specs.Step.{OwedBy};
 ghost use Rattle.flow.specs.Standing.{ready, next_of, rest_of, replied, Awaits};
 ghost use Rattle.flatten_core.specs.Starting.{begun as begun_of, start_program};
 ghost use Rattle.flatten_core.specs.StartStages.{starting, starts_left, start_standing, start_left};
@@ -27,7 +28,7 @@ pub struct StartFlow {
 }
 
 #[derive(Clone, Copy)]
-enum Stage {
+pub(crate) enum Stage {
     Finding(LogicalName),
     Starting(u64),
     Ended(Result<Started, Stuck>),
@@ -56,8 +57,9 @@ impl StartFlow {
 
 impl Stage {
     /// The call that is to be made, where there is one.
-    fn call(self) -> Option<Call>
-        ensures { result ≡ next_of (ready (starting self)) }
+    pub(crate) fn call(self) -> Option<Call>
+        ensures is { result ≡ next_of (ready (starting self)) }
+        ensures owed { IfSome result OwedBy }
     {
         match self {
             Stage::Finding(name) => Some(Call::Find { name }),
@@ -67,7 +69,7 @@ impl Stage {
     }
 
     /// The stage after the reply to that call.
-    fn after(self, reply: &Reply) -> Stage
+    pub(crate) fn after(self, reply: &Reply) -> Stage
         requires { Awaits (rest_of (ready (starting self))) }
         ensures goes_on { starting result ≡ replied (rest_of (ready (starting self))) reply.now }
         ensures fewer { starts_left result < starts_left self }
