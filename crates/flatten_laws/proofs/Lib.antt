@@ -1,0 +1,12 @@
+mod Shared
+mod Started
+mod Owns
+mod Valid
+mod Merged
+mod Taken
+mod Scanned
+mod Kept
+mod Pairing
+mod Installing
+mod Flattening
+pub mod Facts
