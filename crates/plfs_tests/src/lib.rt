@@ -13,8 +13,6 @@ mod files;
 #[cfg(test)]
 mod folder;
 #[cfg(test)]
-mod losses;
-#[cfg(test)]
 mod marks;
 #[cfg(test)]
 mod pieces;
