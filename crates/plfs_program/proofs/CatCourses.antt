@@ -35,7 +35,7 @@ use Rattle.plfs_program.specs.Output.{IsPrinted, IsCutOff}
 use Rattle.plfs_program.specs.Playing.{IsPlayedAs, IsStoreLeft}
 use Rattle.plfs_program.specs.ReadOut.{ShowOneFile}
 use Rattle.plfs_program.specs.SoundTrees.{TellsSoundTree}
-use Rattle.plfs_program.proofs.Calls.{was_run, was_played}
+use Rattle.plfs_program.proofs.Calls.{was_run}
 use Rattle.plfs_program.proofs.CatLemmas.{seen_so}
 use Rattle.plfs_program.proofs.CommandLemmas.{statements_fit}
 use Rattle.plfs_program.proofs.Lines.{play_cause}
@@ -62,26 +62,31 @@ line_text name start now line play = play_has_text (cat_script name 0) start (li
 
 -- ---- on a mount
 
-pub played_as : (name : List ℕ) (count : ℕ) (lines : List Line) (e : Ends) (start end : State) (after : Stored) → e.stored_after ≡ Some after → IsMounted 0 e.times e.stored start → after ≡ end.store → IsPlay (cat_script name count) start lines end
-    → IsPlayedAs (cat_script name count) lines e
-played_as name count lines e start end after is made left play = record {
-  after = after;
-  left = is;
-  in_turn = mounted (was_played e.times e.stored after (cat_script name count) lines start end (cat_playable name count).fits made play left);
-  cause = play_cause {E = Unit {0}} e.times e.stored after start end (Ok lines) made left (play_caused (cat_script name count) start lines end (cat_playable name count) play);
-  undamaged = undamaged_on e.times e.stored (cat_script name count) lines start end (cat_playable name count).fits made play;
-}
-
 -- the pieces are those of one plain file, where the tree was sound
 shown_on : (name : List ℕ) (count : ℕ) (times : Option (List ℕ)) (before : Stored) (lines : List Line) (start end : State) → IsMounted 0 times before start → (play : IsPlay (cat_script name count) start lines end) → TellsSoundTree before → ShowOneFile start play.history name lines
 shown_on name count times before lines start end made play told =
     cat_shows name count start end lines play (plain_on times before (cat_script name count) lines start end (cat_playable name count).fits made play told)
 
 pub read_out : (name : List ℕ) (count : ℕ) (lines : List Line) (e : Ends) (start end : State) (after : Stored) → e.stored_after ≡ Some after → IsMounted 0 e.times e.stored start → after ≡ end.store → IsPlay (cat_script name count) start lines end → IsReadOut name count lines e
-read_out name count lines e start end after is made left play = record {
-  played = played_as name count lines e start end after is made left play;
-  plain = shown_on name count e.times e.stored lines start end made play;
-}
+read_out name count lines e start end after is made left play =
+    let fits = (cat_playable name count).fits in
+    record {
+      played = record {
+        after = after;
+        left = is;
+        in_turn = mounted (record {
+          start = start;
+          end = end;
+          mounted = made;
+          play = play;
+          left = sym left;
+          plain = plain_on e.times e.stored (cat_script name count) lines start end fits made play;
+        });
+        cause = play_cause {E = Unit {0}} e.times e.stored after start end (Ok lines) made left (play_caused (cat_script name count) start lines end (cat_playable name count) play);
+        undamaged = undamaged_on e.times e.stored (cat_script name count) lines start end fits made play;
+      };
+      plain = shown_on name count e.times e.stored lines start end made play;
+    }
 
 pub mounted_so : (name : List ℕ) (e : Ends) (status : ℕ) (start end : State) (after : Stored) → e.stored_after ≡ Some after → IsMounted 0 e.times e.stored start → after ≡ end.store → CatsOn name start e.taking end e.taking_after status → CatCourse name e status
 mounted_so name e status start end after is made left cats =
