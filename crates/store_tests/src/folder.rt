@@ -1,312 +1,195 @@
 //! A store on a folder of the system: what it makes there, and what it tells of it.
-use plfs_types::{Name, NoMemory, Word};
-use std::fs;
+use crate::acts::Act;
+use crate::on_folder::{on_folder, open};
+use crate::playing::Row;
 use std::test::Fail;
-use store_api::{Answer, Step, Store, Trouble};
-use store_folder::FolderStore;
 
-type Told = Result<Answer, Trouble>;
+const ROOM: Row = (Act::MakeRoom("f", &["d"], &["access"]), "number 0");
 
-fn name(text: &str) -> Name {
-    Name::from_bytes(text.as_bytes()).unwrap_or(Name::empty())
-}
-
-fn open(rt: HostRuntime, root: &str) -> Result<FolderStore<HostRuntime>, NoMemory> {
-    FolderStore::open(rt, rt.alloc(), &Word::copy(rt.alloc(), root)?)
-}
-
-fn is_made(told: Told) -> bool {
-    matches!(told, Ok(Answer::Made))
-}
-
-fn is_number(told: Told, want: u64) -> bool {
-    matches!(told, Ok(Answer::Number { value }) if value == want)
-}
-
-fn has_bytes(told: Told, want: &[u8]) -> bool {
-    let Ok(answer) = told else {
-        return false;
-    };
-    match answer {
-        Answer::Bytes(bytes) => bytes.as_slice() == want,
-        _ => false,
-    }
-}
-
-fn has_names(told: Told, want: &[Name]) -> bool {
-    let Ok(answer) = told else {
-        return false;
-    };
-    match answer {
-        Answer::Names(names) => names.as_slice() == want,
-        _ => false,
-    }
-}
-
-fn is_fault(told: Told) -> bool {
-    matches!(told, Err(Trouble::Fault))
-}
-
-// An empty folder ROOT and a store on it with the room `f` of number 0, which has a folder `d` and a file `access`.
-fn fresh(rt: HostRuntime, root: &str) -> Result<FolderStore<HostRuntime>, Fail> {
-    let _ = fs::remove_dir_all(&rt, root);
-    fs::create_dir(&rt, root)?;
-    let mut store = open(rt, root)?;
-    let made = store.act(&Step::MakeRoom {
-        name: name("f"),
-        folders: &[name("d")],
-        files: &[name("access")],
-    });
-    is_number(made, 0)
-        .then_some(())
-        .ok_or("the room was not made")?;
-    Ok(store)
-}
-
-fn create<S: Store>(store: &mut S, file: &str) -> Told {
-    store.act(&Step::Create {
-        room: 0,
-        folder: name("d"),
-        file: name(file),
-    })
-}
-
-fn write<S: Store>(store: &mut S, file: &str, at: u64, bytes: &[u8]) -> Told {
-    store.act(&Step::WriteAt {
-        room: 0,
-        folder: name("d"),
-        file: name(file),
-        at,
-        bytes,
-    })
-}
-
-fn read<S: Store>(store: &mut S, file: &str) -> Told {
-    store.act(&Step::ReadAt {
-        room: 0,
-        folder: name("d"),
-        file: name(file),
-        at: 1,
-        len: 100,
-    })
-}
-
-fn list<S: Store>(store: &mut S, folder: &str) -> Told {
-    store.act(&Step::List {
-        room: 0,
-        folder: name(folder),
-    })
-}
+const MADE: &[Row] = &[
+    ROOM,
+    (Act::Kind("store_tests_room/f/d"), "folder"),
+    (Act::Kind("store_tests_room/f/access"), "file"),
+    (Act::Kind("store_tests_room/.new.0"), "nothing"),
+    (Act::FindRoom("f"), "number 0"),
+    (Act::List(""), "names access d"),
+    (Act::MakeRoom("f", &[], &[]), "old 0"),
+];
 
 #[test]
 fn a_room_is_a_folder_with_its_folders_and_files(rt: HostRuntime) -> Result<(), Fail> {
-    let mut store = fresh(rt, "store_folder_room")?;
-    assert!(rt; fs::metadata(&rt, "store_folder_room/f/d")?.is_dir());
-    assert!(rt; fs::metadata(&rt, "store_folder_room/f/access")?.is_file());
-    assert!(rt; !fs::exists(&rt, "store_folder_room/.new.0")?);
-    assert!(rt; is_number(store.act(&Step::FindRoom { name: name("f") }), 0));
-    assert!(rt; has_names(list(&mut store, ""), &[name("access"), name("d")]));
-    let again = store.act(&Step::MakeRoom {
-        name: name("f"),
-        folders: &[],
-        files: &[],
-    });
-    assert!(rt; matches!(again, Ok(Answer::Old { room: 0 })));
-    fs::remove_dir_all(&rt, "store_folder_room")?;
-    Ok(())
+    on_folder(&rt, rt, "store_tests_room", MADE)
 }
+
+const BYTES: &[Row] = &[
+    ROOM,
+    (Act::Create("d", "log"), "made"),
+    (Act::Write("d", "log", 0, "hello"), "made"),
+    (Act::Write("d", "log", 4, "p you"), "made"),
+    (Act::Write("d", "log", 10, "x"), "beyond"),
+    (Act::Read("d", "log", 1, 100), "bytes ellp you"),
+    (Act::ReadFile("store_tests_bytes/f/d/log"), "hellp you"),
+    (Act::Cut("d", "log", 4), "made"),
+    (Act::Cut("d", "log", 5), "beyond"),
+    (Act::Length("d", "log"), "number 4"),
+    (Act::Sync("d", "log"), "made"),
+    (Act::ReadFile("store_tests_bytes/f/d/log"), "hell"),
+];
 
 #[test]
 fn bytes_are_written_read_and_cut(rt: HostRuntime) -> Result<(), Fail> {
-    let mut store = fresh(rt, "store_folder_bytes")?;
-    assert!(rt; is_made(create(&mut store, "log")));
-    assert!(rt; is_made(write(&mut store, "log", 0, b"hello")));
-    assert!(rt; is_made(write(&mut store, "log", 4, b"p you")));
-    assert!(rt; matches!(write(&mut store, "log", 10, b"x"), Ok(Answer::Beyond)));
-    assert!(rt; has_bytes(read(&mut store, "log"), b"ellp you"));
-    assert!(rt; fs::read(&rt, "store_folder_bytes/f/d/log")?.as_slice() == b"hellp you".as_slice());
-    assert!(rt; cut_and_sync(&mut store));
-    assert!(rt; fs::read(&rt, "store_folder_bytes/f/d/log")?.as_slice() == b"hell".as_slice());
-    fs::remove_dir_all(&rt, "store_folder_bytes")?;
-    Ok(())
+    on_folder(&rt, rt, "store_tests_bytes", BYTES)
 }
 
-fn cut_and_sync<S: Store>(store: &mut S) -> bool {
-    let (room, folder, file) = (0, name("d"), name("log"));
-    let cut = Step::Cut {
-        room,
-        folder,
-        file,
-        len: 4,
-    };
-    let longer = Step::Cut {
-        room,
-        folder,
-        file,
-        len: 5,
-    };
-    is_made(store.act(&cut))
-        && matches!(store.act(&longer), Ok(Answer::Beyond))
-        && is_number(store.act(&Step::Length { room, folder, file }), 4)
-        && is_made(store.act(&Step::Sync { room, folder, file }))
-}
-
-fn remove<S: Store>(store: &mut S, file: &str) -> Told {
-    store.act(&Step::Remove {
-        room: 0,
-        folder: name("d"),
-        file: name(file),
-    })
-}
-
-fn remove_folder<S: Store>(store: &mut S) -> Told {
-    store.act(&Step::RemoveFolder {
-        room: 0,
-        folder: name("d"),
-    })
-}
-
-fn replace<S: Store>(store: &mut S, from: &str, to: &str) -> Told {
-    store.act(&Step::Replace {
-        room: 0,
-        folder: name("d"),
-        from: name(from),
-        to: name(to),
-    })
-}
+const REPLACED: &[Row] = &[
+    ROOM,
+    (Act::Create("d", "a"), "made"),
+    (Act::Create("d", "b"), "made"),
+    (Act::Create("d", "b"), "old 0"),
+    (Act::Write("d", "a", 0, "new"), "made"),
+    (Act::Write("d", "b", 0, "older"), "made"),
+    (Act::Replace("d", "b", "b"), "made"),
+    (Act::Replace("d", "a", "b"), "made"),
+    (Act::Read("d", "b", 1, 100), "bytes ew"),
+    (Act::Read("d", "a", 1, 100), "absent"),
+    (Act::List("d"), "names b"),
+];
 
 #[test]
 fn a_replaced_file_has_the_other_ones_bytes(rt: HostRuntime) -> Result<(), Fail> {
-    let mut store = fresh(rt, "store_folder_replace")?;
-    assert!(rt; is_made(create(&mut store, "a")));
-    assert!(rt; is_made(create(&mut store, "b")));
-    assert!(rt; matches!(create(&mut store, "b"), Ok(Answer::Old { room: 0 })));
-    assert!(rt; is_made(write(&mut store, "a", 0, b"new")));
-    assert!(rt; is_made(write(&mut store, "b", 0, b"older")));
-    assert!(rt; is_made(replace(&mut store, "b", "b")));
-    assert!(rt; is_made(replace(&mut store, "a", "b")));
-    assert!(rt; has_bytes(read(&mut store, "b"), b"ew"));
-    assert!(rt; matches!(read(&mut store, "a"), Ok(Answer::Absent)));
-    assert!(rt; has_names(list(&mut store, "d"), &[name("b")]));
-    fs::remove_dir_all(&rt, "store_folder_replace")?;
-    Ok(())
+    on_folder(&rt, rt, "store_tests_replace", REPLACED)
 }
+
+const EMPTIED: &[Row] = &[
+    ROOM,
+    (Act::Create("d", "9"), "made"),
+    (Act::Create("d", "10"), "made"),
+    (Act::RemoveFolder("d"), "not empty 10"),
+    (Act::Remove("d", "9"), "made"),
+    (Act::Remove("d", "9"), "absent"),
+    (Act::Remove("d", "10"), "made"),
+    (Act::RemoveFolder("d"), "made"),
+    (Act::Kind("store_tests_empty/f/d"), "nothing"),
+    (Act::Remove("d", "9"), "no folder"),
+    (Act::Create("d", "9"), "no folder"),
+    (Act::MakeFolder(0, "d"), "made"),
+    (Act::MakeFolder(0, "d"), "old 0"),
+    (Act::MakeFolder(1, "d"), "no room"),
+];
 
 #[test]
 fn a_folder_goes_once_it_is_empty(rt: HostRuntime) -> Result<(), Fail> {
-    let mut store = fresh(rt, "store_folder_empty")?;
-    assert!(rt; is_made(create(&mut store, "9")));
-    assert!(rt; is_made(create(&mut store, "10")));
-    assert!(rt; matches!(remove_folder(&mut store), Ok(Answer::NotEmpty { .. })));
-    assert!(rt; is_made(remove(&mut store, "9")));
-    assert!(rt; matches!(remove(&mut store, "9"), Ok(Answer::Absent)));
-    assert!(rt; is_made(remove(&mut store, "10")));
-    assert!(rt; is_made(remove_folder(&mut store)));
-    assert!(rt; !fs::exists(&rt, "store_folder_empty/f/d")?);
-    assert!(rt; matches!(remove(&mut store, "9"), Ok(Answer::NoFolder)));
-    assert!(rt; matches!(create(&mut store, "9"), Ok(Answer::NoFolder)));
-    let folder = name("d");
-    assert!(rt; is_made(store.act(&Step::MakeFolder { room: 0, folder })));
-    assert!(rt;
-        matches!(
-            store.act(&Step::MakeFolder { room: 0, folder }),
-            Ok(Answer::Old { room: 0 })
-        )
-    );
-    assert!(rt;
-        matches!(
-            store.act(&Step::MakeFolder { room: 1, folder }),
-            Ok(Answer::NoRoom)
-        )
-    );
-    fs::remove_dir_all(&rt, "store_folder_empty")?;
-    Ok(())
+    on_folder(&rt, rt, "store_tests_empty", EMPTIED)
 }
+
+const REMOVED: &[Row] = &[
+    ROOM,
+    (Act::Create("d", "log"), "made"),
+    (Act::Write("d", "log", 0, "old"), "made"),
+    (Act::Remove("d", "log"), "made"),
+    (Act::Read("d", "log", 1, 100), "absent"),
+    (Act::Create("d", "log"), "made"),
+    (Act::Read("d", "log", 1, 100), "bytes "),
+];
 
 #[test]
 fn a_removed_file_is_absent_though_it_was_open(rt: HostRuntime) -> Result<(), Fail> {
-    let mut store = fresh(rt, "store_folder_removed")?;
-    assert!(rt; is_made(create(&mut store, "log")));
-    assert!(rt; is_made(write(&mut store, "log", 0, b"old")));
-    assert!(rt; is_made(remove(&mut store, "log")));
-    assert!(rt; matches!(read(&mut store, "log"), Ok(Answer::Absent)));
-    assert!(rt; is_made(create(&mut store, "log")));
-    assert!(rt; has_bytes(read(&mut store, "log"), b""));
-    fs::remove_dir_all(&rt, "store_folder_removed")?;
-    Ok(())
+    on_folder(&rt, rt, "store_tests_removed", REMOVED)
 }
+
+const AGAIN: &[Row] = &[
+    ROOM,
+    (Act::Create("d", "log"), "made"),
+    (Act::Write("d", "log", 0, "kept"), "made"),
+    (Act::RenameRoom(0, "f"), "target there"),
+    (Act::RenameRoom(0, "g"), "made"),
+    (Act::Write("d", "log", 4, "!"), "made"),
+    (Act::WriteFile("store_tests_again/note", "no room"), ""),
+    (Act::MakeDir("store_tests_again/.new.0"), ""),
+    (Act::Open("store_tests_again"), ""),
+    (Act::Rooms, "names g"),
+    (Act::Read("d", "log", 1, 100), "bytes ept!"),
+];
 
 #[test]
 fn another_store_sees_what_the_first_wrote(rt: HostRuntime) -> Result<(), Fail> {
-    let mut store = fresh(rt, "store_folder_again")?;
-    assert!(rt; is_made(create(&mut store, "log")));
-    assert!(rt; is_made(write(&mut store, "log", 0, b"kept")));
-    assert!(rt; matches!(rename(&mut store, "f"), Ok(Answer::TargetThere)));
-    assert!(rt; is_made(rename(&mut store, "g")));
-    assert!(rt; is_made(write(&mut store, "log", 4, b"!")));
-    fs::write(&rt, "store_folder_again/note", b"no room".as_slice())?;
-    fs::create_dir(&rt, "store_folder_again/.new.0")?;
-    drop(store);
-    let mut other = open(rt, "store_folder_again")?;
-    assert!(rt; has_names(other.act(&Step::Rooms), &[name("g")]));
-    assert!(rt; has_bytes(read(&mut other, "log"), b"ept!"));
-    fs::remove_dir_all(&rt, "store_folder_again")?;
-    Ok(())
+    on_folder(&rt, rt, "store_tests_again", AGAIN)
 }
 
-fn rename<S: Store>(store: &mut S, to: &str) -> Told {
-    store.act(&Step::RenameRoom {
-        room: 0,
-        to: name(to),
-    })
-}
+const MISSING: &[Row] = &[
+    (Act::RemoveDir("store_tests_missing"), ""),
+    (Act::Open("store_tests_missing"), ""),
+    (Act::Rooms, "fault"),
+    (Act::Counts, "1 acts, 1 faults"),
+    (Act::WriteFile("store_tests_missing", "a file"), ""),
+    (Act::Rooms, "fault"),
+    (Act::RemoveFile("store_tests_missing"), ""),
+    (Act::MakeDir("store_tests_missing"), ""),
+    (Act::Rooms, "names"),
+    (Act::Counts, "3 acts, 2 faults"),
+];
 
 #[test]
 fn each_act_on_a_missing_root_faults(rt: HostRuntime) -> Result<(), Fail> {
-    let _ = fs::remove_dir_all(&rt, "store_folder_missing");
-    let mut store = open(rt, "store_folder_missing")?;
-    assert!(rt; is_fault(store.act(&Step::Rooms)));
-    assert_eq!(rt; (store.acts(), store.faults()), (1, 1));
-    fs::write(&rt, "store_folder_missing", b"a file".as_slice())?;
-    assert!(rt; is_fault(store.act(&Step::Rooms)));
-    fs::remove_file(&rt, "store_folder_missing")?;
-    fs::create_dir(&rt, "store_folder_missing")?;
-    assert!(rt; has_names(store.act(&Step::Rooms), &[]));
-    assert_eq!(rt; (store.acts(), store.faults()), (3, 2));
-    fs::remove_dir_all(&rt, "store_folder_missing")?;
-    Ok(())
+    on_folder(&rt, rt, "store_tests_missing", MISSING)
 }
+
+const OUT: &[Row] = &[
+    ROOM,
+    (Act::Create("d", ""), "fault"),
+    (Act::Create("d", "."), "fault"),
+    (Act::Create("d", ".."), "fault"),
+    (Act::Create("d", "../access"), "fault"),
+    (Act::Create("d", "a/b"), "fault"),
+    (Act::Create("d", "a\0b"), "fault"),
+    (Act::List(".."), "fault"),
+    (Act::Counts, "8 acts, 7 faults"),
+    (Act::List("d"), "names"),
+];
 
 #[test]
 fn no_name_leads_out_of_its_folder(rt: HostRuntime) -> Result<(), Fail> {
-    let mut store = fresh(rt, "store_folder_out")?;
-    for file in ["", ".", "..", "../access", "a/b", "a\0b"] {
-        assert!(rt; is_fault(create(&mut store, file)), "{file}");
-        assert!(rt; is_fault(list(&mut store, "..")));
-    }
-    assert_eq!(rt; (store.acts(), store.faults()), (13, 12));
-    assert!(rt; has_names(list(&mut store, "d"), &[]));
-    fs::remove_dir_all(&rt, "store_folder_out")?;
-    Ok(())
+    on_folder(&rt, rt, "store_tests_out", OUT)
 }
+
+const PLACES: &[Row] = &[
+    ROOM,
+    (Act::MakeDir("store_tests_place/f/d/log"), ""),
+    (Act::WriteFile("store_tests_place/f/e", ""), ""),
+    (Act::Write("d", "log", 0, "x"), "fault"),
+    (Act::Remove("d", "log"), "fault"),
+    (Act::Replace("d", "log", "a"), "fault"),
+    (Act::List("e"), "no folder"),
+    (Act::MakeFolder(0, "e"), "fault"),
+];
 
 #[test]
 fn the_system_fails_a_file_in_a_folders_place(rt: HostRuntime) -> Result<(), Fail> {
-    let mut store = fresh(rt, "store_folder_place")?;
-    fs::create_dir(&rt, "store_folder_place/f/d/log")?;
-    fs::write(&rt, "store_folder_place/f/e", b"".as_slice())?;
-    assert!(rt; is_fault(write(&mut store, "log", 0, b"x")));
-    assert!(rt; is_fault(remove(&mut store, "log")));
-    assert!(rt; is_fault(replace(&mut store, "log", "a")));
-    assert!(rt; matches!(list(&mut store, "e"), Ok(Answer::NoFolder)));
-    assert!(rt;
-        is_fault(store.act(&Step::MakeFolder {
-            room: 0,
-            folder: name("e")
-        }))
-    );
-    fs::remove_dir_all(&rt, "store_folder_place")?;
-    Ok(())
+    on_folder(&rt, rt, "store_tests_place", PLACES)
+}
+
+// What the making of a room left where it was broken off, and what another has put there.
+const LEFTOVERS: &[Row] = &[
+    (Act::MakeDir("store_tests_leftover/.new.0"), ""),
+    (Act::MakeDir("store_tests_leftover/.new.0/old"), ""),
+    (Act::WriteFile("store_tests_leftover/.new.0/gone", ""), ""),
+    (Act::Open("store_tests_leftover"), ""),
+    ROOM,
+    (Act::Kind("store_tests_leftover/.new.0"), "nothing"),
+    (Act::Kind("store_tests_leftover/f/old"), "nothing"),
+    (Act::MakeDir("store_tests_leftover/.new.0"), ""),
+    (
+        Act::WriteFile("store_tests_leftover/.new.0/own", "kept"),
+        "",
+    ),
+    (Act::MakeRoom("g", &["d"], &["access"]), "number 1"),
+    (Act::Kind("store_tests_leftover/.new.1"), "nothing"),
+    (Act::ReadFile("store_tests_leftover/.new.0/own"), "kept"),
+];
+
+#[test]
+fn a_leftover_is_cleared_and_used_again_and_nothing_else_is(rt: HostRuntime) -> Result<(), Fail> {
+    on_folder(&rt, rt, "store_tests_leftover", LEFTOVERS)
 }
 
 // A mount, and the store in it, goes from thread to thread.
@@ -314,6 +197,6 @@ fn crosses<T: Send + Drop>(_value: T) {}
 
 #[test]
 fn a_store_crosses_threads(rt: HostRuntime) -> Result<(), Fail> {
-    crosses(open(rt, "store_folder_missing")?);
+    crosses(open(rt, "store_tests_nowhere")?);
     Ok(())
 }

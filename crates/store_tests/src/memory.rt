@@ -1,19 +1,24 @@
-//! A store in memory: its planned faults, and what a loss of power leaves.
-use plfs_types::{Bytes, Name, NameList, NoMemory, Path};
+//! A store in memory: its answers, and its planned faults.
+use crate::acts::{Act, answer, name, names};
+use crate::playing::{Row, Site, holds};
+use crate::telling::{count, tell};
+use plfs_types::{Bytes, Name, NoMemory, Path};
 use std::alloc::Global;
+use std::mem;
 use std::process::Abort;
 use std::test::Fail as Failure;
-use store_api::{Answer, Step, Store, Trouble};
 use store_memory::{
     Fail, FailList, File, FileList, Keep, KeepList, MemoryStore, Room, RoomList, Tree,
 };
 
-fn name(rt: &impl Abort, text: &str) -> Name {
-    Name::from_bytes(text.as_bytes()).expect(rt, "a short name")
+#[derive(Drop)]
+struct InMemory {
+    alloc: Global,
+    store: MemoryStore,
+    shows: bool,
 }
 
-// A store with these planned faults, each an act and a part.
-fn new_store(alloc: Global, faults: &[(u64, u64)]) -> Result<MemoryStore, NoMemory> {
+fn failing(alloc: Global, faults: &[(u64, u64)]) -> Result<FailList, NoMemory> {
     let mut fails = FailList::new(alloc);
     for (act, part) in faults {
         fails.push(Fail {
@@ -21,422 +26,227 @@ fn new_store(alloc: Global, faults: &[(u64, u64)]) -> Result<MemoryStore, NoMemo
             part: *part,
         })?;
     }
-    MemoryStore::new(alloc, fails)
+    Ok(fails)
 }
 
-fn makes<S: Store + Send + Sync>(rt: &impl Abort, store: &mut S, step: &Step<'_>) {
-    assert!(rt; matches!(store.act(step), Ok(Answer::Made)));
+/// A store with these planned faults, each an act and a part.
+pub(crate) fn new_store(alloc: Global, faults: &[(u64, u64)]) -> Result<MemoryStore, NoMemory> {
+    MemoryStore::new(alloc, failing(alloc, faults)?)
 }
 
-fn faults<S: Store>(rt: &impl Abort, store: &mut S, step: &Step<'_>) {
-    assert!(rt; matches!(store.act(step), Err(Trouble::Fault)));
-}
-
-fn is_beyond<S: Store>(rt: &impl Abort, store: &mut S, step: &Step<'_>) {
-    assert!(rt; matches!(store.act(step), Ok(Answer::Beyond)));
-}
-
-fn numbers<S: Store>(rt: &impl Abort, store: &mut S, step: &Step<'_>, want: u64) {
-    match store.act(step) {
-        Ok(Answer::Number { value }) => assert_eq!(rt; value, want),
-        _ => assert!(rt; false, "no number"),
+// A file in the top of its room.
+fn at_top(file: &str) -> Path {
+    Path {
+        folder: Name::empty(),
+        file: name(file),
     }
 }
 
-fn is_old<S: Store>(rt: &impl Abort, store: &mut S, step: &Step<'_>, want: u64) {
-    match store.act(step) {
-        Ok(Answer::Old { room }) => assert_eq!(rt; room, want),
-        _ => assert!(rt; false, "not old"),
+// A store of the room `r`.
+fn given(
+    alloc: Global,
+    folders: &[&str],
+    of: &[(&str, &str, u64)],
+) -> Result<MemoryStore, NoMemory> {
+    let mut files = FileList::new(alloc);
+    for (file, text, kept) in of {
+        files.push(File {
+            path: at_top(file),
+            bytes: Bytes::copy(alloc, text.as_bytes())?,
+            kept: *kept,
+        })?;
     }
-}
-
-fn gives<S: Store>(rt: &impl Abort, store: &mut S, step: &Step<'_>, want: &[u8]) {
-    match store.act(step) {
-        Ok(Answer::Bytes(bytes)) => assert_eq!(rt; bytes.as_slice(), want),
-        _ => assert!(rt; false, "no bytes"),
-    }
-}
-
-fn lists<S: Store>(rt: &impl Abort, store: &mut S, step: &Step<'_>, want: &[Name]) {
-    match store.act(step) {
-        Ok(Answer::Names(names)) => assert!(rt; names.as_slice() == want),
-        _ => assert!(rt; false, "no names"),
-    }
-}
-
-// The folder can't be removed, and this is its least name.
-fn is_not_empty<S: Store>(rt: &impl Abort, store: &mut S, folder: Name, want: Name) {
-    let step = Step::RemoveFolder { room: 0, folder };
-    let answer = store.act(&step).ok().expect(rt, "an answer");
-    match answer {
-        Answer::NotEmpty { least } => assert!(rt; least == want),
-        _ => assert!(rt; false, "the folder has files"),
-    }
-}
-
-fn made_room<'a>(name: Name, files: &'a [Name]) -> Step<'a> {
-    Step::MakeRoom {
-        name,
-        folders: &[],
+    let mut rooms = RoomList::new(alloc);
+    rooms.push(Room {
+        name: name("r"),
+        folders: names(alloc, folders)?,
         files,
+    })?;
+    Ok(MemoryStore::with_tree(alloc, Tree { rooms }, FailList::new(alloc)))
+}
+
+fn keeping(alloc: Global, of: &[(u64, &str, u64)]) -> Result<KeepList, NoMemory> {
+    let mut keeps = KeepList::new(alloc);
+    for (room, file, extra) in of {
+        keeps.push(Keep {
+            room: *room,
+            path: at_top(file),
+            extra: *extra,
+        })?;
+    }
+    Ok(keeps)
+}
+
+fn counts(line: &mut String, store: &MemoryStore) -> Result<(), NoMemory> {
+    count(line, store.acts(), " acts, ")?;
+    count(line, store.faults(), " faults")
+}
+
+// How many bytes the first room's first file has, and how many of them are kept; and the counts.
+fn left(line: &mut String, store: &MemoryStore) -> Result<(), NoMemory> {
+    if let Some(room) = store.tree().rooms.as_slice().first() {
+        if let Some(file) = room.files.as_slice().first() {
+            line.push_str("; ")?;
+            count(line, file.bytes.as_slice().len() as u64, " bytes, ")?;
+            count(line, file.kept, " kept")?;
+        }
+    }
+    line.push_str("; ")?;
+    counts(line, store)
+}
+
+impl InMemory {
+    fn step(&mut self, act: Act, line: &mut String) -> Result<(), NoMemory> {
+        let told = answer(self.alloc, &mut self.store, act)?;
+        tell(line, &told)?;
+        if self.shows {
+            left(line, &self.store)?;
+        }
+        Ok(())
+    }
+
+    fn lose(&mut self, of: &[(u64, &str, u64)]) -> Result<(), NoMemory> {
+        let keeps = keeping(self.alloc, of)?;
+        let empty = new_store(self.alloc, &[])?;
+        self.store = mem::replace(&mut self.store, empty).lose(keeps);
+        Ok(())
     }
 }
 
-fn created(path: &Path) -> Step<'static> {
-    Step::Create {
-        room: 0,
-        folder: path.folder,
-        file: path.file,
+impl Site for InMemory {
+    fn play(&mut self, act: Act, line: &mut String) -> Result<(), Failure> {
+        match act {
+            Act::Failing(faults) => self.store = new_store(self.alloc, faults)?,
+            Act::Off(act, part) => self.store = MemoryStore::off(self.alloc, act, part)?,
+            Act::Given(folders, files) => self.store = given(self.alloc, folders, files)?,
+            Act::Lose(keeps) => self.lose(keeps)?,
+            Act::Show => self.shows = true,
+            Act::Counts => counts(line, &self.store)?,
+            _ => self.step(act, line)?,
+        }
+        Ok(())
     }
 }
 
-fn written<'a>(path: &Path, at: u64, bytes: &'a [u8]) -> Step<'a> {
-    Step::WriteAt {
-        room: 0,
-        folder: path.folder,
-        file: path.file,
-        at,
-        bytes,
-    }
+/// Each row holds of a store in memory.
+pub(crate) fn in_memory<R: Abort>(rt: &R, alloc: Global, rows: &[Row]) -> Result<(), Failure> {
+    let mut site = InMemory {
+        alloc,
+        store: new_store(alloc, &[])?,
+        shows: false,
+    };
+    holds(rt, alloc, &mut site, rows)
 }
 
-fn read(path: &Path, at: u64, len: u64) -> Step<'static> {
-    Step::ReadAt {
-        room: 0,
-        folder: path.folder,
-        file: path.file,
-        at,
-        len,
-    }
-}
-
-fn cut(path: &Path, len: u64) -> Step<'static> {
-    Step::Cut {
-        room: 0,
-        folder: path.folder,
-        file: path.file,
-        len,
-    }
-}
+const BROKEN: &[Row] = &[
+    (Act::Failing(&[(3, 3)]), ""),
+    (Act::MakeRoom("f", &[], &[]), "number 0"),
+    (Act::MakeFolder(0, "hostdir.0"), "made"),
+    (Act::Create("hostdir.0", "log.0.7"), "made"),
+    (Act::Write("hostdir.0", "log.0.7", 0, "hello"), "fault"),
+    (Act::Read("hostdir.0", "log.0.7", 1, 9), "bytes el"),
+    (Act::Write("hostdir.0", "log.0.7", 0, "hello"), "made"),
+    (Act::Read("hostdir.0", "log.0.7", 1, 3), "bytes ell"),
+    (Act::Counts, "7 acts, 1 faults"),
+];
 
 #[test]
 fn a_broken_write_keeps_its_first_bytes_and_a_retry_makes_it_whole(
     rt: HostRuntime,
 ) -> Result<(), Failure> {
-    let mut store = new_store(rt.alloc(), &[(3, 3)])?;
-    let log = Path {
-        folder: name(&rt, "hostdir.0"),
-        file: name(&rt, "log.0.7"),
-    };
-    numbers(&rt, &mut store, &made_room(name(&rt, "f"), &[]), 0);
-    makes(
-        &rt,
-        &mut store,
-        &Step::MakeFolder {
-            room: 0,
-            folder: log.folder,
-        },
-    );
-    makes(&rt, &mut store, &created(&log));
-    faults(&rt, &mut store, &written(&log, 0, b"hello"));
-    gives(&rt, &mut store, &read(&log, 1, 9), b"el");
-    makes(&rt, &mut store, &written(&log, 0, b"hello"));
-    gives(&rt, &mut store, &read(&log, 1, 3), b"ell");
-    assert_eq!(rt; store.acts(), 7);
-    assert_eq!(rt; store.faults(), 1);
-    Ok(())
+    in_memory(&rt, rt.alloc(), BROKEN)
 }
+
+const FIRST_FAULT: &[Row] = &[
+    (Act::Failing(&[(1, 1), (0, 0), (0, 1)]), ""),
+    (Act::MakeRoom("f", &[], &[]), "fault"),
+    (Act::MakeRoom("f", &[], &[]), "fault"),
+    (Act::FindRoom("f"), "number 0"),
+    (Act::Counts, "3 acts, 2 faults"),
+    // part 0 makes nothing
+    (Act::Failing(&[(0, 0), (0, 1)]), ""),
+    (Act::MakeRoom("f", &[], &[]), "fault"),
+    (Act::Rooms, "names"),
+];
 
 #[test]
 fn the_first_fault_of_an_act_counts_and_part_0_makes_nothing(
     rt: HostRuntime,
 ) -> Result<(), Failure> {
-    let mut store = new_store(rt.alloc(), &[(1, 1), (0, 0), (0, 1)])?;
-    let f = name(&rt, "f");
-    faults(&rt, &mut store, &made_room(f, &[]));
-    assert!(rt; store.tree().rooms.as_slice().is_empty());
-    faults(&rt, &mut store, &made_room(f, &[]));
-    numbers(&rt, &mut store, &Step::FindRoom { name: f }, 0);
-    assert_eq!(rt; store.faults(), 2);
-    Ok(())
+    in_memory(&rt, rt.alloc(), FIRST_FAULT)
 }
+
+const ORDER: &[Row] = &[
+    (Act::MakeRoom("9.1", &[], &["f"]), "number 0"),
+    (Act::MakeRoom("10.1", &[], &[]), "number 1"),
+    (Act::Rooms, "names 10.1 9.1"),
+    (Act::MakeFolder(0, "openhosts"), "made"),
+    (Act::List(""), "names f openhosts"),
+    (Act::Create("openhosts", "9.1"), "made"),
+    (Act::Create("openhosts", "10.1"), "made"),
+    (Act::RemoveFolder("openhosts"), "not empty 10.1"),
+];
 
 #[test]
 fn names_come_in_byte_order(rt: HostRuntime) -> Result<(), Failure> {
-    let mut store = new_store(rt.alloc(), &[])?;
-    let (f, nine, ten) = (name(&rt, "f"), name(&rt, "9.1"), name(&rt, "10.1"));
-    let folder = name(&rt, "openhosts");
-    numbers(&rt, &mut store, &made_room(nine, &[f]), 0);
-    numbers(&rt, &mut store, &made_room(ten, &[]), 1);
-    lists(&rt, &mut store, &Step::Rooms, &[ten, nine]);
-    makes(&rt, &mut store, &Step::MakeFolder { room: 0, folder });
-    lists(
-        &rt,
-        &mut store,
-        &Step::List {
-            room: 0,
-            folder: Name::empty(),
-        },
-        &[f, folder],
-    );
-    makes(&rt, &mut store, &created(&Path { folder, file: nine }));
-    makes(&rt, &mut store, &created(&Path { folder, file: ten }));
-    is_not_empty(&rt, &mut store, folder, ten);
-    Ok(())
+    in_memory(&rt, rt.alloc(), ORDER)
 }
+
+const TAKEN: &[Row] = &[
+    (Act::MakeRoom("f", &[], &[]), "number 0"),
+    (Act::MakeRoom("g", &[], &[]), "number 1"),
+    (Act::MakeRoom("g", &[], &["f"]), "old 1"),
+    (Act::RenameRoom(0, "g"), "target there"),
+    (Act::RenameRoom(0, "h"), "made"),
+    (Act::FindRoom("h"), "number 0"),
+    (Act::FindRoom("f"), "absent"),
+];
 
 #[test]
 fn a_taken_room_is_old_with_its_number(rt: HostRuntime) -> Result<(), Failure> {
-    let mut store = new_store(rt.alloc(), &[])?;
-    let (f, g, h) = (name(&rt, "f"), name(&rt, "g"), name(&rt, "h"));
-    numbers(&rt, &mut store, &made_room(f, &[]), 0);
-    numbers(&rt, &mut store, &made_room(g, &[]), 1);
-    is_old(&rt, &mut store, &made_room(g, &[f]), 1);
-    let taken = store.act(&Step::RenameRoom { room: 0, to: g });
-    assert!(rt; matches!(taken, Ok(Answer::TargetThere)));
-    makes(&rt, &mut store, &Step::RenameRoom { room: 0, to: h });
-    numbers(&rt, &mut store, &Step::FindRoom { name: h }, 0);
-    let gone = store.act(&Step::FindRoom { name: f });
-    assert!(rt; matches!(gone, Ok(Answer::Absent)));
-    Ok(())
+    in_memory(&rt, rt.alloc(), TAKEN)
 }
 
-// A tree of one room with the top files `tmp.1` of the bytes `new` and `1` of the bytes `old`, and an empty folder.
-fn flats(alloc: Global, room: Name, from: Name, to: Name, folder: Name) -> Result<Tree, NoMemory> {
-    let mut files = FileList::new(alloc);
-    files.push(File {
-        path: Path {
-            folder: Name::empty(),
-            file: to,
-        },
-        bytes: Bytes::copy(alloc, b"old")?,
-        kept: 3,
-    })?;
-    files.push(File {
-        path: Path {
-            folder: Name::empty(),
-            file: from,
-        },
-        bytes: Bytes::copy(alloc, b"new")?,
-        kept: 3,
-    })?;
-    let mut folders = NameList::new(alloc);
-    folders.push(folder)?;
-    let mut rooms = RoomList::new(alloc);
-    rooms.push(Room {
-        name: room,
-        folders,
-        files,
-    })?;
-    Ok(Tree { rooms })
-}
+const REPLACED: &[Row] = &[
+    (
+        Act::Given(&["empty"], &[("1", "old", 3), ("tmp.1", "new", 3)]),
+        "",
+    ),
+    (Act::Replace("", "tmp.1", "1"), "made"),
+    (Act::Read("", "1", 0, 9), "bytes new"),
+    (Act::RemoveFolder("empty"), "made"),
+    (Act::List(""), "names 1"),
+    (Act::Remove("", "1"), "made"),
+    (Act::Remove("", "1"), "absent"),
+];
 
 #[test]
 fn replace_removes_the_file_that_had_the_name(rt: HostRuntime) -> Result<(), Failure> {
-    let (from, to, folder) = (name(&rt, "tmp.1"), name(&rt, "1"), name(&rt, "empty"));
-    let tree = flats(rt.alloc(), name(&rt, "f"), from, to, folder)?;
-    let mut store = MemoryStore::with_tree(rt.alloc(), tree, FailList::new(rt.alloc()));
-    let top = Name::empty();
-    let install = Step::Replace {
-        room: 0,
-        folder: top,
-        from,
-        to,
-    };
-    makes(&rt, &mut store, &install);
-    gives(
-        &rt,
-        &mut store,
-        &read(
-            &Path {
-                folder: top,
-                file: to,
-            },
-            0,
-            9,
-        ),
-        b"new",
-    );
-    makes(&rt, &mut store, &Step::RemoveFolder { room: 0, folder });
-    lists(
-        &rt,
-        &mut store,
-        &Step::List {
-            room: 0,
-            folder: top,
-        },
-        &[to],
-    );
-    let remove = Step::Remove {
-        room: 0,
-        folder: top,
-        file: to,
-    };
-    makes(&rt, &mut store, &remove);
-    assert!(rt; matches!(store.act(&remove), Ok(Answer::Absent)));
-    Ok(())
+    in_memory(&rt, rt.alloc(), REPLACED)
 }
+
+const GAPS: &[Row] = &[
+    (Act::MakeRoom("f", &[], &["index"]), "number 0"),
+    (Act::Write("", "index", 0, "abcd"), "made"),
+    (Act::Cut("", "index", 5), "beyond"),
+    (Act::Cut("", "index", 2), "made"),
+    (Act::Write("", "index", 3, "x"), "beyond"),
+    (Act::Write("", "index", 1, "xy"), "made"),
+    (Act::Read("", "index", 0, 9), "bytes axy"),
+    (Act::Length("", "index"), "number 3"),
+    (Act::Sync("", "index"), "made"),
+    (Act::MakeFolder(1, ""), "no room"),
+];
 
 #[test]
 fn no_cut_or_write_leaves_a_gap(rt: HostRuntime) -> Result<(), Failure> {
-    let mut store = new_store(rt.alloc(), &[])?;
-    let (room, file) = (name(&rt, "f"), name(&rt, "index"));
-    let index = Path {
-        folder: Name::empty(),
-        file,
-    };
-    numbers(&rt, &mut store, &made_room(room, &[file]), 0);
-    makes(&rt, &mut store, &written(&index, 0, b"abcd"));
-    is_beyond(&rt, &mut store, &cut(&index, 5));
-    makes(&rt, &mut store, &cut(&index, 2));
-    is_beyond(&rt, &mut store, &written(&index, 3, b"x"));
-    makes(&rt, &mut store, &written(&index, 1, b"xy"));
-    gives(&rt, &mut store, &read(&index, 0, 9), b"axy");
-    let (folder, length) = (index.folder, 3);
-    numbers(
-        &rt,
-        &mut store,
-        &Step::Length {
-            room: 0,
-            folder,
-            file,
-        },
-        length,
-    );
-    makes(
-        &rt,
-        &mut store,
-        &Step::Sync {
-            room: 0,
-            folder,
-            file,
-        },
-    );
-    let nowhere = store.act(&Step::MakeFolder { room: 1, folder });
-    assert!(rt; matches!(nowhere, Ok(Answer::NoRoom)));
-    Ok(())
+    in_memory(&rt, rt.alloc(), GAPS)
 }
 
-// A file of four bytes of which two are synced keeps these two, and as many more as are wanted.
-#[test]
-fn a_loss_keeps_what_was_synced(rt: HostRuntime) -> Result<(), NoMemory> {
-    let alloc = rt.alloc();
-    let room = name(&rt, "r");
-    let file = name(&rt, "f");
-    for extra in 0..4 {
-        let mut store = new_store(alloc, &[])?;
-        numbers(
-            &rt,
-            &mut store,
-            &Step::MakeRoom {
-                name: room,
-                folders: &[],
-                files: &[file],
-            },
-            0,
-        );
-        makes(
-            &rt,
-            &mut store,
-            &Step::WriteAt {
-                room: 0,
-                folder: Name::empty(),
-                file,
-                at: 0,
-                bytes: b"ab",
-            },
-        );
-        makes(
-            &rt,
-            &mut store,
-            &Step::Sync {
-                room: 0,
-                folder: Name::empty(),
-                file,
-            },
-        );
-        makes(
-            &rt,
-            &mut store,
-            &Step::WriteAt {
-                room: 0,
-                folder: Name::empty(),
-                file,
-                at: 2,
-                bytes: b"cd",
-            },
-        );
-        let mut keeps = KeepList::new(alloc);
-        keeps.push(Keep {
-            room: 0,
-            path: Path {
-                folder: Name::empty(),
-                file,
-            },
-            extra,
-        })?;
-        let mut left = store.lose(keeps);
-        let len = if extra < 2 { 2 + extra } else { 4 };
-        gives(
-            &rt,
-            &mut left,
-            &Step::ReadAt {
-                room: 0,
-                folder: Name::empty(),
-                file,
-                at: 0,
-                len: 9,
-            },
-            &b"abcd"[..len as usize],
-        );
-    }
-    Ok(())
-}
+fn crosses<T: Send + Sync>(_value: &T) {}
 
-// A store whose power goes off in its second act leaves a part of that, and fails from then on.
 #[test]
-fn power_goes_off(rt: HostRuntime) -> Result<(), NoMemory> {
-    let alloc = rt.alloc();
-    let room = name(&rt, "r");
-    let file = name(&rt, "f");
-    let mut store = MemoryStore::off(alloc, 1, 1)?;
-    numbers(
-        &rt,
-        &mut store,
-        &Step::MakeRoom {
-            name: room,
-            folders: &[],
-            files: &[file],
-        },
-        0,
-    );
-    for _ in 0..2 {
-        faults(
-            &rt,
-            &mut store,
-            &Step::WriteAt {
-                room: 0,
-                folder: Name::empty(),
-                file,
-                at: 0,
-                bytes: b"ab",
-            },
-        );
-    }
-    assert_eq!(&rt; store.faults(), 2);
-    assert_eq!(&rt; store.acts(), 3);
-    let mut left = store.lose(KeepList::new(alloc));
-    gives(
-        &rt,
-        &mut left,
-        &Step::ReadAt {
-            room: 0,
-            folder: Name::empty(),
-            file,
-            at: 0,
-            len: 9,
-        },
-        b"",
-    );
+fn a_store_in_memory_crosses_threads(rt: HostRuntime) -> Result<(), Failure> {
+    crosses(&new_store(rt.alloc(), &[])?);
     Ok(())
 }

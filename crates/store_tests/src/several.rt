@@ -1,168 +1,178 @@
 //! Several stores in memory as one: where rooms lie, names that two stores have, and a room that may have been made.
+use crate::acts::{Act, answer};
+use crate::memory::new_store;
 use crate::opening::open;
-use plfs_types::{Name, NameList, NoMemory};
+use crate::playing::{Row, Site, holds};
+use crate::telling::{letters, tell};
+use plfs_types::NoMemory;
 use spread_store::{Spread, SpreadTrouble, StoreList};
 use std::alloc::Global;
 use std::process::Abort;
-use std::test::Fail as Failure;
-use store_api::{Answer, Step, Store, Trouble};
-use store_memory::{Fail, FailList, MemoryStore};
+use std::test::Fail;
+use store_memory::MemoryStore;
 
-// How an opening of several stores ends.
-type Opened = Result<Spread<MemoryStore>, (StoreList<MemoryStore>, SpreadTrouble)>;
-
-fn name(rt: &impl Abort, text: &str) -> Name {
-    Name::from_bytes(text.as_bytes()).expect(rt, "a short name")
+/// Two stores, and what they tell as one.
+struct Case {
+    /// The planned faults of the second store, each an act and a part.
+    faults: &'static [(u64, u64)],
+    /// The rooms that each has before.
+    before: &'static [&'static str],
+    rows: &'static [Row],
+    /// What each store names in the end; or why they weren't opened.
+    ends: &'static str,
 }
 
-fn make<S: Store>(store: &mut S, room: Name) -> Result<Answer, Trouble> {
-    store.act(&Step::MakeRoom {
-        name: room,
-        folders: &[],
-        files: &[],
-    })
+#[derive(Drop)]
+struct Several {
+    alloc: Global,
+    spread: Spread<MemoryStore>,
 }
 
-// Makes a room, and gives its number, or 10 more than the number of the room that has the name, or 99.
-fn number_of_made<S: Store>(store: &mut S, room: Name) -> u64 {
-    match make(store, room) {
-        Ok(Answer::Number { value }) => value,
-        Ok(Answer::Old { room }) => room.saturating_add(10),
-        _ => 99,
+impl Site for Several {
+    fn play(&mut self, act: Act, line: &mut String) -> Result<(), Fail> {
+        let told = answer(self.alloc, &mut self.spread, act)?;
+        tell(line, &told)?;
+        Ok(())
     }
 }
 
-fn number_of_found<S: Store>(store: &mut S, room: Name) -> u64 {
-    match store.act(&Step::FindRoom { name: room }) {
-        Ok(Answer::Number { value }) => value,
-        _ => 99,
+// A store with these planned faults that has these rooms.
+fn one(
+    alloc: Global,
+    faults: &[(u64, u64)],
+    rooms: &[&'static str],
+) -> Result<MemoryStore, NoMemory> {
+    let mut store = new_store(alloc, faults)?;
+    for room in rooms {
+        let _ = answer(alloc, &mut store, Act::MakeRoom(room, &[], &[]))?;
     }
+    Ok(store)
 }
 
-fn names<S: Store>(alloc: Global, store: &mut S) -> NameList {
-    match store.act(&Step::Rooms) {
-        Ok(Answer::Names(names)) => names,
-        _ => NameList::new(alloc),
-    }
-}
-
-fn is_made(end: &Result<Answer, Trouble>) -> bool {
-    matches!(end, Ok(Answer::Made))
-}
-
-fn is_target_there(end: &Result<Answer, Trouble>) -> bool {
-    matches!(end, Ok(Answer::TargetThere))
-}
-
-fn is_fault(end: &Result<Answer, Trouble>) -> bool {
-    matches!(end, Err(Trouble::Fault))
-}
-
-// Whether the stores weren't opened, since two of them have a room of this name.
-fn is_doubled(end: &Opened, name: &Name) -> bool {
-    match end {
-        Err((_, SpreadTrouble::Doubled { name: doubled })) => *doubled == *name,
-        _ => false,
-    }
-}
-
-// A store with these planned faults, each an act and a part.
-fn new_store(alloc: Global, faults: &[(u64, u64)]) -> Result<MemoryStore, NoMemory> {
-    let mut fails = FailList::new(alloc);
-    for (act, part) in faults {
-        fails.push(Fail {
-            act: *act,
-            part: *part,
-        })?;
-    }
-    MemoryStore::new(alloc, fails)
-}
-
-// Two stores, the second of which has these planned faults.
-fn two(alloc: Global, faults: &[(u64, u64)]) -> Result<StoreList<MemoryStore>, NoMemory> {
+// Two stores that have these rooms, the second of which has these planned faults.
+fn two(alloc: Global, case: &Case) -> Result<StoreList<MemoryStore>, NoMemory> {
     let mut stores = StoreList::new(alloc);
-    stores.push(new_store(alloc, &[])?)?;
-    stores.push(new_store(alloc, faults)?)?;
+    stores.push(one(alloc, &[], case.before)?)?;
+    stores.push(one(alloc, case.faults, case.before)?)?;
     Ok(stores)
 }
 
-#[test]
-fn rooms_lie_where_their_names_say(rt: HostRuntime) -> Result<(), Failure> {
-    let alloc = rt.alloc();
-    let [plfs, f, g, i] = [
-        name(&rt, ".plfs"),
-        name(&rt, "f"),
-        name(&rt, "g"),
-        name(&rt, "i"),
-    ];
-    let mut spread = open(&rt, alloc, two(alloc, &[])?)
-        .ok()
-        .expect(&rt, "opened");
-    // The bytes of f sum to 102, those of g to 103.
-    let made = [
-        number_of_made(&mut spread, plfs),
-        number_of_made(&mut spread, f),
-        number_of_made(&mut spread, g),
-        number_of_made(&mut spread, f),
-        number_of_found(&mut spread, g),
-    ];
-    let renamed = spread.act(&Step::RenameRoom { room: 1, to: i });
-    let taken = spread.act(&Step::RenameRoom { room: 1, to: g });
-    let all = names(alloc, &mut spread);
-    let mut stores = spread.close();
-    assert!(rt; stores.as_slice().len() == 2);
-    let second = names(alloc, &mut stores.remove(1));
-    let first = names(alloc, &mut stores.remove(0));
-    assert!(rt; made == [0, 1, 2, 11, 2] && is_made(&renamed) && is_target_there(&taken));
-    assert!(rt;
-        all.as_slice() == [plfs, g, i].as_slice()
-            && first.as_slice() == [plfs, i].as_slice()
-            && second.as_slice() == [g].as_slice()
-    );
-    Ok(())
-}
-
-#[test]
-fn the_least_name_of_two_stores_is_doubled(rt: HostRuntime) -> Result<(), Failure> {
-    let alloc = rt.alloc();
-    let mut stores = two(alloc, &[])?;
+// What each of the stores names.
+fn named(alloc: Global, mut stores: StoreList<MemoryStore>) -> Result<String, NoMemory> {
+    let mut line = String::new(alloc);
     for store in stores.as_mut_slice().iter_mut() {
-        let made = [
-            number_of_made(store, name(&rt, "h")),
-            number_of_made(store, name(&rt, "f")),
-        ];
-        assert!(&rt; made == [0, 1]);
+        let told = answer(alloc, store, Act::Rooms)?;
+        tell(&mut line, &told)?;
+        line.push_str("; ")?;
     }
-    let end = open(&rt, alloc, stores);
-    assert!(rt; is_doubled(&end, &name(&rt, "f")));
+    Ok(line)
+}
+
+fn troubled(alloc: Global, trouble: &SpreadTrouble) -> Result<String, NoMemory> {
+    let mut line = String::new(alloc);
+    match trouble {
+        SpreadTrouble::Doubled { name } => {
+            line.push_str("doubled ")?;
+            letters(&mut line, name.bytes())?;
+        }
+        SpreadTrouble::Fault => line.push_str("fault")?,
+        SpreadTrouble::NoMemory => line.push_str("no memory")?,
+    }
+    Ok(line)
+}
+
+fn ended<R: Abort>(rt: &R, alloc: Global, case: &Case) -> Result<String, Fail> {
+    match open(rt, alloc, two(alloc, case)?) {
+        Ok(spread) => {
+            let mut site = Several { alloc, spread };
+            holds(rt, alloc, &mut site, case.rows)?;
+            Ok(named(alloc, site.spread.close())?)
+        }
+        Err((_stores, trouble)) => Ok(troubled(alloc, &trouble)?),
+    }
+}
+
+fn all_hold<R: Abort>(rt: &R, alloc: Global, cases: &[Case]) -> Result<(), Fail> {
+    for case in cases {
+        let line = ended(rt, alloc, case)?;
+        assert!(rt; line.as_str() == case.ends, "{line}");
+    }
     Ok(())
 }
 
-#[test]
-fn a_room_that_may_have_been_made_is_asked_for(rt: HostRuntime) -> Result<(), Failure> {
-    let alloc = rt.alloc();
-    let g = name(&rt, "g");
-    // The second store's act 1 is its listing, act 2 its search, act 3 makes the room or not, and act 4 asks for it.
-    for (part, number) in [(0, 0), (1, 10)] {
-        let mut spread = open(&rt, alloc, two(alloc, &[(2, part), (3, 0)])?)
-            .ok()
-            .expect(&rt, "opened");
-        let made = make(&mut spread, g);
-        let asked = spread.act(&Step::Rooms);
-        assert!(&rt; is_fault(&made) && is_fault(&asked));
-        let again = number_of_made(&mut spread, g);
-        let all = names(alloc, &mut spread);
-        assert!(&rt; again == number && all.as_slice() == [g].as_slice());
-    }
-    Ok(())
-}
+// The bytes of f sum to 102, those of g to 103, and those of i to 105.
+const LYING: [Case; 1] = [Case {
+    faults: &[],
+    before: &[],
+    rows: &[
+        (Act::MakeRoom(".plfs", &[], &[]), "number 0"),
+        (Act::MakeRoom("f", &[], &[]), "number 1"),
+        (Act::MakeRoom("g", &[], &[]), "number 2"),
+        (Act::MakeRoom("f", &[], &[]), "old 1"),
+        (Act::FindRoom("g"), "number 2"),
+        (Act::RenameRoom(1, "i"), "made"),
+        (Act::RenameRoom(1, "g"), "target there"),
+        (Act::Rooms, "names .plfs g i"),
+    ],
+    ends: "names .plfs i; names g; ",
+}];
 
 #[test]
-fn a_store_that_fails_as_it_is_listed_opens_none(rt: HostRuntime) -> Result<(), Failure> {
-    let alloc = rt.alloc();
-    match open(&rt, alloc, two(alloc, &[(0, 0)])?) {
-        Err((_, SpreadTrouble::Fault)) => {}
-        _ => assert!(&rt; false, "opened"),
-    }
-    Ok(())
+fn rooms_lie_where_their_names_say(rt: HostRuntime) -> Result<(), Fail> {
+    all_hold(&rt, rt.alloc(), &LYING)
+}
+
+const DOUBLED: [Case; 1] = [Case {
+    faults: &[],
+    before: &["h", "f"],
+    rows: &[],
+    ends: "doubled f",
+}];
+
+#[test]
+fn the_least_name_of_two_stores_is_doubled(rt: HostRuntime) -> Result<(), Fail> {
+    all_hold(&rt, rt.alloc(), &DOUBLED)
+}
+
+// The second store's act 1 is its listing, act 2 its search, act 3 makes the room or not, and act 4 asks for it.
+const DOUBTFUL: [Case; 2] = [
+    Case {
+        faults: &[(2, 0), (3, 0)],
+        before: &[],
+        rows: &[
+            (Act::MakeRoom("g", &[], &[]), "fault"),
+            (Act::Rooms, "fault"),
+            (Act::MakeRoom("g", &[], &[]), "number 0"),
+            (Act::Rooms, "names g"),
+        ],
+        ends: "names; names g; ",
+    },
+    Case {
+        faults: &[(2, 1), (3, 0)],
+        before: &[],
+        rows: &[
+            (Act::MakeRoom("g", &[], &[]), "fault"),
+            (Act::Rooms, "fault"),
+            (Act::MakeRoom("g", &[], &[]), "old 0"),
+            (Act::Rooms, "names g"),
+        ],
+        ends: "names; names g; ",
+    },
+];
+
+#[test]
+fn a_room_that_may_have_been_made_is_asked_for(rt: HostRuntime) -> Result<(), Fail> {
+    all_hold(&rt, rt.alloc(), &DOUBTFUL)
+}
+
+const FAILING: [Case; 1] = [Case {
+    faults: &[(0, 0)],
+    before: &[],
+    rows: &[],
+    ends: "fault",
+}];
+
+#[test]
+fn a_store_that_fails_as_it_is_listed_opens_none(rt: HostRuntime) -> Result<(), Fail> {
+    all_hold(&rt, rt.alloc(), &FAILING)
 }
