@@ -1,9 +1,14 @@
 //! Tests of the mount over a store in memory: how it begins, that it goes on after each fault of the store, what a stop
-//! leaves, that another mount goes on after it, and what each call on holds, flattenings and dead writers answers. They stand apart, so that the mount is not proved twice for them.
+//! leaves, that another mount goes on after it, and what each call on holds, flattenings and dead writers answers. They
+//! stand apart, so that the mount is not proved twice for them.
+//!
+//! A test is a table of rows, or of trials. A row says who makes which call and what it is answered, as text. A trial
+//! says what is answered where the store fails in the act of a call or the call is broken off, what is seen then, and
+//! what the same call is answered after it. One function each plays rows and trials, and compares.
 #![tactic(auto)]
 
 #[cfg(test)]
-mod asking;
+mod calls;
 #[cfg(test)]
 mod containers;
 #[cfg(test)]
@@ -17,10 +22,14 @@ mod losses;
 #[cfg(test)]
 mod mounting;
 #[cfg(test)]
+mod playing;
+#[cfg(test)]
 mod recovering;
 #[cfg(test)]
 mod resuming;
 #[cfg(test)]
+mod spelling;
+#[cfg(test)]
 mod stopping;
 #[cfg(test)]
-mod telling;
+mod trials;

@@ -1,179 +1,189 @@
 //! The power goes off in each act of a writer in turn, and what is kept is mounted again.
-ghost use Rattle.mount_model.specs.Step.{OwedBy};
-
-use crate::asking::{answer, asks, block, failing, logical, mounted, name};
-use crate::faults::{Tried, measures};
-use mount_model::{Call, Look, Reply};
-use plfs_types::{NoMemory, Path};
+use crate::calls::{Cast, Does, FIRST, path};
+use crate::playing::{ONE, Row, failing, hold, make, mounted};
+use plfs_types::NoMemory;
 use std::alloc::Global;
 use std::process::Abort;
 use std::test::Fail;
-use store_api::Answer;
 use store_memory::{Keep, KeepList, MemoryStore};
 
-// The writer that the first mount enters first.
-const WRITER: u64 = 4294967297;
-
-// The room of the container, which is made after that of the marks.
-const ROOM: u64 = 1;
-
-// Acts count from the first of the mounting: this one makes the container,
-const FIRST_ACT: u64 = 3;
-
-// this one flushes the writer's entries,
-const FLUSH_ACT: u64 = 11;
-
-// and by this one it leaves.
-const LAST_ACT: u64 = 14;
-
-// Makes the call, and tells whether it was answered otherwise than by a fault.
-fn goes_on(mount: &mut Tried, call: Call) -> bool
-    requires { OwedBy call }
-{
-    !matches!(mount.apply(1, &asks(call)), Reply::Fault)
-}
-
-// A writer is opened in the container `f`, writes a block, syncs it and leaves, up to the first fault.
-fn writes(rt: &impl Abort, alloc: Global, mount: &mut Tried) -> Result<(), Fail> {
-    let writer = WRITER;
-    let write = Call::Write {
-        writer,
-        at: 0,
-        block: block(rt, alloc)?,
-    };
-    let _ = goes_on(
-        mount,
-        Call::MakeContainer {
-            name: logical(rt, "f"),
-        },
-    ) && goes_on(
-        mount,
-        Call::Enter {
-            room: ROOM,
-            host: 0,
-            cap: 64,
-        },
-    ) && goes_on(mount, Call::Floor { writer })
-        && goes_on(mount, Call::MakeHostdir { writer })
-        && goes_on(mount, Call::MakeIndex { writer })
-        && goes_on(mount, Call::MakeLog { writer })
-        && goes_on(mount, write)
-        && goes_on(mount, Call::SyncLog { writer })
-        && goes_on(mount, Call::Flush { writer })
-        && goes_on(mount, Call::SyncIndex { writer })
-        && goes_on(mount, Call::PutMeta { writer })
-        && goes_on(mount, Call::Exit { writer });
-    Ok(())
-}
-
-// What a writer leaves of a store whose power goes off in this act, of which one byte is made.
-fn left(rt: &impl Abort, alloc: Global, act: u64) -> Result<MemoryStore, Fail> {
-    let mut mount = mounted(rt, alloc, MemoryStore::off(alloc, act, 1)?)?;
-    writes(rt, alloc, &mut mount)?;
-    Ok(mount.close())
-}
+// The life of a writer, which writes a block, syncs it and leaves. After the power is off each of its calls is in vain.
+const LIFE: [Does; 12] = [
+    Does::Make("f"),
+    Does::Enter(1, 0),
+    Does::Floor(FIRST),
+    Does::Hostdir(FIRST),
+    Does::Index(FIRST),
+    Does::Log(FIRST),
+    Does::Write(FIRST),
+    Does::SyncLog(FIRST),
+    Does::Flush(FIRST),
+    Does::SyncIndex(FIRST),
+    Does::Meta(FIRST),
+    Does::Exit(FIRST),
+];
 
 // So many bytes more than the kept ones are left of its log, and of its index dropping.
-fn extras(rt: &impl Abort, alloc: Global, extra: u64) -> Result<KeepList, NoMemory> {
+fn extras(alloc: Global, extra: u64) -> Result<KeepList, NoMemory> {
     let mut keeps = KeepList::new(alloc);
     for file in ["log.0.4294967297", "index.0.4294967297"] {
         keeps.push(Keep {
-            room: ROOM,
-            path: Path {
-                folder: name(rt, "hostdir.0"),
-                file: name(rt, file),
-            },
+            room: 1,
+            path: path("hostdir.0", file),
             extra,
         })?;
     }
     Ok(keeps)
 }
 
-// The length of this file, in bytes; 99 where it isn't there; and 100 for any other reply.
-fn length_of(rt: &impl Abort, mount: &mut Tried, folder: &str, file: &str) -> u64 {
-    let path = Path {
-        folder: name(rt, folder),
-        file: name(rt, file),
-    };
-    let look = asks(Call::Look {
-        room: ROOM,
-        look: Look::Length { path },
-    });
-    match answer(mount, &look) {
-        Reply::Looked(Answer::Number { value }) => value,
-        Reply::Looked(Answer::Absent | Answer::NoFolder) => 99,
-        _ => 100,
+// What is left where the power goes off in this act, of which one byte is made.
+fn left(alloc: Global, act: u64) -> Result<MemoryStore, Fail> {
+    let cast = Cast { alloc, writer: 0 };
+    let mut mount = mounted(alloc, MemoryStore::off(alloc, act, 1)?)?;
+    for does in LIFE {
+        make(&cast, &mut mount, ONE, does, &mut String::new(alloc))?;
     }
+    Ok(mount.close())
 }
 
-// How many names stand in the container's top, and 100 for any other reply.
-fn names_at_top(mount: &mut Tried) -> u64 {
-    let look = asks(Call::Look {
-        room: ROOM,
-        look: Look::Top,
-    });
-    match answer(mount, &look) {
-        Reply::Looked(Answer::Names(names)) => names.as_slice().len() as u64,
-        _ => 100,
-    }
-}
+const FIVE: Row = (
+    ONE,
+    Does::Top(1),
+    "names access flats metadata openhosts truncs",
+);
 
-// What a new mount shows after a loss: how many names stand at the container's top, and the lengths of the writer's
-// log and of its index and metadata droppings.
-fn shown(rt: &impl Abort, alloc: Global, act: u64, extra: u64) -> Result<[u64; 4], Fail> {
-    let store = left(rt, alloc, act)?.lose(extras(rt, alloc, extra)?);
-    let mut mount = mounted(rt, alloc, store)?;
-    Ok([
-        names_at_top(&mut mount),
-        length_of(rt, &mut mount, "hostdir.0", "log.0.4294967297"),
-        length_of(rt, &mut mount, "hostdir.0", "index.0.4294967297"),
-        length_of(rt, &mut mount, "metadata", "4.4.10.0.4294967297"),
-    ])
+const SIX: Row = (
+    ONE,
+    Does::Top(1),
+    "names access flats hostdir.0 metadata openhosts truncs",
+);
+
+const LOG: Does = Does::Length("hostdir.0", "log.0.4294967297");
+
+const INDEX: Does = Does::Length("hostdir.0", "index.0.4294967297");
+
+const META: Does = Does::Length("metadata", "4.4.10.0.4294967297");
+
+const NO_META: Row = (ONE, META, "absent");
+
+const HAS_META: Row = (ONE, META, "length 0");
+
+const NO_FOLDER: &[Row] = &[
+    FIVE,
+    (ONE, LOG, "no folder"),
+    (ONE, INDEX, "no folder"),
+    NO_META,
+];
+
+const NO_FILES: &[Row] = &[SIX, (ONE, LOG, "absent"), (ONE, INDEX, "absent"), NO_META];
+
+const NO_LOG: &[Row] = &[SIX, (ONE, LOG, "absent"), (ONE, INDEX, "length 0"), NO_META];
+
+const NO_BYTES: &[Row] = &[
+    SIX,
+    (ONE, LOG, "length 0"),
+    (ONE, INDEX, "length 0"),
+    NO_META,
+];
+
+const ONE_BYTE: &[Row] = &[
+    SIX,
+    (ONE, LOG, "length 1"),
+    (ONE, INDEX, "length 0"),
+    NO_META,
+];
+
+const NO_ENTRY: &[Row] = &[
+    SIX,
+    (ONE, LOG, "length 4"),
+    (ONE, INDEX, "length 0"),
+    NO_META,
+];
+
+const TORN: &[Row] = &[
+    SIX,
+    (ONE, LOG, "length 4"),
+    (ONE, INDEX, "length 1"),
+    NO_META,
+];
+
+const WHOLE: &[Row] = &[
+    SIX,
+    (ONE, LOG, "length 4"),
+    (ONE, INDEX, "length 40"),
+    NO_META,
+];
+
+const ALL: &[Row] = &[
+    SIX,
+    (ONE, LOG, "length 4"),
+    (ONE, INDEX, "length 40"),
+    HAS_META,
+];
+
+// Acts count from the first of the mounting: the act 3 makes the container, the act 9 writes, the act 10 syncs the log,
+// the act 11 flushes the entries, the act 12 syncs the index dropping, and by the act 14 the writer leaves. What is seen
+// after a loss that keeps no byte more, and after one that keeps two more where they are there.
+const LOSSES: [(u64, &[Row], &[Row]); 12] = [
+    (3, NO_FOLDER, NO_FOLDER),
+    (4, NO_FOLDER, NO_FOLDER),
+    (5, NO_FOLDER, NO_FOLDER),
+    (6, NO_FILES, NO_FILES),
+    (7, NO_LOG, NO_LOG),
+    (8, NO_BYTES, NO_BYTES),
+    (9, NO_BYTES, ONE_BYTE),
+    (10, NO_ENTRY, NO_ENTRY),
+    (11, NO_ENTRY, TORN),
+    (12, WHOLE, WHOLE),
+    (13, ALL, ALL),
+    (14, ALL, ALL),
+];
+
+// A new mount shows this after the loss.
+fn shows<R: Abort>(
+    rt: &R,
+    alloc: Global,
+    store: MemoryStore,
+    extra: u64,
+    rows: &[Row],
+) -> Result<(), Fail> {
+    let mut mount = mounted(alloc, store.lose(extras(alloc, extra)?))?;
+    hold(rt, &Cast { alloc, writer: 0 }, &mut mount, rows)
 }
 
 // No entry is there whose bytes aren't in the log, and no metadata dropping without the entries that it tells of.
 #[test]
 fn a_loss_leaves_a_sound_container(rt: HostRuntime) -> Result<(), Fail> {
-    let mut seen = Vec::new(rt.alloc());
-    for act in FIRST_ACT..=LAST_ACT {
-        seen.push((
-            shown(&rt, rt.alloc(), act, 0)?,
-            shown(&rt, rt.alloc(), act, 2)?,
-        ))?;
+    let alloc = rt.alloc();
+    for (act, least, more) in LOSSES {
+        shows(&rt, alloc, left(alloc, act)?, 0, least)?;
+        shows(&rt, alloc, left(alloc, act)?, 2, more)?;
     }
-    assert!(rt;
-        seen.as_slice()
-            == [
-                ([5, 99, 99, 99], [5, 99, 99, 99]),
-                ([5, 99, 99, 99], [5, 99, 99, 99]),
-                ([5, 99, 99, 99], [5, 99, 99, 99]),
-                ([6, 99, 99, 99], [6, 99, 99, 99]),
-                ([6, 99, 0, 99], [6, 99, 0, 99]),
-                ([6, 0, 0, 99], [6, 0, 0, 99]),
-                ([6, 0, 0, 99], [6, 1, 0, 99]),
-                ([6, 4, 0, 99], [6, 4, 0, 99]),
-                ([6, 4, 0, 99], [6, 4, 1, 99]),
-                ([6, 4, 40, 99], [6, 4, 40, 99]),
-                ([6, 4, 40, 0], [6, 4, 40, 0]),
-                ([6, 4, 40, 0], [6, 4, 40, 0]),
-            ]
-            .as_slice()
-    );
     Ok(())
 }
 
+// The flush fails and leaves 20 bytes, which are synced; it is made again, and the rest is not synced.
+const FLUSHED: &[Row] = &[
+    (ONE, Does::Make("f"), "room 1"),
+    (ONE, Does::Enter(1, 0), "entered 4294967297"),
+    (ONE, Does::Floor(FIRST), "floored 0"),
+    (ONE, Does::Hostdir(FIRST), "done"),
+    (ONE, Does::Index(FIRST), "done"),
+    (ONE, Does::Log(FIRST), "done"),
+    (ONE, Does::Write(FIRST), "wrote 10"),
+    (ONE, Does::SyncLog(FIRST), "done"),
+    (ONE, Does::Flush(FIRST), "fault"),
+    (ONE, Does::SyncIndex(FIRST), "synced 0"),
+    (ONE, Does::Flush(FIRST), "flushed 1"),
+    (ONE, INDEX, "length 40"),
+];
+
+const KEPT: &[Row] = &[(ONE, INDEX, "length 20")];
+
 #[test]
 fn a_flush_made_again_keeps_what_was_kept(rt: HostRuntime) -> Result<(), Fail> {
-    let writer = WRITER;
-    let mut mount = mounted(&rt, rt.alloc(), failing(rt.alloc(), FLUSH_ACT, 20)?)?;
-    writes(&rt, rt.alloc(), &mut mount)?;
-    let synced = mount.apply(1, &asks(Call::SyncIndex { writer }));
-    assert!(rt; matches!(synced, Reply::Synced { landed: 0 }));
-    let flushed = mount.apply(1, &asks(Call::Flush { writer }));
-    assert!(rt; matches!(flushed, Reply::Flushed { landed: 1 }));
-    measures(&rt, &mut mount, ROOM, "hostdir.0", "index.0.4294967297", 40);
-    let store = mount.close().lose(KeepList::new(rt.alloc()));
-    let mut left = mounted(&rt, rt.alloc(), store)?;
-    measures(&rt, &mut left, ROOM, "hostdir.0", "index.0.4294967297", 20);
-    Ok(())
+    let alloc = rt.alloc();
+    let mut mount = mounted(alloc, failing(alloc, 11, 20)?)?;
+    hold(&rt, &Cast { alloc, writer: 0 }, &mut mount, FLUSHED)?;
+    shows(&rt, alloc, mount.close(), 0, KEPT)
 }

@@ -1,120 +1,120 @@
 //! How a mount begins.
-use crate::asking::{answer, asks, clock, container, name, sound};
+use crate::calls::{Cast, Does, name};
+use crate::playing::{ONE, Row, Tried, clock, hold, mounted, sound};
+use edge_io::ListClock;
+use itoa::Buffer;
 use mount_core::{Mount, MountTrouble};
-use mount_model::{Call, Refusal, Reply};
-use plfs_types::Name;
+use plfs_types::{Name, NoMemory};
 use std::alloc::Global;
-use std::process::Abort;
 use std::test::Fail;
-use store_api::{Answer, Step, Store};
+use store_api::{Step, Store};
 use store_memory::MemoryStore;
 
-// A store whose room of marks has these names.
-fn marked(rt: &impl Abort, alloc: Global, marks: &[&str]) -> Result<MemoryStore, Fail> {
+/// A store whose room of marks has these folders and these names in the folder of marks; and what a mounting comes to.
+struct Case {
+    folders: &'static [&'static str],
+    marks: &'static [&'static str],
+    tells: &'static str,
+}
+
+fn marked(alloc: Global, case: &Case) -> Result<MemoryStore, NoMemory> {
     let mut store = sound(alloc)?;
-    let made = store.act(&Step::MakeRoom {
-        name: name(rt, ".plfs"),
-        folders: &[name(rt, "mounts")],
+    let all = [name("mounts")];
+    let folders: &[Name] = if case.folders.is_empty() { &[] } else { &all };
+    let _ = store.act(&Step::MakeRoom {
+        name: name(".plfs"),
+        folders,
         files: &[],
     });
-    assert!(rt; matches!(made, Ok(Answer::Number { value: 0 })));
-    for mark in marks {
-        let made = store.act(&Step::Create {
+    for mark in case.marks {
+        let _ = store.act(&Step::Create {
             room: 0,
-            folder: name(rt, "mounts"),
-            file: name(rt, mark),
+            folder: name("mounts"),
+            file: name(mark),
         });
-        assert!(rt; matches!(made, Ok(Answer::Made)));
     }
     Ok(store)
 }
 
-fn trouble(rt: &impl Abort, alloc: Global, store: MemoryStore) -> Result<MountTrouble, Fail> {
-    match Mount::open(alloc, store, clock(alloc)?) {
-        Ok(_mount) => {
-            assert!(rt; false, "the store is not mounted");
-            Ok(MountTrouble::NoMemory)
-        }
-        Err((_store, trouble)) => Ok(trouble),
-    }
-}
-
-// The number that the next mount of a store with these marks draws.
-fn draws(rt: &impl Abort, alloc: Global, marks: &[&str], want: u32) -> Result<(), Fail> {
-    match Mount::open(alloc, marked(rt, alloc, marks)?, clock(alloc)?) {
-        Ok(mount) => assert_eq!(rt; mount.number(), want),
-        Err(_failed) => assert!(rt; false, "the store is mounted"),
-    }
-    Ok(())
-}
-
-#[test]
-fn the_next_mark_is_drawn(rt: HostRuntime) -> Result<(), Fail> {
-    let alloc = rt.alloc();
-    draws(&rt, alloc, &[], 1)?;
-    draws(&rt, alloc, &["9", "10", "2"], 11)?;
-    draws(&rt, alloc, &["4294967294"], 4294967295)
-}
-
-#[test]
-fn the_last_mark_ends_the_numbers(rt: HostRuntime) -> Result<(), Fail> {
-    let alloc = rt.alloc();
-    let store = marked(&rt, alloc, &["1", "4294967295"])?;
-    assert!(rt; matches!(trouble(&rt, alloc, store)?, MountTrouble::Spent));
-    Ok(())
-}
-
-fn is_damaged(rt: &impl Abort, trouble: MountTrouble, want: Name) {
+fn troubled(line: &mut String, trouble: &MountTrouble) -> Result<(), NoMemory> {
     match trouble {
-        MountTrouble::Damaged { file } => assert!(rt; file == want),
-        _ => assert!(rt; false, "damaged"),
+        MountTrouble::Damaged { file } => {
+            line.push_str("damaged ")?;
+            for byte in file.bytes() {
+                line.push(char::from(*byte))?;
+            }
+        }
+        MountTrouble::Spent => line.push_str("spent")?,
+        MountTrouble::NoMarks => line.push_str("no marks")?,
+        _ => line.push_str("another trouble")?,
+    }
+    Ok(())
+}
+
+// The number that a mount of the store draws.
+fn drawn(alloc: Global, store: MemoryStore, clock: ListClock) -> Result<u32, MountTrouble> {
+    match Mount::open(alloc, store, clock) {
+        Ok(mount) => Ok(mount.number()),
+        Err((_store, trouble)) => Err(trouble),
     }
 }
 
-#[test]
-fn the_least_name_that_is_no_mark_is_damage(rt: HostRuntime) -> Result<(), Fail> {
-    let alloc = rt.alloc();
-    let store = marked(&rt, alloc, &["x", "7", "07", "4294967296"])?;
-    is_damaged(&rt, trouble(&rt, alloc, store)?, name(&rt, "07"));
-    let store = marked(&rt, alloc, &["5", "0"])?;
-    is_damaged(&rt, trouble(&rt, alloc, store)?, name(&rt, "0"));
-    Ok(())
+fn told(alloc: Global, case: &Case) -> Result<String, NoMemory> {
+    let mut line = String::new(alloc);
+    let store = marked(alloc, case)?;
+    match drawn(alloc, store, clock(alloc, &[10])?) {
+        Ok(number) => line.push_str(Buffer::new().format(number))?,
+        Err(trouble) => troubled(&mut line, &trouble)?,
+    }
+    Ok(line)
 }
 
-#[test]
-fn a_store_without_the_folder_of_marks_is_not_mounted(rt: HostRuntime) -> Result<(), Fail> {
-    let alloc = rt.alloc();
-    let mut store = sound(alloc)?;
-    let made = store.act(&Step::MakeRoom {
-        name: name(&rt, ".plfs"),
+const MARKS: &[&str] = &["mounts"];
+
+const CASES: [Case; 7] = [
+    Case {
+        folders: MARKS,
+        marks: &[],
+        tells: "1",
+    },
+    Case {
+        folders: MARKS,
+        marks: &["9", "10", "2"],
+        tells: "11",
+    },
+    Case {
+        folders: MARKS,
+        marks: &["4294967294"],
+        tells: "4294967295",
+    },
+    Case {
+        folders: MARKS,
+        marks: &["1", "4294967295"],
+        tells: "spent",
+    },
+    // the least name that is no mark
+    Case {
+        folders: MARKS,
+        marks: &["x", "7", "07", "4294967296"],
+        tells: "damaged 07",
+    },
+    Case {
+        folders: MARKS,
+        marks: &["5", "0"],
+        tells: "damaged 0",
+    },
+    Case {
         folders: &[],
-        files: &[],
-    });
-    assert!(rt; matches!(made, Ok(Answer::Number { .. })));
-    assert!(rt; matches!(trouble(&rt, alloc, store)?, MountTrouble::NoMarks));
-    Ok(())
-}
+        marks: &[],
+        tells: "no marks",
+    },
+];
 
 #[test]
-fn the_last_serial_ends_the_ids(rt: HostRuntime) -> Result<(), Fail> {
-    let alloc = rt.alloc();
-    match Mount::open_at(alloc, sound(alloc)?, clock(alloc)?, u32::MAX) {
-        Ok(mount) => {
-            let mut mount = mount;
-            let room = container(&rt, &mut mount);
-            let enter = asks(Call::Enter {
-                room,
-                host: 0,
-                cap: 64,
-            });
-            assert!(rt;
-                matches!(
-                    answer(&mut mount, &enter),
-                    Reply::Refused(Refusal::IdsSpent)
-                )
-            );
-        }
-        Err(_failed) => assert!(rt; false, "the store is mounted"),
+fn the_next_mark_is_drawn_where_all_are_marks(rt: HostRuntime) -> Result<(), Fail> {
+    for case in &CASES {
+        let line = told(rt.alloc(), case)?;
+        assert!(rt; line.as_str() == case.tells, "{line}");
     }
     Ok(())
 }
@@ -123,10 +123,33 @@ fn crosses<T: Send + Sync + Drop>(_value: T) {}
 
 #[test]
 fn a_mount_crosses_threads(rt: HostRuntime) -> Result<(), Fail> {
-    let alloc = rt.alloc();
-    match Mount::open(alloc, sound(alloc)?, clock(alloc)?) {
-        Ok(mount) => crosses(mount),
-        Err(_failed) => assert!(rt; false, "the store is mounted"),
-    }
+    crosses(mounted(rt.alloc(), sound(rt.alloc())?)?);
     Ok(())
+}
+
+const SPENT: &[Row] = &[
+    (ONE, Does::Make("f"), "room 1"),
+    (ONE, Does::Enter(1, 0), "ids spent"),
+    (ONE, Does::Hold(0), "no room"),
+    (ONE, Does::Hold(1), "ids spent"),
+    (ONE, Does::StartFlat(0), "no room"),
+    (ONE, Does::StartFlat(1), "ids spent"),
+    (ONE, Does::StartPack(0), "no room"),
+    (ONE, Does::StartPack(1), "ids spent"),
+    (ONE, Does::List("openhosts"), "names"),
+    (ONE, Does::List("flats"), "names"),
+];
+
+// A mount that has drawn all serials.
+fn spent(alloc: Global) -> Result<Tried, Fail> {
+    let mount = Mount::open_at(alloc, sound(alloc)?, clock(alloc, &[10])?, u32::MAX)
+        .ok()
+        .ok_or("not mounted")?;
+    Ok(mount)
+}
+
+#[test]
+fn the_last_serial_ends_writers_holds_and_flattenings(rt: HostRuntime) -> Result<(), Fail> {
+    let alloc = rt.alloc();
+    hold(&rt, &Cast { alloc, writer: 0 }, &mut spent(alloc)?, SPENT)
 }

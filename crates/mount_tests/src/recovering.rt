@@ -1,327 +1,233 @@
 //! What a dead writer left is synced and mended, and it is buried: each answer, each fault and each stop.
-ghost use Rattle.mount_model.specs.Step.{OwedBy};
-
-use crate::asking::{block, container, failing, mounted, sound};
-use crate::faults::{Tried, entered, opened};
-use crate::telling::{FIRST, ROOM, SECOND, Told, ask, damaged, length, names_in, tell};
-use mount_model::{Call, Refusal};
-use plfs_types::Cover;
-use std::alloc::Global;
-use std::process::Abort;
+use crate::calls::{Does, FIRST, SECOND};
+use crate::playing::{By, ONE, Row, TWO, all_hold};
+use crate::trials::{How, Trial, all_tell};
 use std::test::Fail;
-use store_memory::MemoryStore;
 
-// The act that comes after the writer's flush, counted from the first of the mounting.
-const NEXT_ACT: u64 = 11;
+// A writer of host 0 wrote 4 bytes and flushed their entry.
+const MADE: Row = (ONE, Does::Make("f"), "room 1");
 
-// A writer of host 0 that wrote 4 bytes and flushed their entry.
-fn flushed(rt: &impl Abort, alloc: Global, mount: &mut Tried) -> Result<(), Fail> {
-    let room = container(rt, mount);
-    let writer = entered(rt, mount, room);
-    opened(rt, mount, writer);
-    let block = block(rt, alloc)?;
-    let at = 0;
-    let _ = ask(mount, 1, Call::Write { writer, at, block });
-    let _ = ask(mount, 1, Call::Flush { writer });
-    Ok(())
-}
+const ENTERED: Row = (ONE, Does::Enter(1, 0), "entered 4294967297");
 
-// The caller of that writer comes to its end.
-fn dies(mount: &mut Tried) {
-    let _ = tell(mount, 1, Call::Greet, Some(0));
-}
+const FLOORED: Row = (ONE, Does::Floor(FIRST), "floored 0");
 
-fn sync(room: u64, host: u32, log: bool) -> Call
-    ensures { OwedBy result }
-{
-    let writer = FIRST;
-    Call::SyncDropping {
-        room,
-        host,
-        writer,
-        log,
-    }
-}
+const HOUSED: Row = (ONE, Does::Hostdir(FIRST), "done");
 
-// The index dropping is cut to one entry or none.
-fn mend(room: u64, one: bool) -> Call
-    ensures { OwedBy result }
-{
-    let whole = if one { 1 } else { 0 };
-    Call::Mend {
-        room,
-        host: 0,
-        writer: FIRST,
-        whole,
-    }
-}
+const INDEXED: Row = (ONE, Does::Index(FIRST), "done");
 
-// The index dropping is cut to one entry more than it has.
-fn mend_longer() -> Call
-    ensures { OwedBy result }
-{
-    Call::Mend {
-        room: ROOM,
-        host: 0,
-        writer: FIRST,
-        whole: 2,
-    }
-}
+const LOGGED: Row = (ONE, Does::Log(FIRST), "done");
 
-fn mend_meta(room: u64) -> Call
-    ensures { OwedBy result }
-{
-    Call::MendMeta {
-        room,
-        host: 0,
-        cover: Cover {
-            writer: FIRST,
-            count: 1,
-            bytes: 4,
-            stamp: 10,
-        },
-        last: 4,
-    }
-}
+const WROTE: Row = (ONE, Does::Write(FIRST), "wrote 10");
 
-fn bury(room: u64) -> Call
-    ensures { OwedBy result }
-{
-    Call::Bury {
-        room,
-        host: 0,
-        writer: FIRST,
-    }
-}
+const FLUSHED: Row = (ONE, Does::Flush(FIRST), "flushed 1");
+
+// Its caller comes to its end.
+const DIES: Row = (By::Stopped(1, 0), Does::Greet, "stopped");
+
+const INDEX: Does = Does::Length("hostdir.0", "index.0.4294967297");
+
+const LOG: Does = Does::Length("hostdir.0", "log.0.4294967297");
+
+const META: Does = Does::Length("metadata", "4.4.10.0.4294967297");
+
+const LIVE: &[Row] = &[
+    MADE,
+    ENTERED,
+    FLOORED,
+    HOUSED,
+    INDEXED,
+    LOGGED,
+    WROTE,
+    FLUSHED,
+    (TWO, Does::Inspect(FIRST), "alive"),
+    (TWO, Does::Mend(0, 1), "no room"),
+    (TWO, Does::Mend(1, 1), "alive"),
+    (TWO, Does::MendMeta(0), "no room"),
+    (TWO, Does::MendMeta(1), "alive"),
+    (TWO, Does::Bury(0), "no room"),
+    (TWO, Does::Bury(1), "alive"),
+    (TWO, Does::Inspect(SECOND), "done"),
+    (TWO, Does::SyncLeftLog(0, 0), "no room"),
+    (TWO, Does::SyncLeftLog(1, 0), "done"),
+    (TWO, Does::SyncLeftIndex(1, 0), "done"),
+    (TWO, Does::SyncLeftIndex(1, 5), "damaged hostdir.5/"),
+    (
+        TWO,
+        Does::SyncLeftLog(1, 32),
+        "damaged hostdir.0/log.32.4294967297",
+    ),
+];
 
 #[test]
 fn a_live_writer_is_left_alone(rt: HostRuntime) -> Result<(), Fail> {
-    let mut mount = mounted(&rt, rt.alloc(), sound(rt.alloc())?)?;
-    flushed(&rt, rt.alloc(), &mut mount)?;
-    let told = [
-        ask(&mut mount, 2, Call::Inspect { writer: FIRST }),
-        ask(&mut mount, 2, mend(0, true)),
-        ask(&mut mount, 2, mend(ROOM, true)),
-        ask(&mut mount, 2, mend_meta(0)),
-        ask(&mut mount, 2, mend_meta(ROOM)),
-        ask(&mut mount, 2, bury(0)),
-        ask(&mut mount, 2, bury(ROOM)),
-        ask(&mut mount, 2, Call::Inspect { writer: SECOND }),
-        ask(&mut mount, 2, sync(0, 0, true)),
-        ask(&mut mount, 2, sync(ROOM, 0, true)),
-        ask(&mut mount, 2, sync(ROOM, 0, false)),
-        ask(&mut mount, 2, sync(ROOM, 5, false)),
-        ask(&mut mount, 2, sync(ROOM, 32, true)),
-    ];
-    let alive = Told::Refused(Refusal::Alive);
-    let no_room = Told::Refused(Refusal::NoRoom);
-    assert!(rt;
-        told == [
-            alive,
-            no_room,
-            alive,
-            no_room,
-            alive,
-            no_room,
-            alive,
-            Told::Done,
-            no_room,
-            Told::Done,
-            Told::Done,
-            damaged(&rt, "hostdir.5", ""),
-            damaged(&rt, "hostdir.0", "log.32.4294967297"),
-        ]
-    );
-    Ok(())
+    all_hold(&rt, rt.alloc(), LIVE)
 }
+
+const DEAD: &[Row] = &[
+    MADE,
+    ENTERED,
+    FLOORED,
+    HOUSED,
+    INDEXED,
+    LOGGED,
+    WROTE,
+    FLUSHED,
+    DIES,
+    (TWO, Does::Inspect(FIRST), "done"),
+    // to one entry more than it has
+    (
+        TWO,
+        Does::Mend(1, 2),
+        "damaged hostdir.0/index.0.4294967297",
+    ),
+    (TWO, Does::Mend(1, 1), "done"),
+    (TWO, INDEX, "length 40"),
+    (TWO, Does::MendMeta(1), "done"),
+    (TWO, Does::MendMeta(1), "done"),
+    (TWO, META, "length 0"),
+    (TWO, Does::Bury(1), "done"),
+    (TWO, Does::Bury(1), "done"),
+    (TWO, Does::Hold(1), "holding 4294967298"),
+    (By::Caller(3), Does::Bury(1), "done"),
+];
 
 #[test]
 fn a_dead_writer_is_mended_and_buried(rt: HostRuntime) -> Result<(), Fail> {
-    let mut mount = mounted(&rt, rt.alloc(), sound(rt.alloc())?)?;
-    flushed(&rt, rt.alloc(), &mut mount)?;
-    dies(&mut mount);
-    let told = [
-        ask(&mut mount, 2, Call::Inspect { writer: FIRST }),
-        ask(&mut mount, 2, mend_longer()),
-        ask(&mut mount, 2, mend(ROOM, true)),
-        length(&rt, &mut mount, "hostdir.0", "index.0.4294967297"),
-        ask(&mut mount, 2, mend_meta(ROOM)),
-        ask(&mut mount, 2, mend_meta(ROOM)),
-        length(&rt, &mut mount, "metadata", "4.4.10.0.4294967297"),
-        ask(&mut mount, 2, bury(ROOM)),
-        ask(&mut mount, 2, bury(ROOM)),
-        ask(&mut mount, 2, Call::Hold { room: ROOM }),
-        ask(&mut mount, 3, bury(ROOM)),
-    ];
-    assert!(rt;
-        told == [
-            Told::Done,
-            damaged(&rt, "hostdir.0", "index.0.4294967297"),
-            Told::Done,
-            Told::Length(40),
-            Told::Done,
-            Told::Done,
-            Told::Length(0),
-            Told::Done,
-            Told::Done,
-            Told::Holding(SECOND),
-            Told::Done,
-        ]
-    );
-    Ok(())
+    all_hold(&rt, rt.alloc(), DEAD)
 }
+
+const BROKEN_HOLD: &[Row] = &[
+    MADE,
+    (TWO, Does::MendHold(0), "no room"),
+    (TWO, Does::MendHold(7), "no room"),
+    (TWO, Does::MendHold(1), "whole"),
+    (ONE, Does::Hold(1), "holding 4294967297"),
+    (TWO, Does::MendHold(0), "no room"),
+    (TWO, Does::MendHold(1), "held"),
+    (By::Stopped(1, 0), Does::Release(FIRST), "stopped"),
+    (TWO, Does::MendHold(1), "made"),
+    (TWO, Does::MendHold(1), "whole"),
+];
 
 #[test]
 fn a_hold_that_broke_off_is_mended(rt: HostRuntime) -> Result<(), Fail> {
-    let mut mount = mounted(&rt, rt.alloc(), sound(rt.alloc())?)?;
-    let _ = container(&rt, &mut mount);
-    let told = [
-        ask(&mut mount, 2, Call::MendHold { room: 0 }),
-        ask(&mut mount, 2, Call::MendHold { room: 7 }),
-        ask(&mut mount, 2, Call::MendHold { room: ROOM }),
-        ask(&mut mount, 1, Call::Hold { room: ROOM }),
-        ask(&mut mount, 2, Call::MendHold { room: 0 }),
-        ask(&mut mount, 2, Call::MendHold { room: ROOM }),
-        tell(&mut mount, 1, Call::Release { holder: FIRST }, Some(0)),
-        ask(&mut mount, 2, Call::MendHold { room: ROOM }),
-        ask(&mut mount, 2, Call::MendHold { room: ROOM }),
-    ];
-    assert!(rt;
-        told == [
-            Told::Refused(Refusal::NoRoom),
-            Told::Refused(Refusal::NoRoom),
-            Told::Mended(false),
-            Told::Holding(FIRST),
-            Told::Refused(Refusal::NoRoom),
-            Told::Refused(Refusal::Held),
-            Told::Stopped,
-            Told::Mended(true),
-            Told::Mended(false),
-        ]
-    );
-    Ok(())
+    all_hold(&rt, rt.alloc(), BROKEN_HOLD)
 }
 
 // ---- faults and stops
 
-// Its log is synced, then its index dropping, which is cut; its metadata dropping is made, and it is buried; and a hold
-// that broke off is mended.
-const CALLS: u64 = 6;
+const LEFT: &[Row] = &[
+    MADE, ENTERED, FLOORED, HOUSED, INDEXED, LOGGED, WROTE, FLUSHED, DIES,
+];
 
-fn call_at(place: u64) -> Call
-    ensures { OwedBy result }
-{
-    match place {
-        0 => sync(ROOM, 0, true),
-        1 => sync(ROOM, 0, false),
-        2 => mend(ROOM, false),
-        3 => mend_meta(ROOM),
-        4 => bury(ROOM),
-        _ => Call::MendHold { room: ROOM },
-    }
-}
+// Once the writer is buried, the third caller's hold breaks off.
+const HELD: &[Row] = &[
+    MADE,
+    ENTERED,
+    FLOORED,
+    HOUSED,
+    INDEXED,
+    LOGGED,
+    WROTE,
+    FLUSHED,
+    DIES,
+    (By::Caller(3), Does::Bury(1), "done"),
+    (By::Caller(3), Does::Hold(1), "holding 4294967298"),
+    (By::Stopped(3, 0), Does::Greet, "stopped"),
+];
 
-// What is seen of the call's act.
-fn look_at(rt: &impl Abort, mount: &mut Tried, place: u64) -> Told {
-    match place {
-        0 => length(rt, mount, "hostdir.0", "log.0.4294967297"),
-        1 | 2 => length(rt, mount, "hostdir.0", "index.0.4294967297"),
-        3 => length(rt, mount, "metadata", "4.4.10.0.4294967297"),
-        _ => names_in(rt, mount, "openhosts"),
-    }
-}
+const MAX: u64 = u64::MAX;
 
-// A hold breaks off before its release, once the writer is buried.
-fn breaks_off(mount: &mut Tried) {
-    let _ = ask(mount, 3, bury(ROOM));
-    let _ = ask(mount, 3, Call::Hold { room: ROOM });
-    let _ = tell(mount, 3, Call::Greet, Some(0));
-}
-
-// The call at this place on such a store, or a part of it; what is seen then; and the same call again.
-fn tried(
-    rt: &impl Abort,
-    alloc: Global,
-    store: MemoryStore,
-    place: u64,
-    stop: Option<u64>,
-) -> Result<[Told; 3], Fail> {
-    let mut mount = mounted(rt, alloc, store)?;
-    flushed(rt, alloc, &mut mount)?;
-    dies(&mut mount);
-    if place == 5 {
-        breaks_off(&mut mount);
-    }
-    Ok([
-        tell(&mut mount, 2, call_at(place), stop),
-        look_at(rt, &mut mount, place),
-        ask(&mut mount, 2, call_at(place)),
-    ])
-}
+// Its log is synced, or its index dropping, which is cut to nothing; its metadata dropping is made, and it is buried;
+// and a hold that broke off is mended.
+const TRIALS: [Trial; 6] = [
+    Trial {
+        before: LEFT,
+        act: 11,
+        caller: 2,
+        call: Does::SyncLeftLog(1, 0),
+        look: LOG,
+        tells: &[
+            (How::Fails(0), "fault, length 4, done"),
+            (How::Fails(20), "fault, length 4, done"),
+            (How::Fails(MAX), "fault, length 4, done"),
+        ],
+    },
+    Trial {
+        before: LEFT,
+        act: 11,
+        caller: 2,
+        call: Does::SyncLeftIndex(1, 0),
+        look: INDEX,
+        tells: &[
+            (How::Fails(0), "fault, length 40, done"),
+            (How::Fails(20), "fault, length 40, done"),
+            (How::Fails(MAX), "fault, length 40, done"),
+        ],
+    },
+    Trial {
+        before: LEFT,
+        act: 11,
+        caller: 2,
+        call: Does::Mend(1, 0),
+        look: INDEX,
+        tells: &[
+            (How::Fails(0), "fault, length 40, done"),
+            (How::Fails(20), "fault, length 0, done"),
+            (How::Fails(MAX), "fault, length 0, done"),
+            (How::Stops(0), "stopped, length 40, done"),
+            (How::Stops(1), "stopped, length 0, done"),
+            (How::Stops(41), "stopped, length 0, done"),
+        ],
+    },
+    Trial {
+        before: LEFT,
+        act: 11,
+        caller: 2,
+        call: Does::MendMeta(1),
+        look: META,
+        tells: &[
+            (How::Fails(0), "fault, absent, done"),
+            (How::Fails(20), "fault, length 0, done"),
+            (How::Fails(MAX), "fault, length 0, done"),
+            (How::Stops(0), "stopped, absent, done"),
+            (How::Stops(1), "stopped, length 0, done"),
+            (How::Stops(41), "stopped, length 0, done"),
+        ],
+    },
+    Trial {
+        before: LEFT,
+        act: 11,
+        caller: 2,
+        call: Does::Bury(1),
+        look: Does::List("openhosts"),
+        tells: &[
+            (How::Fails(0), "fault, names 0.4294967297, done"),
+            (How::Fails(20), "fault, names, done"),
+            (How::Fails(MAX), "fault, names, done"),
+            (How::Stops(0), "stopped, names 0.4294967297, done"),
+            (How::Stops(1), "stopped, names, done"),
+            (How::Stops(41), "stopped, names, done"),
+        ],
+    },
+    Trial {
+        before: HELD,
+        act: 13,
+        caller: 2,
+        call: Does::MendHold(1),
+        look: Does::List("openhosts"),
+        tells: &[
+            (How::Fails(0), "fault, no folder, made"),
+            (How::Fails(20), "fault, names, whole"),
+            (How::Fails(MAX), "fault, names, whole"),
+            (How::Stops(0), "stopped, no folder, made"),
+            (How::Stops(1), "stopped, names, whole"),
+            (How::Stops(41), "stopped, names, whole"),
+        ],
+    },
+];
 
 #[test]
-fn mending_goes_on_after_each_fault(rt: HostRuntime) -> Result<(), Fail> {
-    let mut seen = Vec::new(rt.alloc());
-    for place in 0..CALLS {
-        let act = if place == 5 { NEXT_ACT + 2 } else { NEXT_ACT };
-        for part in [0, 20, u64::MAX] {
-            let store = failing(rt.alloc(), act, part)?;
-            seen.push(tried(&rt, rt.alloc(), store, place, None)?)?;
-        }
-    }
-    assert!(rt;
-        seen.as_slice()
-            == [
-                [Told::Fault, Told::Length(4), Told::Done],
-                [Told::Fault, Told::Length(4), Told::Done],
-                [Told::Fault, Told::Length(4), Told::Done],
-                [Told::Fault, Told::Length(40), Told::Done],
-                [Told::Fault, Told::Length(40), Told::Done],
-                [Told::Fault, Told::Length(40), Told::Done],
-                [Told::Fault, Told::Length(40), Told::Done],
-                [Told::Fault, Told::Length(0), Told::Done],
-                [Told::Fault, Told::Length(0), Told::Done],
-                [Told::Fault, Told::Absent, Told::Done],
-                [Told::Fault, Told::Length(0), Told::Done],
-                [Told::Fault, Told::Length(0), Told::Done],
-                [Told::Fault, Told::Names(1), Told::Done],
-                [Told::Fault, Told::Names(0), Told::Done],
-                [Told::Fault, Told::Names(0), Told::Done],
-                [Told::Fault, Told::NoFolder, Told::Mended(true)],
-                [Told::Fault, Told::Names(0), Told::Mended(false)],
-                [Told::Fault, Told::Names(0), Told::Mended(false)],
-            ]
-            .as_slice()
-    );
-    Ok(())
-}
-
-#[test]
-fn mending_goes_on_after_each_stop(rt: HostRuntime) -> Result<(), Fail> {
-    let mut seen = Vec::new(rt.alloc());
-    for place in 2..CALLS {
-        for bytes in [0, 1, 41] {
-            let store = sound(rt.alloc())?;
-            seen.push(tried(&rt, rt.alloc(), store, place, Some(bytes))?)?;
-        }
-    }
-    assert!(rt;
-        seen.as_slice()
-            == [
-                [Told::Stopped, Told::Length(40), Told::Done],
-                [Told::Stopped, Told::Length(0), Told::Done],
-                [Told::Stopped, Told::Length(0), Told::Done],
-                [Told::Stopped, Told::Absent, Told::Done],
-                [Told::Stopped, Told::Length(0), Told::Done],
-                [Told::Stopped, Told::Length(0), Told::Done],
-                [Told::Stopped, Told::Names(1), Told::Done],
-                [Told::Stopped, Told::Names(0), Told::Done],
-                [Told::Stopped, Told::Names(0), Told::Done],
-                [Told::Stopped, Told::NoFolder, Told::Mended(true)],
-                [Told::Stopped, Told::Names(0), Told::Mended(false)],
-                [Told::Stopped, Told::Names(0), Told::Mended(false)],
-            ]
-            .as_slice()
-    );
-    Ok(())
+fn mending_goes_on_after_each_fault_and_each_stop(rt: HostRuntime) -> Result<(), Fail> {
+    all_tell(&rt, rt.alloc(), &TRIALS)
 }

@@ -1,106 +1,138 @@
 //! Each call of a writer's life is broken off in turn, and then another mount on the same store goes on.
-ghost use Rattle.std.specs.Prelude.{IfOk};
-ghost use Rattle.mount_model.specs.Step.{OwedBy};
-
-use crate::asking::{answer, asks, block, logical, mounted, sound};
-use crate::faults::{Tried, measures};
-use crate::stopping::stopped;
-use mount_model::{Call, Reply};
+use crate::calls::{Cast, Does, FIRST, ITS};
+use crate::playing::{By, ONE, Row, hold, mounted, sound};
 use std::alloc::Global;
 use std::process::Abort;
 use std::test::Fail;
 
-// The calls from the making of the container to the writer's leaving.
-const CALLS: u64 = 12;
+// From the making of the container to the writer's leaving.
+const MADE: Row = (ONE, Does::Make("f"), "room 1");
 
-// The container and the writer, once the calls have told them.
-#[derive(Clone, Copy)]
-struct Told {
-    room: u64,
-    writer: u64,
+const ENTERED: Row = (ONE, Does::Enter(1, 0), "entered 4294967297");
+
+const FLOORED: Row = (ONE, Does::Floor(ITS), "floored 0");
+
+const HOUSED: Row = (ONE, Does::Hostdir(ITS), "done");
+
+const INDEXED: Row = (ONE, Does::Index(ITS), "done");
+
+const LOGGED: Row = (ONE, Does::Log(ITS), "done");
+
+const WROTE: Row = (ONE, Does::Write(ITS), "wrote 10");
+
+const LOG_SYNCED: Row = (ONE, Does::SyncLog(ITS), "done");
+
+const FLUSHED: Row = (ONE, Does::Flush(ITS), "flushed 1");
+
+const INDEX_SYNCED: Row = (ONE, Does::SyncIndex(ITS), "synced 1");
+
+const TOLD: Row = (ONE, Does::Meta(ITS), "done");
+
+// What comes before each of these calls, which is broken off.
+const STOPS: [(&[Row], Does); 12] = [
+    (&[], Does::Make("f")),
+    (&[MADE], Does::Enter(1, 0)),
+    (&[MADE, ENTERED], Does::Floor(ITS)),
+    (&[MADE, ENTERED, FLOORED], Does::Hostdir(ITS)),
+    (&[MADE, ENTERED, FLOORED, HOUSED], Does::Index(ITS)),
+    (&[MADE, ENTERED, FLOORED, HOUSED, INDEXED], Does::Log(ITS)),
+    (
+        &[MADE, ENTERED, FLOORED, HOUSED, INDEXED, LOGGED],
+        Does::Write(ITS),
+    ),
+    (
+        &[MADE, ENTERED, FLOORED, HOUSED, INDEXED, LOGGED, WROTE],
+        Does::SyncLog(ITS),
+    ),
+    (
+        &[
+            MADE, ENTERED, FLOORED, HOUSED, INDEXED, LOGGED, WROTE, LOG_SYNCED,
+        ],
+        Does::Flush(ITS),
+    ),
+    (
+        &[
+            MADE, ENTERED, FLOORED, HOUSED, INDEXED, LOGGED, WROTE, LOG_SYNCED, FLUSHED,
+        ],
+        Does::SyncIndex(ITS),
+    ),
+    (
+        &[
+            MADE,
+            ENTERED,
+            FLOORED,
+            HOUSED,
+            INDEXED,
+            LOGGED,
+            WROTE,
+            LOG_SYNCED,
+            FLUSHED,
+            INDEX_SYNCED,
+        ],
+        Does::Meta(ITS),
+    ),
+    (
+        &[
+            MADE,
+            ENTERED,
+            FLOORED,
+            HOUSED,
+            INDEXED,
+            LOGGED,
+            WROTE,
+            LOG_SYNCED,
+            FLUSHED,
+            INDEX_SYNCED,
+            TOLD,
+        ],
+        Does::Exit(ITS),
+    ),
+];
+
+// The id that the second mount draws first.
+const NEXT: u64 = 8589934593;
+
+const GOES_ON: &[Row] = &[
+    MADE,
+    (ONE, Does::Enter(1, 0), "entered 8589934593"),
+    FLOORED,
+    HOUSED,
+    INDEXED,
+    LOGGED,
+    WROTE,
+    LOG_SYNCED,
+    FLUSHED,
+    INDEX_SYNCED,
+    TOLD,
+    (ONE, Does::Exit(ITS), "done"),
+    (ONE, Does::LengthOf("hostdir.0", "index.0."), "length 40"),
+];
+
+fn cast(alloc: Global, writer: u64) -> Cast {
+    Cast { alloc, writer }
 }
 
-fn call_at(rt: &impl Abort, alloc: Global, place: u64, told: Told) -> Result<Call, Fail>
-    ensures { IfOk result (λ call. OwedBy call) }
-{
-    let Told { room, writer } = told;
-    let call = match place {
-        0 => Call::MakeContainer {
-            name: logical(rt, "f"),
-        },
-        1 => Call::Enter {
-            room,
-            host: 0,
-            cap: 64,
-        },
-        2 => Call::Floor { writer },
-        3 => Call::MakeHostdir { writer },
-        4 => Call::MakeIndex { writer },
-        5 => Call::MakeLog { writer },
-        6 => Call::Write {
-            writer,
-            at: 0,
-            block: block(rt, alloc)?,
-        },
-        7 => Call::SyncLog { writer },
-        8 => Call::Flush { writer },
-        9 => Call::SyncIndex { writer },
-        10 => Call::PutMeta { writer },
-        _ => Call::Exit { writer },
-    };
-    Ok(call)
-}
-
-// The call at this place is made, and answered without a trouble.
-fn made(
-    rt: &impl Abort,
+// The call is broken off after so many bytes.
+fn goes_on<R: Abort>(
+    rt: &R,
     alloc: Global,
-    mount: &mut Tried,
-    place: u64,
-    told: Told,
-) -> Result<Told, Fail> {
-    let call = call_at(rt, alloc, place, told)?;
-    let Told { room, writer } = told;
-    match answer(mount, &asks(call)) {
-        Reply::Room { room } => Ok(Told { room, writer }),
-        Reply::Entered { writer } => Ok(Told { room, writer }),
-        Reply::Floored { .. }
-        | Reply::Done
-        | Reply::Wrote { .. }
-        | Reply::Flushed { .. }
-        | Reply::Synced { .. } => Ok(told),
-        _ => {
-            assert!(rt; false, "an answer");
-            Ok(told)
-        }
-    }
-}
-
-fn made_before(rt: &impl Abort, alloc: Global, mount: &mut Tried, end: u64) -> Result<Told, Fail> {
-    let mut told = Told { room: 0, writer: 0 };
-    for place in 0..end {
-        told = made(rt, alloc, mount, place, told)?;
-    }
-    Ok(told)
-}
-
-fn goes_on(rt: &impl Abort, alloc: Global, place: u64, bytes: u64) -> Result<(), Fail> {
-    let mut mount = mounted(rt, alloc, sound(alloc)?)?;
-    let told = made_before(rt, alloc, &mut mount, place)?;
-    let call = call_at(rt, alloc, place, told)?;
-    stopped(rt, &mut mount, 1, call, bytes);
-    let mut other = mounted(rt, alloc, mount.close())?;
-    let Told { room, writer } = made_before(rt, alloc, &mut other, CALLS)?;
-    let index = format!(in alloc; "index.0.{writer}")?;
-    measures(rt, &mut other, room, "hostdir.0", index.as_str(), 40);
-    Ok(())
+    before: &[Row],
+    call: Does,
+    bytes: u64,
+) -> Result<(), Fail> {
+    let mut mount = mounted(alloc, sound(alloc)?)?;
+    hold(rt, &cast(alloc, FIRST), &mut mount, before)?;
+    let stop = [(By::Stopped(1, bytes), call, "stopped")];
+    hold(rt, &cast(alloc, FIRST), &mut mount, &stop)?;
+    let mut other = mounted(alloc, mount.close())?;
+    hold(rt, &cast(alloc, NEXT), &mut other, GOES_ON)
 }
 
 #[test]
 fn another_mount_goes_on_after_each_stop(rt: HostRuntime) -> Result<(), Fail> {
-    for place in 0..CALLS {
+    for (before, call) in &STOPS {
         for bytes in [0, 1, 41, 120] {
-            goes_on(&rt, rt.alloc(), place, bytes)?;
+            goes_on(&rt, rt.alloc(), before, *call, bytes)?;
         }
     }
     Ok(())
