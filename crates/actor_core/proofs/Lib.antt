@@ -10,3 +10,4 @@ mod ReaderOwing
 mod NameOwing
 mod Owing
 mod Along
+mod NoLine

@@ -5,6 +5,7 @@ use Rattle.flow.specs.declared.trouble.Stuck.{Stuck}
 use Rattle.writer_flow.specs.declared.handle.WriterHandle.{WriterHandle}
 use Rattle.writer_flow.specs.declared.handle.WriterOut.{WriterOut}
 use Rattle.attr_flow.specs.declared.attr.Attr.{Attr}
+use Rattle.flatten_core.specs.declared.flattening.Flattened.{Flattened}
 use Rattle.torn_tail.specs.declared.recovering.Recovered.{Recovered}
 use Rattle.mount_model.specs.Paths.{Name}
 use Rattle.script_lang.specs.declared.script.Data.{Data}
@@ -13,7 +14,7 @@ use Rattle.script_lang.specs.declared.line.Outcome.TheVariants.{Wrote, Map, Read
 use Rattle.script_lang.specs.declared.line.Why.{Why}
 use Rattle.actor_core.specs.declared.kept.Stop.{Stop}
 use Rattle.actor_core.specs.declared.kept.Kept.{Kept}
-use Rattle.outcomes.specs.Outcomes.{open_outcome, write_outcome, sync_outcome, close_outcome, read_outcome, verify_outcome, map_text, stat_outcome, truncate_outcome, rename_outcome, recover_outcome, list_outcome}
+use Rattle.outcomes.specs.Outcomes.{open_outcome, write_outcome, sync_outcome, close_outcome, read_outcome, verify_outcome, map_text, stat_outcome, truncate_outcome, rename_outcome, recover_outcome, list_outcome, flatten_outcome}
 
 pub record Ending : Type 0 where
   pub outcome : Outcome
@@ -82,6 +83,9 @@ told_of kept result = ending (stat_outcome result) kept
 
 abbrev pub truncated : Kept → Result ℕ Stuck → Ending
 truncated kept result = ending (truncate_outcome result) kept
+
+abbrev pub flattened : Kept → Result Flattened Stuck → Ending
+flattened kept result = ending (flatten_outcome result) kept
 
 abbrev pub renamed : Kept → Result (Unit {0}) Stuck → Ending
 renamed kept result = ending (rename_outcome result) kept

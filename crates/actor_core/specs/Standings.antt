@@ -15,16 +15,17 @@ use Rattle.index_reader.specs.ReadingStages.{read_standing, read_left}
 use Rattle.attr_flow.specs.Stages.{attr_standing, attr_left}
 use Rattle.trunc_rename.specs.TruncateStages.{truncate_standing, truncate_left}
 use Rattle.trunc_rename.specs.RenameStages.{rename_standing, rename_left}
+use Rattle.flatten_core.specs.FlattenStages.{flatten_standing, flatten_left}
 use Rattle.torn_tail.specs.Stages.{recover_standing, recover_left}
 use Rattle.actor_core.specs.declared.kept.Stop.{Stop}
 use Rattle.actor_core.specs.declared.kept.Kept.{Kept}
 use Rattle.actor_core.specs.declared.doing.Doing.{Doing}
-use Rattle.actor_core.specs.declared.doing.Doing.TheVariants.{Known, Opening, Writing, Syncing, Closing, Listing, Gathering, Reading, Verifying, Telling, Truncating, Renaming, Recovering, Naming}
+use Rattle.actor_core.specs.declared.doing.Doing.TheVariants.{Known, Opening, Writing, Syncing, Closing, Listing, Gathering, Reading, Verifying, Telling, Truncating, Renaming, Recovering, Naming, Flattening}
 use Rattle.actor_core.specs.declared.actor.State.{State}
 use Rattle.actor_core.specs.declared.actor.State.TheVariants.{Idle, Told, Ready, Asked, Greeting, Greeted}
 use Rattle.actor_core.specs.declared.actor.Actor.{Actor}
 use Rattle.actor_core.specs.Stopping.{carried, carried_on}
-use Rattle.actor_core.specs.Endings.{ending, stopped, opened, wrote, synced, closed, read_from, verified, truncated, renamed, recovered, names_listed}
+use Rattle.actor_core.specs.Endings.{ending, stopped, opened, wrote, synced, closed, read_from, verified, truncated, renamed, recovered, names_listed, flattened}
 use Rattle.actor_core.specs.Telling.{if_asked}
 use Rattle.actor_core.specs.Purposes.{workers_of, if_listed_for, ended_for}
 use Rattle.actor_core.specs.Naming.{names_standing, names_left}
@@ -45,6 +46,7 @@ AwaitsReply (Reading flow at) = Awaits (rest_of (read_standing flow))
 AwaitsReply (Verifying flow at content) = Awaits (rest_of (read_standing flow))
 AwaitsReply (Telling flow) = Awaits (rest_of (attr_standing flow))
 AwaitsReply (Truncating flow) = Awaits (rest_of (truncate_standing flow))
+AwaitsReply (Flattening flow) = Awaits (rest_of (flatten_standing flow))
 AwaitsReply (Renaming flow) = Awaits (rest_of (rename_standing flow))
 AwaitsReply (Recovering flow) = Awaits (rest_of (recover_standing flow))
 AwaitsReply (Naming flow) = Awaits (rest_of (names_standing flow))
@@ -78,6 +80,7 @@ doing_ready kept stop (Reading flow at) = ready_of (read_standing flow) stop (λ
 doing_ready kept stop (Verifying flow at content) = ready_of (read_standing flow) stop (λ left result. finishes (verified kept at content result)) (finishes (stopped kept))
 doing_ready kept stop (Telling flow) = ready_of (attr_standing flow) stop (if_asked kept) (finishes (stopped kept))
 doing_ready kept stop (Truncating flow) = ready_of (truncate_standing flow) stop (λ left result. finishes (truncated kept result)) (finishes (stopped kept))
+doing_ready kept stop (Flattening flow) = ready_of (flatten_standing flow) stop (λ left result. finishes (flattened kept result)) (finishes (stopped kept))
 doing_ready kept stop (Renaming flow) = ready_of (rename_standing flow) stop (λ left result. finishes (renamed kept result)) (finishes (stopped kept))
 doing_ready kept stop (Recovering flow) = ready_of (recover_standing flow) stop (λ left result. finishes (recovered kept result)) (finishes (stopped kept))
 doing_ready kept stop (Naming flow) = ready_of (names_standing flow) stop (λ left result. finishes (names_listed kept result)) (finishes (stopped kept))
@@ -95,6 +98,7 @@ doing_asked kept stop (Reading flow at) = asked_of (rest_of (read_standing flow)
 doing_asked kept stop (Verifying flow at content) = asked_of (rest_of (read_standing flow)) stop (λ left result. finishes (verified kept at content result)) (finishes (stopped kept))
 doing_asked kept stop (Telling flow) = asked_of (rest_of (attr_standing flow)) stop (if_asked kept) (finishes (stopped kept))
 doing_asked kept stop (Truncating flow) = asked_of (rest_of (truncate_standing flow)) stop (λ left result. finishes (truncated kept result)) (finishes (stopped kept))
+doing_asked kept stop (Flattening flow) = asked_of (rest_of (flatten_standing flow)) stop (λ left result. finishes (flattened kept result)) (finishes (stopped kept))
 doing_asked kept stop (Renaming flow) = asked_of (rest_of (rename_standing flow)) stop (λ left result. finishes (renamed kept result)) (finishes (stopped kept))
 doing_asked kept stop (Recovering flow) = asked_of (rest_of (recover_standing flow)) stop (λ left result. finishes (recovered kept result)) (finishes (stopped kept))
 doing_asked kept stop (Naming flow) = asked_of (rest_of (names_standing flow)) stop (λ left result. finishes (names_listed kept result)) (finishes (stopped kept))
@@ -141,6 +145,7 @@ doing_left (Reading flow at) = read_left flow + 1
 doing_left (Verifying flow at content) = read_left flow + 1
 doing_left (Telling flow) = attr_left flow + (list_bound + shares_bound 1) + 1
 doing_left (Truncating flow) = truncate_left flow + 1
+doing_left (Flattening flow) = flatten_left flow + 1
 doing_left (Renaming flow) = rename_left flow + 1
 doing_left (Recovering flow) = recover_left flow + 1
 doing_left (Naming flow) = names_left flow + 1

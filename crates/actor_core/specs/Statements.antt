@@ -13,12 +13,7 @@ use Rattle.actor_core.specs.Work.{Work, finishes}
 use Rattle.actor_core.specs.Writers.{opens, writes, syncs, closes}
 use Rattle.actor_core.specs.Readers.{opens_reader, reads, verifies, maps, closes_reader}
 use Rattle.actor_core.specs.Telling.{tells_of_file}
-use Rattle.actor_core.specs.ByName.{truncates_file, renames_file, recovers_file, lists_names}
-
--- the statements that an actor makes; a flattening is to come
-abbrev pub is_built_statement : Statement → Bool
-is_built_statement (Flatten name) = false
-is_built_statement other = true
+use Rattle.actor_core.specs.ByName.{truncates_file, renames_file, recovers_file, flattens_file, lists_names}
 
 -- the statements whose calls owe nothing of the mount's state
 abbrev pub is_harmless_statement : Statement → Bool
@@ -44,7 +39,7 @@ does kept stop (Rename name to) = renames_file kept stop name to
 does kept stop (Recover name) = recovers_file kept stop name
 does kept stop Ls = lists_names kept stop
 does kept stop (Arms call bytes) = finishes (armed kept (record { call = call; bytes = bytes }))
-does kept stop (Flatten name) = finishes (gone kept)
+does kept stop (Flatten name) = flattens_file kept stop name
 
 -- an armed stop serves one statement
 abbrev pub disarmed : Kept → Kept

@@ -1,4 +1,4 @@
-//! The machines of the statements that truncate, rename and recover a file, and of the one that lists all files.
+//! The machines of the statements that truncate, flatten, rename and recover a file, and of the one that lists all files.
 ghost use Rattle.std.specs.Prelude.{◌≡◌, ◌≤◌, IfOk, IfSome, OnOk};
 ghost use Rattle.mount_model.specs.Step.{IsOwed};
 ghost use Rattle.actor_core.specs.declared.actor.State.TheVariants.{Idle};
@@ -9,9 +9,10 @@ use crate::actor::{Actor, State};
 use crate::doing::Doing;
 use crate::machines::next_ask;
 use crate::names::NamesRead;
+use flatten_core::FlattenFlow;
 use flow::Flow;
 use mount_model::Ask;
-use outcomes::{list_outcome, recover_outcome, rename_outcome, truncate_outcome};
+use outcomes::{flatten_outcome, list_outcome, recover_outcome, rename_outcome, truncate_outcome};
 use plfs_types::NoMemory;
 use torn_tail::RecoverFlow;
 use trunc_rename::{RenameFlow, TruncFlow};
@@ -31,6 +32,26 @@ impl Actor {
         }
         let made = flow.out();
         self.tell(truncate_outcome(made));
+        Ok(None)
+    }
+}
+
+impl Actor {
+    pub(crate) fn next_flattening(&mut self, mut flow: FlattenFlow) -> Result<Option<Ask>, NoMemory>
+        requires idle { self.old.state ≡ Idle }
+        requires ready { IsReady (busy self.old.number (doing_ready self.old.kept self.old.stop (Doing.Flattening flow))) }
+        ensures ask { IfOk result (λ ask. ask ≡ ask_of (busy self.old.number (doing_ready self.old.kept self.old.stop (Doing.Flattening flow)))) }
+        ensures owed { IfOk result (λ ask. IfSome ask IsOwed) }
+        ensures goes_on { OnOk result (progress_of self.new ≡ given (busy self.old.number (doing_ready self.old.kept self.old.stop (Doing.Flattening flow)))) }
+        ensures left { OnOk result (calls_left self.new ≤ doing_left (Doing.Flattening flow)) }
+    {
+        if let Some(ask) = next_ask(&mut flow, self.stop)? {
+            self.set(State::Asked(Doing::Flattening(flow)));
+            return Ok(Some(ask));
+        }
+        let made = flow.out();
+        let outcome = flatten_outcome(self.alloc, made)?;
+        self.tell(outcome);
         Ok(None)
     }
 }

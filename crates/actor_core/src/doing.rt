@@ -2,6 +2,7 @@
 use crate::names::NamesRead;
 use crate::purpose::Purpose;
 use attr_flow::AttrFlow;
+use flatten_core::FlattenFlow;
 use gather_flow::Gathering;
 use index_reader::{OpenRead, Reading};
 use script_lang::{Data, Outcome};
@@ -42,6 +43,7 @@ pub(crate) enum Doing {
     },
     Telling(AttrFlow),
     Truncating(TruncFlow),
+    Flattening(FlattenFlow),
     Renaming(RenameFlow),
     Recovering(RecoverFlow),
     Naming(NamesRead),

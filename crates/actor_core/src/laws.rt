@@ -2,7 +2,8 @@
 ghost use Rattle.std.specs.Prelude.{◌≡◌, ◌≤◌, ℕ, true, All, List, Option};
 ghost use Rattle.plfs_types.specs.Names.{IsLogicalName};
 ghost use Rattle.script_lang.specs.declared.script.Statement.{Statement};
-ghost use Rattle.script_lang.specs.declared.script.Statement.TheVariants.{Recover, Trunc};
+ghost use Rattle.script_lang.specs.declared.script.Statement.TheVariants.{Flatten, Recover, Trunc};
+ghost use Rattle.flatten_core.specs.Flattening.{flatten_program};
 ghost use Rattle.torn_tail.specs.Recovering.{recover_program};
 ghost use Rattle.trunc_rename.specs.Truncating.{truncate_program};
 ghost use Rattle.actor_core.specs.declared.kept.Kept.{Kept};
@@ -18,10 +19,11 @@ pub fn statements_owe_nothing()
     ensures { (kept : Kept) (statement : Statement) → 1 ≤ kept.cap → kept.cap ≤ 4096 → is_harmless_statement statement ≡ true → WorkAsksOnly IsHarmless (work_of kept statement) }
 {}
 
-/// A law: a truncate makes the calls of its program and no others, and so does a recovery; after one that is broken off
-/// they make none.
-pub fn truncates_and_recoveries_ask_along()
+/// A law: a truncate makes the calls of its program and no others, and so do a flattening and a recovery; after one that is
+/// broken off they make none.
+pub fn truncates_flattenings_and_recoveries_ask_along()
     ensures truncate { (kept : Kept) (stop : Option AStop) (name : List ℕ) (size : ℕ) → AsksAlong (truncate_program name size) (does kept stop (Trunc name size)) }
+    ensures flatten { (kept : Kept) (stop : Option AStop) (name : List ℕ) → AsksAlong (flatten_program name) (does kept stop (Flatten name)) }
     ensures recover { (kept : Kept) (stop : Option AStop) (name : List ℕ) → AsksAlong (recover_program name) (does kept stop (Recover name)) }
 {}
 

@@ -25,6 +25,6 @@ mod telling;
 pub use actor::Actor;
 pub use kept::{Kept, Stop};
 pub use laws::{
-    listed_names_are_logical, statements_owe_nothing, truncates_and_recoveries_ask_along,
+    listed_names_are_logical, statements_owe_nothing,
+    truncates_flattenings_and_recoveries_ask_along,
 };
-pub use starting::is_built_statement;

@@ -57,6 +57,7 @@ impl Actor {
             Doing::Verifying { flow, at, content } => self.next_verifying(flow, at, content),
             Doing::Telling(flow) => self.next_telling(flow),
             Doing::Truncating(flow) => self.next_truncating(flow),
+            Doing::Flattening(flow) => self.next_flattening(flow),
             Doing::Renaming(flow) => self.next_renaming(flow),
             Doing::Recovering(flow) => self.next_recovering(flow),
             Doing::Naming(flow) => self.next_naming(flow),

@@ -1,12 +1,12 @@
 //! How a statement begins.
-ghost use Rattle.std.specs.Prelude.{◌≡◌, ◌≤◌, ◌^◌, true, IfOk, OnOk};
+ghost use Rattle.std.specs.Prelude.{◌≡◌, ◌≤◌, ◌^◌, IfOk, OnOk};
 ghost use Rattle.script_lang.specs.Ranges.{FitsData, FitsStatement};
 ghost use Rattle.outcomes.specs.Data.{bytes_of};
 ghost use Rattle.actor_core.specs.Endings.{armed};
 ghost use Rattle.actor_core.specs.Work.{finishes};
 ghost use Rattle.actor_core.specs.Writers.{opens, writes, syncs, closes};
 ghost use Rattle.actor_core.specs.Readers.{opens_reader, reads, verifies, maps, closes_reader};
-ghost use Rattle.actor_core.specs.Statements.{is_built_statement as built, greeted_work};
+ghost use Rattle.actor_core.specs.Statements.{greeted_work};
 ghost use Rattle.actor_core.specs.Standings.{goes, doing_ready};
 
 use crate::actor::Actor;
@@ -15,6 +15,7 @@ use crate::kept::Stop;
 use crate::names::NamesRead;
 use crate::purpose::Purpose;
 use attr_flow::AttrFlow;
+use flatten_core::FlattenFlow;
 use index_reader::{OpenRead, Reading};
 use outcomes::{block, length, map_text};
 use plfs_types::{LogicalName, NoMemory};
@@ -29,18 +30,10 @@ fn refuse(why: Why) -> Doing
     Doing::Known(Outcome::Refused { why })
 }
 
-/// Whether an actor makes this statement; a flattening is to come.
-pub fn is_built_statement(statement: &Statement) -> bool
-    ensures { result ≡ built statement.now }
-{
-    !matches!(statement, Statement::Flatten { .. })
-}
-
 impl Actor {
     /// The statement's beginning, of an actor that has greeted or is to.
     pub(crate) fn start(&mut self, statement: Statement) -> Result<Doing, NoMemory>
         requires fits { FitsStatement statement }
-        requires built { built statement ≡ true }
         ensures goes { IfOk result (λ doing. doing_ready self.new.kept self.new.stop doing ≡ goes (greeted_work self.old.kept statement)) }
         ensures number { self.new.number ≡ self.old.number }
         ensures state { self.new.state ≡ self.old.state }
@@ -68,7 +61,9 @@ impl Actor {
             }
             Statement::Ls => Ok(Doing::Naming(NamesRead::Asking)),
             Statement::Stop { call, bytes } => Ok(self.arm(call, bytes)),
-            Statement::Flatten { .. } => unreachable!(),
+            Statement::Flatten { name } => {
+                Ok(Doing::Flattening(FlattenFlow::new(self.alloc, name)))
+            }
         }
     }
 

@@ -1,5 +1,5 @@
 //! How an actor goes on.
-ghost use Rattle.std.specs.Prelude.{◌≡◌, ◌<◌, ◌≤◌, ◌↔◌, true, IfOk, IfSome, OnOk, IsErr, IsTrue};
+ghost use Rattle.std.specs.Prelude.{◌≡◌, ◌<◌, ◌≤◌, ◌↔◌, IfOk, IfSome, OnOk, IsErr, IsTrue};
 ghost use Rattle.mount_model.specs.declared.reply.Reply.TheVariants.{NoMemory as WantsMemory};
 ghost use Rattle.mount_model.specs.Step.{IsOwed};
 ghost use Rattle.script_lang.specs.Ranges.{FitsActor, FitsStatement};
@@ -7,7 +7,7 @@ ghost use Rattle.story.specs.Process.{asks};
 ghost use Rattle.flow.specs.Running.{unbroken};
 ghost use Rattle.mount_model.specs.declared.call.Call.TheVariants.{Greet};
 ghost use Rattle.actor_core.specs.declared.actor.State.TheVariants.{Idle};
-ghost use Rattle.actor_core.specs.Statements.{is_built_statement, greeted_work};
+ghost use Rattle.actor_core.specs.Statements.{greeted_work};
 ghost use Rattle.actor_core.specs.Progress.{idle, going, fresh, IsIdle, IsReady, IsAsked, begun, ask_of, given, with_reply, waiting_line, line_taken};
 ghost use Rattle.actor_core.specs.Standings.{progress_of, calls_left};
 
@@ -46,7 +46,6 @@ impl Actor {
     pub fn begin(&mut self, number: u64, statement: Statement) -> Result<(), NoMemory>
         requires idle { IsIdle (progress_of self.old) }
         requires fits { FitsStatement statement }
-        requires built { is_built_statement statement ≡ true }
         ensures { OnOk result (progress_of self.new ≡ begun (progress_of self.old) number statement) }
     {
         self.number = number;
@@ -60,7 +59,6 @@ impl Actor {
 
     fn enter(&mut self, statement: Statement) -> Result<(), NoMemory>
         requires fits { FitsStatement statement }
-        requires built { is_built_statement statement ≡ true }
         requires idle { self.old.state ≡ Idle }
         ensures { OnOk result (progress_of self.new ≡ going self.old.number (greeted_work self.old.kept statement)) }
     {
@@ -71,7 +69,6 @@ impl Actor {
 
     fn enter_greeting(&mut self, statement: Statement) -> Result<(), NoMemory>
         requires fits { FitsStatement statement }
-        requires built { is_built_statement statement ≡ true }
         requires idle { self.old.state ≡ Idle }
         ensures { OnOk result (progress_of self.new ≡ going self.old.number (asks (unbroken Greet) (λ reply. greeted_work self.old.kept statement))) }
     {

@@ -4,7 +4,8 @@ ghost use Rattle.actor_core.specs.declared.kept.Kept.{Kept as AKept};
 ghost use Rattle.actor_core.specs.declared.kept.Stop.{Stop as AStop};
 ghost use Rattle.actor_core.specs.Stopping.{is_due as due_test, one_nearer as nearer};
 ghost use Rattle.actor_core.specs.declared.actor.State.TheVariants.{Idle};
-ghost use Rattle.flow.specs.Standing.{Awaits};
+ghost use Rattle.flow.specs.Standing.{rest_of, Awaits};
+ghost use Rattle.flatten_core.specs.FlattenStages.{flatten_standing};
 ghost use Rattle.gather_flow.specs.Gathering.{gather_rest};
 ghost use Rattle.actor_core.specs.Progress.{IsAsked, with_reply};
 ghost use Rattle.actor_core.specs.Standings.{AwaitsReply, progress_of, calls_left, busy, doing_ready, doing_asked, doing_left};
@@ -13,6 +14,7 @@ use crate::actor::{Actor, State};
 use crate::doing::Doing;
 use crate::purpose::Purpose;
 use crate::stopping::{is_due, one_nearer};
+use flatten_core::FlattenFlow;
 use flow::Flow;
 use gather_flow::Gathering;
 use mount_model::Reply;
@@ -51,6 +53,18 @@ fn gathering_after(flow: Gathering, purpose: Purpose, reply: Reply) -> Result<Do
         flow: taken,
         purpose,
     })
+}
+
+/// A flattening once it took the reply to its call.
+fn flattening_after(flow: FlattenFlow, reply: Reply) -> Result<Doing, NoMemory>
+    requires { Awaits (rest_of (flatten_standing flow)) }
+    ensures goes_on { IfOk result (λ next. (number : ℕ) (kept : AKept) (stop : Option AStop) → due_test stop ≡ false
+        → busy number (doing_ready kept (nearer stop) next) ≡ with_reply (busy number (doing_asked kept stop (Doing.Flattening flow))) reply) }
+    ensures left { IfOk result (λ next. doing_left next < doing_left (Doing.Flattening flow)) }
+{
+    let mut flow = flow;
+    flow.take(reply)?;
+    Ok(Doing::Flattening(flow))
 }
 
 /// The machine once it took the reply to its call.
@@ -103,6 +117,7 @@ fn after_reply(doing: Doing, reply: Reply) -> Result<Doing, NoMemory>
             flow.take(reply)?;
             Doing::Truncating(flow)
         }
+        Doing::Flattening(flow) => flattening_after(flow, reply)?,
         Doing::Renaming(mut flow) => {
             flow.take(reply)?;
             Doing::Renaming(flow)

@@ -1,2 +1,4 @@
 pub mod FollowLemmas
 pub mod Spelled
+pub mod PartLemmas
+pub mod EndLemmas

@@ -5,3 +5,5 @@ pub mod Installing
 pub mod Stages
 pub mod InstallStages
 pub mod Flattening
+pub mod Parts
+pub mod FlattenStages

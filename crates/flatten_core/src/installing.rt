@@ -1,6 +1,9 @@
 //! The end of a flattening.
-ghost use Rattle.std.specs.Prelude.{◌≡◌, IfOk};
-ghost use Rattle.flatten_core.specs.Stages.{IsUnderway};
+ghost use Rattle.std.specs.Prelude.{◌≡◌, ◌≤◌, ◌+◌, ◌*◌, ◌^◌, IfOk};
+ghost use Rattle.flat_format.specs.Spelling.{flat_spelling};
+ghost use Rattle.flow.specs.Standing.{ready};
+ghost use Rattle.flatten_core.specs.Installing.{install_program};
+ghost use Rattle.flatten_core.specs.Stages.{installing, installs_left, IsUnderway};
 
 use crate::spelling::spelled;
 use crate::stages::Stage;
@@ -36,27 +39,39 @@ pub(crate) fn copied(alloc: Global, covers: &[Cover]) -> Result<CoverList, NoMem
     Ok(CoverList::from_vec(list))
 }
 
+/// The first stage of installing this content for a flattening that was begun.
+pub(crate) fn first_stage(
+    alloc: Global,
+    started: Started,
+    content: &Flat,
+) -> Result<Stage, NoMemory>
+    ensures standing { IfOk result (λ stage. installing started.room started.flat stage ≡ ready (install_program started.room started.flat content.now.covers (flat_spelling content.now))) }
+    ensures left { IfOk result (λ stage. installs_left stage ≤ 2 * 2 ^ 64 + 50) }
+    ensures underway { IfOk result IsUnderway }
+{
+    let covers = copied(alloc, content.covers.as_slice())?;
+    let bytes = spelled(alloc, content)?;
+    let _count = covers.as_slice().len();
+    Ok(Stage::Scanning {
+        scan: OpenRead::top(alloc, started.room),
+        covers,
+        bytes,
+    })
+}
+
 impl InstallFlow {
-    ghost use Rattle.flat_format.specs.Spelling.{flat_spelling};
-    ghost use Rattle.flow.specs.Standing.{ready};
-    ghost use Rattle.flatten_core.specs.Installing.{install_program};
     ghost use Rattle.flatten_core.specs.InstallStages.{install_standing};
 
     /// Installs this content for a flattening that was begun.
     pub fn new(alloc: Global, started: &Started, content: &Flat) -> Result<InstallFlow, NoMemory>
         ensures { IfOk result (λ flow. install_standing flow ≡ ready (install_program started.now.room started.now.flat content.now.covers (flat_spelling content.now))) }
     {
-        let covers = copied(alloc, content.covers.as_slice())?;
-        let bytes = spelled(alloc, content)?;
+        let stage = first_stage(alloc, *started, content)?;
         Ok(InstallFlow {
             alloc,
             room: started.room,
             flat: started.flat,
-            stage: Stage::Scanning {
-                scan: OpenRead::top(alloc, started.room),
-                covers,
-                bytes,
-            },
+            stage,
         })
     }
 }

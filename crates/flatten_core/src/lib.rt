@@ -1,4 +1,4 @@
-//! The machines of a flattening: one begins it, and one installs what was gathered in between.
+//! The machines of a flattening: one begins it, one installs what was gathered in between, and one does all of it.
 //!
 //! The end lists the droppings again, syncs those that are covered, so that no loss of power takes what the flattened
 //! index tells of, and then puts, syncs and installs it. The crate owns which calls each makes, in which order, and what
@@ -8,11 +8,14 @@
 
 mod covered;
 mod flattening;
+mod giving;
 mod installing;
+mod parts;
 mod spelling;
 mod stages;
 mod starting;
+mod underway;
 
-pub use flattening::Flattened;
+pub use flattening::{FlattenFlow, Flattened};
 pub use installing::InstallFlow;
 pub use starting::{StartFlow, Started};

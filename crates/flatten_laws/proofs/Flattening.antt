@@ -182,15 +182,43 @@ differ (d ∷ ds) rise = (of ds (recursion_from_All (λ later. d.writer < later)
 abbrev Listed_all : List Listed → List Listed → Type 0
 Listed_all xs ys = All (λ (d : Listed). IsAmong d ys) xs
 
+every : (xs : List Listed) → Listed_all xs xs
+every xs = All-from_recursion (λ (d : Listed). IsAmong d xs) xs (members (λ (d : Listed). IsAmong d xs) xs (λ d a. is_among xs d a))
+
+-- what the one worker has was listed
+pub one_listed : (ds : List Listed) → All (λ (d : Listed). IsAmong d ds) (dealt_to 1 0 0 ds)
+one_listed ds = subst (λ l. Listed_all l ds) (sym (one_has_all 0 ds)) (every ds)
+
 one_portion : (ds : List Listed) (share : Share) → AreByWriter ds → AreDealt ds (record { droppings = ds; share = share } ∷ [])
 one_portion ds share rise = record {
   all = subst (λ l. Listed_all ds l) (sym (append-nil ds)) (every ds);
   only = subst (λ l. Listed_all l ds) (sym (append-nil ds)) (every ds);
   once = subst WritersDiffer (sym (append-nil ds)) (differ ds rise);
 }
-  where
-    every : (xs : List Listed) → Listed_all xs xs
-    every xs = All-from_recursion (λ (d : Listed). IsAmong d xs) xs (members (λ (d : Listed). IsAmong d xs) xs (λ d a. is_among xs d a))
+
+-- what a caller gathers of a container are the first entries of writers, which have landed
+pub gathered_taken : (caller room : ℕ) (start : Moment) (events more : List Event) (listing : Listing) (all : AllRead) → IsLawful start.state (events ++ more) → IsSoundAt start → Runs caller (open_at_program room) events (Ok listing) → Runs caller (shares_from 1 listing 0 []) more (Ok all)
+    → IsTaken room (flat_of all.listed all.shares) (moment_after start (events ++ more)).state
+gathered_taken caller room start events more listing all whole sound runs reads =
+    let first = legal_first start events more whole in
+    let r : ReadsAll caller listing more all = all_read caller listing all more reads in
+    let h : HasListed listing (calls_of caller events) = listing_run caller (open_at_program room) start events listing first sound (inr (room, refl)) runs in
+    let portion : Portion = record { droppings = listing.droppings; share = r.share } in
+    let opens : OpensAlone caller (events ++ more) listing (portion ∷ []) r.truncs = record {
+      program = open_at_program room;
+      lists = inr (room, refl);
+      scanning = events;
+      gathering = r.gathering ++ [];
+      listing_truncs = r.listing_truncs;
+      split = ap (λ l. events ++ l) (r.split ∙ ap (λ l. l ++ r.listing_truncs) (sym (append-nil r.gathering)));
+      scans = runs;
+      dealt = one_portion listing.droppings r.share h.droppings.ascend;
+      reads = (r.gathering, [], refl, r.reads, refl);
+      truncates = r.lists_them;
+    } in
+    let t : IsTaken listing.room (flat_of listing (r.share ∷ [])) (moment_after start (events ++ more)).state = taken_alone caller start (events ++ more) listing (portion ∷ []) r.truncs whole sound opens in
+    let here : listing.room ≡ room = (at_run caller room start events listing first sound runs).room_is in
+    subst (λ index. IsTaken room index (moment_after start (events ++ more)).state) r.is (subst (λ n. IsTaken n (flat_of listing (r.share ∷ [])) (moment_after start (events ++ more)).state) here t)
 
 -- ---- histories
 
@@ -295,27 +323,8 @@ module _ (caller : ℕ) (started : Started) where
         let ends : state_after state (events ++ more) ≡ state_after (state_after state events) more = after_both state events more in
         let before = f.0.sound (clean_before state (events ++ more) whole (subst IsClean (sym ends) clean)) in
         let start : Moment = record { state = state; issued = before.0 } in
-        let r : ReadsAll caller listing more all = all_read caller listing all more reads in
-        let h : HasListed listing (calls_of caller events) = listing_run caller (open_at_program started.room) start events listing lawful before.1 (inr (started.room, refl)) runs in
-        let portion : Portion = record { droppings = listing.droppings; share = r.share } in
-        let opens : OpensAlone caller (events ++ more) listing (portion ∷ []) r.truncs = record {
-          program = open_at_program started.room;
-          lists = inr (started.room, refl);
-          scanning = events;
-          gathering = r.gathering ++ [];
-          listing_truncs = r.listing_truncs;
-          split = ap (λ l. events ++ l) (r.split ∙ ap (λ l. l ++ r.listing_truncs) (sym (append-nil r.gathering)));
-          scans = runs;
-          dealt = one_portion listing.droppings r.share h.droppings.ascend;
-          reads = (r.gathering, [], refl, r.reads, refl);
-          truncates = r.lists_them;
-        } in
-        let t : IsTaken listing.room (flat_of listing (r.share ∷ [])) (moment_after start (events ++ more)).state = taken_alone caller start (events ++ more) listing (portion ∷ []) r.truncs whole before.1 opens in
         let at : (moment_after start (events ++ more)).state ≡ state_after (state_after state events) more = (follows start (events ++ more)).0 ∙ ends in
-        let here : listing.room ≡ started.room = (at_run caller started.room start events listing lawful before.1 runs).room_is in
-        subst (IsTaken started.room (flat_of all.listed all.shares)) at
-        (subst (λ index. IsTaken started.room index (moment_after start (events ++ more)).state) r.is
-        (subst (λ n. IsTaken n (flat_of listing (r.share ∷ [])) (moment_after start (events ++ more)).state) here t))
+        subst (IsTaken started.room (flat_of all.listed all.shares)) at (gathered_taken caller started.room start events more listing all whole before.1 runs reads)
 
     read : (more : List Event) (result : Result AllRead Stuck) → IsLawful (state_after state events) more → Runs caller (shares_from 1 listing 0 []) more result → Cleanly Begun (state_after (state_after state events) more)
         → IsSafe IsStep Permits caller (asking (on_ok (installs_gathered started) result)) (state_after (state_after state events) more)

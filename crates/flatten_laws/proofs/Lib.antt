@@ -5,6 +5,7 @@ mod Valid
 mod Merged
 mod Taken
 mod Scanned
+mod Finding
 mod Kept
 mod Pairing
 mod Installing

@@ -1,3 +1,3 @@
 pub mod Data
-pub mod Outcomes
 pub mod Counts
+pub mod Outcomes

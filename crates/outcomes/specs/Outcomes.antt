@@ -4,7 +4,7 @@ use Rattle.plfs_types.specs.declared.entries.Entry.{Entry}
 use Rattle.plain_file.specs.declared.pieces.Piece.{Piece}
 use Rattle.script_lang.specs.declared.script.Data.{Data}
 use Rattle.script_lang.specs.declared.line.Outcome.{Outcome}
-use Rattle.script_lang.specs.declared.line.Outcome.TheVariants.{Opened, Wrote, Synced, Closed, Read, Same, Differs, Stat, Truncated, Renamed, Recovered, Listed, Refused, Fault, Damaged}
+use Rattle.script_lang.specs.declared.line.Outcome.TheVariants.{Opened, Wrote, Synced, Closed, Read, Same, Differs, Stat, Truncated, Renamed, Flattened, Recovered, Listed, Refused, Fault, Damaged}
 use Rattle.script_lang.specs.declared.line.Why.{Why}
 use Rattle.script_lang.specs.declared.line.Why.TheVariants as why
 use Rattle.mount_model.specs.declared.reply.Refusal.{Refusal}
@@ -13,8 +13,10 @@ use Rattle.flow.specs.declared.trouble.Stuck.{Stuck}
 use Rattle.flow.specs.declared.trouble.Stuck.TheVariants as stuck
 use Rattle.writer_flow.specs.declared.handle.WriterHandle.{WriterHandle}
 use Rattle.attr_flow.specs.declared.attr.Attr.{Attr}
+use Rattle.flatten_core.specs.declared.flattening.Flattened.{Flattened as WasFlattened}
 use Rattle.torn_tail.specs.declared.recovering.Recovered.{Recovered as WasRecovered}
 use Rattle.mount_model.specs.Paths.{Name}
+use Rattle.outcomes.specs.Counts.{counts_of}
 use Rattle.outcomes.specs.Data.{bytes_of, first_difference, place_past}
 
 -- what a line says of a refusal; the last five come of no call that an actor makes
@@ -83,6 +85,10 @@ truncate_outcome result = or_stuck (λ stamp. Truncated stamp) result
 
 abbrev pub rename_outcome : Result (Unit {0}) Stuck → Outcome
 rename_outcome result = or_stuck (λ done. Renamed) result
+
+-- with how many entries of each writer the index covers
+abbrev pub flatten_outcome : Result WasFlattened Stuck → Outcome
+flatten_outcome result = or_stuck (λ (f : WasFlattened). Flattened f.flat f.pieces (counts_of f.covers)) result
 
 abbrev pub recover_outcome : Result WasRecovered Stuck → Outcome
 recover_outcome result = or_stuck (λ (r : WasRecovered). Recovered r.buried r.alive r.hold) result

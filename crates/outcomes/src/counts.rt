@@ -1,7 +1,11 @@
 //! How many entries of each writer a line tells.
 ghost use Rattle.std.specs.Prelude.{◌≡◌, IfOk};
-ghost use Rattle.outcomes.specs.Counts.{counted, cut_of};
+ghost use Rattle.outcomes.specs.Counts.{counted, counts_of, cut_of};
+ghost use Rattle.outcomes.specs.Outcomes.{flatten_outcome as outcome_of};
 
+use crate::lines::stuck_outcome;
+use flatten_core::Flattened;
+use flow::Stuck;
 use index_reader::OpenReader;
 use plfs_types::{CountList, Cover, NoMemory, Trunc, TruncList, WriterCount};
 use script_lang::Outcome;
@@ -31,6 +35,29 @@ fn cut(alloc: Global, covers: &[Cover]) -> Result<CountList, NoMemory>
     ensures { IfOk result (λ cut. cut ≡ cut_of covers.now) }
 {
     Ok(CountList::from_vec(counts(alloc, covers)?))
+}
+
+fn all_counts(alloc: Global, covers: &[Cover]) -> Result<Vec<WriterCount>, AllocError>
+    ensures { IfOk result (λ counts. counts.items ≡ counts_of covers.now) }
+{
+    covers.iter().map(|cover| count_of(cover)).collect(alloc)
+}
+
+/// What the line says of a flattening: the index's id, how many pieces it has, and how many entries of each writer.
+pub fn flatten_outcome(alloc: Global, made: Result<Flattened, Stuck>) -> Result<Outcome, NoMemory>
+    ensures { IfOk result (λ outcome. outcome ≡ outcome_of made) }
+{
+    match made {
+        Ok(flattened) => {
+            let counts = all_counts(alloc, flattened.covers.as_slice())?;
+            Ok(Outcome::Flattened {
+                flat: flattened.flat,
+                pieces: flattened.pieces,
+                cut: CountList::from_vec(counts),
+            })
+        }
+        Err(because) => Ok(stuck_outcome(because)),
+    }
 }
 
 fn copied(alloc: Global, truncs: &[Trunc]) -> Result<TruncList, NoMemory>

@@ -8,7 +8,7 @@ mod counts;
 mod data;
 mod lines;
 
-pub use counts::reader_outcome;
+pub use counts::{flatten_outcome, reader_outcome};
 pub use data::{block, length};
 pub use lines::{
     close_outcome, list_outcome, map_text, read_outcome, recover_outcome, rename_outcome,

@@ -33,6 +33,7 @@ pub fn why_of(refusal: Refusal) -> Why
     }
 }
 
+/// What a line says of the trouble that a machine ended in.
 pub fn stuck_outcome(because: Stuck) -> Outcome
     ensures { result ≡ of.stuck_outcome because }
 {
@@ -51,6 +52,7 @@ pub fn stuck_outcome(because: Stuck) -> Outcome
     }
 }
 
+/// What it says of a write of `len` bytes at this logical offset, which gave the write's stamp.
 pub fn write_outcome(at: u64, len: u64, made: Result<u64, Stuck>) -> Outcome
     ensures { result ≡ of.write_outcome at len made }
 {
@@ -64,6 +66,7 @@ pub fn write_outcome(at: u64, len: u64, made: Result<u64, Stuck>) -> Outcome
     }
 }
 
+/// What it says of a sync, which gave how many entries have landed.
 pub fn sync_outcome(made: Result<u64, Stuck>) -> Outcome
     ensures { result ≡ of.sync_outcome made }
 {
@@ -73,6 +76,7 @@ pub fn sync_outcome(made: Result<u64, Stuck>) -> Outcome
     }
 }
 
+/// What it says of a close, which gave how many entries have landed.
 pub fn close_outcome(made: Result<u64, Stuck>) -> Outcome
     ensures { result ≡ of.close_outcome made }
 {
@@ -82,6 +86,7 @@ pub fn close_outcome(made: Result<u64, Stuck>) -> Outcome
     }
 }
 
+/// What it says of a read at this logical offset.
 pub fn read_outcome(at: u64, made: Result<Bytes, Stuck>) -> Outcome
     ensures { result ≡ of.read_outcome at made }
 {
@@ -102,6 +107,7 @@ fn difference(at: u64, found: Option<u64>) -> Outcome
     }
 }
 
+/// What it says of a comparison with this data: the logical offset of the first byte that differs or has no place in the file.
 pub fn verify_outcome(at: u64, content: &Data, made: Result<Bytes, Stuck>) -> Outcome
     ensures { result ≡ of.verify_outcome at content.now made }
 {
@@ -123,6 +129,7 @@ pub fn stat_outcome(attr: Attr) -> Outcome
     }
 }
 
+/// What it says of a truncate, which gave its stamp.
 pub fn truncate_outcome(made: Result<u64, Stuck>) -> Outcome
     ensures { result ≡ of.truncate_outcome made }
 {
@@ -132,6 +139,7 @@ pub fn truncate_outcome(made: Result<u64, Stuck>) -> Outcome
     }
 }
 
+/// What it says of a rename.
 pub fn rename_outcome(made: Result<(), Stuck>) -> Outcome
     ensures { result ≡ of.rename_outcome made }
 {
@@ -141,6 +149,7 @@ pub fn rename_outcome(made: Result<(), Stuck>) -> Outcome
     }
 }
 
+/// What it says of a recovery: the writers that were buried with their counts, those alive, and whether a hold was taken away.
 pub fn recover_outcome(made: Result<Recovered, Stuck>) -> Outcome
     ensures { result ≡ of.recover_outcome made }
 {
@@ -154,6 +163,7 @@ pub fn recover_outcome(made: Result<Recovered, Stuck>) -> Outcome
     }
 }
 
+/// What it says of a listing of all files.
 pub fn list_outcome(made: Result<NameList, Stuck>) -> Outcome
     ensures { result ≡ of.list_outcome made }
 {

@@ -15,3 +15,4 @@ mod Told
 mod Statements
 mod Actors
 mod Casts
+mod Undamaging

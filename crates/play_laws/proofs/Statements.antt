@@ -20,6 +20,7 @@ use Rattle.gathering.specs.Moments.{Moment, IsSoundAt, moment_after}
 use Rattle.gathering.specs.Seen.{Asked, asked_in, calls_of}
 use Rattle.gathering.proofs.Facts.{its_call, legal_first, moment-append}
 use Rattle.reader_laws.proofs.Facts.{calls_append}
+use Rattle.flatten_core.specs.Flattening.{flatten_program}
 use Rattle.torn_tail.specs.Recovering.{recover_program}
 use Rattle.trunc_rename.specs.Renaming.{rename_program}
 use Rattle.trunc_rename.specs.Truncating.{truncate_program}
@@ -39,7 +40,7 @@ use Rattle.play_laws.proofs.Carrying.{EndsSo, ended, ends_later}
 use Rattle.play_laws.proofs.Opened.{Good, Keeps, keeps_later, no_calls}
 use Rattle.play_laws.proofs.Openings.{opening_ends}
 use Rattle.play_laws.proofs.Others.{Leaves, LeavesReader, at_once, open_leaves, write_leaves, sync_leaves, close_leaves, named_leaves, names_end}
-use Rattle.trouble_laws.proofs.Facts.{recover_ends, rename_ends, truncate_ends}
+use Rattle.trouble_laws.proofs.Facts.{flatten_ends, recover_ends, rename_ends, truncate_ends}
 use Rattle.play_laws.proofs.ReadLines.{read_ends, verify_ends, map_ends, close_ends}
 use Rattle.play_laws.proofs.Told.{look_ends}
 use Rattle.play_laws.proofs.Standing.{AllOf, Both, Next, all_of_later, next_is, up_to}
@@ -115,7 +116,7 @@ module _ (start : Moment) (sound : IsSoundAt start) (n : ℕ) (before greeting :
   does_end kept stop Sync old part ws lines left fits keeps whole all plays = others_end kept stop Sync old part ws lines left (λ m o e l. (refl, l.none)) (sync_leaves start n before greeting number next kept stop kept.writer) keeps whole plays
   does_end kept stop Close old part ws lines left fits keeps whole all plays = others_end kept stop Close old part ws lines left (λ m o e l. (refl, l.none)) (close_leaves start n before greeting number next kept stop kept.writer) keeps whole plays
   does_end kept stop (Stat name) old part ws lines left fits keeps whole all plays = stat_ends kept stop name old part ws lines left keeps whole plays
-  does_end kept stop (Flatten name) old part ws lines left fits keeps whole all plays = others_end kept stop (Flatten name) old part ws lines left (λ m o e l. (refl, l.none)) (at_once start n before greeting number next kept stop (gone kept) (record { same = refl; none = tt })) keeps whole plays
+  does_end kept stop (Flatten name) old part ws lines left fits keeps whole all plays = others_end kept stop (Flatten name) old part ws lines left (λ m o e l. (refl, l.none)) (named_leaves start n before greeting number next kept stop (flatten_program name) _ (flatten_ends n name) (λ r. tt)) keeps whole plays
   does_end kept stop (Recover name) old part ws lines left fits keeps whole all plays = others_end kept stop (Recover name) old part ws lines left (λ m o e l. (refl, l.none)) (named_leaves start n before greeting number next kept stop (recover_program name) _ (recover_ends n name) (λ r. tt)) keeps whole plays
   does_end kept stop (Trunc name size) old part ws lines left fits keeps whole all plays = others_end kept stop (Trunc name size) old part ws lines left (λ m o e l. (refl, l.none)) (named_leaves start n before greeting number next kept stop (truncate_program name size) _ (truncate_ends n name size) (λ r. tt)) keeps whole plays
   does_end kept stop (Rename name to) old part ws lines left fits keeps whole all plays = others_end kept stop (Rename name to) old part ws lines left (λ m o e l. (refl, l.none)) (named_leaves start n before greeting number next kept stop (rename_program name to) _ (rename_ends n name to) (λ r. tt)) keeps whole plays

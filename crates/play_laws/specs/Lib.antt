@@ -5,3 +5,4 @@ pub mod Comparing
 pub mod Telling
 pub mod Showing
 pub mod Readers
+pub mod Undamaged

@@ -8,10 +8,18 @@ ghost use Rattle.script_lang.specs.declared.script.Script.{Script};
 ghost use Rattle.script_lang.specs.Ranges.{FitsScript};
 ghost use Rattle.run_core.specs.Play.{IsPlay, IsRight};
 ghost use Rattle.play_laws.specs.Readers.{PlayShows, ReadersShow};
+ghost use Rattle.play_laws.specs.Undamaged.{AreUndamaged};
 
 /// A law: where the lines of a script are right, from a sound state on, those of each reader show one plain file, in whatever order the actors call, and so does
 /// each line that tells of a file which somebody had open. So do the lines of a play that began in a state that is fine and clean.
 pub fn readers_show_one_file()
     ensures right { (script : Script) (start : Moment) (lines : List Line) (end : State) → FitsScript script → IsSoundAt start → (right : IsRight script start.state lines end) → ReadersShow script start lines end right }
     ensures played { (script : Script) (start : State) (lines : List Line) (end : State) → FitsScript script → IsFine start → IsClean start → (play : IsPlay script start lines end) → PlayShows script start lines end play }
+{}
+
+/// A law: no statement of a script finds a damaged item in a tree that was sound as the script began, whatever fault the store answers and in whatever
+/// order the actors call. So a line that tells of damage tells of a tree that something else damaged.
+pub fn no_line_is_damaged()
+    ensures right { (script : Script) (start : State) (lines : List Line) (end : State) → FitsScript script → IsFine start → IsClean start → IsRight script start lines end → AreUndamaged lines }
+    ensures played { (script : Script) (start : State) (lines : List Line) (end : State) → FitsScript script → IsFine start → IsClean start → IsPlay script start lines end → AreUndamaged lines }
 {}

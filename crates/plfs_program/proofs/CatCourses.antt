@@ -1,7 +1,7 @@
 -- From a file that is written out to the run that did so.
-use Rattle.std.proofs.Common.{◌≡◌, ℕ, ◌⊎◌, inl, inr, true, List, [], ◌∷◌, map, Option, Some, None, Ok, refl, sym, ap, subst, arith}
+use Rattle.std.proofs.Common.{◌≡◌, ℕ, ◌⊎◌, inl, inr, List, [], ◌∷◌, map, Option, Some, None, Ok, refl, sym, ap, subst, arith}
 use Rattle.std.specs.List.{range_with_len}
-use Rattle.std.proofs.lemmas.List.Elements.{All-nil, All-cons, All-map}
+use Rattle.std.proofs.lemmas.List.Elements.{All-cons, All-map}
 use Rattle.plfs_types.specs.Counts.{HasRisen}
 use Rattle.store_api.specs.Acts.{Stored}
 use Rattle.edge_io.specs.Sink.{Taking}
@@ -15,12 +15,9 @@ use Rattle.script_lang.specs.declared.line.Line.{Line}
 use Rattle.script_lang.specs.declared.line.Outcome.{Outcome}
 use Rattle.script_lang.specs.declared.line.Outcome.TheVariants as of
 use Rattle.script_lang.specs.declared.line.Why.TheVariants.{MountsSpent}
-use Rattle.script_lang.specs.declared.script.Numbered.{Numbered}
-use Rattle.script_lang.specs.declared.script.Phase.{Phase}
 use Rattle.script_lang.specs.Ranges.{FitsNumbered}
 use Rattle.report_text.specs.Text.{HaveText, text_of}
-use Rattle.actor_core.specs.Statements.{is_built_statement}
-use Rattle.run_core.specs.Conditions.{IsPlayable, IsBuiltPhase}
+use Rattle.run_core.specs.Conditions.{IsPlayable}
 use Rattle.run_core.specs.Leading.{GoesOn}
 use Rattle.run_core.specs.Play.{IsPlay}
 use Rattle.run_core.proofs.Facts.{play_caused, play_has_text}
@@ -49,12 +46,9 @@ use Rattle.plfs_program.proofs.SoundMarks.{unmounted_undamaged}
 pub cat_playable : (name : List ℕ) (count : ℕ) → IsPlayable (cat_script name count)
 cat_playable name count =
     let rest = map reading (range_with_len 0 count) in
-    let Made : Numbered → Type 0 = λ s. is_built_statement s.statement ≡ true in
-    let phase : Phase = record { turns = []; statements = cat_statements name count } in
     record {
       fits = statements_fit (cat_statements name count)
           (All-cons (FitsNumbered 1) (opening name) rest (omega arith, (omega arith, omega arith)) (All-map (FitsNumbered 1) reading (range_with_len 0 count) (λ k d lt. (omega arith, omega arith))));
-      built = All-cons IsBuiltPhase phase [] (All-cons Made (opening name) rest refl (All-map Made reading (range_with_len 0 count) (λ k d lt. refl))) (All-nil IsBuiltPhase);
     }
 
 pub line_text : (name : List ℕ) (start now : State) (line : Line) → IsPlay (cat_script name 0) start (line ∷ []) now → HaveText (line ∷ [])

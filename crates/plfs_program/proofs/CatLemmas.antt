@@ -14,9 +14,9 @@ use Rattle.actor_core.specs.Progress.{fresh}
 use Rattle.report_text.specs.Text.{text_of}
 use Rattle.run_core.specs.Leading.{GoesOn}
 use Rattle.run_core.specs.Play.{IsPlay}
-use Rattle.lone_reader.specs.declared.reader.LoneReader.{LoneReader}
-use Rattle.lone_reader.specs.Making.{Keeps, HasMade, HasMadeOne, Makes}
-use Rattle.lone_reader.proofs.Facts.{made_none, made_more, made_play}
+use Rattle.run_core.specs.declared.lone_reader.LoneReader.{LoneReader}
+use Rattle.run_core.specs.Making.{Keeps, HasMade, HasMadeOne, Makes}
+use Rattle.run_core.proofs.Facts.{made_none, made_more, made_play}
 use Rattle.plfs_program.specs.Cat.{CatEnds, unopened, unsaid, whole, stuck, broken, starved, hungry, IsRead, is_read, content_of, contents, opening, reading, cat_statements, cat_script, pieces_of, reader_size}
 use Rattle.plfs_program.specs.Catting.{CatsOn, Reads, Writes, FailsAt, starves, sticks, breaks}
 use Rattle.plfs_program.specs.Commands.{actor}

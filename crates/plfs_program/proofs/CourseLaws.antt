@@ -11,7 +11,7 @@ use Rattle.run_core.specs.Leading.{GoesOn}
 use Rattle.plfs_program.specs.Calling.{IsRun, Leaves, broke_off, ran}
 use Rattle.plfs_program.specs.Cat.{unopened, unsaid, whole, stuck, broken, starved, hungry as wants}
 use Rattle.plfs_program.specs.Catting.{CatCourse, IsLeftBehind, IsReadOut}
-use Rattle.plfs_program.specs.Course.{Course, InputCourse, faulty, unbuilt, played, starved as unplayed, usage, unread, read, planned, cats, hungry}
+use Rattle.plfs_program.specs.Course.{Course, InputCourse, faulty, played, starved as unplayed, usage, unread, read, planned, cats, hungry}
 use Rattle.plfs_program.specs.Ends.{Ends, IsUntouched}
 use Rattle.plfs_program.specs.Lines.{AreLinesOf, unmounted, mounted}
 use Rattle.plfs_program.specs.Outcomes.{has_line, is_damage, is_fault, is_refusal, status_of}
@@ -60,8 +60,7 @@ module _ (failing : FailingLeavesSound) where
 
   input_leaves : (bytes : List ℕ) (e : Ends) (status : ℕ) → InputCourse bytes e status → TellsSoundTree e.stored → LeavesSoundTree e.stored_after
   input_leaves bytes e status (faulty fault has same says is) told = untouched_leaves e same told
-  input_leaves bytes e status (unbuilt script reads none same says is) told = untouched_leaves e same told
-  input_leaves bytes e status (played script reads made play) told = play_leaves script all_lines e status play told
+  input_leaves bytes e status (played script reads play) told = play_leaves script all_lines e status play told
   input_leaves bytes e status (unplayed same none is) told = untouched_leaves e same told
 
   pub course_leaves : (words : List (List ℕ)) (given after : Given) (e : Ends) (status : ℕ) → Course words given after e status → TellsSoundTree e.stored → LeavesSoundTree e.stored_after
@@ -127,8 +126,7 @@ cat_undamaged name e status (wants left same is) told = apart status 3 is refl
 
 input_undamaged : (bytes : List ℕ) (e : Ends) (status : ℕ) → InputCourse bytes e status → TellsSoundTree e.stored → status ≢ 7
 input_undamaged bytes e status (faulty fault has same says is) told = apart status 2 is refl
-input_undamaged bytes e status (unbuilt script reads none same says is) told = apart status 2 is refl
-input_undamaged bytes e status (played script reads made play) told = play_undamaged script all_lines e status (shown_none shown.All) play told
+input_undamaged bytes e status (played script reads play) told = play_undamaged script all_lines e status (shown_none shown.All) play told
 input_undamaged bytes e status (unplayed same none is) told = apart status 3 is refl
 
 pub course_undamaged : (words : List (List ℕ)) (given after : Given) (e : Ends) (status : ℕ) → Course words given after e status → TellsSoundTree e.stored → status ≢ 7

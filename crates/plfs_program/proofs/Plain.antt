@@ -14,8 +14,8 @@ use Rattle.script_lang.specs.declared.script.Script.{Script}
 use Rattle.run_core.specs.Play.{IsPlay}
 use Rattle.play_laws.specs.Readers.{PlayShows}
 use Rattle.play_laws.proofs.Facts.{play_shows}
-use Rattle.line_laws.specs.Undamaged.{IsUndamaged}
-use Rattle.line_laws.proofs.Facts.{play_undamaged}
+use Rattle.play_laws.specs.Undamaged.{IsUndamaged}
+use Rattle.play_laws.proofs.Facts.{play_undamaged}
 use Rattle.plfs_program.specs.Outcomes.{has_line, is_damage}
 use Rattle.plfs_program.specs.SoundTrees.{TellsSoundTree}
 

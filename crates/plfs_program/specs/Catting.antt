@@ -8,8 +8,8 @@ use Rattle.script_lang.specs.declared.line.Line.{Line}
 use Rattle.actor_core.specs.declared.kept.Kept.{Kept}
 use Rattle.run_core.specs.Leading.{GoesOn}
 use Rattle.run_core.specs.Play.{IsPlay}
-use Rattle.lone_reader.specs.declared.reader.LoneReader.{LoneReader}
-use Rattle.lone_reader.specs.Making.{Keeps, HasMade, HasMadeOne, Makes}
+use Rattle.run_core.specs.declared.lone_reader.LoneReader.{LoneReader}
+use Rattle.run_core.specs.Making.{Keeps, HasMade, HasMadeOne, Makes}
 use Rattle.plfs_program.specs.Cat.{CatEnds, IsRead, is_read, content_of, contents, reading, cat_statements, cat_script}
 use Rattle.plfs_program.specs.Commands.{actor}
 use Rattle.plfs_program.specs.Ends.{Ends}

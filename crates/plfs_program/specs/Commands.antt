@@ -1,5 +1,5 @@
 -- The commands, and the scripts that they play.
-use Rattle.std.specs.Prelude.{◌≡◌, ℕ, ◌≤◌, true, false, List, [], ◌∷◌, Option, Some, None, codes}
+use Rattle.std.specs.Prelude.{◌≡◌, ℕ, ◌≤◌, List, [], ◌∷◌, Option, Some, None, codes}
 use Rattle.plfs_types.specs.Names.{IsLogicalName}
 use Rattle.command_line.specs.declared.commands.Command.{Command}
 use Rattle.command_line.specs.declared.commands.Command.TheVariants as command
@@ -10,7 +10,6 @@ use Rattle.script_lang.specs.declared.script.Numbered.{Numbered}
 use Rattle.script_lang.specs.declared.script.Script.{Script}
 use Rattle.script_lang.specs.declared.script.Statement.{Statement}
 use Rattle.script_lang.specs.declared.script.Statement.TheVariants as statement
-use Rattle.plfs_program.specs.Built.{is_built}
 use Rattle.plfs_program.specs.declared.commands.Built.{Built}
 use Rattle.plfs_program.specs.declared.commands.Built.TheVariants as built
 use Rattle.plfs_program.specs.declared.commands.Plan.{Plan}
@@ -53,9 +52,9 @@ plan_of (command.Rename name to) = Some (plan (one_script (statement.Rename name
 plan_of command.Ls = Some (plan (one_script statement.Ls) All)
 plan_of other = None
 
--- the command has this plan, all of whose statements actors make
+-- the command has this plan
 abbrev pub IsPlanned : Command → Plan → Type 0
-IsPlanned asked planned = (plan_of asked ≡ Some planned) × (is_built planned.script ≡ true)
+IsPlanned asked planned = plan_of asked ≡ Some planned
 
 abbrev pub IsBuiltCommand : Command → Type 0
 IsBuiltCommand command.Play = Unit {0}
@@ -74,11 +73,6 @@ FitsCommand (command.Migrate name) = IsLogicalName name
 FitsCommand (command.Trunc name size) = IsLogicalName name
 FitsCommand (command.Rename name to) = IsLogicalName name × IsLogicalName to
 FitsCommand other = Unit {0}
-
--- the plan, where actors make all of its statements
-abbrev pub IsIfBuilt : Plan → Option Built → Type 0
-IsIfBuilt planned None = is_built planned.script ≡ false
-IsIfBuilt planned (Some found) = (found ≡ built.Planned planned) × (is_built planned.script ≡ true)
 
 -- the command is built in this way
 abbrev pub IsBuiltAs : Command → Built → Type 0

@@ -1,5 +1,5 @@
 -- How a run goes, from its words to its status.
-use Rattle.std.specs.Prelude.{ℕ, ◌≡◌, ◌+◌, ◌^◌, true, false, List, codes}
+use Rattle.std.specs.Prelude.{ℕ, ◌≡◌, ◌+◌, ◌^◌, List, codes}
 use Rattle.plfs_types.specs.Counts.{HasRisen}
 use Rattle.edge_io.specs.Source.{Given}
 use Rattle.script_lang.specs.declared.script.Script.{Script}
@@ -8,7 +8,6 @@ use Rattle.script_lang.specs.Grammar.{IsScript}
 use Rattle.command_line.specs.declared.commands.Command.{Command}
 use Rattle.command_line.specs.declared.commands.Command.TheVariants.{Play, Cat}
 use Rattle.command_line.specs.Commands.{IsCommand}
-use Rattle.plfs_program.specs.Built.{is_built}
 use Rattle.plfs_program.specs.Catting.{CatCourse}
 use Rattle.plfs_program.specs.Commands.{IsBuiltCommand, IsPlanned}
 use Rattle.plfs_program.specs.Ends.{Ends, IsUntouched, IsSaid}
@@ -21,16 +20,11 @@ use Rattle.plfs_program.specs.declared.commands.Plan.{Plan}
 abbrev pub usage_line : List ℕ
 usage_line = codes "usage: plfs ROOT run|play|gen N|cat NAME|stat NAME|map NAME|flatten NAME|trunc NAME SIZE|rename OLD NEW|recover NAME|ls\n"
 
-abbrev pub unbuilt_line : List ℕ
-unbuilt_line = codes "script 0 unbuilt\n"
-
 -- What becomes of an input of these bytes. Memory was refused before the mounting where it is starved.
 pub data InputCourse (bytes : List ℕ) (e : Ends) (status : ℕ) : Type 0 where
   faulty : (fault : Fault) → HasFault bytes fault → IsUntouched e → IsSaid (fault_line fault.line fault.kind) e → status ≡ 2
       → InputCourse bytes e status
-  unbuilt : (script : Script) → IsScript bytes script → is_built script ≡ false → IsUntouched e → IsSaid unbuilt_line e → status ≡ 2
-      → InputCourse bytes e status
-  played : (script : Script) → IsScript bytes script → is_built script ≡ true → PlayCourse script all_lines e status → InputCourse bytes e status
+  played : (script : Script) → IsScript bytes script → PlayCourse script all_lines e status → InputCourse bytes e status
   starved : IsUntouched e → e.taking_after ≡ e.taking → status ≡ 3 → InputCourse bytes e status
 
 -- the input was read to its end, or to one byte past the limit of a script, and these are its bytes

@@ -1,4 +1,3 @@
-pub mod Built
 pub mod Calling
 pub mod Cat
 pub mod Catting

@@ -1,8 +1,7 @@
 //! The scripts that commands play.
 ghost use Rattle.std.specs.Prelude.{◌≡◌, IfOk, IfSome, IfNone};
-ghost use Rattle.plfs_program.specs.Commands.{IsBuiltCommand, IsBuiltAs, IsIfBuilt, FitsCommand, actor as actor_of, of_command as numbered_of, script_of as script_with, one_script as one_of, map_script as map_of, plan as plan_with};
+ghost use Rattle.plfs_program.specs.Commands.{IsBuiltCommand, IsBuiltAs, FitsCommand, actor as actor_of, of_command as numbered_of, script_of as script_with, one_script as one_of, map_script as map_of, plan as plan_with};
 
-use crate::built::is_built;
 use crate::showing::Shown;
 use command_line::Command;
 use plfs_types::{LogicalName, Name, NoMemory};
@@ -83,20 +82,16 @@ fn map_script(alloc: Global, name: LogicalName) -> Result<Script, NoMemory>
     script_of(alloc, statements)
 }
 
-// The script, where all of its statements are ones that actors make.
+// What is shown of this script's lines.
 fn planned(script: Script, shown: Shown) -> Option<Built>
-    ensures { IsIfBuilt (plan_with script shown) result }
+    ensures { result ≡ Some (Built.Planned (plan_with script shown)) }
 {
-    if is_built(&script) {
-        Some(Built::Planned(Plan { script, shown }))
-    } else {
-        None
-    }
+    Some(Built::Planned(Plan { script, shown }))
 }
 
-// One statement of one actor, where actors make it.
+// One statement of one actor.
 fn of_one(alloc: Global, statement: Statement) -> Result<Option<Built>, NoMemory>
-    ensures { IfOk result (IsIfBuilt (plan_with (one_of statement) Shown.All)) }
+    ensures { IfOk result (λ found. found ≡ Some (Built.Planned (plan_with (one_of statement) Shown.All))) }
 {
     Ok(planned(one_script(alloc, statement)?, Shown::All))
 }

@@ -1,7 +1,6 @@
 //! The commands of `plfs` over any store: words, input, script, mount, work, output, status.
 #![tactic(auto)]
 
-mod built;
 mod cat;
 mod commands;
 mod faults;

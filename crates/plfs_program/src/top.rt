@@ -1,12 +1,11 @@
 //! The whole of a run: words, input, script, mount, work, output, status.
-ghost use Rattle.std.specs.Prelude.{◌≡◌, ◌≢◌, ◌⊎◌, ℕ, List, true, Option, Some, option_map};
+ghost use Rattle.std.specs.Prelude.{◌≡◌, ◌≢◌, ◌⊎◌, ℕ, List, Option, Some, option_map};
 ghost use Rattle.command_line.specs.Commands.{IsCommand};
 ghost use Rattle.edge_io.specs.Source.{Given};
 ghost use Rattle.command_line.specs.declared.commands.Command.{Command as Asked};
 ghost use Rattle.command_line.specs.declared.commands.Command.TheVariants.{Play, Cat};
 ghost use Rattle.plfs_types.specs.Names.{IsLogicalName};
 ghost use Rattle.plfs_program.specs.Commands.{IsBuiltCommand, IsPlanned, FitsCommand};
-ghost use Rattle.plfs_program.specs.Built.{is_built as is_played};
 ghost use Rattle.script_lang.specs.Faults.{HasFault};
 ghost use Rattle.script_lang.specs.Grammar.{IsScript};
 ghost use Rattle.script_lang.specs.Ranges.{FitsScript};
@@ -18,7 +17,6 @@ ghost use Rattle.plfs_program.specs.Output.{IsPrinted, IsCutOff};
 ghost use Rattle.plfs_program.specs.Showing.{shows_of};
 ghost use Rattle.plfs_program.specs.SoundTrees.{TellsSoundTree, LeavesSoundTree};
 
-use crate::built::is_built;
 use crate::cat::{cat_mounted, say_unmounted};
 use crate::commands::{Built, Plan, built_command};
 use crate::faults::fault_line;
@@ -41,8 +39,6 @@ use store_api::Store;
 /// The usage line, which words outside the grammar print, with its line feed.
 pub const USAGE: &[u8] =
     b"usage: plfs ROOT run|play|gen N|cat NAME|stat NAME|map NAME|flatten NAME|trunc NAME SIZE|rename OLD NEW|recover NAME|ls\n";
-
-const UNBUILT: &[u8] = b"script 0 unbuilt\n";
 
 /// What a run leaves: the store, and the status with which the program ends.
 #[derive(Drop)]
@@ -110,7 +106,7 @@ fn end_faulty<S: Store, O: Sink>(
     ends(store, 2)
 }
 
-// Plays the script that was read, where it is one that is built.
+// Plays the script that was read.
 fn play_read<S: Store + Drop, C: Clock + Drop, O: Sink>(
     alloc: Global,
     script: &Script,
@@ -121,10 +117,6 @@ fn play_read<S: Store + Drop, C: Clock + Drop, O: Sink>(
     requires { FitsScript script.now }
     ensures { (bytes : List ℕ) → IsScript bytes script.now → InputCourse bytes (ends_of (C.times clock) (O.taking out.old) (O.taking out.new) (S.stored store) (option_map S.stored result.store)) result.status }
 {
-    if !is_built(script) {
-        say(out, UNBUILT);
-        return ends(store, 2);
-    }
     play_script(alloc, script, Shown::All, out, store, clock)
 }
 
@@ -171,7 +163,6 @@ fn play_plan<S: Store + Drop, C: Clock + Drop, I: Source, O: Sink>(
     store: S,
     clock: C,
 ) -> Ended<S>
-    requires built { is_played plan.now.script ≡ true }
     requires fits { FitsScript plan.now.script }
     ensures { (words : List (List ℕ)) (command : Asked) → IsCommand words command → IsPlanned command plan.now → Course words (I.given input.old) (I.given input.new) (ends_of (C.times clock) (O.taking out.old) (O.taking out.new) (S.stored store) (option_map S.stored result.store)) result.status }
 {
@@ -261,11 +252,10 @@ fn follow<S: Store + Drop, C: Clock + Drop, I: Source, O: Sink>(
 /// Runs a command that waits for nobody: reads the words, the input and the script, mounts the store, works, and
 /// prints a line for each statement.
 ///
-/// `play` reads a script from the input. A script of which a statement isn't made yet prints `script 0 unbuilt`, a script
-/// with a fault prints `script`, the fault's line and its kind. `stat`, `recover`, `trunc`, `rename`, `ls` and `flatten` make
+/// `play` reads a script from the input. A script with a fault prints `script`, the fault's line and its kind. `stat`, `recover`, `trunc`, `rename`, `ls` and `flatten` make
 /// this one statement of one actor, and print its line with number 0; `map` opens a reader first, whose line is shown where
 /// it is none. `cat` writes a file out, each piece before the next one is read; a trouble behind the opening has no line. `gen` plays the generated script, and prints how many lines of each kind it has, and the file's size. Words
-/// that are no command, or one with a statement that isn't made yet, print the usage line.
+/// that are no command, or one that isn't built yet, print the usage line.
 ///
 /// What is printed is the text of the lines of a play: from the mounting to the end, the script's actors made their calls in
 /// the order of the written turns, each call following from the replies before it, and these are the lines of their

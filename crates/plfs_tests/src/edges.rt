@@ -5,8 +5,6 @@ use std::test::Fail;
 const USAGE: &str =
     "usage: plfs ROOT run|play|gen N|cat NAME|stat NAME|map NAME|flatten NAME|trunc NAME SIZE|rename OLD NEW|recover NAME|ls\n";
 
-const UNBUILT: &str = "script 0 unbuilt\n";
-
 // Words that are no command, or of one that is still to come.
 const OTHERS: &[&[&str]] = &[
     &["run", "play"],
@@ -71,20 +69,6 @@ fn a_sink_that_takes_nothing_breaks_the_run(rt: HostRuntime) -> Result<(), Fail>
     };
     let run = run_fresh(rt.alloc(), full)?;
     ends(&rt, &run, 6, "");
-    Ok(())
-}
-
-#[test]
-fn scripts_that_flatten_are_not_built(rt: HostRuntime) -> Result<(), Fail> {
-    for script in [
-        "actor a\na flatten f\n",
-        "actor a\na open f\nphase\na flatten f\na ls\n",
-    ] {
-        let run = run_fresh(rt.alloc(), playing(script.as_bytes()))?;
-        ends(&rt, &run, 2, UNBUILT);
-        let store = run.store.ok_or("no store")?;
-        assert_eq!(rt; store.acts(), 0);
-    }
     Ok(())
 }
 

@@ -73,6 +73,34 @@ pub(crate) const FILES: &[Row] = &[
         1,
         "3 open 4294967297\n4 closed 0\n5 armed\n6 stopped\n7 refused held\n8 recovered - alive - hold yes\n9 open 4294967300\n",
     ),
+    // What a flattening covers and what landed after it are one file, whose pieces are as they would be without it.
+    (
+        "actor a\nactor b\na open f\na write 0 text:AAAA\na sync\nb flatten f\na write 1 text:BB\na sync\nb ropen f\nb read 0 9\nb map\n",
+        &[10],
+        0,
+        "3 open 4294967297\n4 wrote 0 4 10\n5 synced 1\n6 flattened 4294967298 1 cut 4294967297:1\n7 wrote 1 2 11\n8 synced 2\n9 reader 4 cut 4294967297:2 trunc -\n10 read 0 41424241\n11 map 0+1=10.4294967297@0 1+2=11.4294967297@4 3+1=10.4294967297@3\n",
+    ),
+    // A flattened index has the pieces that a truncate hides, and no writer without entries.
+    (
+        "actor a\nactor b\nb flatten f\na open f\na write 0 text:AAAA\na close\nb trunc f 2\na open f\nb flatten f\nb ropen f\nb read 0 9\n",
+        &[10],
+        1,
+        "3 refused no-file\n4 open 4294967297\n5 wrote 0 4 10\n6 closed 1\n7 truncated 11\n8 open 4294967299\n9 flattened 4294967300 1 cut 4294967297:1\n10 reader 2 cut 4294967297:1 trunc 11:2\n11 read 0 4141\n",
+    ),
+    // A second flattening covers what was synced since the first.
+    (
+        "actor a\nactor b\na open f\na write 0 text:AAAA\na sync\nb flatten f\na write 1 text:BB\na sync\nb flatten f\nb ropen f\nb read 0 9\nb map\n",
+        &[10],
+        0,
+        "3 open 4294967297\n4 wrote 0 4 10\n5 synced 1\n6 flattened 4294967298 1 cut 4294967297:1\n7 wrote 1 2 11\n8 synced 2\n9 flattened 4294967299 3 cut 4294967297:2\n10 reader 4 cut 4294967297:2 trunc -\n11 read 0 41424241\n12 map 0+1=10.4294967297@0 1+2=11.4294967297@4 3+1=10.4294967297@3\n",
+    ),
+    // A recovery changes nothing that an open reader sees.
+    (
+        "actor a\nactor b\nactor c\na open f\na write 0 text:AB\na write 2 text:C\na stop 2 41\na sync\nb ropen f\nb read 0 9\nc recover f\nb read 0 9\n",
+        &[10],
+        0,
+        "4 open 4294967297\n5 wrote 0 2 10\n6 wrote 2 1 11\n7 armed\n8 stopped\n9 reader 2 cut 4294967297:1 trunc -\n10 read 0 4142\n11 recovered 4294967297:1 alive - hold no\n12 read 0 4142\n",
+    ),
     // There is no file, or no such size.
     (
         "actor a\na stat f\na trunc f 0\na rename f g\na recover f\na ls\na open f\na close\na trunc f 1099511627777\na trunc f 1099511627776\na stat f\na ls\n",

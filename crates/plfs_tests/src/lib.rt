@@ -9,9 +9,13 @@ mod damage;
 #[cfg(test)]
 mod edges;
 #[cfg(test)]
+mod faults;
+#[cfg(test)]
 mod files;
 #[cfg(test)]
 mod folder;
+#[cfg(test)]
+mod losses;
 #[cfg(test)]
 mod marks;
 #[cfg(test)]

@@ -112,6 +112,7 @@ const COMMANDS: &[Session] = &[
             (&["rename", "f", "g"], "", 0, "0 renamed\n"),
             (&["rename", "f", "h"], "", 1, "0 refused no-file\n"),
             (&["recover", "g"], "", 0, "0 recovered - alive - hold no\n"),
+            (&["flatten", "f"], "", 1, "0 refused no-file\n"),
             (
                 &["stat", "g"],
                 "",
@@ -119,6 +120,25 @@ const COMMANDS: &[Session] = &[
                 "0 stat 2 5 by 4294967297:5 trunc 11:2\n",
             ),
             (&["ls"], "", 0, "0 ls g\n"),
+        ],
+    ),
+    // Each of these is a run of its own.
+    (
+        &[],
+        &[
+            (&["play"], HELLO, 0, HELLO_LINES),
+            (&["map", "f"], "", 0, "0 map 0+5=10.4294967297@0\n"),
+            (
+                &["flatten", "f"],
+                "",
+                0,
+                "0 flattened 12884901889 1 cut 4294967297:1\n",
+            ),
+            (&["trunc", "f", "2"], "", 0, "0 truncated 11\n"),
+            (&["rename", "f", "g"], "", 0, "0 renamed\n"),
+            (&["ls"], "", 0, "0 ls g\n"),
+            (&["recover", "g"], "", 0, "0 recovered - alive - hold no\n"),
+            (&["map", "g"], "", 0, "0 map 0+2=10.4294967297@0\n"),
         ],
     ),
     // A run that ends leaves its open writer as it is, until a recovery buries it.

@@ -226,7 +226,7 @@ shares_fail lister caller program start scanning between reading listing ds why 
 -- ---- truncates
 
 -- a room whose flattened indices were listed is a container
-listed_container : (caller : ℕ) (start : Moment) (scanning : List Event) (listing : Listing) → HasListed listing (calls_of caller scanning) → IsLawful start.state scanning → IsSoundAt start → IsContainerAt (moment_after start scanning) listing.room
+pub listed_container : (caller : ℕ) (start : Moment) (scanning : List Event) (listing : Listing) → HasListed listing (calls_of caller scanning) → IsLawful start.state scanning → IsSoundAt start → IsContainerAt (moment_after start scanning) listing.room
 listed_container caller start scanning listing h lawful sound =
     let room : ℕ = listing.room in
     let middle : Moment = moment_after start scanning in

@@ -81,5 +81,5 @@ play_caused script start lines end playable p has =
     let R : State → Type 0 = λ s. HasRisen start.store.faults s.store.faults in
     elim (well_or_risen start p.history p.leads.lawful p.had_memory) as (λ _. R end) [
       | inl risen ↦ subst R p.leads.ends risen
-      | inr well ↦ absurd (none_has lines (lines_good IsWell NoFault work_caused script p.history lines playable.built well p.in_turns) has)
+      | inr well ↦ absurd (none_has lines (lines_good IsWell NoFault work_caused script p.history lines well p.in_turns) has)
     ]

@@ -12,7 +12,6 @@ use Rattle.story.specs.Performers.{performer, paused}
 use Rattle.actor_core.specs.declared.kept.Kept.{Kept}
 use Rattle.actor_core.specs.Progress.{Progress, idle, going, asked, told}
 use Rattle.actor_core.specs.Standings.{progress_of}
-use Rattle.actor_core.specs.Statements.{is_built_statement}
 use Rattle.run_core.specs.declared.player.Player.{Player}
 use Rattle.run_core.specs.Course.{Course, one_by_one, own, through}
 use Rattle.run_core.specs.Players.{course_at, course_left, playing, resting, IsSafeProgress, IsMade, in_progress, lines_left, Stands}
@@ -91,20 +90,20 @@ rests_of place player now stands =
       ahead = no_items player.ahead.items (omega (arith, left));
     }
 
-made_all : (count n : ℕ) (statements : List Numbered) → All (FitsNumbered count) statements → All (λ (s : Numbered). is_built_statement s.statement ≡ true) statements → All IsMade (own n statements)
-made_all count n [] fits built = All-nil IsMade
-made_all count n (s ∷ ss) fits built =
-    let first : IsMade s = ((All-head (FitsNumbered count) s ss fits).1, All-head (λ (x : Numbered). is_built_statement x.statement ≡ true) s ss built) in
-    let rest = made_all count n ss (All-tail (FitsNumbered count) s ss fits) (All-tail (λ (x : Numbered). is_built_statement x.statement ≡ true) s ss built) in
+made_all : (count n : ℕ) (statements : List Numbered) → All (FitsNumbered count) statements → All IsMade (own n statements)
+made_all count n [] fits = All-nil IsMade
+made_all count n (s ∷ ss) fits =
+    let first : IsMade s = (All-head (FitsNumbered count) s ss fits).1 in
+    let rest = made_all count n ss (All-tail (FitsNumbered count) s ss fits) in
     elim (s.actor == n) as (λ b. All IsMade (cond b (s ∷ own n ss) (own n ss))) [
       | true ↦ All-cons IsMade s (own n ss) first rest
       | false ↦ rest
     ]
 
 -- a player that was given its statements stands at the beginning of the phase
-pub dealt_stands : (count place : ℕ) (statements : List Numbered) (old new : Player) (now : State) → All (FitsNumbered count) statements → All (λ (s : Numbered). is_built_statement s.statement ≡ true) statements
+pub dealt_stands : (count place : ℕ) (statements : List Numbered) (old new : Player) (now : State) → All (FitsNumbered count) statements
     → Stands [] place old now → IsDealt (own place statements) old new → Stands statements place new now
-dealt_stands count place statements old new now fits built stands d =
+dealt_stands count place statements old new now fits stands d =
     let r = rests_of place old now stands in
     let queue : new.queue.items ≡ own place statements = d.queue ∙ ap (λ z. z ++ own place statements) r.queue in
     let progress : progress_of new.actor ≡ idle r.kept = d.progress ∙ r.progress in
@@ -113,14 +112,14 @@ dealt_stands count place statements old new now fits built stands d =
     let many : length new.queue.items ≡ length (own place statements) = ap length queue in
     record {
       number = d.number ∙ stands.number;
-      fit = idle_fit new now r.kept progress (subst (λ (z : List Numbered). All IsMade z) (sym queue) (made_all count place statements fits built)) stands.fit.fine;
+      fit = idle_fit new now r.kept progress (subst (λ (z : List Numbered). All IsMade z) (sym queue) (made_all count place statements fits)) stands.fit.fine;
       left = omega (arith, ahead, busy, many);
     }
 
-pub all_dealt : (count : ℕ) (statements : List Numbered) (old new : List Player) (now : State) → All (FitsNumbered count) statements → All (λ (s : Numbered). is_built_statement s.statement ≡ true) statements → AllStand [] old now → Dealt statements old new → AllStand statements new now
-all_dealt count statements old new now fits built stand d = λ place player here.
+pub all_dealt : (count : ℕ) (statements : List Numbered) (old new : List Player) (now : State) → All (FitsNumbered count) statements → AllStand [] old now → Dealt statements old new → AllStand statements new now
+all_dealt count statements old new now fits stand d = λ place player here.
     let b = d.each place player here in
-    dealt_stands count place statements b.0 player now fits built (stand place b.0 b.1) b.2
+    dealt_stands count place statements b.0 player now fits (stand place b.0 b.1) b.2
 
 -- what it has to do is what it had to do before, with the phase in front
 pub dealt_course : (place : ℕ) (phase : Phase) (later : List Phase) (old new : Player) (now : State) → Stands [] place old now → IsDealt (own place phase.statements) old new → resting (phase ∷ later) old ≡ playing later new

@@ -107,7 +107,7 @@ measure_well {A} {R} room look f path next goes =
     (λ why. given_well (f (Refused why)) (stuck.Refused why) next refl goes)
     (λ folder file. given_well (f (Damaged folder file)) (stuck.Damaged folder file 0) next refl goes)
 
-find_well : {R : Type 0} (name : Name) (next : ℕ → Tries R) → ((room : ℕ) → Well (next room)) → Well (ask (Find name) (λ reply. given (room_in reply) (failure reply) next))
+pub find_well : {R : Type 0} (name : Name) (next : ℕ → Tries R) → ((room : ℕ) → Well (next room)) → Well (ask (Find name) (λ reply. given (room_in reply) (failure reply) next))
 find_well name next goes = λ reply fits.
     by_reply is_no_fault (λ r. given (room_in r) (failure r) next) ((room : ℕ) × (reply ≡ Room room)) reply fits (λ p. subst (λ r. Well (given (room_in r) (failure r) next)) (sym p.1) (goes p.0)) (λ why. refl) (λ folder file. refl)
 

@@ -1,6 +1,6 @@
 -- What holds of the end of each statement holds of all lines of a play.
 use Rattle.std.proofs.Common.{◌≡◌, ℕ, zero, suc, ◌+◌, ◌<◌, true, false, List, [], ◌∷◌, ◌++◌, length, Some, refl, sym, subst, map, get_or, arith}
-use Rattle.std.specs.Prelude.{⊤, All, cond, ◌==◌, MatchBool, set, slice_get, Result}
+use Rattle.std.specs.Prelude.{⊤, MatchBool, set, slice_get, Result}
 use Rattle.mount_model.specs.declared.call.Ask.{Ask}
 use Rattle.mount_model.specs.declared.reply.Reply.{Reply}
 use Rattle.mount_model.specs.History.{Event}
@@ -20,23 +20,11 @@ use Rattle.script_lang.specs.declared.script.Script.{Script}
 use Rattle.actor_core.specs.declared.kept.Kept.{Kept}
 use Rattle.actor_core.specs.Progress.{fresh}
 use Rattle.actor_core.specs.Work.{Work}
-use Rattle.actor_core.specs.Statements.{is_built_statement, work_of}
+use Rattle.actor_core.specs.Statements.{work_of}
 use Rattle.run_core.specs.Course.{Course, then_line, one_by_one, own, through}
 use Rattle.run_core.specs.Written.{is_greeting, written_of}
-use Rattle.std.proofs.lemmas.List.Elements.{All-nil, All-cons, All-head, All-tail}
-use Rattle.run_core.specs.Conditions.{IsBuiltPhase}
 use Rattle.run_core.specs.Cast.{cast_from, cast}
 use Rattle.run_core.proofs.Works.{same_some}
-
-own_built : (n : ℕ) (statements : List Numbered) → All (λ (s : Numbered). is_built_statement s.statement ≡ true) statements → All (λ (s : Numbered). is_built_statement s.statement ≡ true) (own n statements)
-own_built n [] built = All-nil (λ (s : Numbered). is_built_statement s.statement ≡ true)
-own_built n (s ∷ ss) built =
-    let P : Numbered → Type 0 = λ x. is_built_statement x.statement ≡ true in
-    let rest = own_built n ss (All-tail P s ss built) in
-    elim (s.actor == n) as (λ b. All P (cond b (s ∷ own n ss) (own n ss))) [
-      | true ↦ All-cons P s (own n ss) (All-head P s ss built) rest
-      | false ↦ rest
-    ]
 
 module _ (Well : Ask → Reply → Type 0) (Good : Outcome → Type 0) where
   -- ---- courses
@@ -64,14 +52,14 @@ module _ (Well : Ask → Reply → Type 0) (Good : Outcome → Type 0) where
   line_tells_good number next (asks q k) caused goes = λ reply well. line_tells_good number next (k reply) (caused reply well) goes
   line_tells_good number next (shares ps k alone) caused goes = line_tells_good number next alone caused goes
 
-  statements_tell_good : ((kept : Kept) (statement : Statement) → is_built_statement statement ≡ true → EndsGood (work_of kept statement)) → (statements : List Numbered) (next : Kept → Course) → All (λ (s : Numbered). is_built_statement s.statement ≡ true) statements → ((kept : Kept) → TellsGood (next kept)) → (kept : Kept) → TellsGood (one_by_one statements next kept)
-  statements_tell_good works [] next built goes kept = goes kept
-  statements_tell_good works (s ∷ ss) next built goes kept = line_tells_good s.line (λ left. one_by_one ss next left) (work_of kept s.statement) (works kept s.statement (All-head (λ (x : Numbered). is_built_statement x.statement ≡ true) s ss built)) (statements_tell_good works ss next (All-tail (λ (x : Numbered). is_built_statement x.statement ≡ true) s ss built) goes)
+  statements_tell_good : ((kept : Kept) (statement : Statement) → EndsGood (work_of kept statement)) → (statements : List Numbered) (next : Kept → Course) → ((kept : Kept) → TellsGood (next kept)) → (kept : Kept) → TellsGood (one_by_one statements next kept)
+  statements_tell_good works [] next goes kept = goes kept
+  statements_tell_good works (s ∷ ss) next goes kept = line_tells_good s.line (λ left. one_by_one ss next left) (work_of kept s.statement) (works kept s.statement) (statements_tell_good works ss next goes)
 
-  through_tells_good : ((kept : Kept) (statement : Statement) → is_built_statement statement ≡ true → EndsGood (work_of kept statement)) → (actor : ℕ) (phases : List Phase) → All IsBuiltPhase phases → (kept : Kept) → TellsGood (through actor phases kept)
-  through_tells_good works actor [] built kept = tt
-  through_tells_good works actor (phase ∷ phases) built kept =
-      statements_tell_good works (own actor phase.statements) (λ left. pauses (through actor phases left)) (own_built actor phase.statements (All-head IsBuiltPhase phase phases built)) (through_tells_good works actor phases (All-tail IsBuiltPhase phase phases built)) kept
+  through_tells_good : ((kept : Kept) (statement : Statement) → EndsGood (work_of kept statement)) → (actor : ℕ) (phases : List Phase) → (kept : Kept) → TellsGood (through actor phases kept)
+  through_tells_good works actor [] kept = tt
+  through_tells_good works actor (phase ∷ phases) kept =
+      statements_tell_good works (own actor phase.statements) (λ left. pauses (through actor phases left)) (through_tells_good works actor phases) kept
 
   -- ---- turns
 
@@ -197,10 +185,10 @@ module _ (Well : Ask → Reply → Type 0) (Good : Outcome → Type 0) where
       let rest = plays_quiet later t.4 t.1 t.3 (quiet_after_pause t.4 ended.1 none) (well_rest t.0 t.1 both) t.8 in
       subst AreGood (sym t.6) (none_both t.2 t.3 ended.0 rest)
 
-  cast_quiet : ((kept : Kept) (statement : Statement) → is_built_statement statement ≡ true → EndsGood (work_of kept statement)) → (place : ℕ) (phases : List Phase) (actors : List ActorDecl) → All IsBuiltPhase phases → AreQuiet (cast_from place phases actors)
-  cast_quiet works place phases [] built = tt
-  cast_quiet works place phases (d ∷ ds) built = ((through_tells_good works place phases built (fresh d.host d.cap), tt), cast_quiet works (place + 1) phases ds built)
+  cast_quiet : ((kept : Kept) (statement : Statement) → EndsGood (work_of kept statement)) → (place : ℕ) (phases : List Phase) (actors : List ActorDecl) → AreQuiet (cast_from place phases actors)
+  cast_quiet works place phases [] = tt
+  cast_quiet works place phases (d ∷ ds) = ((through_tells_good works place phases (fresh d.host d.cap), tt), cast_quiet works (place + 1) phases ds)
 
-  -- where the statements that actors make end well, all lines of a play are good, whose calls were answered well
-  pub lines_good : ((kept : Kept) (statement : Statement) → is_built_statement statement ≡ true → EndsGood (work_of kept statement)) → (script : Script) (history : List Event) (lines : List Line) → All IsBuiltPhase script.phases → AreWell history → InTurns is_greeting (map written_of script.phases) (cast script) history lines → AreGood lines
-  lines_good works script history lines built well t = plays_quiet (map written_of script.phases) (cast script) history lines (cast_quiet works 0 script.phases script.actors built) well t
+  -- where all statements end well, all lines of a play are good, whose calls were answered well
+  pub lines_good : ((kept : Kept) (statement : Statement) → EndsGood (work_of kept statement)) → (script : Script) (history : List Event) (lines : List Line) → AreWell history → InTurns is_greeting (map written_of script.phases) (cast script) history lines → AreGood lines
+  lines_good works script history lines well t = plays_quiet (map written_of script.phases) (cast script) history lines (cast_quiet works 0 script.phases script.actors) well t

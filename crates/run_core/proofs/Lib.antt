@@ -6,6 +6,7 @@ mod Dealing
 mod EndsWell
 mod FilesWell
 mod Finishing
+mod FlattenLooks
 mod Fitness
 mod GoodLines
 mod Leading
@@ -20,3 +21,7 @@ mod Turning
 mod Works
 mod WorksCaused
 mod WorksText
+mod UnowedCalls
+mod LoneWorks
+mod LoneSteps
+mod LonePlays

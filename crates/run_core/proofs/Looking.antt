@@ -44,7 +44,7 @@ either_looks well true p q one other = one
 either_looks well false p q one other = other
 
 -- of whatever type the result is
-same_fine : (A R : Type 0) (why : Stuck) → IsFine {A = A} (Err why) → IsFine {A = R} (Err why)
+pub same_fine : (A R : Type 0) (why : Stuck) → IsFine {A = A} (Err why) → IsFine {A = R} (Err why)
 same_fine A R stuck.Fault fine = fine
 same_fine A R (stuck.Damaged folder file place) fine = fine
 same_fine A R (stuck.Refused why) fine = fine

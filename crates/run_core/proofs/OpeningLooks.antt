@@ -15,7 +15,7 @@ use Rattle.actor_core.specs.Telling.{tells_by}
 use Rattle.run_core.proofs.Looking.{Looks, then_looks}
 use Rattle.run_core.proofs.ReaderLooks.{share_looks, truncs_look}
 
-each_looks : {R : Type 0} (workers : ℕ) (listing : Listing) (numbers : List ℕ) (sofar : List Share) (next : List Share → Tries R) (well : Type 0) → ((more : Type 0) (shares : List Share) → Looks more (next shares)) → Looks well (by_itself (map (worker_program workers listing) numbers) sofar next)
+pub each_looks : {R : Type 0} (workers : ℕ) (listing : Listing) (numbers : List ℕ) (sofar : List Share) (next : List Share → Tries R) (well : Type 0) → ((more : Type 0) (shares : List Share) → Looks more (next shares)) → Looks well (by_itself (map (worker_program workers listing) numbers) sofar next)
 each_looks workers listing [] sofar next well goes = goes well sofar
 each_looks workers listing (worker ∷ numbers) sofar next well goes =
     then_looks well (worker_program workers listing worker) (λ share. by_itself (map (worker_program workers listing) numbers) (sofar ++ share ∷ []) next)

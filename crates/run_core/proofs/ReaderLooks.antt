@@ -110,7 +110,7 @@ top_fine names =
     (required_fine metadata (file_in metadata []) names _
     (required_fine truncs (file_in truncs []) names (Ok (shown names hostdirs)) refl))))
 
-top_looks : (room id : ℕ) (flat : Flat) (well : Type 0) → Looks well (top_program room id flat)
+pub top_looks : (room id : ℕ) (flat : Flat) (well : Type 0) → Looks well (top_program room id flat)
 top_looks room id flat well = look_looks well room Top names_in (file_in [] []) _
     (λ more names. on_ok_looks more (λ ks. scans room id flat ks nothing_found) (top_shows names) (top_fine names) (λ ks. scans_look room id flat ks nothing_found more))
 

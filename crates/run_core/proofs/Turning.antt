@@ -24,10 +24,9 @@ use Rattle.mount_sound.specs.Sound.{IsFine}
 use Rattle.mount_sound.proofs.Facts.{step_fine}
 use Rattle.run_core.proofs.Leading.{leads_none, leads_both, memory_both, by_then, went, went_both}
 use Rattle.std.specs.Option.{option_to_list}
-use Rattle.std.proofs.lemmas.List.Elements.{All-head, All-tail}
+use Rattle.std.proofs.lemmas.List.Elements.{All-tail}
 use Rattle.actor_core.specs.Progress.{begun as begun_at}
 use Rattle.actor_core.specs.Statements.{work_of}
-use Rattle.actor_core.specs.Statements.{is_built_statement}
 use Rattle.statement_laws.proofs.Facts.{comes_to_line, work_safe}
 use Rattle.run_core.proofs.Capacity.{capacity}
 use Rattle.run_core.proofs.Fitness.{idle_fit}
@@ -322,10 +321,9 @@ begins_next old new next idles queue number ahead is =
       number = number;
       fit = λ now fit.
           let made : All IsMade (next ∷ new.queue.items) = subst (λ (z : List Numbered). All IsMade z) queue fit.made in
-          let built : is_built_statement next.statement ≡ true = (All-head IsMade next new.queue.items made).1 in
           let room = capacity old.actor kept.0 kept.1 in
           let safe : IsSafeProgress new.number (going next.line (work_of kept.0 next.statement)) now =
-          (comes_to_line kept.0 next.statement built, work_safe new.number kept.0 next.statement now room.0 room.1 built fit.fine) in
+          (comes_to_line kept.0 next.statement, work_safe new.number kept.0 next.statement now room.0 room.1 fit.fine) in
           record {
             fine = fit.fine;
             safe = (let P : Progress → Type 0 = λ z. IsSafeProgress new.number z now in subst P (sym new_is) safe);

@@ -19,6 +19,8 @@ use Rattle.attr_flow.specs.declared.attr.Attr.{Attr}
 use Rattle.attr_flow.specs.declared.attr_flow.AttrOut.{AttrOut}
 use Rattle.attr_flow.specs.declared.attr_flow.AttrOut.TheVariants.{Cached, MustMerge}
 use Rattle.attr_flow.specs.Asking.{attr_program}
+use Rattle.flatten_core.specs.declared.flattening.Flattened.{Flattened as WasFlattened}
+use Rattle.flatten_core.specs.Flattening.{flatten_program}
 use Rattle.torn_tail.specs.declared.recovering.Recovered.{Recovered as WasRecovered}
 use Rattle.torn_tail.specs.Recovering.{recover_program}
 use Rattle.trunc_rename.specs.Renaming.{rename_program}
@@ -36,15 +38,16 @@ use Rattle.script_lang.specs.declared.script.Statement.TheVariants.{Open, Write,
 use Rattle.actor_core.specs.declared.kept.Kept.{Kept}
 use Rattle.actor_core.specs.declared.kept.Stop.{Stop}
 use Rattle.outcomes.specs.Data.{bytes_of, length_of, first_difference}
-use Rattle.actor_core.specs.Endings.{gone, refused, stopped, opened, wrote_nothing, wrote, synced, closed, read_from, verified, names_listed, recovered, renamed, told_of, truncated}
+use Rattle.actor_core.specs.Endings.{gone, refused, stopped, opened, wrote_nothing, wrote, synced, closed, read_from, verified, names_listed, recovered, renamed, told_of, truncated, flattened}
+use Rattle.outcomes.specs.Counts.{counts_of}
 use Rattle.outcomes.specs.Outcomes.{stuck_outcome, or_stuck, difference}
 use Rattle.actor_core.specs.Names.{names_program}
 use Rattle.actor_core.specs.Telling.{if_asked, if_relisted, tells_by, tells_of_file}
 use Rattle.actor_core.specs.Opened.{opens as opens_after, reader_opened}
 use Rattle.actor_core.specs.Readers.{opens_reader, if_listed, reads, verifies, maps, closes_reader}
 use Rattle.gather_flow.specs.Shares.{programs_from, by_itself}
-use Rattle.actor_core.specs.Statements.{is_built_statement, does, greeted, greeted_work, disarmed, work_of}
-use Rattle.actor_core.specs.ByName.{lists_names, recovers_file, renames_file, truncates_file}
+use Rattle.actor_core.specs.Statements.{does, greeted, greeted_work, disarmed, work_of}
+use Rattle.actor_core.specs.ByName.{flattens_file, lists_names, recovers_file, renames_file, truncates_file}
 use Rattle.actor_core.specs.Stopping.{carried, is_due, due_bytes, stoppable, one_nearer}
 use Rattle.actor_core.specs.Work.{Work, finishes}
 use Rattle.actor_core.specs.Writers.{opens, writes, writes_bytes, syncs, closes}
@@ -53,6 +56,7 @@ use Rattle.run_core.proofs.EndsWell.{EndsIn, is_no_fault, ends_well, open_well, 
 use Rattle.run_core.proofs.Looking.{IsAnswered, Looks}
 use Rattle.run_core.proofs.FilesWell.{attr_well, names_well, recover_well, rename_well, truncate_well}
 use Rattle.run_core.proofs.ReaderLooks.{listing_looks, open_at_looks, read_looks}
+use Rattle.run_core.proofs.FlattenLooks.{flatten_looks}
 use Rattle.run_core.proofs.OpeningLooks.{opening_looks, telling_looks}
 
 -- the reply fits, is no fault, and was not for want of memory
@@ -230,6 +234,11 @@ renames_caused kept stop name to =
     carried_caused is_no_fault (rename_program name to) stop (λ left result. finishes (renamed kept result)) (finishes (stopped kept)) (rename_well name to)
     (λ left result fine. or_stuck_none (λ (made : ⊤). of.Renamed) result (λ made is. absurd (cc)) fine) (stops_none kept)
 
+flattens_caused : (kept : Kept) (stop : Option Stop) (name : List ℕ) → IsCaused (flattens_file kept stop name)
+flattens_caused kept stop name =
+    looked_caused ⊤ (flatten_program name) stop (λ left result. finishes (flattened kept result)) (finishes (stopped kept)) tt (flatten_looks name ⊤)
+    (λ left result fine. or_stuck_none (λ (f : WasFlattened). of.Flattened f.flat f.pieces (counts_of f.covers)) result (λ f is. absurd (cc)) fine) (stops_none kept)
+
 recovers_caused : (kept : Kept) (stop : Option Stop) (name : List ℕ) → IsCaused (recovers_file kept stop name)
 recovers_caused kept stop name =
     carried_caused is_no_fault (recover_program name) stop (λ left result. finishes (recovered kept result)) (finishes (stopped kept)) (recover_well name)
@@ -240,27 +249,27 @@ lists_caused kept stop =
     carried_caused is_no_fault names_program stop (λ left result. finishes (names_listed kept result)) (finishes (stopped kept)) names_well
     (λ left result fine. or_stuck_none (λ (names : List (List ℕ)). of.Listed names) result (λ names is. absurd (cc)) fine) (stops_none kept)
 
-does_caused : (kept : Kept) (stop : Option Stop) (statement : Statement) → is_built_statement statement ≡ true → IsCaused (does kept stop statement)
-does_caused kept stop (Open name) built = opens_caused kept stop name kept.writer
-does_caused kept stop (Write at content) built = writes_caused kept stop at (bytes_of content) kept.writer
-does_caused kept stop Sync built = syncs_caused kept stop kept.writer
-does_caused kept stop Close built = closes_caused kept stop kept.writer
-does_caused kept stop (Ropen name workers) built = opens_reader_caused kept stop name workers kept.reader
-does_caused kept stop (Read at len) built = reads_caused kept stop at len kept.reader
-does_caused kept stop (Verify at content) built = verifies_caused kept stop at content kept.reader
-does_caused kept stop Map built = maps_caused kept kept.reader
-does_caused kept stop Rclose built = closes_reader_caused kept kept.reader
-does_caused kept stop (Arms call bytes) built = λ is. absurd (cc)
-does_caused kept stop (Stat name) built = tells_caused kept stop name
-does_caused kept stop (Flatten name) built = gone_none kept
-does_caused kept stop (Recover name) built = recovers_caused kept stop name
-does_caused kept stop (Truncs name size) built = truncates_caused kept stop name size
-does_caused kept stop (Rename name new) built = renames_caused kept stop name new
-does_caused kept stop Ls built = lists_caused kept stop
+does_caused : (kept : Kept) (stop : Option Stop) (statement : Statement) → IsCaused (does kept stop statement)
+does_caused kept stop (Open name) = opens_caused kept stop name kept.writer
+does_caused kept stop (Write at content) = writes_caused kept stop at (bytes_of content) kept.writer
+does_caused kept stop Sync = syncs_caused kept stop kept.writer
+does_caused kept stop Close = closes_caused kept stop kept.writer
+does_caused kept stop (Ropen name workers) = opens_reader_caused kept stop name workers kept.reader
+does_caused kept stop (Read at len) = reads_caused kept stop at len kept.reader
+does_caused kept stop (Verify at content) = verifies_caused kept stop at content kept.reader
+does_caused kept stop Map = maps_caused kept kept.reader
+does_caused kept stop Rclose = closes_reader_caused kept kept.reader
+does_caused kept stop (Arms call bytes) = λ is. absurd (cc)
+does_caused kept stop (Stat name) = tells_caused kept stop name
+does_caused kept stop (Flatten name) = flattens_caused kept stop name
+does_caused kept stop (Recover name) = recovers_caused kept stop name
+does_caused kept stop (Truncs name size) = truncates_caused kept stop name size
+does_caused kept stop (Rename name new) = renames_caused kept stop name new
+does_caused kept stop Ls = lists_caused kept stop
 
-greeted_caused : (kept : Kept) (statement : Statement) → is_built_statement statement ≡ true → IsCaused (greeted_work kept statement)
-greeted_caused kept statement built = either_caused kept.gone (finishes (gone kept)) (does (disarmed kept) kept.armed statement) (λ _. gone_none kept) (λ _. does_caused (disarmed kept) kept.armed statement built)
+greeted_caused : (kept : Kept) (statement : Statement) → IsCaused (greeted_work kept statement)
+greeted_caused kept statement = either_caused kept.gone (finishes (gone kept)) (does (disarmed kept) kept.armed statement) (λ _. gone_none kept) (λ _. does_caused (disarmed kept) kept.armed statement)
 
 -- whatever the actor keeps
-pub work_caused : (kept : Kept) (statement : Statement) → is_built_statement statement ≡ true → IsCaused (work_of kept statement)
-work_caused kept statement built = either_caused kept.greeted (greeted_work kept statement) _ (λ _. greeted_caused kept statement built) (λ _ reply is. greeted_caused (greeted kept) statement built)
+pub work_caused : (kept : Kept) (statement : Statement) → IsCaused (work_of kept statement)
+work_caused kept statement = either_caused kept.greeted (greeted_work kept statement) _ (λ _. greeted_caused kept statement) (λ _ reply is. greeted_caused (greeted kept) statement)

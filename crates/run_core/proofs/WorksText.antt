@@ -1,5 +1,5 @@
 -- The line of each statement has a text: what it lists are logical names.
-use Rattle.std.proofs.Common.{◌≡◌, ℕ, List, [], length, Bool, true, false, Option, Some, None, Result, Ok, Err, ◌∷◌}
+use Rattle.std.proofs.Common.{ℕ, List, [], length, Bool, true, false, Option, Some, None, Result, Ok, Err, ◌∷◌}
 use Rattle.std.specs.Prelude.{⊤, if◌then◌else◌, ◌==◌}
 use Rattle.std.proofs.lemmas.List.Elements.{All-nil, All-cons}
 use Rattle.story.specs.Program.{Program, done, ask}
@@ -21,6 +21,8 @@ use Rattle.attr_flow.specs.declared.attr.Attr.{Attr}
 use Rattle.attr_flow.specs.declared.attr_flow.AttrOut.{AttrOut}
 use Rattle.attr_flow.specs.declared.attr_flow.AttrOut.TheVariants.{Cached, MustMerge}
 use Rattle.attr_flow.specs.Asking.{attr_program}
+use Rattle.flatten_core.specs.declared.flattening.Flattened.{Flattened as WasFlattened}
+use Rattle.flatten_core.specs.Flattening.{flatten_program}
 use Rattle.torn_tail.specs.declared.recovering.Recovered.{Recovered as WasRecovered}
 use Rattle.torn_tail.specs.Recovering.{recover_program}
 use Rattle.trunc_rename.specs.Renaming.{rename_program}
@@ -40,15 +42,16 @@ use Rattle.script_lang.specs.declared.script.Statement.TheVariants.{Open, Write,
 use Rattle.actor_core.specs.declared.kept.Kept.{Kept}
 use Rattle.actor_core.specs.declared.kept.Stop.{Stop}
 use Rattle.outcomes.specs.Data.{bytes_of, length_of, first_difference}
-use Rattle.actor_core.specs.Endings.{gone, refused, stopped, opened, wrote_nothing, wrote, synced, closed, read_from, verified, names_listed, recovered, renamed, told_of, truncated}
+use Rattle.actor_core.specs.Endings.{gone, refused, stopped, opened, wrote_nothing, wrote, synced, closed, read_from, verified, names_listed, recovered, renamed, told_of, truncated, flattened}
+use Rattle.outcomes.specs.Counts.{counts_of}
 use Rattle.outcomes.specs.Outcomes.{stuck_outcome, or_stuck, difference}
 use Rattle.actor_core.specs.Names.{names_program, names_told}
 use Rattle.actor_core.specs.Telling.{if_asked, if_relisted, tells_by, tells_of_file}
 use Rattle.actor_core.specs.Opened.{opens as opens_after, reader_opened}
 use Rattle.actor_core.specs.Readers.{opens_reader, if_listed, reads, verifies, maps, closes_reader}
 use Rattle.gather_flow.specs.Shares.{programs_from, by_itself}
-use Rattle.actor_core.specs.Statements.{is_built_statement, does, greeted, greeted_work, disarmed, work_of}
-use Rattle.actor_core.specs.ByName.{lists_names, recovers_file, renames_file, truncates_file}
+use Rattle.actor_core.specs.Statements.{does, greeted, greeted_work, disarmed, work_of}
+use Rattle.actor_core.specs.ByName.{flattens_file, lists_names, recovers_file, renames_file, truncates_file}
 use Rattle.actor_core.proofs.Facts.{logical_names}
 use Rattle.actor_core.specs.Stopping.{carried, is_due, one_nearer}
 use Rattle.actor_core.specs.Work.{Work, finishes}
@@ -162,6 +165,9 @@ truncates_text kept stop name size = carried_text (truncate_program name size) s
 renames_text : (kept : Kept) (stop : Option Stop) (name to : List ℕ) → HasText (renames_file kept stop name to)
 renames_text kept stop name to = carried_text (rename_program name to) stop (λ left result. finishes (renamed kept result)) (finishes (stopped kept)) (λ left result. or_stuck_text (λ (made : ⊤). of.Renamed) result (λ made. tt)) tt
 
+flattens_text : (kept : Kept) (stop : Option Stop) (name : List ℕ) → HasText (flattens_file kept stop name)
+flattens_text kept stop name = carried_text (flatten_program name) stop (λ left result. finishes (flattened kept result)) (finishes (stopped kept)) (λ left result. or_stuck_text (λ (f : WasFlattened). of.Flattened f.flat f.pieces (counts_of f.covers)) result (λ f. tt)) tt
+
 recovers_text : (kept : Kept) (stop : Option Stop) (name : List ℕ) → HasText (recovers_file kept stop name)
 recovers_text kept stop name = carried_text (recover_program name) stop (λ left result. finishes (recovered kept result)) (finishes (stopped kept)) (λ left result. or_stuck_text (λ (r : WasRecovered). of.Recovered r.buried r.alive r.hold) result (λ r. tt)) tt
 
@@ -190,29 +196,29 @@ named_text kept NoMemory = tt
 lists_text : (kept : Kept) (stop : Option Stop) → HasText (lists_names kept stop)
 lists_text kept stop = λ reply any. either_text (is_due stop) (finishes (stopped kept)) (finishes (names_listed kept (names_told reply))) tt (named_text kept reply)
 
-does_text : (kept : Kept) (stop : Option Stop) (statement : Statement) → is_built_statement statement ≡ true → HasText (does kept stop statement)
-does_text kept stop (Open name) built = opens_text kept stop name kept.writer
-does_text kept stop (Write at content) built = writes_text kept stop at (bytes_of content) kept.writer
-does_text kept stop Sync built = syncs_text kept stop kept.writer
-does_text kept stop Close built = closes_text kept stop kept.writer
-does_text kept stop (Ropen name workers) built = opens_reader_text kept stop name workers kept.reader
-does_text kept stop (Read at len) built = reads_text kept stop at len kept.reader
-does_text kept stop (Verify at content) built = verifies_text kept stop at content kept.reader
-does_text kept stop Map built = maps_text kept kept.reader
-does_text kept stop Rclose built = closes_reader_text kept kept.reader
-does_text kept stop (Arms call bytes) built = tt
-does_text kept stop (Stat name) built = tells_text kept stop name
-does_text kept stop (Flatten name) built = tt
-does_text kept stop (Recover name) built = recovers_text kept stop name
-does_text kept stop (Truncs name size) built = truncates_text kept stop name size
-does_text kept stop (Rename name new) built = renames_text kept stop name new
-does_text kept stop Ls built = lists_text kept stop
+does_text : (kept : Kept) (stop : Option Stop) (statement : Statement) → HasText (does kept stop statement)
+does_text kept stop (Open name) = opens_text kept stop name kept.writer
+does_text kept stop (Write at content) = writes_text kept stop at (bytes_of content) kept.writer
+does_text kept stop Sync = syncs_text kept stop kept.writer
+does_text kept stop Close = closes_text kept stop kept.writer
+does_text kept stop (Ropen name workers) = opens_reader_text kept stop name workers kept.reader
+does_text kept stop (Read at len) = reads_text kept stop at len kept.reader
+does_text kept stop (Verify at content) = verifies_text kept stop at content kept.reader
+does_text kept stop Map = maps_text kept kept.reader
+does_text kept stop Rclose = closes_reader_text kept kept.reader
+does_text kept stop (Arms call bytes) = tt
+does_text kept stop (Stat name) = tells_text kept stop name
+does_text kept stop (Flatten name) = flattens_text kept stop name
+does_text kept stop (Recover name) = recovers_text kept stop name
+does_text kept stop (Truncs name size) = truncates_text kept stop name size
+does_text kept stop (Rename name new) = renames_text kept stop name new
+does_text kept stop Ls = lists_text kept stop
 
-greeted_text : (kept : Kept) (statement : Statement) → is_built_statement statement ≡ true → HasText (greeted_work kept statement)
-greeted_text kept statement built = either_text kept.gone (finishes (gone kept)) (does (disarmed kept) kept.armed statement) tt (does_text (disarmed kept) kept.armed statement built)
+greeted_text : (kept : Kept) (statement : Statement) → HasText (greeted_work kept statement)
+greeted_text kept statement = either_text kept.gone (finishes (gone kept)) (does (disarmed kept) kept.armed statement) tt (does_text (disarmed kept) kept.armed statement)
 
-work_text : (kept : Kept) (statement : Statement) → is_built_statement statement ≡ true → HasText (work_of kept statement)
-work_text kept statement built = either_text kept.greeted (greeted_work kept statement) _ (greeted_text kept statement built) (λ reply any. greeted_text (greeted kept) statement built)
+work_text : (kept : Kept) (statement : Statement) → HasText (work_of kept statement)
+work_text kept statement = either_text kept.greeted (greeted_work kept statement) _ (greeted_text kept statement) (λ reply any. greeted_text (greeted kept) statement)
 
 any_well : (events : List Event) → AreWell AnyReply ListsLogicalNames events
 any_well [] = tt
@@ -224,4 +230,4 @@ all_of_good (line ∷ lines) good = All-cons (λ (z : Line). ListsLogicalNames z
 
 -- The lines of a play have a text.
 pub play_has_text : (script : Script) (start : State) (lines : List Line) (end : State) → IsPlayable script → IsPlay script start lines end → HaveText lines
-play_has_text script start lines end playable p = all_of_good lines (lines_good AnyReply ListsLogicalNames work_text script p.history lines playable.built (any_well p.history) p.in_turns)
+play_has_text script start lines end playable p = all_of_good lines (lines_good AnyReply ListsLogicalNames work_text script p.history lines (any_well p.history) p.in_turns)

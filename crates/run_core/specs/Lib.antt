@@ -8,3 +8,5 @@ pub mod Faults
 pub mod Players
 pub mod Moving
 pub mod World
+pub mod Making
+pub mod Working

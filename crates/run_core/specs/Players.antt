@@ -1,5 +1,5 @@
 -- What the actors of the code have still to do.
-use Rattle.std.specs.Prelude.{◌≡◌, ℕ, ◌+◌, ⊤, true, All, List, length, Result}
+use Rattle.std.specs.Prelude.{◌≡◌, ℕ, ◌+◌, ⊤, All, List, length, Result}
 use Rattle.mount_model.specs.declared.call.Ask.{Ask}
 use Rattle.mount_model.specs.declared.reply.Reply.{Reply}
 use Rattle.flow.specs.declared.trouble.Stuck.{Stuck}
@@ -18,7 +18,6 @@ use Rattle.script_lang.specs.Ranges.{FitsStatement}
 use Rattle.actor_core.specs.declared.kept.Kept.{Kept}
 use Rattle.actor_core.specs.Progress.{Progress, idle, going, asked, told}
 use Rattle.actor_core.specs.Standings.{progress_of}
-use Rattle.actor_core.specs.Statements.{is_built_statement}
 use Rattle.statement_laws.specs.Coming.{ComesToLine}
 use Rattle.run_core.specs.declared.player.Player.{Player}
 use Rattle.run_core.specs.Course.{Course, then_line, one_by_one, own, through}
@@ -49,9 +48,9 @@ IsSafeProgress number (going line work) state = ComesToLine work × IsSafeProces
 IsSafeProgress number (asked line k) state = ⊥
 IsSafeProgress number (told line kept) state = ⊤
 
--- a statement that an actor makes
+-- a statement whose numbers and data are in their ranges
 abbrev pub IsMade : Numbered → Type 0
-IsMade s = FitsStatement s.statement × (is_built_statement s.statement ≡ true)
+IsMade s = FitsStatement s.statement
 
 -- the player may go on from this state of the mount
 pub record IsFit (player : Player) (state : State) : Type 0 where

@@ -1,7 +1,6 @@
 //! One phase.
 ghost use Rattle.std.specs.Prelude.{◌≡◌, ◌<◌, [], OnOk, All, length};
 ghost use Rattle.script_lang.specs.Ranges.{FitsPhase};
-ghost use Rattle.run_core.specs.Conditions.{IsBuiltPhase};
 ghost use Rattle.run_core.specs.Leading.{GoesOn};
 ghost use Rattle.run_core.specs.World.{AllStand, Dealt, PlayedPhase, PlayedSoFar};
 
@@ -43,7 +42,6 @@ pub(crate) fn play_phase<S: Store + Drop, C: Clock + Drop>(
     lines: &mut Lines,
 ) -> Result<(), NoMemory>
     requires fits { FitsPhase (length players.old) phase.now }
-    requires built { IsBuiltPhase phase.now }
     requires stand { AllStand [] players.old mount.old }
     ensures plays { OnOk result (PlayedPhase phase.now lines.old players.old mount.old lines.new players.new mount.new) }
     ensures goes_on { GoesOn mount.old mount.new }
@@ -65,7 +63,6 @@ pub(crate) fn play_all<S: Store + Drop, C: Clock + Drop>(
     lines: &mut Lines,
 ) -> Result<(), NoMemory>
     requires fits { All (FitsPhase (length players.old)) phases.now }
-    requires built { All IsBuiltPhase phases.now }
     requires stand { AllStand [] players.old mount.old }
     requires empty { lines.old ≡ [] }
     ensures played { OnOk result (PlayedSoFar phases.now lines.new players.old mount.old players.new mount.new) }

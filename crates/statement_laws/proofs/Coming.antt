@@ -1,5 +1,5 @@
 -- Each statement comes to its line, whatever is replied.
-use Rattle.std.proofs.Common.{◌≡◌, ℕ, List, [], length, Bool, true, false, Option, Some, None, Result, Ok, Err}
+use Rattle.std.proofs.Common.{ℕ, List, [], length, Bool, true, false, Option, Some, None, Result, Ok, Err}
 use Rattle.std.specs.Prelude.{⊤, if◌then◌else◌, ◌==◌}
 use Rattle.story.specs.Program.{Program, done, ask}
 use Rattle.mount_model.specs.declared.call.Call.{Call}
@@ -21,6 +21,7 @@ use Rattle.index_reader.specs.Opening.{open_at_program, open_read_program}
 use Rattle.index_reader.specs.Reading.{read_program}
 use Rattle.index_reader.specs.declared.listing.Listing.{Listing}
 use Rattle.index_reader.specs.declared.opened.OpenReader.{OpenReader}
+use Rattle.flatten_core.specs.Flattening.{flatten_program}
 use Rattle.script_lang.specs.declared.script.Data.{Data}
 use Rattle.script_lang.specs.declared.script.Statement.{Statement}
 use Rattle.script_lang.specs.declared.script.Statement.TheVariants.{Open, Write, Sync, Close, Ropen, Read, Verify, Map, Rclose, Stat, Flatten, Recover, Trunc, Rename, Ls, Stop as Arms}
@@ -28,13 +29,13 @@ use Rattle.actor_core.specs.declared.kept.Kept.{Kept}
 use Rattle.actor_core.specs.declared.kept.Stop.{Stop}
 use Rattle.outcomes.specs.Data.{bytes_of, length_of}
 use Rattle.script_lang.specs.declared.line.Why.TheVariants.{NotOpen}
-use Rattle.actor_core.specs.Endings.{gone, refused, stopped, opened, wrote_nothing, wrote, synced, closed, read_from, verified, names_listed, recovered, renamed, told_of, truncated}
+use Rattle.actor_core.specs.Endings.{gone, refused, stopped, opened, wrote_nothing, wrote, synced, closed, read_from, verified, names_listed, recovered, renamed, told_of, truncated, flattened}
 use Rattle.actor_core.specs.Names.{names_program}
 use Rattle.actor_core.specs.Telling.{if_asked, if_relisted, tells_by, tells_of_file}
 use Rattle.actor_core.specs.Opened.{opens as opens_after, reader_opened}
 use Rattle.actor_core.specs.Readers.{opens_reader, if_listed, reads, verifies, maps, closes_reader}
 use Rattle.gather_flow.specs.Shares.{programs_from, by_itself}
-use Rattle.actor_core.specs.Statements.{is_built_statement, does, greeted, greeted_work, disarmed, work_of}
+use Rattle.actor_core.specs.Statements.{does, greeted, greeted_work, disarmed, work_of}
 use Rattle.actor_core.specs.Stopping.{carried, is_due, one_nearer}
 use Rattle.actor_core.specs.Work.{Work, finishes}
 use Rattle.actor_core.specs.Writers.{opens, writes, writes_bytes, syncs, closes}
@@ -125,26 +126,26 @@ tells_comes kept stop name = carried_comes (attr_program name) stop (if_asked ke
 
 -- ---- a statement
 
-does_comes : (kept : Kept) (stop : Option Stop) (statement : Statement) → is_built_statement statement ≡ true → ComesToLine (does kept stop statement)
-does_comes kept stop (Open name) built = opens_comes kept stop name kept.writer
-does_comes kept stop (Write at content) built = writes_comes kept stop at (bytes_of content) kept.writer
-does_comes kept stop Sync built = syncs_comes kept stop kept.writer
-does_comes kept stop Close built = closes_comes kept stop kept.writer
-does_comes kept stop (Ropen name workers) built = opens_reader_comes kept stop name workers kept.reader
-does_comes kept stop (Read at len) built = reads_comes kept stop at len kept.reader
-does_comes kept stop (Verify at content) built = verifies_comes kept stop at content kept.reader
-does_comes kept stop Map built = maps_comes kept kept.reader
-does_comes kept stop Rclose built = closes_reader_comes kept kept.reader
-does_comes kept stop (Arms call bytes) built = tt
-does_comes kept stop (Stat name) built = tells_comes kept stop name
-does_comes kept stop (Flatten name) built = tt
-does_comes kept stop (Recover name) built = carried_comes (recover_program name) stop (λ left result. finishes (recovered kept result)) (finishes (stopped kept)) (λ left result. tt) tt
-does_comes kept stop (Trunc name size) built = carried_comes (truncate_program name size) stop (λ left result. finishes (truncated kept result)) (finishes (stopped kept)) (λ left result. tt) tt
-does_comes kept stop (Rename name new) built = carried_comes (rename_program name new) stop (λ left result. finishes (renamed kept result)) (finishes (stopped kept)) (λ left result. tt) tt
-does_comes kept stop Ls built = carried_comes names_program stop (λ left result. finishes (names_listed kept result)) (finishes (stopped kept)) (λ left result. tt) tt
+does_comes : (kept : Kept) (stop : Option Stop) (statement : Statement) → ComesToLine (does kept stop statement)
+does_comes kept stop (Open name) = opens_comes kept stop name kept.writer
+does_comes kept stop (Write at content) = writes_comes kept stop at (bytes_of content) kept.writer
+does_comes kept stop Sync = syncs_comes kept stop kept.writer
+does_comes kept stop Close = closes_comes kept stop kept.writer
+does_comes kept stop (Ropen name workers) = opens_reader_comes kept stop name workers kept.reader
+does_comes kept stop (Read at len) = reads_comes kept stop at len kept.reader
+does_comes kept stop (Verify at content) = verifies_comes kept stop at content kept.reader
+does_comes kept stop Map = maps_comes kept kept.reader
+does_comes kept stop Rclose = closes_reader_comes kept kept.reader
+does_comes kept stop (Arms call bytes) = tt
+does_comes kept stop (Stat name) = tells_comes kept stop name
+does_comes kept stop (Flatten name) = carried_comes (flatten_program name) stop (λ left result. finishes (flattened kept result)) (finishes (stopped kept)) (λ left result. tt) tt
+does_comes kept stop (Recover name) = carried_comes (recover_program name) stop (λ left result. finishes (recovered kept result)) (finishes (stopped kept)) (λ left result. tt) tt
+does_comes kept stop (Trunc name size) = carried_comes (truncate_program name size) stop (λ left result. finishes (truncated kept result)) (finishes (stopped kept)) (λ left result. tt) tt
+does_comes kept stop (Rename name new) = carried_comes (rename_program name new) stop (λ left result. finishes (renamed kept result)) (finishes (stopped kept)) (λ left result. tt) tt
+does_comes kept stop Ls = carried_comes names_program stop (λ left result. finishes (names_listed kept result)) (finishes (stopped kept)) (λ left result. tt) tt
 
-greeted_comes : (kept : Kept) (statement : Statement) → is_built_statement statement ≡ true → ComesToLine (greeted_work kept statement)
-greeted_comes kept statement built = either_comes kept.gone (finishes (gone kept)) (does (disarmed kept) kept.armed statement) tt (does_comes (disarmed kept) kept.armed statement built)
+greeted_comes : (kept : Kept) (statement : Statement) → ComesToLine (greeted_work kept statement)
+greeted_comes kept statement = either_comes kept.gone (finishes (gone kept)) (does (disarmed kept) kept.armed statement) tt (does_comes (disarmed kept) kept.armed statement)
 
-pub comes_to_line : (kept : Kept) (statement : Statement) → is_built_statement statement ≡ true → ComesToLine (work_of kept statement)
-comes_to_line kept statement built = either_comes kept.greeted (greeted_work kept statement) _ (greeted_comes kept statement built) (λ reply. greeted_comes (greeted kept) statement built)
+pub comes_to_line : (kept : Kept) (statement : Statement) → ComesToLine (work_of kept statement)
+comes_to_line kept statement = either_comes kept.greeted (greeted_work kept statement) _ (greeted_comes kept statement) (λ reply. greeted_comes (greeted kept) statement)

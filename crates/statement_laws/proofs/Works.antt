@@ -5,6 +5,8 @@ use Rattle.flow.specs.Running.{unbroken}
 use Rattle.mount_model.specs.declared.call.Call.TheVariants.{Greet}
 use Rattle.mount_model.specs.State.{State}
 use Rattle.mount_sound.specs.Sound.{IsFine}
+use Rattle.flatten_laws.proofs.Facts.{safe_flattening}
+use Rattle.flatten_core.specs.Flattening.{flatten_program}
 use Rattle.holding_laws.proofs.Facts.{safe_truncate}
 use Rattle.recovery_laws.proofs.Facts.{safe_recovery}
 use Rattle.script_lang.specs.declared.script.Statement.{Statement}
@@ -13,8 +15,8 @@ use Rattle.torn_tail.specs.Recovering.{recover_program}
 use Rattle.trunc_rename.specs.Truncating.{truncate_program}
 use Rattle.actor_core.specs.declared.kept.Kept.{Kept}
 use Rattle.actor_core.specs.declared.kept.Stop.{Stop}
-use Rattle.actor_core.specs.Endings.{gone, recovered, stopped, truncated}
-use Rattle.actor_core.specs.Statements.{disarmed, does, greeted, greeted_work, is_built_statement, is_harmless_statement, work_of}
+use Rattle.actor_core.specs.Endings.{flattened, gone, recovered, stopped, truncated}
+use Rattle.actor_core.specs.Statements.{disarmed, does, greeted, greeted_work, is_harmless_statement, work_of}
 use Rattle.actor_core.specs.Work.{Work, finishes}
 use Rattle.actor_core.proofs.Facts.{work_unowed}
 use Rattle.statement_laws.proofs.Safety.{MayMake, asks_safe, carried_safe, either_way, harmless_safe}
@@ -28,6 +30,10 @@ IsAlwaysMade caller statement = (kept : Kept) (stop : Option Stop) (state : Stat
 truncate_made : (caller : ℕ) (name : List ℕ) (size : ℕ) → IsAlwaysMade caller (Trunc name size)
 truncate_made caller name size kept stop state fine =
     carried_safe caller (truncate_program name size) stop (λ left result. finishes (truncated kept result)) (finishes (stopped kept)) (λ left result later is. tt) (λ later is. tt) state fine (safe_truncate caller name size state fine)
+
+flattening_made : (caller : ℕ) (name : List ℕ) → IsAlwaysMade caller (Flatten name)
+flattening_made caller name kept stop state fine =
+    carried_safe caller (flatten_program name) stop (λ left result. finishes (flattened kept result)) (finishes (stopped kept)) (λ left result later is. tt) (λ later is. tt) state fine (safe_flattening caller name state fine)
 
 recovery_made : (caller : ℕ) (name : List ℕ) → IsAlwaysMade caller (Recover name)
 recovery_made caller name kept stop state fine =
@@ -49,20 +55,20 @@ owing_made caller statement made kept state fine =
 unowed_made : (caller : ℕ) (kept : Kept) (statement : Statement) (state : State) → 1 ≤ kept.cap → kept.cap ≤ 4096 → is_harmless_statement statement ≡ true → IsFine state → MayMake caller (work_of kept statement) state
 unowed_made caller kept statement state some few harmless fine = harmless_safe caller (work_of kept statement) (work_unowed kept statement some few harmless) state fine
 
-pub work_safe : (caller : ℕ) (kept : Kept) (statement : Statement) (state : State) → 1 ≤ kept.cap → kept.cap ≤ 4096 → is_built_statement statement ≡ true → IsFine state → MayMake caller (work_of kept statement) state
-work_safe caller kept (Trunc name size) state some few built fine = owing_made caller (Trunc name size) (truncate_made caller name size) kept state fine
-work_safe caller kept (Recover name) state some few built fine = owing_made caller (Recover name) (recovery_made caller name) kept state fine
-work_safe caller kept (Flatten name) state some few built fine = absurd (cc)
-work_safe caller kept (Open name) state some few built fine = unowed_made caller kept (Open name) state some few refl fine
-work_safe caller kept (Write at content) state some few built fine = unowed_made caller kept (Write at content) state some few refl fine
-work_safe caller kept Sync state some few built fine = unowed_made caller kept Sync state some few refl fine
-work_safe caller kept Close state some few built fine = unowed_made caller kept Close state some few refl fine
-work_safe caller kept (Ropen name workers) state some few built fine = unowed_made caller kept (Ropen name workers) state some few refl fine
-work_safe caller kept (Read at len) state some few built fine = unowed_made caller kept (Read at len) state some few refl fine
-work_safe caller kept (Verify at content) state some few built fine = unowed_made caller kept (Verify at content) state some few refl fine
-work_safe caller kept Map state some few built fine = unowed_made caller kept Map state some few refl fine
-work_safe caller kept Rclose state some few built fine = unowed_made caller kept Rclose state some few refl fine
-work_safe caller kept (Arms call bytes) state some few built fine = unowed_made caller kept (Arms call bytes) state some few refl fine
-work_safe caller kept (Stat name) state some few built fine = unowed_made caller kept (Stat name) state some few refl fine
-work_safe caller kept (Rename name to) state some few built fine = unowed_made caller kept (Rename name to) state some few refl fine
-work_safe caller kept Ls state some few built fine = unowed_made caller kept Ls state some few refl fine
+pub work_safe : (caller : ℕ) (kept : Kept) (statement : Statement) (state : State) → 1 ≤ kept.cap → kept.cap ≤ 4096 → IsFine state → MayMake caller (work_of kept statement) state
+work_safe caller kept (Trunc name size) state some few fine = owing_made caller (Trunc name size) (truncate_made caller name size) kept state fine
+work_safe caller kept (Recover name) state some few fine = owing_made caller (Recover name) (recovery_made caller name) kept state fine
+work_safe caller kept (Flatten name) state some few fine = owing_made caller (Flatten name) (flattening_made caller name) kept state fine
+work_safe caller kept (Open name) state some few fine = unowed_made caller kept (Open name) state some few refl fine
+work_safe caller kept (Write at content) state some few fine = unowed_made caller kept (Write at content) state some few refl fine
+work_safe caller kept Sync state some few fine = unowed_made caller kept Sync state some few refl fine
+work_safe caller kept Close state some few fine = unowed_made caller kept Close state some few refl fine
+work_safe caller kept (Ropen name workers) state some few fine = unowed_made caller kept (Ropen name workers) state some few refl fine
+work_safe caller kept (Read at len) state some few fine = unowed_made caller kept (Read at len) state some few refl fine
+work_safe caller kept (Verify at content) state some few fine = unowed_made caller kept (Verify at content) state some few refl fine
+work_safe caller kept Map state some few fine = unowed_made caller kept Map state some few refl fine
+work_safe caller kept Rclose state some few fine = unowed_made caller kept Rclose state some few refl fine
+work_safe caller kept (Arms call bytes) state some few fine = unowed_made caller kept (Arms call bytes) state some few refl fine
+work_safe caller kept (Stat name) state some few fine = unowed_made caller kept (Stat name) state some few refl fine
+work_safe caller kept (Rename name to) state some few fine = unowed_made caller kept (Rename name to) state some few refl fine
+work_safe caller kept Ls state some few fine = unowed_made caller kept Ls state some few refl fine

@@ -5,4 +5,5 @@ mod Listed
 mod Naming
 mod Checks
 mod Recovering
+mod Flattening
 pub mod Facts

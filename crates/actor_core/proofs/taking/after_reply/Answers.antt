@@ -20,7 +20,7 @@ use Rattle.actor_core.specs.Standings.{AwaitsReply}
 use Rattle.actor_core.proofs.Carrying.{replied_so}
 use Rattle.actor_core.proofs.Doings.{taken_so}
 use Rattle.actor_core.proofs.taking.after_reply.Goals as goal
-use Rattle.actor_core.proofs.taking.after_reply.Goals.{in-Opening+in_ok-take-in-Opening, in-Writing+in_ok-take-in-Writing, in-Syncing+in_ok-take-in-Syncing, in-Closing+in_ok-take-in-Closing, in-Listing+in_ok-take-in-Listing, in-Gathering+in_ok-gathering_after-in-Gathering, in-Reading+in_ok-take-in-Reading, in-Verifying+in_ok-take-in-Verifying, in-Telling+in_ok-take-in-Telling, in-Truncating+in_ok-take-in-Truncating, in-Renaming+in_ok-take-in-Renaming, in-Recovering+in_ok-take-in-Recovering, in-Naming+in_ok-take-in-Naming}
+use Rattle.actor_core.proofs.taking.after_reply.Goals.{in-Opening+in_ok-take-in-Opening, in-Writing+in_ok-take-in-Writing, in-Syncing+in_ok-take-in-Syncing, in-Closing+in_ok-take-in-Closing, in-Listing+in_ok-take-in-Listing, in-Gathering+in_ok-gathering_after-in-Gathering, in-Reading+in_ok-take-in-Reading, in-Verifying+in_ok-take-in-Verifying, in-Telling+in_ok-take-in-Telling, in-Truncating+in_ok-take-in-Truncating, in-Renaming+in_ok-take-in-Renaming, in-Recovering+in_ok-take-in-Recovering, in-Naming+in_ok-take-in-Naming, in-Flattening+in_ok-flattening_after-in-Flattening}
 
 pub returns-clause-goes_on : goal.returns-clause-goes_on
 returns-clause-goes_on c = λ number kept stop not_due.
@@ -56,6 +56,9 @@ returns-clause-goes_on c = λ number kept stop not_due.
       | in-Truncating+in_ok-take-in-Truncating w ↦
           taken_so number kept stop c.args.doing _ c.match-doing.result _ c.args.reply w.in-Truncating.is w.result-is
           (replied_so number (rest_of (truncate_standing w.in-Truncating.flow)) (truncate_standing w.take-in-Truncating.new.self) stop (λ left result. finishes (truncated kept result)) (finishes (stopped kept)) c.args.reply (subst P w.in-Truncating.is c.requires) w.in_ok-take-in-Truncating.ensures.goes_on not_due)
+      | in-Flattening+in_ok-flattening_after-in-Flattening w ↦
+          taken_so number kept stop c.args.doing _ c.match-doing.result _ c.args.reply w.in-Flattening.is w.result-is
+          (w.in_ok-flattening_after-in-Flattening.ensures.goes_on number kept stop not_due)
       | in-Renaming+in_ok-take-in-Renaming w ↦
           taken_so number kept stop c.args.doing _ c.match-doing.result _ c.args.reply w.in-Renaming.is w.result-is
           (replied_so number (rest_of (rename_standing w.in-Renaming.flow)) (rename_standing w.take-in-Renaming.new.self) stop (λ left result. finishes (renamed kept result)) (finishes (stopped kept)) c.args.reply (subst P w.in-Renaming.is c.requires) w.in_ok-take-in-Renaming.ensures.goes_on not_due)

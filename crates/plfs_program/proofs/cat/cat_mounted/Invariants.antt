@@ -1,4 +1,4 @@
-use Rattle.lone_reader.specs.Making.{IsAtRest}
+use Rattle.run_core.specs.Making.{IsAtRest}
 use Rattle.plfs_program.specs.Catting.{Reads}
 use Rattle.plfs_program.proofs.cat.cat_mounted.Given as goal
 

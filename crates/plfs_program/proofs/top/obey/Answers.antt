@@ -16,11 +16,5 @@ returns-in-Cat g c words are one =
     let so = rw c.in-Cat.is at (rw c.in-Some.is at c.in-Ok.ensures.same) in
     c.cat.ensures words (subst (λ command. IsCommand words command) so.0 are)
 
-pub play_plan-requires-clause-built : goal.play_plan-requires-clause-built
-play_plan-requires-clause-built g c = (rw c.in-Planned.is at (rw c.in-Some.is at c.in-Ok.ensures.same)).0.1
-
-pub play_plan-requires-clause-fits : goal.play_plan-requires-clause-fits
-play_plan-requires-clause-fits g c = (rw c.in-Planned.is at (rw c.in-Some.is at c.in-Ok.ensures.same)).1
-
 pub returns-in-Planned : goal.returns-in-Planned
 returns-in-Planned g c words are one = c.play_plan.ensures words c.args.command are (rw c.in-Planned.is at (rw c.in-Some.is at c.in-Ok.ensures.same)).0

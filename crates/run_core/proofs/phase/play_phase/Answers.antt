@@ -12,12 +12,12 @@ use Rattle.run_core.proofs.phase.play_phase.Goals as goal
 pub take_turns-requires-clause-fit : goal.take_turns-requires-clause-fit
 take_turns-requires-clause-fit g c =
     let d : Dealt c.args.phase.now.statements c.args.players.now c.deal.new.players = subst (λ (z : List Numbered). Dealt z c.args.players.now c.deal.new.players) c.as_slice-statements.ensures c.in_ok-deal.ensures in
-    stand_fit c.args.phase.now.statements c.deal.new.players c.args.mount.now (all_dealt (length c.args.players.now) c.args.phase.now.statements c.args.players.now c.deal.new.players c.args.mount.now c.requires.fits.numbered c.requires.built c.requires.stand d)
+    stand_fit c.args.phase.now.statements c.deal.new.players c.args.mount.now (all_dealt (length c.args.players.now) c.args.phase.now.statements c.args.players.now c.deal.new.players c.args.mount.now c.requires.fits.numbered c.requires.stand d)
 
 pub finish-requires-clause-stand : goal.finish-requires-clause-stand
 finish-requires-clause-stand g c =
     let d : Dealt c.args.phase.now.statements c.args.players.now c.deal.new.players = subst (λ (z : List Numbered). Dealt z c.args.players.now c.deal.new.players) c.as_slice-statements.ensures c.in_ok-deal.ensures in
-    let stand = all_dealt (length c.args.players.now) c.args.phase.now.statements c.args.players.now c.deal.new.players c.args.mount.now c.requires.fits.numbered c.requires.built c.requires.stand d in
+    let stand = all_dealt (length c.args.players.now) c.args.phase.now.statements c.args.players.now c.deal.new.players c.args.mount.now c.requires.fits.numbered c.requires.stand d in
     subst (λ (z : List Numbered). AllStand z c.take_turns.new.players c.take_turns.new.mount) (sym c.as_slice-statements.ensures) (keep_stand c.args.phase.now.statements c.deal.new.players c.take_turns.new.players c.args.mount.now c.take_turns.new.mount c.in_ok-take_turns.ensures.took.keep c.in_ok-take_turns.ensures.took.fit stand)
 
 pub returns-in_err-finish-clause-goes_on : goal.returns-in_err-finish-clause-goes_on

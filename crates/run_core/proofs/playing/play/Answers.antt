@@ -4,7 +4,6 @@ use Rattle.script_lang.specs.declared.script.ActorDecl.{ActorDecl}
 use Rattle.script_lang.specs.declared.script.Phase.{Phase}
 use Rattle.script_lang.specs.Ranges.{FitsPhase}
 use Rattle.run_core.specs.declared.player.Player.{Player}
-use Rattle.run_core.specs.Conditions.{IsBuiltPhase}
 use Rattle.run_core.specs.World.{IsCast, PlayedSoFar}
 use Rattle.run_core.proofs.Phases.{is_play}
 use Rattle.run_core.proofs.Caused.{play_caused}
@@ -18,9 +17,6 @@ play_all-requires-clause-fits g c =
     let cast : IsCast c.args.script.now.actors c.deref_mut.result.now = subst Casts (λ i. (c.as_slice.ensures i, sym here i)) c.in_ok-players.ensures in
     let Fits : ℕ × List Phase → Type 0 = λ z. All (FitsPhase z.0) z.1 in
     subst Fits (λ i. (sym cast.long i, sym c.as_slice-phases.ensures i)) c.requires.playable.fits.phased
-
-pub play_all-requires-clause-built : goal.play_all-requires-clause-built
-play_all-requires-clause-built g c = subst (λ (z : List Phase). All IsBuiltPhase z) (sym c.as_slice-phases.ensures) c.requires.playable.built
 
 pub play_all-requires-clause-stand : goal.play_all-requires-clause-stand
 play_all-requires-clause-stand g c =

@@ -1,4 +1,4 @@
-use Rattle.trouble_laws.proofs.Facts.{close_ends, open_ends, recover_ends, rename_ends, sync_ends, tell_ends, truncate_ends, write_ends}
+use Rattle.trouble_laws.proofs.Facts.{close_ends, flatten_ends, open_ends, recover_ends, rename_ends, sync_ends, tell_ends, truncate_ends, write_ends}
 use Rattle.trouble_laws.proofs.laws.a_statement_shows_no_damage.Goals as goal
 
 pub returns-clause-open : goal.returns-clause-open
@@ -21,6 +21,9 @@ returns-clause-rename c name to caller issued start = rename_ends caller name to
 
 pub returns-clause-recover : goal.returns-clause-recover
 returns-clause-recover c name caller issued start = recover_ends caller name start issued
+
+pub returns-clause-flatten : goal.returns-clause-flatten
+returns-clause-flatten c name caller issued start = flatten_ends caller name start issued
 
 pub returns-clause-tell : goal.returns-clause-tell
 returns-clause-tell c name caller issued start = tell_ends caller name start issued

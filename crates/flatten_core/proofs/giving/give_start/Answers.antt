@@ -1,0 +1,10 @@
+use Rattle.std.proofs.Common.{sym, ◌∙◌}
+use Rattle.flow.specs.Standing.{ready}
+use Rattle.looks.specs.Replies.{on_ok}
+use Rattle.flatten_core.specs.Flattening.{lists}
+use Rattle.flatten_core.specs.StartStages.{starting}
+use Rattle.flatten_core.proofs.PartLemmas.{next_then}
+use Rattle.flatten_core.proofs.giving.give_start.Goals as goal
+
+pub returns-clause-call : goal.returns-clause-call
+returns-clause-call c = c.call-asked.ensures.is ∙ sym (next_then (on_ok lists) (ready (starting c.args.stage)) c.requires)

@@ -1,2 +1,0 @@
-mod Undamaging
-pub mod Facts

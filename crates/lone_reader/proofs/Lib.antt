@@ -1,5 +1,0 @@
-mod Calls
-pub mod Facts
-mod Plays
-mod Steps
-mod Works
