@@ -10,6 +10,7 @@ use Rattle.mount_model.specs.declared.call.Call.TheVariants.{Greet}
 use Rattle.mount_model.specs.History.{Event}
 use Rattle.flow.specs.Running.{unbroken}
 use Rattle.script_lang.specs.declared.line.Line.{Line}
+use Rattle.script_lang.specs.declared.line.Outcome.{Outcome}
 use Rattle.script_lang.specs.declared.line.Outcome.TheVariants.{Gone}
 use Rattle.script_lang.specs.declared.line.Why.TheVariants.{AlreadyOpen}
 use Rattle.script_lang.specs.declared.script.Statement.{Statement}
@@ -21,9 +22,6 @@ use Rattle.gathering.specs.Seen.{Asked, asked_in, calls_of}
 use Rattle.gathering.proofs.Facts.{its_call, legal_first, moment-append}
 use Rattle.reader_laws.proofs.Facts.{calls_append}
 use Rattle.flatten_core.specs.Flattening.{flatten_program}
-use Rattle.torn_tail.specs.Recovering.{recover_program}
-use Rattle.trunc_rename.specs.Renaming.{rename_program}
-use Rattle.trunc_rename.specs.Truncating.{truncate_program}
 use Rattle.outcomes.specs.Data.{bytes_of}
 use Rattle.actor_core.specs.Names.{names_program}
 use Rattle.actor_core.specs.declared.kept.Kept.{Kept}
@@ -35,14 +33,15 @@ use Rattle.actor_core.specs.Work.{finishes}
 use Rattle.run_core.specs.Course.{Course, then_line}
 use Rattle.play_laws.specs.OneFile.{OneFile}
 use Rattle.play_laws.specs.Opening.{Stretch}
-use Rattle.play_laws.specs.Showing.{Shows}
+use Rattle.play_laws.specs.Showing.{Shows, ShowsLook, ShowsRecovery, ShowsRename, ShowsTruncate}
 use Rattle.play_laws.proofs.Carrying.{EndsSo, ended, ends_later}
 use Rattle.play_laws.proofs.Opened.{Good, Keeps, keeps_later, no_calls}
 use Rattle.play_laws.proofs.Openings.{opening_ends}
 use Rattle.play_laws.proofs.Others.{Leaves, LeavesReader, at_once, open_leaves, write_leaves, sync_leaves, close_leaves, named_leaves, names_end}
-use Rattle.trouble_laws.proofs.Facts.{flatten_ends, recover_ends, rename_ends, truncate_ends}
+use Rattle.trouble_laws.proofs.Facts.{flatten_ends}
 use Rattle.play_laws.proofs.ReadLines.{read_ends, verify_ends, map_ends, close_ends}
 use Rattle.play_laws.proofs.Told.{look_ends}
+use Rattle.play_laws.proofs.Changed.{recovery_ends, renaming_ends, trunc_ends}
 use Rattle.play_laws.proofs.Standing.{AllOf, Both, Next, all_of_later, next_is, up_to}
 
 module _ (start : Moment) (sound : IsSoundAt start) (n : ℕ) (before greeting : List Event) (greets : All (λ (a : Asked). a.ask.call ≡ Greet) (calls_of n greeting)) (number : ℕ) (next : Kept → Course) where
@@ -84,11 +83,11 @@ module _ (start : Moment) (sound : IsSoundAt start) (n : ℕ) (before greeting :
   ropen_ends kept stop name workers (Some reader) (Some file) part ws lines left some is keeps whole all plays =
       ended n number next (refused kept AlreadyOpen) ends part ws lines left (Good start n before greeting (Some file) (Ropen name workers)) plays (Some file, (refl, refl), subst (λ x. Keeps Now x (Some file)) (sym is) keeps)
 
-  -- what is told of a file
-  stat_ends : (kept : Kept) (stop : Option Stop) (name : List ℕ) (old : Option OneFile) (part : List Event) (ws : List (List Event)) (lines : List Line) (left : Course) → Keeps Now kept.reader old → Next start before (greeting ++ part)
-      → Plays n (then_line number next (does kept stop (Stat name))) part ws lines left → Ends old (Stat name) part ws lines left
-  stat_ends kept stop name old part ws lines left keeps whole plays =
-      let e = look_ends start sound n before greeting greets name number next kept stop part ws lines left whole plays in
+  -- the line shows so much of what was called, and no file is opened or closed
+  told_end : (kept : Kept) (statement : Statement) (old : Option OneFile) (shows : List Event → Outcome → Type 0) (part : List Event) (ws : List (List Event)) (lines : List Line) (left : Course)
+      → ((mine : List Event) (outcome : Outcome) → shows mine outcome → Shows start n (record { before = before; events = greeting ++ mine }) old statement outcome old) → Keeps Now kept.reader old → Next start before (greeting ++ part)
+      → EndsSo n number next part ws lines left (λ mine e. (e.kept.reader ≡ kept.reader) × shows mine e.outcome) → Ends old statement part ws lines left
+  told_end kept statement old shows part ws lines left is keeps whole e =
       let b : Both start before greeting e.mine = up_to start before greeting part e.mine e.rest whole e.all in
       record {
         mine = e.mine;
@@ -101,7 +100,7 @@ module _ (start : Moment) (sound : IsSoundAt start) (n : ℕ) (before greeting :
         are = e.are;
         told = e.told;
         goes_on = e.goes_on;
-        good = (old, (refl, e.good.1), subst (λ r. Keeps (moment_after Now e.mine) r old) (sym e.good.0) (keeps_later Now kept.reader old e.mine b.next.lawful keeps));
+        good = (old, is e.mine e.ending.outcome e.good.1, subst (λ r. Keeps (moment_after Now e.mine) r old) (sym e.good.0) (keeps_later Now kept.reader old e.mine b.next.lawful keeps));
       }
 
   does_end : (kept : Kept) (stop : Option Stop) (statement : Statement) (old : Option OneFile) (part : List Event) (ws : List (List Event)) (lines : List Line) (left : Course) → FitsStatement statement → Keeps Now kept.reader old → Next start before (greeting ++ part) → AllOf (before ++ greeting) part ws
@@ -115,11 +114,11 @@ module _ (start : Moment) (sound : IsSoundAt start) (n : ℕ) (before greeting :
   does_end kept stop (Write at content) old part ws lines left fits keeps whole all plays = others_end kept stop (Write at content) old part ws lines left (λ m o e l. (refl, l.none)) (write_leaves start n before greeting number next kept stop at (bytes_of content) kept.writer) keeps whole plays
   does_end kept stop Sync old part ws lines left fits keeps whole all plays = others_end kept stop Sync old part ws lines left (λ m o e l. (refl, l.none)) (sync_leaves start n before greeting number next kept stop kept.writer) keeps whole plays
   does_end kept stop Close old part ws lines left fits keeps whole all plays = others_end kept stop Close old part ws lines left (λ m o e l. (refl, l.none)) (close_leaves start n before greeting number next kept stop kept.writer) keeps whole plays
-  does_end kept stop (Stat name) old part ws lines left fits keeps whole all plays = stat_ends kept stop name old part ws lines left keeps whole plays
+  does_end kept stop (Stat name) old part ws lines left fits keeps whole all plays = told_end kept (Stat name) old (λ mine outcome. ShowsLook start n (record { before = before; events = greeting ++ mine }) name outcome) part ws lines left (λ m o shows. (refl, shows)) keeps whole (look_ends start sound n before greeting greets name number next kept stop part ws lines left whole plays)
   does_end kept stop (Flatten name) old part ws lines left fits keeps whole all plays = others_end kept stop (Flatten name) old part ws lines left (λ m o e l. (refl, l.none)) (named_leaves start n before greeting number next kept stop (flatten_program name) _ (flatten_ends n name) (λ r. tt)) keeps whole plays
-  does_end kept stop (Recover name) old part ws lines left fits keeps whole all plays = others_end kept stop (Recover name) old part ws lines left (λ m o e l. (refl, l.none)) (named_leaves start n before greeting number next kept stop (recover_program name) _ (recover_ends n name) (λ r. tt)) keeps whole plays
-  does_end kept stop (Trunc name size) old part ws lines left fits keeps whole all plays = others_end kept stop (Trunc name size) old part ws lines left (λ m o e l. (refl, l.none)) (named_leaves start n before greeting number next kept stop (truncate_program name size) _ (truncate_ends n name size) (λ r. tt)) keeps whole plays
-  does_end kept stop (Rename name to) old part ws lines left fits keeps whole all plays = others_end kept stop (Rename name to) old part ws lines left (λ m o e l. (refl, l.none)) (named_leaves start n before greeting number next kept stop (rename_program name to) _ (rename_ends n name to) (λ r. tt)) keeps whole plays
+  does_end kept stop (Recover name) old part ws lines left fits keeps whole all plays = told_end kept (Recover name) old (λ mine outcome. ShowsRecovery start n (record { before = before; events = greeting ++ mine }) name outcome) part ws lines left (λ m o shows. (refl, shows)) keeps whole (recovery_ends start n before greeting number next kept stop name part ws lines left whole plays)
+  does_end kept stop (Trunc name size) old part ws lines left fits keeps whole all plays = told_end kept (Trunc name size) old (λ mine outcome. ShowsTruncate start n (record { before = before; events = greeting ++ mine }) name size outcome) part ws lines left (λ m o shows. (refl, shows)) keeps whole (trunc_ends start n before greeting number next kept stop name size part ws lines left whole plays)
+  does_end kept stop (Rename name to) old part ws lines left fits keeps whole all plays = told_end kept (Rename name to) old (λ mine outcome. ShowsRename start n (record { before = before; events = greeting ++ mine }) name to outcome) part ws lines left (λ m o shows. (refl, shows)) keeps whole (renaming_ends start n before greeting number next kept stop name to part ws lines left whole plays)
   does_end kept stop Ls old part ws lines left fits keeps whole all plays = others_end kept stop Ls old part ws lines left (λ m o e l. (refl, l.none)) (named_leaves start n before greeting number next kept stop names_program _ (names_end n) (λ r. tt)) keeps whole plays
   does_end kept stop (Arms call bytes) old part ws lines left fits keeps whole all plays = others_end kept stop (Arms call bytes) old part ws lines left (λ m o e l. (refl, l.none)) (at_once start n before greeting number next kept stop (armed kept (record { call = call; bytes = bytes })) (record { same = refl; none = tt })) keeps whole plays
 

@@ -41,14 +41,13 @@ use Rattle.index_reader.specs.declared.sharing.Share.{Share}
 use Rattle.index_reader.specs.Opening.{open_at_program}
 use Rattle.index_reader.specs.Replies.{Tries}
 use Rattle.index_reader.specs.Sharing.{covered}
-use Rattle.gathering.specs.Gathering.{Gathered, IsAdmissible}
-use Rattle.gathering.specs.Moments.{Moment, IsSoundAt, Grows, moment_after}
-use Rattle.gathering.specs.Opening.{HasView}
+use Rattle.gathering.specs.Gathering.{Gathered}
+use Rattle.gathering.specs.Moments.{Moment, IsSoundAt, moment_after}
 use Rattle.gathering.specs.Seen.{Asked, calls_of}
 use Rattle.gathering.specs.View.{own_entries}
-use Rattle.gathering.proofs.Facts.{grows_after, legal_first, legal_rest, moment-append, sound_after, stood_grows}
+use Rattle.gathering.proofs.Facts.{legal_first, legal_rest, moment-append, sound_after}
 use Rattle.reader_laws.specs.Covering.{counts_in, cover_with, empty_cover}
-use Rattle.reader_laws.specs.Opened.{HasOpenReader, HasOpenedIn}
+use Rattle.reader_laws.specs.Opened.{HasOpenedIn}
 use Rattle.reader_laws.specs.Opening.{Lists, shares_of}
 use Rattle.reader_laws.proofs.Facts.{answered, first_of, listing_fails, shares_fail, truncates_fail}
 use Rattle.trouble_laws.specs.Undamaged.{IsNoDamage}
@@ -69,9 +68,10 @@ use Rattle.play_laws.proofs.Alone.{read_alone, then_made}
 use Rattle.play_laws.proofs.Behind.{alone_opened}
 use Rattle.play_laws.proofs.Carrying.{EndsSo, carried_on, ended_behind}
 use Rattle.play_laws.proofs.Dealing.{dealt_listed}
+use Rattle.play_laws.proofs.Earlier.{opened_earlier}
 use Rattle.play_laws.proofs.Finding.{name_found}
 use Rattle.play_laws.proofs.Listings.{FindsFirst, Gives, IsOf, IsSuch, made_such, open_at_of}
-use Rattle.play_laws.proofs.Opened.{HasOpenedFile, file_opened, no_calls}
+use Rattle.play_laws.proofs.Opened.{HasOpenedFile, file_opened}
 use Rattle.play_laws.proofs.Standing.{Both, Next, up_to}
 
 -- ---- troubles behind a listing
@@ -94,66 +94,6 @@ alone_plain {R} makes n workers there program listing scanning mine why lawful s
       let fails = shares_fail n n program there scanning f.between f.reading listing _ f.why (subst (λ es. IsLawful there.state (scanning ++ es)) f.split lawful) sound lists scans (dealt_listed workers f.worker listing.droppings) f.runs in
       plain_fault why (same_trouble {R = R} why f.why f.is ∙ fails.0)
 ]
-
--- ---- what was opened later was opened
-
--- of a view from a later moment on
-view_earlier : (a b end : Moment) (room : ℕ) (cut : List Gathered) (truncs : List Trunc) → Grows a b → HasView b end room cut truncs → HasView a end room cut truncs
-view_earlier a b end room cut truncs grows v = record {
-  rise = v.rise;
-  admissible = each cut v.admissible;
-  complete = λ d its stood. v.complete d its (stood_grows a b d grows stood);
-  all_truncs = v.all_truncs;
-  entries = v.entries;
-}
-  where
-    each : (gs : List Gathered) → IsAdmissible b end gs → IsAdmissible a end gs
-    each [] all = tt
-    each (g ∷ gs) all = (
-      record { least = omega (arith, all.0.least, grows.landed g.dropping all.0.stands.is_item); most = all.0.most; were_issued = all.0.were_issued; stands = all.0.stands; entries = all.0.entries },
-      each gs all.1,
-    )
-
--- behind a call of the caller's, and none before that
-opened_earlier : (n : ℕ) (now : Moment) (front waits : List Event) (event : Event) (more rest : List Event) (reader : OpenReader) → IsSoundAt now → front ≡ waits ++ event ∷ more → IsLawful now.state (front ++ rest) → made_by n waits ≡ [] → event.caller ≡ n → HasOpenedIn n (moment_after now front) rest reader
-    → HasOpenedIn n now (front ++ rest) reader
-opened_earlier n now front waits event more rest reader sound split lawful none own h =
-    let x : List Event = h.before ++ (h.first ∷ h.more) in
-    let start : Moment = moment_after now waits in
-    let from : Moment = moment_after (moment_after now front) h.before in
-    let whole : rest ≡ x ++ (h.listing ∷ h.later) = h.split ∙ sym (append_assoc h.before (h.first ∷ h.more) (h.listing ∷ h.later)) in
-    let all : front ++ rest ≡ waits ++ (event ∷ (more ++ x) ++ h.listing ∷ h.later) =
-    ap (λ z. z ++ rest) split ∙ append_assoc waits (event ∷ more) rest ∙ ap (λ z. waits ++ event ∷ (more ++ z)) whole ∙ ap (λ z. waits ++ event ∷ z) (sym (append_assoc more x (h.listing ∷ h.later))) in
-    let to : (y : List Event) → moment_after (moment_after now front) y ≡ moment_after start (event ∷ (more ++ y)) =
-    λ y. sym (moment-append now front y) ∙ ap (moment_after now) (ap (λ z. z ++ y) split ∙ append_assoc waits (event ∷ more) y) ∙ moment-append now waits (event ∷ (more ++ y)) in
-    let until : moment_after from (h.first ∷ h.more) ≡ moment_after start (event ∷ (more ++ x)) = sym (moment-append (moment_after now front) h.before (h.first ∷ h.more)) ∙ to x in
-    let l0 : IsLawful now.state (waits ++ (event ∷ (more ++ h.before) ++ (h.first ∷ h.more ++ h.listing ∷ h.later))) = subst (IsLawful now.state)
-    (ap (λ z. z ++ rest) split ∙ append_assoc waits (event ∷ more) rest ∙ ap (λ z. waits ++ event ∷ (more ++ z)) h.split ∙ ap (λ z. waits ++ event ∷ z) (sym (append_assoc more h.before (h.first ∷ h.more ++ h.listing ∷ h.later)))) lawful in
-    let rest0 : IsLawful start.state ((event ∷ (more ++ h.before)) ++ (h.first ∷ h.more ++ h.listing ∷ h.later)) = legal_rest now waits (event ∷ (more ++ h.before) ++ (h.first ∷ h.more ++ h.listing ∷ h.later)) l0 in
-    let s0 : IsSoundAt start = sound_after now waits (legal_first now waits (event ∷ (more ++ h.before) ++ (h.first ∷ h.more ++ h.listing ∷ h.later)) l0) sound in
-    let grows : Grows start from = subst (Grows start) (sym (to h.before)) (grows_after start (event ∷ (more ++ h.before)) (legal_first start (event ∷ (more ++ h.before)) (h.first ∷ h.more ++ h.listing ∷ h.later) rest0) s0) in
-    let end : Moment = moment_after from (h.first ∷ h.more) in
-    let has : HasOpenReader start end reader h.cut = record {
-      view = view_earlier start from end reader.room h.cut reader.truncs grows h.has.view;
-      droppings = h.has.droppings;
-      pieces = h.has.pieces;
-      size = h.has.size;
-      covers = h.has.covers;
-    } in
-    record {
-      before = waits;
-      first = event;
-      more = more ++ x;
-      listing = h.listing;
-      later = h.later;
-      split = all;
-      waits = no_calls n waits none;
-      begins = own;
-      lists = h.lists;
-      truncates = h.truncates;
-      cut = h.cut;
-      has = subst (λ m. HasOpenReader start m reader h.cut) until has;
-    }
 
 -- ---- the bytes of each writer
 

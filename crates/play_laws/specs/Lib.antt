@@ -3,6 +3,8 @@ pub mod Opening
 pub mod Ending
 pub mod Comparing
 pub mod Telling
+pub mod Changing
+pub mod Recovering
 pub mod Showing
 pub mod Readers
 pub mod Undamaged

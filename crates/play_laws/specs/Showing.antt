@@ -6,11 +6,11 @@ use Rattle.plain_file.specs.declared.pieces.Piece.{Piece}
 use Rattle.plain_file.specs.File.{slice}
 use Rattle.mount_model.specs.Paths.{Name}
 use Rattle.script_lang.specs.declared.line.Outcome.{Outcome}
-use Rattle.script_lang.specs.declared.line.Outcome.TheVariants.{Reader, Read as WasRead, Same, Differs, Map as Mapped, ReaderClosed, Stat as Told, Damaged, Gone}
+use Rattle.script_lang.specs.declared.line.Outcome.TheVariants.{Reader, Read as WasRead, Same, Differs, Map as Mapped, ReaderClosed, Stat as Told, Truncated, Renamed, Recovered, Damaged, Gone}
 use Rattle.script_lang.specs.declared.line.Why.TheVariants.{AlreadyOpen, NotOpen}
 use Rattle.script_lang.specs.declared.script.Data.{Data}
 use Rattle.script_lang.specs.declared.script.Statement.{Statement}
-use Rattle.script_lang.specs.declared.script.Statement.TheVariants.{Ropen, Read, Verify, Map, Rclose, Stat}
+use Rattle.script_lang.specs.declared.script.Statement.TheVariants.{Ropen, Read, Verify, Map, Rclose, Stat, Trunc as Truncate, Rename, Recover}
 use Rattle.outcomes.specs.Data.{bytes_of, length_of}
 use Rattle.outcomes.specs.Outcomes.{map_text}
 use Rattle.gathering.specs.Moments.{Moment}
@@ -18,6 +18,8 @@ use Rattle.play_laws.specs.OneFile.{OneFile, seen_bytes, ArePiecesSeen, printed_
 use Rattle.play_laws.specs.Opening.{Stretch, OpensOneFile}
 use Rattle.play_laws.specs.Comparing.{FirstDifference}
 use Rattle.play_laws.specs.Telling.{ShowsTold}
+use Rattle.play_laws.specs.Changing.{RenamesFile, TruncatesFile}
+use Rattle.play_laws.specs.Recovering.{RecoversFile}
 use Rattle.play_laws.specs.Ending.{EndsEarly, DoesNothing, OpensNone}
 
 -- ---- the line of an opening
@@ -83,6 +85,19 @@ abbrev pub ShowsLook : Moment → ℕ → Stretch → Name → Outcome → Type 
 ShowsLook start caller stretch name (Told size stored shares truncs) = ShowsTold start caller stretch name size stored shares truncs
 ShowsLook start caller stretch name other = ShowsNone other
 
+-- a file was truncated so, renamed, or recovered; no other line is one of a reader, nor of damage
+abbrev pub ShowsTruncate : Moment → ℕ → Stretch → Name → ℕ → Outcome → Type 0
+ShowsTruncate start caller stretch name size (Truncated stamp) = TruncatesFile start caller stretch name size stamp
+ShowsTruncate start caller stretch name size other = ShowsNone other
+
+abbrev pub ShowsRename : Moment → ℕ → Stretch → Name → Name → Outcome → Type 0
+ShowsRename start caller stretch name to Renamed = RenamesFile start caller stretch name to
+ShowsRename start caller stretch name to other = ShowsNone other
+
+abbrev pub ShowsRecovery : Moment → ℕ → Stretch → Name → Outcome → Type 0
+ShowsRecovery start caller stretch name (Recovered buried alive hold) = RecoversFile start caller stretch name buried alive hold
+ShowsRecovery start caller stretch name other = ShowsNone other
+
 -- In this stretch the caller makes a statement. It had this file open before it, or none, and has that one or none after it. Its line shows so much.
 abbrev pub Shows : Moment → ℕ → Stretch → Option OneFile → Statement → Outcome → Option OneFile → Type 0
 Shows start caller stretch old (Ropen name workers) outcome new = UnlessOpen old outcome new (ShowsOpening start caller stretch name outcome new)
@@ -91,4 +106,7 @@ Shows start caller stretch old (Verify at content) outcome new = (new ≡ old) �
 Shows start caller stretch old Map outcome new = (new ≡ old) × IfOpen old outcome (λ file. ShowsMap file outcome)
 Shows start caller stretch old Rclose outcome new = ShowsClosing old outcome new
 Shows start caller stretch old (Stat name) outcome new = (new ≡ old) × ShowsLook start caller stretch name outcome
+Shows start caller stretch old (Truncate name size) outcome new = (new ≡ old) × ShowsTruncate start caller stretch name size outcome
+Shows start caller stretch old (Rename name to) outcome new = (new ≡ old) × ShowsRename start caller stretch name to outcome
+Shows start caller stretch old (Recover name) outcome new = (new ≡ old) × ShowsRecovery start caller stretch name outcome
 Shows start caller stretch old other outcome new = (new ≡ old) × ShowsNone outcome

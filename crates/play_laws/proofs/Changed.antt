@@ -1,0 +1,114 @@
+-- What the statements show that change a file.
+use Rattle.std.proofs.Common.{◌≡◌, ℕ, inl, inr, List, ◌++◌, Option, Result, Ok, Err, refl}
+use Rattle.story.specs.Process.{ends}
+use Rattle.story.specs.Plays.{Plays}
+use Rattle.mount_model.specs.Paths.{Name}
+use Rattle.mount_model.specs.History.{Event}
+use Rattle.flow.specs.declared.trouble.Stuck.{Stuck}
+use Rattle.flow.specs.declared.trouble.Stuck.TheVariants as stuck
+use Rattle.flow.specs.Running.{Runs}
+use Rattle.looks.specs.Replies.{Tries}
+use Rattle.torn_tail.specs.declared.recovering.Recovered.{Recovered as WasRecovered}
+use Rattle.torn_tail.specs.Recovering.{recover_program}
+use Rattle.trunc_rename.specs.Renaming.{rename_program}
+use Rattle.trunc_rename.specs.Truncating.{truncate_program}
+use Rattle.script_lang.specs.declared.line.Line.{Line}
+use Rattle.script_lang.specs.declared.line.Outcome.{Outcome}
+use Rattle.script_lang.specs.declared.line.Outcome.TheVariants.{Recovered, Renamed, Stopped, Truncated}
+use Rattle.gathering.specs.Moments.{Moment, moment_after}
+use Rattle.trouble_laws.specs.Undamaged.{IsNoDamage}
+use Rattle.trouble_laws.proofs.Facts.{recover_ends, rename_ends, truncate_ends}
+use Rattle.outcomes.specs.Outcomes.{or_stuck, recover_outcome, rename_outcome, stuck_outcome, truncate_outcome}
+use Rattle.actor_core.specs.declared.kept.Kept.{Kept}
+use Rattle.actor_core.specs.declared.kept.Stop.{Stop}
+use Rattle.actor_core.specs.Endings.{Ending, ending, stopped}
+use Rattle.actor_core.specs.Stopping.{carried}
+use Rattle.actor_core.specs.Work.{finishes}
+use Rattle.run_core.specs.Course.{Course, then_line}
+use Rattle.play_laws.specs.Opening.{Stretch}
+use Rattle.play_laws.specs.Showing.{ShowsRecovery, ShowsRename, ShowsTruncate}
+use Rattle.play_laws.proofs.Carrying.{EndsSo, carried_on, ended_behind}
+use Rattle.play_laws.proofs.Changes.{renames_there, truncates_there}
+use Rattle.play_laws.proofs.Recoveries.{recovered}
+use Rattle.play_laws.proofs.Renamed.{renamed}
+use Rattle.play_laws.proofs.Standing.{Both, Next, up_to}
+use Rattle.play_laws.proofs.Truncated.{truncated}
+
+module _ (start : Moment) (n : ℕ) (before greeting : List Event) (number : ℕ) (next : Kept → Course) (kept : Kept) (stop : Option Stop) where
+  abbrev Now : Moment
+  Now = moment_after start (before ++ greeting)
+
+  abbrev At : List Event → Stretch
+  At mine = record { before = before; events = greeting ++ mine }
+
+  -- the actor keeps its reader, and the line shows so much
+  abbrev Comes : (List Event → Outcome → Type 0) → List Event → List (List Event) → List Line → Course → Type 0
+  Comes shows part ws lines left = EndsSo n number next part ws lines left (λ mine e. (e.kept.reader ≡ kept.reader) × shows mine e.outcome)
+
+  behind : (shows : List Event → Outcome → Type 0) (e : Ending) (part first rest : List Event) (ws : List (List Event)) (lines : List Line) (left : Course) → part ≡ first ++ rest → Plays n (then_line number next (finishes e)) rest ws lines left → (e.kept.reader ≡ kept.reader) × shows first e.outcome → Comes shows part ws lines left
+  behind shows e part first rest ws lines left is plays good = ended_behind n number next e ends part first rest ws lines left (λ mine x. (x.kept.reader ≡ kept.reader) × shows mine x.outcome) is plays good
+
+  -- one program, whose result is one line
+  program_ends : {R : Type 0} (shows : List Event → Outcome → Type 0) (p : Tries R) (says : R → Outcome) → ((mine : List Event) → shows mine Stopped) → ((mine : List Event) (result : Result R Stuck) → Next start (before ++ greeting) mine → Runs n p mine result → shows mine (or_stuck says result))
+      → (part : List Event) (ws : List (List Event)) (lines : List Line) (left : Course) → Next start before (greeting ++ part) → Plays n (then_line number next (carried p stop (λ left result. finishes (ending (or_stuck says result) kept)) (finishes (stopped kept)))) part ws lines left → Comes shows part ws lines left
+  program_ends {R} shows p says halted each part ws lines left whole plays =
+      elim (carried_on n number next p stop (λ later result. finishes (ending (or_stuck says result) kept)) (finishes (stopped kept)) part ws lines left plays) as (λ _. Comes shows part ws lines left) [
+        | inl r ↦
+            let b : Both start before greeting r.mine = up_to start before greeting part r.mine r.rest whole r.all in
+            behind shows (ending (or_stuck says r.result) kept) part r.mine r.rest ws lines left r.all r.goes_on (refl, each r.mine r.result b.next r.runs)
+        | inr h ↦ behind shows (stopped kept) part h.mine h.rest ws lines left h.all h.goes_on (refl, halted h.mine)
+      ]
+
+  -- ---- a truncate
+
+  abbrev Truncates : Name → ℕ → List Event → Outcome → Type 0
+  Truncates name size mine outcome = ShowsTruncate start n (At mine) name size outcome
+
+  truncate_trouble : (name : Name) (size : ℕ) (mine : List Event) (why : Stuck) → IsNoDamage why → Truncates name size mine (stuck_outcome why)
+  truncate_trouble name size mine stuck.Fault plain = tt
+  truncate_trouble name size mine (stuck.Damaged folder file place) plain = absurd plain
+  truncate_trouble name size mine (stuck.Refused because) plain = tt
+
+  truncate_shows : (name : Name) (size : ℕ) (mine : List Event) (result : Result ℕ Stuck) → Next start (before ++ greeting) mine → Runs n (truncate_program name size) mine result → Truncates name size mine (truncate_outcome result)
+  truncate_shows name size mine (Ok stamp) whole runs = truncates_there start n before greeting mine name size stamp (truncated n Now name size stamp mine whole.lawful whole.sound runs)
+  truncate_shows name size mine (Err why) whole runs = truncate_trouble name size mine why (truncate_ends n name size Now.state Now.issued mine (Err why) whole.lawful whole.sound runs)
+
+  pub trunc_ends : (name : Name) (size : ℕ) (part : List Event) (ws : List (List Event)) (lines : List Line) (left : Course) → Next start before (greeting ++ part) → Plays n (then_line number next (carried (truncate_program name size) stop (λ left result. finishes (ending (truncate_outcome result) kept)) (finishes (stopped kept)))) part ws lines left
+      → EndsSo n number next part ws lines left (λ mine e. (e.kept.reader ≡ kept.reader) × ShowsTruncate start n (record { before = before; events = greeting ++ mine }) name size e.outcome)
+  trunc_ends name size = program_ends (Truncates name size) (truncate_program name size) (λ stamp. Truncated stamp) (λ mine. tt) (truncate_shows name size)
+
+  -- ---- another name
+
+  abbrev Renames : Name → Name → List Event → Outcome → Type 0
+  Renames name to mine outcome = ShowsRename start n (At mine) name to outcome
+
+  rename_trouble : (name to : Name) (mine : List Event) (why : Stuck) → IsNoDamage why → Renames name to mine (stuck_outcome why)
+  rename_trouble name to mine stuck.Fault plain = tt
+  rename_trouble name to mine (stuck.Damaged folder file place) plain = absurd plain
+  rename_trouble name to mine (stuck.Refused because) plain = tt
+
+  rename_shows : (name to : Name) (mine : List Event) (result : Result (Unit {0}) Stuck) → Next start (before ++ greeting) mine → Runs n (rename_program name to) mine result → Renames name to mine (rename_outcome result)
+  rename_shows name to mine (Ok done) whole runs = renames_there start n before greeting mine name to (renamed n Now name to done mine whole.lawful whole.sound runs)
+  rename_shows name to mine (Err why) whole runs = rename_trouble name to mine why (rename_ends n name to Now.state Now.issued mine (Err why) whole.lawful whole.sound runs)
+
+  pub renaming_ends : (name to : Name) (part : List Event) (ws : List (List Event)) (lines : List Line) (left : Course) → Next start before (greeting ++ part) → Plays n (then_line number next (carried (rename_program name to) stop (λ left result. finishes (ending (rename_outcome result) kept)) (finishes (stopped kept)))) part ws lines left
+      → EndsSo n number next part ws lines left (λ mine e. (e.kept.reader ≡ kept.reader) × ShowsRename start n (record { before = before; events = greeting ++ mine }) name to e.outcome)
+  renaming_ends name to = program_ends (Renames name to) (rename_program name to) (λ done. Renamed) (λ mine. tt) (rename_shows name to)
+
+  -- ---- a recovery
+
+  abbrev Recovers : Name → List Event → Outcome → Type 0
+  Recovers name mine outcome = ShowsRecovery start n (At mine) name outcome
+
+  recover_trouble : (name : Name) (mine : List Event) (why : Stuck) → IsNoDamage why → Recovers name mine (stuck_outcome why)
+  recover_trouble name mine stuck.Fault plain = tt
+  recover_trouble name mine (stuck.Damaged folder file place) plain = absurd plain
+  recover_trouble name mine (stuck.Refused because) plain = tt
+
+  recover_shows : (name : Name) (mine : List Event) (result : Result WasRecovered Stuck) → Next start (before ++ greeting) mine → Runs n (recover_program name) mine result → Recovers name mine (recover_outcome result)
+  recover_shows name mine (Ok r) whole runs = recovered start n before greeting mine name r whole.lawful whole.sound runs
+  recover_shows name mine (Err why) whole runs = recover_trouble name mine why (recover_ends n name Now.state Now.issued mine (Err why) whole.lawful whole.sound runs)
+
+  pub recovery_ends : (name : Name) (part : List Event) (ws : List (List Event)) (lines : List Line) (left : Course) → Next start before (greeting ++ part) → Plays n (then_line number next (carried (recover_program name) stop (λ left result. finishes (ending (recover_outcome result) kept)) (finishes (stopped kept)))) part ws lines left
+      → EndsSo n number next part ws lines left (λ mine e. (e.kept.reader ≡ kept.reader) × ShowsRecovery start n (record { before = before; events = greeting ++ mine }) name e.outcome)
+  recovery_ends name = program_ends (Recovers name) (recover_program name) (λ (r : WasRecovered). Recovered r.buried r.alive r.hold) (λ mine. tt) (recover_shows name)

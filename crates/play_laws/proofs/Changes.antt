@@ -1,0 +1,67 @@
+-- What a caller changed by a hold, told of the whole stretch of its statement.
+use Rattle.std.proofs.Common.{◌≡◌, ℕ, List, ◌∷◌, ◌++◌, sym, ap, ◌∙◌, subst, append_assoc}
+use Rattle.mount_model.specs.declared.call.Call.{Call}
+use Rattle.mount_model.specs.declared.reply.Reply.{Reply}
+use Rattle.mount_model.specs.History.{Event}
+use Rattle.mount_model.specs.Paths.{Name}
+use Rattle.gathering.specs.Moments.{Moment, moment_after, next_moment}
+use Rattle.gathering.proofs.Facts.{moment-append}
+use Rattle.play_laws.specs.Changing.{Change, IsChange, IsHolderOf, IsRenamed, IsTruncated, RenamesFile, TruncatesFile, until_changed}
+use Rattle.play_laws.specs.Opening.{IsRoomNamed, Stretch}
+use Rattle.play_laws.proofs.Held.{alone}
+
+-- moments behind what came before
+pub one_moment : (start : Moment) (before first earlier events : List Event) → moment_after (moment_after start (before ++ first)) (earlier ++ events) ≡ moment_after start (before ++ ((first ++ earlier) ++ events))
+one_moment start before first earlier events = sym (moment-append start (before ++ first) (earlier ++ events)) ∙ ap (moment_after start) (append_assoc before first (earlier ++ events) ∙ ap (λ z. before ++ z) (sym (append_assoc first earlier events)))
+
+pub then_moment : (start : Moment) (before first earlier : List Event) → moment_after (moment_after start (before ++ first)) earlier ≡ moment_after start (before ++ (first ++ earlier))
+then_moment start before first earlier = sym (moment-append start (before ++ first) earlier) ∙ ap (moment_after start) (append_assoc before first earlier)
+
+module _ (start : Moment) (n : ℕ) (before greeting mine : List Event) where
+  abbrev Now : Moment
+  Now = moment_after start (before ++ greeting)
+
+  abbrev Whole : Stretch
+  Whole = record { before = before; events = greeting ++ mine }
+
+  -- the same change, behind the greeting
+  abbrev behind : Change → Change
+  behind c = record {
+    room = c.room;
+    holder = c.holder;
+    earlier = greeting ++ c.earlier;
+    finding = c.finding;
+    between = c.between;
+    holding = c.holding;
+    more = c.more;
+    changing = c.changing;
+    later = c.later;
+  }
+
+  changed_there : (c : Change) → until_changed Now (alone mine) c ≡ until_changed start Whole (behind c)
+  changed_there c = one_moment start before greeting c.earlier (c.finding ∷ c.between ++ (c.holding ∷ c.more))
+
+  change_there : (name : Name) (call : ℕ → Call) (reply : Reply) (c : Change) → IsChange Now n (alone mine) name call reply c → IsChange start n Whole name call reply (behind c)
+  change_there name call reply c k = record {
+    split = ap (λ z. greeting ++ z) k.split ∙ sym (append_assoc greeting c.earlier (c.finding ∷ c.between ++ (c.holding ∷ c.more ++ c.changing ∷ c.later)));
+    finds = k.finds;
+    named = subst (λ m. IsRoomNamed m name c.room) (then_moment start before greeting c.earlier) k.named;
+    holds = k.holds;
+    changes = k.changes;
+    held = subst (λ m. IsHolderOf m n c.holder c.room) (changed_there c) k.held;
+  }
+
+  pub truncates_there : (name : Name) (size stamp : ℕ) → TruncatesFile Now n (alone mine) name size stamp → TruncatesFile start n Whole name size stamp
+  truncates_there name size stamp t = record {
+    top = t.top;
+    change = behind t.change;
+    made = change_there name _ _ t.change t.made;
+    truncated = subst (λ (m : Moment). IsTruncated m (next_moment m t.change.changing) t.change.room size stamp) (changed_there t.change) t.truncated;
+  }
+
+  pub renames_there : (name to : Name) → RenamesFile Now n (alone mine) name to → RenamesFile start n Whole name to
+  renames_there name to r = record {
+    change = behind r.change;
+    made = change_there name _ _ r.change r.made;
+    renamed = subst (λ (m : Moment). IsRenamed m (next_moment m r.change.changing) r.change.room name to) (changed_there r.change) r.renamed;
+  }

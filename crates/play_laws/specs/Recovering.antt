@@ -1,0 +1,73 @@
+-- What the line of a recovery shows of its container.
+use Rattle.std.specs.Prelude.{◌≡◌, ℕ, Bool, true, List, ◌∷◌, ◌++◌, Some, None}
+use Rattle.std.specs.List.{All, Any}
+use Rattle.plfs_types.specs.declared.entries.WriterCount.{WriterCount}
+use Rattle.store_api.specs.declared.tree.Room.{Room}
+use Rattle.store_laws.specs.Files.{file_at}
+use Rattle.mount_model.specs.declared.call.Call.TheVariants.{Bury, Find, Inspect, MendHold}
+use Rattle.mount_model.specs.declared.reply.Refusal.TheVariants.{Alive}
+use Rattle.mount_model.specs.declared.reply.Reply.TheVariants.{Done, Mended, Refused, Room as Found}
+use Rattle.mount_model.specs.History.{Event}
+use Rattle.mount_model.specs.declared.row.Row.{Row}
+use Rattle.mount_model.specs.Paths.{Name, open_path}
+use Rattle.mount_model.specs.State.{State}
+use Rattle.mount_model.specs.Table.{is_live, row_of}
+use Rattle.mount_sound.specs.Owed.{IsNotLive, StandsInRoom}
+use Rattle.gathering.specs.Moments.{Moment, landed, moment_after}
+use Rattle.play_laws.specs.Changing.{IsAnswered}
+use Rattle.play_laws.specs.Opening.{IsRoomNamed, Stretch}
+
+-- The calls by which a writer was taken out: it was inspected, so many of its entries were counted, and it was buried; and what was called around them.
+pub record Burial : Type 0 where
+  pub host : ℕ
+  pub earlier : List Event
+  pub inspecting : Event
+  pub between : List Event
+  pub more : List Event
+  pub burying : Event
+  pub later : List Event
+
+-- the moments at which it was inspected, and at which its entries were counted
+abbrev pub as_inspected : Moment → Stretch → Burial → Moment
+as_inspected start stretch b = moment_after start (stretch.before ++ b.earlier)
+
+abbrev pub as_counted : Moment → Stretch → Burial → Moment
+as_counted start stretch b = moment_after start (stretch.before ++ (b.earlier ++ (b.inspecting ∷ b.between)))
+
+-- In this stretch the caller found the writer not live, and buried it after that. So many of its entries had landed in between, and then it has the
+-- container open no more.
+pub record IsBuried (start : Moment) (caller : ℕ) (stretch : Stretch) (room : ℕ) (told : WriterCount) : Type 0 where
+  pub burial : Burial
+  pub split : stretch.events ≡ burial.earlier ++ (burial.inspecting ∷ burial.between ++ (burial.more ++ burial.burying ∷ burial.later))
+  pub inspects : IsAnswered caller (Inspect told.writer) Done burial.inspecting
+  pub dead : IsNotLive (as_inspected start stretch burial).state told.writer
+  pub counted : landed (as_counted start stretch burial) (record { room = room; host = burial.host; writer = told.writer }) ≡ told.count
+  pub buries : IsAnswered caller (Bury room burial.host told.writer) Done burial.burying
+  pub gone : StandsInRoom burial.burying.after room (λ (now : Room). file_at now (open_path burial.host told.writer) ≡ None)
+
+-- the table has the writer, and it is live
+abbrev pub IsLive : State → ℕ → Type 0
+IsLive state writer = (row : Row) × (row_of writer state.table.writers ≡ Some row) × (is_live row.stage ≡ true)
+
+-- In this stretch the caller inspected the writer, which was live, and was told so.
+pub record IsFoundLive (start : Moment) (caller : ℕ) (stretch : Stretch) (writer : ℕ) : Type 0 where
+  pub earlier : List Event
+  pub inspecting : Event
+  pub later : List Event
+  pub split : stretch.events ≡ earlier ++ inspecting ∷ later
+  pub inspects : IsAnswered caller (Inspect writer) (Refused Alive) inspecting
+  pub live : IsLive (moment_after start (stretch.before ++ earlier)).state writer
+
+-- In this stretch the caller found the container of this name. It buried these writers and found those live; and where a hold was taken away, it was
+-- told so.
+pub record RecoversFile (start : Moment) (caller : ℕ) (stretch : Stretch) (name : Name) (buried : List WriterCount) (alive : List ℕ) (hold : Bool) : Type 0 where
+  pub room : ℕ
+  pub earlier : List Event
+  pub finding : Event
+  pub later : List Event
+  pub split : stretch.events ≡ earlier ++ finding ∷ later
+  pub finds : IsAnswered caller (Find name) (Found room) finding
+  pub named : IsRoomNamed (moment_after start (stretch.before ++ earlier)) name room
+  pub taken_out : All (λ (told : WriterCount). IsBuried start caller stretch room told) buried
+  pub found_live : All (λ writer. IsFoundLive start caller stretch writer) alive
+  pub let_go : hold ≡ true → Any (λ (event : Event). IsAnswered caller (MendHold room) (Mended true) event) stretch.events
