@@ -3,8 +3,9 @@
 //! checkpoint write FOLDER N           a checkpoint of N writers in 32 rounds, written and read back with every block compared
 //! checkpoint make FOLDER W E          a container of W writers and E strided entries, whose logs are holes
 //! checkpoint open FOLDER              its index droppings read and merged by a heap, in order of logical offsets
+//! checkpoint flat FOLDER              the pieces of its newest flattened index, read into a list
 //!
-//! FOLDER is what `plfs` takes as ROOT, and the container in it is `f`. Each prints the seconds that it took, and `open` the pieces.
+//! FOLDER is what `plfs` takes as ROOT, and the container in it is `f`. Each prints the seconds that it took, and `open` and `flat` the pieces.
 //! It runs on Unix.
 
 use std::collections::BinaryHeap;
@@ -22,6 +23,9 @@ const FOLDERS: u64 = 32;
 const FIRST_ID: u64 = (1 << 32) + 1;
 const ENTRY: usize = 40;
 const READ: usize = 4096 * ENTRY;
+const FLAT_READ: usize = 1 << 20;
+const FLAT_HEAD: usize = 24;
+const COVER: usize = 32;
 const STRIDE: u64 = 4096;
 
 #[derive(Clone, Copy, PartialEq, Eq, PartialOrd, Ord)]
@@ -208,6 +212,33 @@ fn merged(lists: Vec<Vec<Entry>>) -> Vec<Entry> {
     all
 }
 
+/// The pieces of the flattened index with the greatest number, which rise and don't overlap.
+fn flattened(container: &Path) -> Result<Vec<Entry>> {
+    let mut newest = None;
+    for file in fs::read_dir(container.join("flats"))? {
+        let name = file?.file_name().to_string_lossy().into_owned();
+        newest = newest.max(name.parse::<u64>().ok());
+    }
+    let newest = newest.ok_or_else(|| wrong("no flattened index"))?;
+    let file = File::open(container.join("flats").join(newest.to_string()))?;
+    let whole = file.metadata()?.len() as usize;
+    let mut bytes = vec![0; whole];
+    for (place, part) in bytes.chunks_mut(FLAT_READ).enumerate() {
+        file.read_exact_at(part, (place * FLAT_READ) as u64)?;
+    }
+    let number = |at: usize| u64::from_le_bytes(bytes[at..at + 8].try_into().unwrap()) as usize;
+    let (covers, pieces) = (number(8), number(16));
+    let from = FLAT_HEAD + COVER * covers;
+    if &bytes[..8] != b"PLFSFLT1" || whole != from + ENTRY * pieces {
+        return Err(wrong("a flattened index"));
+    }
+    let pieces: Vec<Entry> = bytes[from..].chunks_exact(ENTRY).map(Entry::read).collect();
+    if pieces.iter().any(|piece| piece.len == 0) || pieces.windows(2).any(|two| two[0].at + two[0].len > two[1].at) {
+        return Err(wrong("a piece"));
+    }
+    Ok(pieces)
+}
+
 /// Writes a checkpoint of so many writers, reads it back, and compares each block.
 fn write(root: &Path, writers: u64) -> Result<()> {
     let table: Vec<u8> = (0..BLOCK + 256).map(|j| j as u8).collect();
@@ -265,7 +296,8 @@ fn run(words: &[String]) -> Result<String> {
         ["write", root, writers] => write(Path::new(root), number(writers)?).map(|()| String::new()),
         ["make", root, writers, entries] => make(Path::new(root), number(writers)?, number(entries)?).map(|()| String::new()),
         ["open", root] => opened(&Path::new(root).join("f")).map(|(entries, _)| format!(" {}", entries.len())),
-        _ => Err(Error::new(ErrorKind::InvalidInput, "usage: checkpoint write FOLDER N | make FOLDER W E | open FOLDER")),
+        ["flat", root] => flattened(&Path::new(root).join("f")).map(|pieces| format!(" {}", pieces.len())),
+        _ => Err(Error::new(ErrorKind::InvalidInput, "usage: checkpoint write FOLDER N | make FOLDER W E | open FOLDER | flat FOLDER")),
     }
 }
 
