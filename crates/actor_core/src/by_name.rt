@@ -45,7 +45,14 @@ impl Actor {
         ensures goes_on { OnOk result (progress_of self.new ≡ given (busy self.old.number (doing_ready self.old.kept self.old.stop (Doing.Flattening flow)))) }
         ensures left { OnOk result (calls_left self.new ≤ doing_left (Doing.Flattening flow)) }
     {
-        if let Some(ask) = next_ask(&mut flow, self.stop)? {
+        let asked = match next_ask(&mut flow, self.stop) {
+            Ok(asked) => asked,
+            Err(why) => {
+                drop(flow);
+                return Err(why);
+            }
+        };
+        if let Some(ask) = asked {
             self.set(State::Asked(Doing::Flattening(flow)));
             return Ok(Some(ask));
         }

@@ -4,7 +4,7 @@ ghost use Rattle.actor_core.specs.declared.kept.Kept.{Kept as AKept};
 ghost use Rattle.actor_core.specs.declared.kept.Stop.{Stop as AStop};
 ghost use Rattle.actor_core.specs.Stopping.{is_due as due_test, one_nearer as nearer};
 ghost use Rattle.actor_core.specs.declared.actor.State.TheVariants.{Idle};
-ghost use Rattle.flow.specs.Standing.{rest_of, Awaits};
+ghost use Rattle.flow.specs.Standing.{rest_of, ready, replied, Awaits};
 ghost use Rattle.flatten_core.specs.FlattenStages.{flatten_standing};
 ghost use Rattle.gather_flow.specs.Gathering.{gather_rest};
 ghost use Rattle.actor_core.specs.Progress.{IsAsked, with_reply};
@@ -30,6 +30,7 @@ impl Actor {
         ensures left { OnOk result (calls_left self.new < doing_left doing) }
     {
         if is_due(self.stop) {
+            drop(doing);
             self.kept.gone = true;
             self.set(State::Ready(Doing::Known(Outcome::Stopped)));
             return Ok(());
@@ -62,9 +63,19 @@ fn flattening_after(flow: FlattenFlow, reply: Reply) -> Result<Doing, NoMemory>
         → busy number (doing_ready kept (nearer stop) next) ≡ with_reply (busy number (doing_asked kept stop (Doing.Flattening flow))) reply) }
     ensures left { IfOk result (λ next. doing_left next < doing_left (Doing.Flattening flow)) }
 {
+    let next = taken(flow, reply)?;
+    Ok(Doing::Flattening(next))
+}
+
+/// A machine once it took the reply to its call.
+fn taken<F: Flow + Drop>(flow: F, reply: Reply) -> Result<F, NoMemory>
+    requires { Awaits (rest_of (F.standing flow)) }
+    ensures goes_on { IfOk result (λ next. F.standing next ≡ ready (replied (rest_of (F.standing flow)) reply)) }
+    ensures left { IfOk result (λ next. F.left next < F.left flow) }
+{
     let mut flow = flow;
     flow.take(reply)?;
-    Ok(Doing::Flattening(flow))
+    Ok(flow)
 }
 
 /// The machine once it took the reply to its call.
@@ -76,59 +87,66 @@ fn after_reply(doing: Doing, reply: Reply) -> Result<Doing, NoMemory>
 {
     Ok(match doing {
         Doing::Known(_) => unreachable!(),
-        Doing::Opening(mut flow) => {
-            flow.take(reply)?;
-            Doing::Opening(flow)
+        Doing::Opening(flow) => {
+            let next = taken(flow, reply)?;
+            Doing::Opening(next)
         }
-        Doing::Writing { mut flow, at, len } => {
-            flow.take(reply)?;
-            Doing::Writing { flow, at, len }
+        Doing::Writing { flow, at, len } => {
+            let next = taken(flow, reply)?;
+            Doing::Writing {
+                flow: next,
+                at,
+                len,
+            }
         }
-        Doing::Syncing(mut flow) => {
-            flow.take(reply)?;
-            Doing::Syncing(flow)
+        Doing::Syncing(flow) => {
+            let next = taken(flow, reply)?;
+            Doing::Syncing(next)
         }
-        Doing::Closing(mut flow) => {
-            flow.take(reply)?;
-            Doing::Closing(flow)
+        Doing::Closing(flow) => {
+            let next = taken(flow, reply)?;
+            Doing::Closing(next)
         }
-        Doing::Listing { mut flow, purpose } => {
-            flow.take(reply)?;
-            Doing::Listing { flow, purpose }
+        Doing::Listing { flow, purpose } => {
+            let next = taken(flow, reply)?;
+            Doing::Listing {
+                flow: next,
+                purpose,
+            }
         }
         Doing::Gathering { flow, purpose } => gathering_after(flow, purpose, reply)?,
-        Doing::Reading { mut flow, at } => {
-            flow.take(reply)?;
-            Doing::Reading { flow, at }
+        Doing::Reading { flow, at } => {
+            let next = taken(flow, reply)?;
+            Doing::Reading { flow: next, at }
         }
-        Doing::Verifying {
-            mut flow,
-            at,
-            content,
-        } => {
-            flow.take(reply)?;
-            Doing::Verifying { flow, at, content }
+        Doing::Verifying { flow, at, content } => {
+            let next = taken(flow, reply)?;
+            Doing::Verifying {
+                flow: next,
+                at,
+                content,
+            }
         }
-        Doing::Telling(mut flow) => {
-            flow.take(reply)?;
-            Doing::Telling(flow)
+        Doing::Telling(flow) => {
+            let next = taken(flow, reply)?;
+            Doing::Telling(next)
         }
-        Doing::Truncating(mut flow) => {
-            flow.take(reply)?;
-            Doing::Truncating(flow)
+        Doing::Truncating(flow) => {
+            let next = taken(flow, reply)?;
+            Doing::Truncating(next)
         }
         Doing::Flattening(flow) => flattening_after(flow, reply)?,
-        Doing::Renaming(mut flow) => {
-            flow.take(reply)?;
-            Doing::Renaming(flow)
+        Doing::Renaming(flow) => {
+            let next = taken(flow, reply)?;
+            Doing::Renaming(next)
         }
-        Doing::Recovering(mut flow) => {
-            flow.take(reply)?;
-            Doing::Recovering(flow)
+        Doing::Recovering(flow) => {
+            let next = taken(flow, reply)?;
+            Doing::Recovering(next)
         }
-        Doing::Naming(mut flow) => {
-            flow.take(reply)?;
-            Doing::Naming(flow)
+        Doing::Naming(flow) => {
+            let next = taken(flow, reply)?;
+            Doing::Naming(next)
         }
     })
 }

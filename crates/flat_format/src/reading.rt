@@ -146,7 +146,7 @@ fn piece_list(
     ensures valid { IfOk result (AreFlatPieces covers.now) }
     ensures bad { IfErr result (IsRecordTrouble (AreFlatPieces covers.now) (pieces_in begin count bytes.now) begin ENTRY_SIZE) }
 {
-    let mut pieces = Vec::new(alloc);
+    let mut pieces = Vec::with_capacity(alloc, count)?;
     for index in 0..count {
         let place = begin + ENTRY_SIZE * index;
         let Some(piece) = next_piece(bytes, place, covers, pieces.as_slice()) else {
@@ -174,8 +174,7 @@ fn pieces_of(
     ensures bad { IfErr result (IsRecordTrouble (AreFlatPieces covers.now) (pieces_in begin count bytes.now) begin ENTRY_SIZE) }
 {
     let list = piece_list(alloc, bytes, begin, count, covers)?;
-    // The list is never handed back: it was judged as it was read.
-    Pieces::read(list).map_err(|_| FlatTrouble::NoMemory)
+    Ok(Pieces::of(list))
 }
 
 /// The flattened index that the bytes have by their counts.

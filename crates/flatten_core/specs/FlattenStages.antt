@@ -8,8 +8,8 @@ use Rattle.flatten_core.specs.declared.flattening.Flattened.{Flattened}
 use Rattle.flatten_core.specs.declared.flattening.FlattenFlow.{FlattenFlow}
 use Rattle.flatten_core.specs.Parts.{parted, parts_left}
 
-abbrev pub flatten_standing : FlattenFlow → Standing Call Reply (Result Flattened Stuck)
+unfoldable pub flatten_standing : FlattenFlow → Standing Call Reply (Result Flattened Stuck)
 flatten_standing flow = parted flow.part
 
-abbrev pub flatten_left : FlattenFlow → ℕ
+unfoldable pub flatten_left : FlattenFlow → ℕ
 flatten_left flow = parts_left flow.part

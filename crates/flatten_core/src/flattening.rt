@@ -60,7 +60,7 @@ impl Flow for FlattenFlow {
         let ended = Underway::of(Part::Ended(Err(Stuck::Fault)));
         let part = mem::replace(&mut self.part, ended).take();
         let (part, call) = part.give()?;
-        self.part = Underway::of(part);
+        drop(mem::replace(&mut self.part, Underway::of(part)));
         Ok(call)
     }
 
@@ -71,7 +71,7 @@ impl Flow for FlattenFlow {
         let ended = Underway::of(Part::Ended(Err(Stuck::Fault)));
         let part = mem::replace(&mut self.part, ended).take();
         let part = part.after(self.alloc, reply)?;
-        self.part = Underway::of(part);
+        drop(mem::replace(&mut self.part, Underway::of(part)));
         Ok(())
     }
 

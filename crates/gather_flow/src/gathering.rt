@@ -142,7 +142,13 @@ impl Gathering {
                 worker,
                 sofar,
             } => {
-                let call = flow.next()?;
+                let call = match flow.next() {
+                    Ok(call) => call,
+                    Err(why) => {
+                        drop((flow, listed, sofar));
+                        return Err(why);
+                    }
+                };
                 let gathering = Gathering::Shares {
                     flow,
                     listed,
@@ -160,7 +166,13 @@ impl Gathering {
                 listed,
                 shares,
             } => {
-                let call = flow.next()?;
+                let call = match flow.next() {
+                    Ok(call) => call,
+                    Err(why) => {
+                        drop((flow, listed, shares));
+                        return Err(why);
+                    }
+                };
                 let gathering = Gathering::Truncs {
                     flow,
                     listed,
@@ -205,26 +217,36 @@ impl Gathering {
                 worker,
                 sofar,
             } => {
-                flow.take(reply)?;
-                Ok(Gathering::Shares {
-                    flow,
-                    listed,
-                    workers,
-                    worker,
-                    sofar,
-                })
+                match flow.take(reply) {
+                    Ok(()) => Ok(Gathering::Shares {
+                        flow,
+                        listed,
+                        workers,
+                        worker,
+                        sofar,
+                    }),
+                    Err(why) => {
+                        drop((flow, listed, sofar));
+                        Err(why)
+                    }
+                }
             }
             Gathering::Truncs {
                 mut flow,
                 listed,
                 shares,
             } => {
-                flow.take(reply)?;
-                Ok(Gathering::Truncs {
-                    flow,
-                    listed,
-                    shares,
-                })
+                match flow.take(reply) {
+                    Ok(()) => Ok(Gathering::Truncs {
+                        flow,
+                        listed,
+                        shares,
+                    }),
+                    Err(why) => {
+                        drop((flow, listed, shares));
+                        Err(why)
+                    }
+                }
             }
             Gathering::Ended(_) => unreachable!(),
         }

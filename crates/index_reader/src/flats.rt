@@ -142,7 +142,9 @@ fn after_length(alloc: Global, id: u64, reply: Reply) -> Result<AfterFlat, NoMem
     let Some(told) = number_in(&reply) else {
         return Ok(AfterFlat::Is(Err(trouble(&path, &reply))));
     };
-    let part = read_on(path, told, told, Bytes::new(alloc));
+    let room = Vec::with_capacity(alloc, told as usize)?;
+    let bytes = Bytes::from_vec(room);
+    let part = read_on(path, told, told, bytes);
     let after = if_read(alloc, id, part)?;
     Ok(after)
 }

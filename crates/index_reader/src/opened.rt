@@ -15,7 +15,7 @@ use crate::gathered::Gathered;
 use flat_format::Flat;
 use interval_merge::{clip, size};
 use plain_file::Pieces;
-use plfs_types::{CoverList, NoMemory, TruncList};
+use plfs_types::{CoverList, NoMemory, Trunc, TruncList};
 use std::alloc::Global;
 
 /// What an open reader keeps: where the bytes of its file lie.
@@ -27,6 +27,18 @@ pub struct OpenReader {
     pub(crate) size: u64,
     pub(crate) covers: CoverList,
     pub(crate) truncs: TruncList,
+}
+
+/// The pieces that the truncates leave: the same where there is none.
+fn clipped(alloc: Global, pieces: Pieces, truncs: &[Trunc]) -> Result<Pieces, NoMemory>
+    ensures kept { IfOk result (λ clipped. (x : ℕ) → source_at clipped x ≡ kept_source truncs.now x (source_at pieces x)) }
+    ensures truncated { IfOk result (λ clipped. (entries : List Entry) → ArePieces entries [] pieces → ArePieces entries truncs.now clipped) }
+{
+    if truncs.is_empty() {
+        return Ok(pieces);
+    }
+    let clipped = clip(alloc, &pieces, truncs)?;
+    Ok(clipped)
 }
 
 impl OpenReader {
@@ -53,8 +65,8 @@ impl OpenReader {
             truncs,
         } = gathered;
         let Flat { covers, pieces } = flat;
-        let clipped = clip(alloc, &pieces, truncs.as_slice())?;
         let size = size(&pieces, truncs.as_slice());
+        let clipped = clipped(alloc, pieces, truncs.as_slice())?;
         Ok(OpenReader {
             room,
             droppings: Droppings::of(droppings),

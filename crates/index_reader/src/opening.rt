@@ -239,13 +239,23 @@ fn next_folder(
             rest,
             scan,
         }),
-        None => match listed(alloc, id, flat.get(), &scan)? {
-            Ok(droppings) => Ok(Stage::Listed {
-                room,
-                droppings,
-                flat,
-            }),
-            Err(why) => Ok(Stage::Failed(why)),
+        None => match listed(alloc, id, flat.get(), &scan) {
+            Ok(Ok(droppings)) => {
+                drop((rest, scan));
+                Ok(Stage::Listed {
+                    room,
+                    droppings,
+                    flat,
+                })
+            }
+            Ok(Err(why)) => {
+                drop((flat, rest, scan));
+                Ok(Stage::Failed(why))
+            }
+            Err(why) => {
+                drop((flat, rest, scan));
+                Err(why)
+            }
         },
     }
 }
@@ -305,12 +315,23 @@ fn after_folder(
     let folder = hostdir(folder);
     let why = trouble(&file_in(folder, Name::empty()), &reply);
     let Some(names) = names_in(reply) else {
+        drop((flat, rest, scan));
         return Ok(Stage::Failed(why));
     };
     let mut scan = scan;
-    match scan.scan(folder, names.as_slice())? {
-        Some(why) => Ok(Stage::Failed(why)),
-        None => next_folder(alloc, room, id, flat, rest, scan),
+    match scan.scan(folder, names.as_slice()) {
+        Err(why) => {
+            drop((names, flat, rest, scan));
+            Err(why)
+        }
+        Ok(Some(why)) => {
+            drop((names, flat, rest, scan));
+            Ok(Stage::Failed(why))
+        }
+        Ok(None) => {
+            drop(names);
+            next_folder(alloc, room, id, flat, rest, scan)
+        }
     }
 }
 
@@ -374,7 +395,8 @@ impl Flow for OpenRead {
             return Err(NoMemory);
         }
         let stage = mem::replace(&mut self.stage, Stage::Failed(Stuck::Fault));
-        self.stage = after_reply(self.alloc, stage, reply)?;
+        let stage = after_reply(self.alloc, stage, reply)?;
+        drop(mem::replace(&mut self.stage, stage));
         Ok(())
     }
 

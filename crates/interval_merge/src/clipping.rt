@@ -23,10 +23,7 @@ pub fn clip(alloc: Global, pieces: &Pieces, truncs: &[Trunc]) -> Result<Pieces, 
 {
     let cuts = cuts_of(alloc, truncs)?;
     let runs = clipped_runs(alloc, pieces.as_slice(), truncs, cuts.as_slice())?;
-    match Pieces::read(runs) {
-        Ok(pieces) => Ok(pieces),
-        Err(_) => unreachable!(),
-    }
+    Ok(Pieces::of(runs))
 }
 
 /// The truncates as cuts.

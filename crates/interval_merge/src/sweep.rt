@@ -23,10 +23,21 @@ pub fn merge(alloc: Global, a: &Pieces, b: &Pieces) -> Result<Pieces, NoMemory>
     ensures joined { IfOk result (λ merged. (entries others : List Entry) → ArePieces entries [] a.now → ArePieces others [] b.now → ArePieces (entries ++ others) [] merged) }
 {
     let runs = merged_runs(alloc, a.as_slice(), b.as_slice())?;
-    match Pieces::read(runs) {
-        Ok(pieces) => Ok(pieces),
-        Err(_) => unreachable!(),
+    Ok(Pieces::of(runs))
+}
+
+/// What `merge` gives. Where one list is empty, the other is handed back as it stands.
+pub(crate) fn merge_two(alloc: Global, a: Pieces, b: Pieces) -> Result<Pieces, NoMemory>
+    ensures runs { IfOk result (λ merged. AreRuns merged) }
+    ensures newer { IfOk result (λ merged. (x : ℕ) → source_at merged x ≡ newer_source (source_at a x) (source_at b x)) }
+{
+    if a.as_slice().is_empty() {
+        return Ok(b);
     }
+    if b.as_slice().is_empty() {
+        return Ok(a);
+    }
+    merge(alloc, &a, &b)
 }
 
 /// The runs of bytes of the newer pieces.

@@ -7,7 +7,7 @@ ghost use Rattle.plain_file.specs.Sources.{source_at};
 ghost use Rattle.plain_file.specs.Runs.{AreRuns, ArePieces};
 ghost use Rattle.interval_merge.specs.Lists.{newest_source, ArePiecesOfEach, joined};
 
-use crate::sweep::merge;
+use crate::sweep::merge_two;
 use crate::tournament::{PiecesList, merge_halves};
 use plain_file::Pieces;
 use plfs_types::NoMemory;
@@ -61,6 +61,6 @@ fn merge_halves_on<R: Threads + Sync>(
     );
     let a = a?;
     let b = b?;
-    let merged = merge(alloc, &a, &b)?;
+    let merged = merge_two(alloc, a, b)?;
     Ok(merged)
 }

@@ -6,7 +6,7 @@ ghost use Rattle.plain_file.specs.Sources.{source_at};
 ghost use Rattle.plain_file.specs.Runs.{AreRuns, ArePieces};
 ghost use Rattle.interval_merge.specs.Lists.{newest_source, ArePiecesOfEach, joined};
 
-use crate::sweep::merge;
+use crate::sweep::merge_two;
 use plain_file::{PieceList, Pieces};
 use plfs_types::{NoMemory, Sequence};
 use std::alloc::Global;
@@ -41,7 +41,7 @@ pub(crate) fn merge_halves(alloc: Global, lists: Vec<Pieces>) -> Result<Pieces, 
     let back = front.split_off(front.len() / 2)?;
     let a = merge_halves(alloc, front)?;
     let b = merge_halves(alloc, back)?;
-    let merged = merge(alloc, &a, &b)?;
+    let merged = merge_two(alloc, a, b)?;
     Ok(merged)
 }
 
@@ -62,8 +62,5 @@ fn only(alloc: Global, lists: Vec<Pieces>) -> Result<Pieces, NoMemory>
 fn no_pieces(alloc: Global) -> Pieces
     ensures { result ≡ [] }
 {
-    match Pieces::read(PieceList::new(alloc)) {
-        Ok(pieces) => pieces,
-        Err(_) => unreachable!(),
-    }
+    Pieces::of(PieceList::new(alloc))
 }

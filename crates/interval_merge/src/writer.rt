@@ -56,10 +56,7 @@ fn of_forward(alloc: Global, entries: &[Entry]) -> Result<Pieces, NoMemory>
     ensures { IfOk result (λ pieces. ArePieces entries.now [] pieces) }
 {
     let runs = forward_runs(alloc, entries)?;
-    match Pieces::read(runs) {
-        Ok(pieces) => Ok(pieces),
-        Err(_) => unreachable!(),
-    }
+    Ok(Pieces::of(runs))
 }
 
 /// The entries as runs, where those that are joinable are one.

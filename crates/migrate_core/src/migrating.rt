@@ -55,7 +55,7 @@ impl Flow for MigrateFlow {
     fn next(&mut self) -> Result<Option<Call>, NoMemory> {
         let stage = mem::replace(&mut self.stage, Stage::Ended(Err(Stuck::Fault)));
         let (stage, call) = stage.give()?;
-        self.stage = stage;
+        drop(mem::replace(&mut self.stage, stage));
         Ok(call)
     }
 
@@ -64,7 +64,8 @@ impl Flow for MigrateFlow {
             return Err(NoMemory);
         }
         let stage = mem::replace(&mut self.stage, Stage::Ended(Err(Stuck::Fault)));
-        self.stage = stage.after(self.alloc, reply)?;
+        let stage = stage.after(self.alloc, reply)?;
+        drop(mem::replace(&mut self.stage, stage));
         Ok(())
     }
 

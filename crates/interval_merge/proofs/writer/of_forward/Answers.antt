@@ -6,5 +6,5 @@ use Rattle.interval_merge.proofs.writer.of_forward.Goals as goal
 
 pub returns : goal.returns
 returns c =
-    let says : (x : ℕ) → source_at c.in-Ok.pieces x ≡ source_at (map piece_of c.args.entries.now) x = λ x. search rules in
-    ArePieces-forward c.args.entries.now c.in-Ok.pieces c.requires.forward (search rules) says
+    let says : (x : ℕ) → source_at c.of.result x ≡ source_at (map piece_of c.args.entries.now) x = λ x. search rules in
+    ArePieces-forward c.args.entries.now c.of.result c.requires.forward (search rules) says
