@@ -3,13 +3,13 @@ use Rattle.std.proofs.Common.{◌≡◌, ℕ, List, Option, Some, None, Result, 
 use Rattle.std.specs.Prelude.{IfSome}
 use Rattle.store_api.specs.declared.step.Answer.{Answer}
 use Rattle.store_api.specs.Step.{Step}
-use Rattle.store_folder.specs.declared.failure.Failure.{Failure}
+use Rattle.folder_calls.specs.declared.failure.Failure.{Failure}
 use Rattle.store_folder.specs.declared.files.Found.{Found}
 use Rattle.store_folder.specs.declared.files.Found.TheVariants.{There, Not}
-use Rattle.store_folder.specs.declared.held.Held.{Held}
-use Rattle.store_folder.specs.Calls.{Log}
+use Rattle.folder_calls.specs.declared.held.Held.{Held}
+use Rattle.folder_calls.specs.Calls.{Log}
 use Rattle.store_folder.specs.Files.{FailsToOpen}
-use Rattle.store_folder.specs.OpenFiles.{ActsOpen}
+use Rattle.folder_calls.specs.OpenFiles.{ActsOpen}
 use Rattle.store_folder.specs.Places.{FindsFile, ActsAt, once_opened, not_there, unopened}
 
 module _ {F : Type 0} (log between later : Log F) (room folder file : List ℕ) (step : Step) where

@@ -2,9 +2,9 @@
 use Rattle.std.proofs.Common.{◌≡◌, ℕ, ◌+◌, List, [], ◌∷◌, ◌++◌, Bool, false, Result, Ok, Err, ap, subst, sym, ◌∙◌, add-one}
 use Rattle.std.specs.Fmt.{decimal}
 use Rattle.std.specs.Prelude.{OnOk, IfOk}
-use Rattle.store_folder.specs.declared.failure.Failure.{Failure}
-use Rattle.store_folder.specs.declared.reason.Kind.TheVariants.{Folder}
-use Rattle.store_folder.specs.Calls.{Log, Makes, looked_at, made_folder}
+use Rattle.folder_calls.specs.declared.failure.Failure.{Failure}
+use Rattle.folder_calls.specs.declared.reason.Kind.TheVariants.{Folder}
+use Rattle.folder_calls.specs.Calls.{Log, Makes, looked_at, made_folder}
 use Rattle.store_folder.specs.Leftovers.{Empties, Clears, emptied, Tries, after_clearing, PassesBy}
 use Rattle.store_folder.specs.Paths.{building_path}
 

@@ -1,10 +1,10 @@
 -- Folders that can't be entered, and files that can't be opened.
 use Rattle.std.proofs.Common.{◌≡◌, ℕ, List, [], ◌∷◌, Result, Ok, Err, subst, ap, ◌∙◌}
 use Rattle.std.specs.Prelude.{OnErr}
-use Rattle.store_folder.specs.declared.failure.Failure.{Failure}
-use Rattle.store_folder.specs.declared.reason.Kind.{Kind}
-use Rattle.store_folder.specs.declared.reason.Kind.TheVariants.{Folder}
-use Rattle.store_folder.specs.Calls.{Log, Makes, with_call, looked_at}
+use Rattle.folder_calls.specs.declared.failure.Failure.{Failure}
+use Rattle.folder_calls.specs.declared.reason.Kind.{Kind}
+use Rattle.folder_calls.specs.declared.reason.Kind.TheVariants.{Folder}
+use Rattle.folder_calls.specs.Calls.{Log, Makes, with_call, looked_at}
 use Rattle.store_folder.specs.Files.{FailsToOpen, entering}
 use Rattle.store_folder.specs.Folders.{FailsToEnter, IsNoEntry, at_folder}
 

@@ -1,7 +1,7 @@
 -- Rooms that are found one after the other.
 use Rattle.std.proofs.Common.{◌≡◌, ℕ, ◌+◌, ◌<◌, ◌≤◌, List, [], ◌∷◌, ◌++◌, Bool, length, get_or, drop, refl, sym, ap, subst, append_assoc, ◌∙◌}
 use Rattle.std.proofs.lemmas.List.{drop_more, drop_all, append-nil}
-use Rattle.store_folder.specs.Calls.{Log}
+use Rattle.folder_calls.specs.Calls.{Log}
 use Rattle.store_folder.specs.Rooms.{if_room, LooksForRoom, FindsRooms}
 
 module _ {F : Type 0} (root : List ℕ) (names : List (List ℕ)) where

@@ -1,7 +1,7 @@
 -- Calls that are made for one name after the other.
 use Rattle.std.proofs.Common.{◌≡◌, ℕ, ◌+◌, ◌<◌, ◌≤◌, List, ◌∷◌, length, get_or, drop, refl, sym, ap, subst, ◌∙◌}
 use Rattle.std.proofs.lemmas.List.{drop_more, drop_all}
-use Rattle.store_folder.specs.Calls.{Log}
+use Rattle.folder_calls.specs.Calls.{Log}
 use Rattle.store_folder.specs.ForEach.{Asking, ForEach}
 
 module _ {F : Type 0} (asking : Asking F) (names : List (List ℕ)) where

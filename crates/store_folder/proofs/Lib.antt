@@ -4,5 +4,4 @@ pub mod Finding
 pub mod Still
 pub mod Clearing
 pub mod Acting
-pub mod SameFile
 pub mod Entering

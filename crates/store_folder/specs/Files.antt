@@ -3,11 +3,11 @@ use Rattle.std.specs.Prelude.{◌≡◌, ℕ, List, [], ◌∷◌, nat_eq, if◌
 use Rattle.std.specs.Cmp.Lexicographic.{pointwise}
 use Rattle.store_api.specs.declared.step.Answer.{Answer}
 use Rattle.store_api.specs.declared.step.Answer.TheVariants.{Made, Old, Absent, NoFolder}
-use Rattle.store_folder.specs.declared.failure.Failure.{Failure}
+use Rattle.folder_calls.specs.declared.failure.Failure.{Failure}
 use Rattle.store_folder.specs.declared.files.Found.{Found}
 use Rattle.store_folder.specs.declared.files.Found.TheVariants.{There, Not}
-use Rattle.store_folder.specs.declared.reason.Kind.TheVariants.{Absent as Nothing, File, Folder}
-use Rattle.store_folder.specs.Calls.{Call, Log, Makes, looked_at, opened_file, measured_file, created_file, synced_folder, removed_file, renamed_item}
+use Rattle.folder_calls.specs.declared.reason.Kind.TheVariants.{Absent as Nothing, File, Folder}
+use Rattle.folder_calls.specs.Calls.{Call, Log, Makes, looked_at, opened_file, measured_file, created_file, synced_folder, removed_file, renamed_item}
 use Rattle.store_folder.specs.Folders.{FindsNoFolder, FailsToEnter}
 use Rattle.store_folder.specs.Paths.{item_of}
 

@@ -2,11 +2,11 @@
 use Rattle.std.specs.Prelude.{◌≡◌, ℕ, List, [], ◌∷◌, true, false, Result, Ok, Err}
 use Rattle.store_api.specs.declared.step.Answer.{Answer}
 use Rattle.store_api.specs.declared.step.Answer.TheVariants.{Made, Old, NoFolder, NotEmpty, Names}
-use Rattle.store_folder.specs.declared.calls.Removal.TheVariants.{Removed, Absent, NotEmpty as Filled}
-use Rattle.store_folder.specs.declared.failure.Failure.{Failure}
-use Rattle.store_folder.specs.declared.reason.Kind.{Kind}
-use Rattle.store_folder.specs.declared.reason.Kind.TheVariants.{Absent as Nothing, File, Folder, Other}
-use Rattle.store_folder.specs.Calls.{Log, Makes, looked_at, listed_folder, made_folder, synced_folder, removed_folder}
+use Rattle.folder_calls.specs.declared.calls.Removal.TheVariants.{Removed, Absent, NotEmpty as Filled}
+use Rattle.folder_calls.specs.declared.failure.Failure.{Failure}
+use Rattle.folder_calls.specs.declared.reason.Kind.{Kind}
+use Rattle.folder_calls.specs.declared.reason.Kind.TheVariants.{Absent as Nothing, File, Folder, Other}
+use Rattle.folder_calls.specs.Calls.{Log, Makes, looked_at, listed_folder, made_folder, synced_folder, removed_folder}
 use Rattle.store_folder.specs.Listings.{IsSortedListing, IsLeast}
 use Rattle.store_folder.specs.Paths.{item_of}
 

@@ -1,6 +1,6 @@
 -- What is asked of the system for each of some names, in their order.
 use Rattle.std.specs.Prelude.{◌≡◌, ℕ, List, [], ◌∷◌}
-use Rattle.store_folder.specs.Calls.{Log}
+use Rattle.folder_calls.specs.Calls.{Log}
 
 -- the calls that are made for a name, as the log before them and the log after them
 abbrev pub Asking : Type 0 → Type 1

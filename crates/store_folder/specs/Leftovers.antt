@@ -1,11 +1,11 @@
 -- What the making of a room leaves where it is broken off, and how that is cleared.
 use Rattle.std.specs.Prelude.{◌≡◌, ℕ, zero, suc, List, [], ◌∷◌, Bool, true, false, Ok}
-use Rattle.store_folder.specs.declared.calls.Removal.{Removal}
-use Rattle.store_folder.specs.declared.reason.Kind.{Kind}
-use Rattle.store_folder.specs.declared.reason.Kind.TheVariants.{Absent, File, Folder, Other}
-use Rattle.store_folder.specs.Calls.{Log, Makes, looked_at, listed_folder, made_folder, removed_file, removed_folder}
+use Rattle.folder_calls.specs.declared.calls.Removal.{Removal}
+use Rattle.folder_calls.specs.declared.reason.Kind.{Kind}
+use Rattle.folder_calls.specs.declared.reason.Kind.TheVariants.{Absent, File, Folder, Other}
+use Rattle.folder_calls.specs.Calls.{Log, Makes, looked_at, listed_folder, made_folder, removed_file, removed_folder}
 use Rattle.store_folder.specs.ForEach.{ForEach}
-use Rattle.store_folder.specs.Kinds.{is_folder}
+use Rattle.folder_calls.specs.Kinds.{is_folder}
 use Rattle.store_folder.specs.Paths.{item_of, building_path}
 
 module _ {F : Type 0} where

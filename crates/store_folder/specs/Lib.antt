@@ -1,8 +1,4 @@
-pub mod Calls
 pub mod ForEach
-pub mod Keys
-pub mod Kinds
-pub mod Parts
 pub mod Paths
 pub mod Listings
 pub mod Folders
@@ -10,10 +6,8 @@ pub mod Files
 pub mod Leftovers
 pub mod NewRooms
 pub mod Rooms
-pub mod OpenFiles
 pub mod Places
 pub mod Steps
 pub mod StepPlaces
-pub mod Noted
 pub mod Counting
 pub mod Stored

@@ -1,8 +1,8 @@
 -- How a room is made: it is built in a folder of ROOT that is no room, and then that folder gets the room's name.
 use Rattle.std.specs.Prelude.{◌≡◌, ℕ, List, [], ◌∷◌, Bool, true, Option, Some, None, Result, Ok}
-use Rattle.store_folder.specs.declared.failure.Failure.{Failure}
-use Rattle.store_folder.specs.declared.reason.Kind.TheVariants.{File}
-use Rattle.store_folder.specs.Calls.{Log, Makes, looked_at, created_file, synced_file, made_folder, synced_folder, renamed_item}
+use Rattle.folder_calls.specs.declared.failure.Failure.{Failure}
+use Rattle.folder_calls.specs.declared.reason.Kind.TheVariants.{File}
+use Rattle.folder_calls.specs.Calls.{Log, Makes, looked_at, created_file, synced_file, made_folder, synced_folder, renamed_item}
 use Rattle.store_folder.specs.ForEach.{ForEach}
 use Rattle.store_folder.specs.Leftovers.{Tries, PassesBy}
 use Rattle.store_folder.specs.Paths.{item_of, building_path}

@@ -1,24 +1,18 @@
 -- Which open file a step is made on.
 use Rattle.std.specs.Prelude.{◌≡◌, ◌<◌, ℕ, List, length, Option, Some, None, Result, Ok, Err}
-use Rattle.std.specs.Map.{lookup}
 use Rattle.store_api.specs.declared.step.Answer.{Answer}
 use Rattle.store_api.specs.Step.{Step, length_of, read_at, write_at, cut, sync}
-use Rattle.store_folder.specs.declared.failure.Failure.{Failure}
-use Rattle.store_folder.specs.declared.cache.FileKey.{FileKey}
-use Rattle.store_folder.specs.declared.cache.OpenFiles.{OpenFiles}
+use Rattle.folder_calls.specs.declared.failure.Failure.{Failure}
+use Rattle.folder_calls.specs.declared.cache.FileKey.{FileKey}
 use Rattle.store_folder.specs.declared.disk.Disk.{Disk}
 use Rattle.store_folder.specs.declared.files.Found.{Found}
 use Rattle.store_folder.specs.declared.files.Found.TheVariants.{There}
-use Rattle.store_folder.specs.declared.held.Held.{Held}
-use Rattle.store_folder.specs.Keys.{same_file}
-use Rattle.store_folder.specs.Calls.{Log}
+use Rattle.folder_calls.specs.declared.held.Held.{Held}
+use Rattle.folder_calls.specs.Opened.{held_at}
+use Rattle.folder_calls.specs.Calls.{Log}
 use Rattle.store_folder.specs.Files.{FindsNoFile, FailsToOpen, OpensFile}
 use Rattle.store_folder.specs.Paths.{room_path, folder_path}
-use Rattle.store_folder.specs.OpenFiles.{ActsOpen}
-
--- the file under this key, where it is open
-abbrev pub held_at : {F : Type 0} → OpenFiles F → FileKey → Option (Held F)
-held_at open_files key = lookup (same_file key) open_files.files.entries
+use Rattle.folder_calls.specs.OpenFiles.{ActsOpen}
 
 -- the file of a step that is made on an open one
 abbrev pub file_of : Step → Option FileKey

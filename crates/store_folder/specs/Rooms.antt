@@ -4,13 +4,13 @@ use Rattle.store_api.specs.declared.step.Answer.{Answer}
 use Rattle.store_api.specs.declared.step.Answer.TheVariants.{Made, Old, NoRoom, TargetThere, Number}
 use Rattle.store_api.specs.Names.{same_name}
 use Rattle.store_folder.specs.declared.disk.Disk.{Disk}
-use Rattle.store_folder.specs.declared.failure.Failure.{Failure}
-use Rattle.store_folder.specs.declared.reason.Kind.{Kind}
-use Rattle.store_folder.specs.Calls.{Log, Makes, looked_at, listed_folder, synced_folder, renamed_item}
-use Rattle.store_folder.specs.Kinds.{is_folder}
+use Rattle.folder_calls.specs.declared.failure.Failure.{Failure}
+use Rattle.folder_calls.specs.declared.reason.Kind.{Kind}
+use Rattle.folder_calls.specs.Calls.{Log, Makes, looked_at, listed_folder, synced_folder, renamed_item}
+use Rattle.folder_calls.specs.Kinds.{is_folder}
 use Rattle.store_folder.specs.Listings.{IsSortedListing}
 use Rattle.store_folder.specs.NewRooms.{MakesRoom}
-use Rattle.store_folder.specs.Parts.{IsRoomName}
+use Rattle.folder_calls.specs.Parts.{IsRoomName}
 use Rattle.store_folder.specs.Paths.{item_of, room_path}
 
 -- the name, where it is a room's

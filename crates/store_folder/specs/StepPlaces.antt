@@ -2,7 +2,7 @@
 use Rattle.std.specs.Prelude.{ℕ, List, [], slice_get, unwrap_or, if◌then◌else◌}
 use Rattle.store_api.specs.Step.{Step, rooms, find_room, make_room, rename_room, make_folder, remove_folder, list_folder, create, remove, replace, length_of, read_at, write_at, cut, sync}
 use Rattle.store_folder.specs.declared.disk.Disk.{Disk}
-use Rattle.store_folder.specs.declared.reason.Place.{Place}
+use Rattle.folder_calls.specs.declared.reason.Place.{Place}
 
 -- the place of this room, folder and file, each empty where there is none
 abbrev pub place : List ℕ → List ℕ → List ℕ → Place

@@ -4,14 +4,15 @@ use Rattle.store_api.specs.declared.step.Answer.{Answer}
 use Rattle.store_api.specs.Effect.{number_or_absent}
 use Rattle.store_api.specs.Names.{same_name}
 use Rattle.store_api.specs.Step.{Step, rooms, find_room, make_room, rename_room, make_folder, remove_folder, list_folder, create, remove, replace, length_of, read_at, write_at, cut, sync}
-use Rattle.store_folder.specs.declared.cache.FileKey.{FileKey}
+use Rattle.folder_calls.specs.declared.cache.FileKey.{FileKey}
 use Rattle.store_folder.specs.declared.disk.Disk.{Disk}
-use Rattle.store_folder.specs.Calls.{Log}
+use Rattle.folder_calls.specs.Calls.{Log}
 use Rattle.store_folder.specs.Files.{CreatesFile, RemovesFile, ReplacesFile}
 use Rattle.store_folder.specs.Folders.{MakesFolder, RemovesFolder, TellsFolder}
 use Rattle.store_folder.specs.Listings.{TellsNames}
 use Rattle.store_folder.specs.Paths.{folder_path}
-use Rattle.store_folder.specs.Places.{held_at, ActsAt}
+use Rattle.folder_calls.specs.Opened.{held_at}
+use Rattle.store_folder.specs.Places.{ActsAt}
 use Rattle.store_folder.specs.Rooms.{ListsRooms, HasFiles, HasRooms, IsStill, InRoom, AddsRoom, RenamesRoom}
 
 module _ {C F : Type 0} where

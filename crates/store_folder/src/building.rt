@@ -1,15 +1,13 @@
 //! How a room is made: it is built in a folder of ROOT that is no room, and then that folder gets the room's name.
 ghost use Rattle.std.specs.Prelude.{◌≡◌, ◌∷◌, [], ◌++◌, ◌⊎◌, None, Ok, Err, IfOk, OnOk, OnErr, string_bytes};
-ghost use Rattle.store_folder.specs.Calls.{failed_calls};
+ghost use Rattle.folder_calls.specs.Calls.{failed_calls};
 ghost use Rattle.store_folder.specs.ForEach.{ForEach};
 ghost use Rattle.store_folder.specs.Paths.{item_of};
 ghost use Rattle.store_folder.specs.NewRooms.{BuildsFolder, BuildsFile, TakesPlace, Fills, BuildsRoom, MakesRoom};
 ghost use Rattle.store_folder.specs.Rooms.{IsStill, AddsRoom};
 
-use crate::calls::Calls;
 use crate::disk::Disk;
-use crate::failure::Failure;
-use crate::paths::{is_room_name, join, part};
+use folder_calls::{Calls, Failure, is_room_name, join, part};
 use plfs_types::Name;
 use store_api::Answer;
 

@@ -1,15 +1,12 @@
 //! What a store keeps of its folder, and each step's way to the system.
 ghost use Rattle.std.specs.Prelude.{◌≡◌, [], true, false, IfOk, IfErr, IfSome, string_bytes};
 ghost use Rattle.store_api.specs.Step.{step_of};
-ghost use Rattle.store_folder.specs.Calls.{failed_calls};
+ghost use Rattle.folder_calls.specs.Calls.{failed_calls};
 ghost use Rattle.store_folder.specs.Places.{file_of, ActsOnFile};
 ghost use Rattle.store_folder.specs.StepPlaces.{room_name, place_of};
 ghost use Rattle.store_folder.specs.Steps.{Numbers, Performs};
 
-use crate::cache::{FileKey, OpenFiles};
-use crate::calls::Calls;
-use crate::failure::Failure;
-use crate::reason::Place;
+use folder_calls::{Calls, Failure, FileKey, OpenFiles, Place};
 use plfs_types::{Name, Word};
 use std::alloc::Global;
 use store_api::{Answer, Step};

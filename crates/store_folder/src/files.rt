@@ -2,20 +2,16 @@
 ghost use Rattle.std.specs.Prelude.{◌≡◌, ◌≤◌, ◌<◌, ◌∷◌, [], ℕ, length, None, Ok, IfOk, IfSome, OnOk, OnErr};
 ghost use Rattle.store_api.specs.Step.{step_of};
 ghost use Rattle.std.specs.Map.{remove_entry};
-ghost use Rattle.store_folder.specs.Calls.{Makes, looked_at, failed_calls};
+ghost use Rattle.folder_calls.specs.Calls.{Makes, looked_at, failed_calls};
 ghost use Rattle.store_folder.specs.Files.{CreatesFile, RemovesFile, ReplacesFile, FailsToOpen, OpensFile};
-ghost use Rattle.store_folder.specs.Keys.{same_file, with_name};
+ghost use Rattle.folder_calls.specs.Keys.{same_file, with_name};
 ghost use Rattle.store_folder.specs.Paths.{room_path, folder_path};
-ghost use Rattle.store_folder.specs.Places.{held_at, FindsFile, ActsAt, ActsOnFile};
+ghost use Rattle.folder_calls.specs.Opened.{held_at};
+ghost use Rattle.store_folder.specs.Places.{FindsFile, ActsAt, ActsOnFile};
 ghost use Rattle.store_folder.specs.Rooms.{IsStill, HasRooms, InRoom};
 
-use crate::cache::FileKey;
-use crate::calls::Calls;
 use crate::disk::Disk;
-use crate::failure::Failure;
-use crate::held::Held;
-use crate::paths::{join, part};
-use crate::reason::Kind;
+use folder_calls::{Calls, Failure, FileKey, Held, Kind, join, part};
 use plfs_types::Name;
 use store_api::{Answer, Step};
 

@@ -1,16 +1,13 @@
 //! The steps of folders.
 ghost use Rattle.std.specs.Prelude.{◌≡◌, ◌==◌, ◌≤◌, ◌<◌, ◌∷◌, [], List, ℕ, length, true, false, None, Ok, Err, IsSome, IfSome, Result, IfOk, IfErr, OnOk, OnErr, string_bytes};
-ghost use Rattle.store_folder.specs.Calls.{Makes, looked_at, listed_folder, failed_calls};
+ghost use Rattle.folder_calls.specs.Calls.{Makes, looked_at, listed_folder, failed_calls};
 ghost use Rattle.store_folder.specs.Folders.{IsNoFolder, IsNoEntry, EntersFolder, FindsNoFolder, FailsToEnter, MakesFolder, RemovesTop, RemovesItem, RemovesFolder, TellsFolder};
 ghost use Rattle.store_folder.specs.Listings.{IsSortedListing, IsLeast};
 ghost use Rattle.store_folder.specs.Paths.{room_path, folder_path};
 ghost use Rattle.store_folder.specs.Rooms.{IsStill, InRoom};
 
-use crate::calls::{Calls, Removal};
 use crate::disk::Disk;
-use crate::failure::Failure;
-use crate::paths::{join, part};
-use crate::reason::Kind;
+use folder_calls::{Calls, Failure, Kind, Removal, join, part};
 use plfs_types::{Name, NameList};
 use store_api::Answer;
 

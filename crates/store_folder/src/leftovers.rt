@@ -1,16 +1,13 @@
 //! What the making of a room leaves where it is broken off: folders of ROOT that are no rooms, which are used again.
 ghost use Rattle.std.specs.Prelude.{◌≡◌, IfOk, OnOk, string_bytes};
-ghost use Rattle.store_folder.specs.Calls.{failed_calls};
+ghost use Rattle.folder_calls.specs.Calls.{failed_calls};
 ghost use Rattle.store_folder.specs.ForEach.{ForEach};
 ghost use Rattle.store_folder.specs.Leftovers.{RemovesLeftover, ClearsItem, Empties, Clears, Tries};
 ghost use Rattle.store_folder.specs.NewRooms.{TakesPlace};
 ghost use Rattle.store_folder.specs.Rooms.{IsStill};
 
-use crate::calls::{Calls, Removal};
 use crate::disk::Disk;
-use crate::failure::Failure;
-use crate::paths::{join, part};
-use crate::reason::Kind;
+use folder_calls::{Calls, Failure, Kind, Removal, join, part};
 use plfs_types::Name;
 
 impl<C: Calls<File = F>, F: Drop> Disk<C, F> {

@@ -3,14 +3,12 @@ ghost use Rattle.std.specs.Prelude.{◌≡◌, ◌≤◌, ◌<◌, ◌++◌, ◌
 ghost use Rattle.store_folder.specs.Paths.{room_path};
 ghost use Rattle.store_folder.specs.Rooms.{if_room, LooksForRoom, FindsRooms, ListsRooms, IsStill, InRoom, MovesRoom, RenamesRoom};
 ghost use Rattle.store_folder.specs.Listings.{TellsNames};
-ghost use Rattle.store_folder.specs.Calls.{failed_calls};
+ghost use Rattle.folder_calls.specs.Calls.{failed_calls};
 ghost use Rattle.store_api.specs.Names.{same_name};
 ghost use Rattle.store_api.specs.Effect.{number_or_absent};
 
-use crate::calls::Calls;
 use crate::disk::Disk;
-use crate::failure::Failure;
-use crate::paths::{is_room_name, join, part};
+use folder_calls::{Calls, Failure, is_room_name, join, part};
 use plfs_types::{Name, NameList};
 use store_api::Answer;
 

@@ -7,9 +7,7 @@ ghost use Rattle.store_folder.specs.Counting.{untold, CountsFaults};
 ghost use Rattle.store_folder.specs.Stored.{stored_of};
 
 use crate::disk::Disk;
-use crate::failure::Failure;
-use crate::reason::{Cause, Place, Reason};
-use crate::system::{System, SystemCalls};
+use folder_calls::{Cause, Failure, Place, Reason, System, SystemCalls};
 use plfs_types::{NoMemory, Word};
 use std::alloc::Global;
 use std::fs::File;

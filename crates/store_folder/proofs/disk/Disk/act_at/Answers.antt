@@ -1,9 +1,10 @@
 use Rattle.std.proofs.Common.{◌≡◌, Result, Ok, Err, sym, subst, rules}
 use Rattle.store_api.specs.declared.step.Answer.{Answer}
 use Rattle.store_api.specs.Step.{step_of}
-use Rattle.store_folder.specs.declared.failure.Failure.{Failure}
+use Rattle.folder_calls.specs.declared.failure.Failure.{Failure}
 use Rattle.store_folder.specs.declared.files.Found.{Found}
-use Rattle.store_folder.specs.Places.{held_at, FindsFile, ActsAt}
+use Rattle.folder_calls.specs.Opened.{held_at}
+use Rattle.store_folder.specs.Places.{FindsFile, ActsAt}
 use Rattle.store_folder.specs.Paths.{room_path, folder_path}
 use Rattle.store_folder.proofs.Acting.{acts_found, acts_missing, acts_failed}
 use Rattle.store_folder.proofs.disk.Disk.act_at.Goals as goal

@@ -1,5 +1,5 @@
 use Rattle.std.proofs.Common.{◌≡◌}
-use Rattle.store_folder.specs.Calls.{failed_calls}
+use Rattle.folder_calls.specs.Calls.{failed_calls}
 use Rattle.store_folder.specs.NewRooms.{BuildsFile}
 use Rattle.store_folder.specs.Rooms.{IsStill}
 use Rattle.store_folder.proofs.ForEach.{GoesOn}

@@ -1,7 +1,7 @@
 use Rattle.std.proofs.Common.{[], ◌∷◌, Ok, refl, subst}
-use Rattle.store_folder.specs.declared.reason.Kind.{Kind}
-use Rattle.store_folder.specs.declared.reason.Kind.TheVariants.{Absent, File, Other}
-use Rattle.store_folder.specs.Calls.{Makes, looked_at}
+use Rattle.folder_calls.specs.declared.reason.Kind.{Kind}
+use Rattle.folder_calls.specs.declared.reason.Kind.TheVariants.{Absent, File, Other}
+use Rattle.folder_calls.specs.Calls.{Makes, looked_at}
 use Rattle.store_folder.specs.Leftovers.{left}
 use Rattle.store_folder.proofs.Clearing.{clears}
 use Rattle.store_folder.proofs.disk.Disk.clear.Goals as goal

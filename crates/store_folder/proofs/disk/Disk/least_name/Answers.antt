@@ -1,6 +1,6 @@
 use Rattle.std.proofs.Common.{List, ℕ, ◌≡◌, Ok, None, subst}
 use Rattle.std.specs.Prelude.{slice_get}
-use Rattle.store_folder.specs.Calls.{listed_folder, with_call}
+use Rattle.folder_calls.specs.Calls.{listed_folder, with_call}
 use Rattle.store_folder.proofs.Listed.{none_listed}
 use Rattle.store_folder.proofs.disk.Disk.least_name.Goals as goal
 

@@ -1,5 +1,5 @@
 use Rattle.std.proofs.Common.{[], ◌∷◌, Bool, Ok, refl, subst}
-use Rattle.store_folder.specs.Calls.{Makes, made_folder}
+use Rattle.folder_calls.specs.Calls.{Makes, made_folder}
 use Rattle.store_folder.specs.Leftovers.{never}
 use Rattle.store_folder.proofs.Clearing.{tries}
 use Rattle.store_folder.proofs.disk.Disk.make_new.Goals as goal

@@ -1,6 +1,6 @@
 use Rattle.std.proofs.Common.{◌≡◌}
 use Rattle.std.specs.Prelude.{string_bytes}
-use Rattle.store_folder.specs.Calls.{failed_calls}
+use Rattle.folder_calls.specs.Calls.{failed_calls}
 use Rattle.store_folder.specs.Leftovers.{PassesBy}
 use Rattle.store_folder.specs.Rooms.{IsStill}
 use Rattle.store_folder.proofs.disk.Disk.new_folder.Given as goal

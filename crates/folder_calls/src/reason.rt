@@ -1,6 +1,6 @@
 //! Why a step failed, and where.
 ghost use Rattle.std.specs.Prelude.{◌≡◌, []};
-ghost use Rattle.store_folder.specs.Kinds.{is_folder};
+ghost use Rattle.folder_calls.specs.Kinds.{is_folder};
 
 use plfs_types::Name;
 use std::fmt::{Display, Formatter};

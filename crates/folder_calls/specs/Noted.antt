@@ -1,7 +1,7 @@
 -- Why a step failed, of all that its calls told.
 use Rattle.std.specs.Prelude.{Option, Some, None}
-use Rattle.store_folder.specs.declared.reason.Reason.{Reason}
-use Rattle.store_folder.specs.declared.reason.Reason.TheVariants.{System, Found, Unnameable}
+use Rattle.folder_calls.specs.declared.reason.Reason.{Reason}
+use Rattle.folder_calls.specs.declared.reason.Reason.TheVariants.{System, Found, Unnameable}
 
 -- the first failure of the system, or what was told last where there is none
 abbrev pub noted : Option Reason → Reason → Option Reason

@@ -5,8 +5,8 @@ use Rattle.std.specs.Cmp.{IsEquivalence, on_equiv}
 use Rattle.std.specs.Map.{lookup, remove_entry, keys_of}
 use Rattle.std.proofs.lemmas.Cmp.{nat_eq_equiv, nat_list_eq_equiv, and_equiv}
 use Rattle.std.proofs.lemmas.Map.{lookup-remove_entry}
-use Rattle.store_folder.specs.declared.cache.FileKey.{FileKey}
-use Rattle.store_folder.specs.Keys.{same_file}
+use Rattle.folder_calls.specs.declared.cache.FileKey.{FileKey}
+use Rattle.folder_calls.specs.Keys.{same_file}
 
 pub same_file_equiv : IsEquivalence same_file
 same_file_equiv =

@@ -3,10 +3,10 @@ use Rattle.std.specs.Prelude.{◌≡◌, ℕ, ◌+◌, ◌-◌, ◌^◌, ◌<◌
 use Rattle.store_api.specs.declared.step.Answer.{Answer}
 use Rattle.store_api.specs.declared.step.Answer.TheVariants.{Made, Number, Bytes, Beyond}
 use Rattle.store_api.specs.Step.{Step, length_of, read_at, write_at, cut, sync}
-use Rattle.store_folder.specs.declared.failure.Failure.{Failure}
-use Rattle.store_folder.specs.declared.failure.Failure.TheVariants.{Failed, NoMemory}
-use Rattle.store_folder.specs.declared.held.Held.{Held}
-use Rattle.store_folder.specs.Calls.{Log, Makes, measured_file, read_bytes, wrote_bytes, resized_file, synced_file}
+use Rattle.folder_calls.specs.declared.failure.Failure.{Failure}
+use Rattle.folder_calls.specs.declared.failure.Failure.TheVariants.{Failed, NoMemory}
+use Rattle.folder_calls.specs.declared.held.Held.{Held}
+use Rattle.folder_calls.specs.Calls.{Log, Makes, measured_file, read_bytes, wrote_bytes, resized_file, synced_file}
 
 -- a file is held with the length that one call gave
 abbrev pub IsHeld : {F : Type 0} → F → Log F → Log F → Result (Held F) Failure → Type 0

@@ -1,7 +1,7 @@
 //! Names as parts of a path, so that no name leads out of its folder.
 ghost use Rattle.std.specs.Prelude.{◌≡◌, ◌↔◌, ◌∷◌, ◌++◌, IsTrue, IfOk, IfErr, IsOk, string_bytes};
 ghost use Rattle.std.specs.Str.{IsUtf8};
-ghost use Rattle.store_folder.specs.Parts.{is_part_byte, IsNoItem, IsPart, IsRoomName};
+ghost use Rattle.folder_calls.specs.Parts.{is_part_byte, IsNoItem, IsPart, IsRoomName};
 
 use crate::failure::Failure;
 use plfs_types::{LogicalName, Name};

@@ -1,8 +1,8 @@
 //! An open file with its length.
 ghost use Rattle.std.specs.Prelude.{◌≡◌, IfOk};
 ghost use Rattle.store_api.specs.Step.{step_of};
-ghost use Rattle.store_folder.specs.Calls.{failed_calls};
-ghost use Rattle.store_folder.specs.OpenFiles.{IsHeld, ReadsOpen, WritesOpen, CutsOpen, SyncsOpen, ActsOpen, grown, cut_to, held_after};
+ghost use Rattle.folder_calls.specs.Calls.{failed_calls};
+ghost use Rattle.folder_calls.specs.OpenFiles.{IsHeld, ReadsOpen, WritesOpen, CutsOpen, SyncsOpen, ActsOpen, grown, cut_to, held_after};
 
 use crate::calls::Calls;
 use crate::failure::Failure;

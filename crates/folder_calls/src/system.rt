@@ -1,8 +1,8 @@
 //! The system itself.
 ghost use Rattle.std.specs.Prelude.{◌≡◌, None, IfErr, IfOk};
 ghost use Rattle.std.specs.Fs.{file_type, metadata_len};
-ghost use Rattle.store_folder.specs.Kinds.{IsKindOf};
-ghost use Rattle.store_folder.specs.Noted.{noted};
+ghost use Rattle.folder_calls.specs.Kinds.{IsKindOf};
+ghost use Rattle.folder_calls.specs.Noted.{noted};
 
 use crate::calls::{Calls, Removal};
 use crate::failure::Failure;

@@ -1,7 +1,7 @@
 -- Keys of open files.
 use Rattle.std.specs.Prelude.{ℕ, List, Bool, ◌&&◌, nat_eq}
 use Rattle.std.specs.Cmp.Lexicographic.{pointwise}
-use Rattle.store_folder.specs.declared.cache.FileKey.{FileKey}
+use Rattle.folder_calls.specs.declared.cache.FileKey.{FileKey}
 
 -- two keys name one file
 abbrev pub same_file : FileKey → FileKey → Bool

@@ -3,8 +3,8 @@ ghost use Rattle.std.specs.Prelude.{◌≡◌, ◌⊎◌, [], length, None, IfOk
 ghost use Rattle.std.specs.List.{IsDistinct};
 ghost use Rattle.std.specs.Map.{keys_of, remove_entry};
 ghost use Rattle.lru.specs.LruCache.{lru_cache, put_entries};
-ghost use Rattle.store_folder.specs.Keys.{same_file};
-ghost use Rattle.store_folder.specs.Places.{held_at};
+ghost use Rattle.folder_calls.specs.Keys.{same_file};
+ghost use Rattle.folder_calls.specs.Opened.{held_at};
 
 use crate::failure::Failure;
 use crate::held::Held;
@@ -29,7 +29,7 @@ pub struct FileKey {
 impl PartialEq for FileKey {
     ghost use Rattle.std.proofs.Common.{rules};
     ghost use Rattle.std.specs.Cmp.Rules.{comparing};
-    ghost use Rattle.store_folder.specs.Keys.{same_file};
+    ghost use Rattle.folder_calls.specs.Keys.{same_file};
 
     ghost eq = { same_file };
 

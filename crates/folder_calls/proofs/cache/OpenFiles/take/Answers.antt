@@ -1,8 +1,8 @@
 use Rattle.std.proofs.Common.{◌∙◌, ap}
 use Rattle.std.specs.Map.{lookup}
-use Rattle.store_folder.specs.Keys.{same_file}
-use Rattle.store_folder.proofs.SameFile.{taken_out, is_gone}
-use Rattle.store_folder.proofs.cache.OpenFiles.take.Goals as goal
+use Rattle.folder_calls.specs.Keys.{same_file}
+use Rattle.folder_calls.proofs.SameFile.{taken_out, is_gone}
+use Rattle.folder_calls.proofs.cache.OpenFiles.take.Goals as goal
 
 pub returns-clause-others : goal.returns-clause-others
 returns-clause-others g c other =

@@ -13,7 +13,7 @@ pub enum Failure {
 
 impl From<AllocError> for Failure {
     ghost use Rattle.std.specs.Prelude.{◌≡◌};
-    ghost use Rattle.store_folder.specs.declared.failure.Failure.TheVariants as variant;
+    ghost use Rattle.folder_calls.specs.declared.failure.Failure.TheVariants as variant;
 
     ghost from_gives = { λ _ failure. failure ≡ variant.NoMemory };
 
@@ -24,7 +24,7 @@ impl From<AllocError> for Failure {
 
 impl<T: Drop> From<AllocFailed<T>> for Failure {
     ghost use Rattle.std.specs.Prelude.{◌≡◌};
-    ghost use Rattle.store_folder.specs.declared.failure.Failure.TheVariants as variant;
+    ghost use Rattle.folder_calls.specs.declared.failure.Failure.TheVariants as variant;
 
     ghost from_gives = { λ _ failure. failure ≡ variant.NoMemory };
 
@@ -35,7 +35,7 @@ impl<T: Drop> From<AllocFailed<T>> for Failure {
 
 impl From<NoMemory> for Failure {
     ghost use Rattle.std.specs.Prelude.{◌≡◌};
-    ghost use Rattle.store_folder.specs.declared.failure.Failure.TheVariants as variant;
+    ghost use Rattle.folder_calls.specs.declared.failure.Failure.TheVariants as variant;
 
     ghost from_gives = { λ _ failure. failure ≡ variant.NoMemory };
 

@@ -1,8 +1,8 @@
 -- The calls of the system, and the log of them.
 use Rattle.std.specs.Prelude.{◌≡◌, ℕ, List, [], ◌∷◌, ◌++◌, Bool, Option, Some, None, Result, Ok, Err, is_err, count_by, fold}
-use Rattle.store_folder.specs.declared.failure.Failure.{Failure}
-use Rattle.store_folder.specs.declared.reason.Kind.{Kind}
-use Rattle.store_folder.specs.declared.calls.Removal.{Removal}
+use Rattle.folder_calls.specs.declared.failure.Failure.{Failure}
+use Rattle.folder_calls.specs.declared.reason.Kind.{Kind}
+use Rattle.folder_calls.specs.declared.calls.Removal.{Removal}
 
 -- a call: its arguments and how it ended, at a read with the bytes that it gave
 pub data Call (F : Type 0) : Type 0 where

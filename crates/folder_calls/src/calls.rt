@@ -1,6 +1,6 @@
 //! The calls of the system, as far as a store makes them.
 ghost use Rattle.std.specs.Prelude.{◌≡◌, ◌∷◌, [], length, IfOk, IfErr};
-ghost use Rattle.store_folder.specs.Calls.{Log, Makes, looked_at, listed_folder, opened_file, created_file, measured_file, read_bytes, wrote_bytes, resized_file, synced_file, made_folder, synced_folder, removed_file, removed_folder, renamed_item, giving, failed_calls};
+ghost use Rattle.folder_calls.specs.Calls.{Log, Makes, looked_at, listed_folder, opened_file, created_file, measured_file, read_bytes, wrote_bytes, resized_file, synced_file, made_folder, synced_folder, removed_file, removed_folder, renamed_item, giving, failed_calls};
 
 use crate::failure::Failure;
 use crate::reason::Kind;

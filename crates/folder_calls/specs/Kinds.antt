@@ -2,8 +2,8 @@
 use Rattle.std.specs.Prelude.{◌≡◌, ℕ, Bool, true, false}
 use Rattle.std.specs.Fs.{IsFile, IsDir}
 use Rattle.std.specs.declared.fs.attrs.FileType.{FileType}
-use Rattle.store_folder.specs.declared.reason.Kind.{Kind}
-use Rattle.store_folder.specs.declared.reason.Kind.TheVariants.{Absent, File, Folder, Other}
+use Rattle.folder_calls.specs.declared.reason.Kind.{Kind}
+use Rattle.folder_calls.specs.declared.reason.Kind.TheVariants.{Absent, File, Folder, Other}
 
 -- a plain file with its length, a folder, or neither: so is a symbolic link
 abbrev pub IsKindOf : FileType → ℕ → Kind → Type 0
