@@ -2,7 +2,8 @@
 //! at, recovers or migrates a file. They stand apart, so that no crate is proved twice for them.
 //!
 //! A test is a table of cases. Each says which machine runs, what its calls are told, which calls it makes of that, and
-//! how it ends. One function takes a machine through the replies, and one compares.
+//! how it ends. One function takes a machine through the replies, and one compares. Beside them stand sets of writes,
+//! which a reader's machines read over replies that are made of the set, against the newest write at each byte.
 #![tactic(auto)]
 
 #[cfg(test)]
@@ -20,14 +21,20 @@ mod machines;
 #[cfg(test)]
 mod migrating;
 #[cfg(test)]
+mod newest;
+#[cfg(test)]
 mod playing;
 #[cfg(test)]
 mod readers;
 #[cfg(test)]
 mod replies;
 #[cfg(test)]
+mod sets;
+#[cfg(test)]
 mod shares;
 #[cfg(test)]
 mod spelling;
+#[cfg(test)]
+mod worlds;
 #[cfg(test)]
 mod writers;

@@ -1,0 +1,159 @@
+//! A reader's machines over sets of writes, against the newest write asked byte by byte.
+ghost use Rattle.std.specs.Prelude.{◌<◌, ◌≤◌, IfOk};
+ghost use Rattle.flow.specs.Standing.{IsFresh};
+ghost use Rattle.index_reader.specs.Listing as listed;
+
+use crate::sets::{EDGES, SETS, read};
+use crate::worlds::{Set, WRITERS, newest, reply_to, size};
+use flat_format::Flat;
+use flow::Flow;
+use index_reader::{
+    Dropping, DroppingList, Gathered, Listing, OpenReader, Reading, Share, ShareList, ShareRead,
+    TruncRead, gather, join_shares,
+};
+use mount_model::{Call, Reply};
+use plain_file::{PieceList, Pieces};
+use plfs_types::{CoverList, MAX_SIZE, NoMemory};
+use std::alloc::Global;
+use std::process::Abort;
+use std::test::Fail;
+use std::thread::Threads;
+
+// The reply that a call has, of want of memory where that was met.
+fn replied(alloc: Global, set: &Set, call: &Call) -> Reply {
+    match reply_to(alloc, set, call) {
+        Ok(reply) => reply,
+        Err(NoMemory) => Reply::NoMemory,
+    }
+}
+
+// What the machine comes to.
+fn ended<F: Flow + Drop>(alloc: Global, set: &Set, mut flow: F) -> Result<F::Out, NoMemory>
+    requires { IsFresh (F.standing flow) }
+{
+    while let Some(call) = flow.next()? {
+        flow.take(replied(alloc, set, &call))?;
+    }
+    Ok(flow.out())
+}
+
+fn dropping(place: usize) -> Dropping
+    requires { place < 3 }
+{
+    let (writer, host) = WRITERS[place];
+    Dropping {
+        host,
+        writer,
+        packed: false,
+    }
+}
+
+fn share_of(alloc: Global, set: &Set, droppings: DroppingList) -> Result<Share, Fail> {
+    let flow = ShareRead::new(alloc, 1, droppings, CoverList::new(alloc));
+    let share = ended(alloc, set, flow)?.ok().ok_or("no share")?;
+    Ok(share)
+}
+
+fn listing(alloc: Global) -> Result<Listing, Fail>
+    ensures { IfOk result (λ listing. listed.AreByWriter listing.droppings) }
+{
+    let all = [
+        Dropping {
+            host: 7,
+            writer: 3,
+            packed: false,
+        },
+        Dropping {
+            host: 33,
+            writer: 9,
+            packed: false,
+        },
+        Dropping {
+            host: 0,
+            writer: 20,
+            packed: false,
+        },
+    ];
+    let droppings = DroppingList::from_vec(Vec::from_array(alloc, all)?);
+    let pieces = Pieces::read(PieceList::new(alloc)).ok().ok_or("pieces")?;
+    let flat = Flat {
+        covers: CoverList::new(alloc),
+        pieces,
+    };
+    Ok(Listing {
+        room: 1,
+        droppings,
+        flat,
+    })
+}
+
+// What two workers gather.
+fn gathered<R: Threads + Sync>(rt: &R, alloc: Global, set: &Set) -> Result<Gathered, Fail>
+    ensures { IfOk result (λ all. listed.AreByWriter all.droppings) }
+{
+    let first = vec![in alloc; dropping(0)]?;
+    let others = vec![in alloc; dropping(1), dropping(2)]?;
+    let shares = vec![in alloc;
+        share_of(alloc, set, DroppingList::from_vec(first))?,
+        share_of(alloc, set, DroppingList::from_vec(others))?,
+    ]?;
+    let share = join_shares(rt, alloc, ShareList::from_vec(shares), 2)?;
+    let truncs = ended(alloc, set, TruncRead::new(alloc, 1))?
+        .ok()
+        .ok_or("no truncates")?;
+    let shares = ShareList::from_vec(vec![in alloc; share]?);
+    Ok(gather(alloc, listing(alloc)?, shares, truncs)?)
+}
+
+// What is to be read there.
+fn bytes_of(alloc: Global, set: &Set, at: u64, len: u64) -> Result<Vec<u8>, NoMemory> {
+    let mut all = Vec::new(alloc);
+    for x in at..at.saturating_add(len).min(size(set)) {
+        all.push(newest(set, x))?;
+    }
+    Ok(all)
+}
+
+// Whether a read of so many bytes gives them.
+fn reads(alloc: Global, set: &Set, reader: &OpenReader, at: u64, len: u64) -> Result<bool, Fail>
+    requires { len ≤ 64 }
+{
+    let at = set.from.saturating_add(at);
+    let flow = Reading::new(alloc, reader, at, len)?;
+    let given = ended(alloc, set, flow)?.ok().ok_or("no bytes")?;
+    let want = bytes_of(alloc, set, at, len)?;
+    Ok(given.as_slice() == want.as_slice())
+}
+
+fn shows<R: Threads + Sync>(rt: &R, alloc: Global, set: &Set) -> Result<bool, Fail> {
+    let reader = OpenReader::new(alloc, gathered(rt, alloc, set)?)?;
+    Ok(
+        reader.size() == size(set)
+            && reads(alloc, set, &reader, 0, 64)?
+            && reads(alloc, set, &reader, 7, 20)?
+            && reads(alloc, set, &reader, 31, 1)?,
+    )
+}
+
+fn all_show<R: Threads + Sync + Abort>(
+    rt: &R,
+    alloc: Global,
+    sets: &str,
+    from: u64,
+) -> Result<(), Fail> {
+    for line in sets.lines() {
+        let set = read(alloc, line, from)?;
+        assert!(rt; shows(rt, alloc, &set)?, "{line}");
+    }
+    Ok(())
+}
+
+#[test]
+fn a_reader_shows_the_newest_write_at_each_byte(rt: HostRuntime) -> Result<(), Fail> {
+    all_show(&rt, rt.alloc(), SETS, 0)
+}
+
+#[test]
+fn a_file_may_end_at_the_greatest_size(rt: HostRuntime) -> Result<(), Fail> {
+    all_show(&rt, rt.alloc(), EDGES, MAX_SIZE - 40)
+}

@@ -1,0 +1,172 @@
+//! A container with what three writers wrote, as a reader's calls see it; and what its file is, asked byte by byte.
+use mount_model::{Call, Look, Reply};
+use plfs_types::{Bytes, Name, NameList, NoMemory};
+use std::alloc::Global;
+use store_api::Answer;
+
+/// A write of the writer at this place among the writers, with where its bytes begin in the file and in the log.
+#[derive(Clone, Copy)]
+pub(crate) struct Write {
+    pub(crate) writer: usize,
+    pub(crate) at: u64,
+    pub(crate) len: u64,
+    pub(crate) place: u64,
+    pub(crate) stamp: u64,
+}
+
+/// What was written, each writer's in the order of its log; the truncates, each a stamp and a size; and where reads of
+/// the file begin.
+#[derive(Drop)]
+pub(crate) struct Set {
+    pub(crate) writes: Vec<Write>,
+    pub(crate) truncs: Vec<(u64, u64)>,
+    pub(crate) from: u64,
+}
+
+/// The writers, and their hosts.
+pub(crate) const WRITERS: [(u64, u32); 3] = [(3, 7), (9, 33), (20, 0)];
+
+const FILES: [(&str, &str); 3] = [
+    ("index.7.3", "log.7.3"),
+    ("index.33.9", "log.33.9"),
+    ("index.0.20", "log.0.20"),
+];
+
+/// The length of the writer's log.
+pub(crate) fn logged(set: &Set, writer: usize) -> u64 {
+    let mut len = 0u64;
+    for write in set.writes.as_slice() {
+        if write.writer == writer {
+            len = write.place.saturating_add(write.len);
+        }
+    }
+    len
+}
+
+// The byte at a place of the writer's log. Below place 80 no two are the same.
+fn byte_at(writer: usize, place: u64) -> u8 {
+    let number = (writer as u64).wrapping_mul(80).wrapping_add(place);
+    u8::try_from(number % 240).unwrap_or(0).wrapping_add(1)
+}
+
+// ---- what the calls see
+
+fn name(text: &str) -> Name {
+    Name::from_bytes(text.as_bytes()).unwrap_or(Name::empty())
+}
+
+fn index_of(alloc: Global, set: &Set, writer: usize, id: u64) -> Result<Vec<u8>, NoMemory> {
+    let mut all = Vec::new(alloc);
+    for write in set.writes.as_slice() {
+        if write.writer == writer {
+            for number in [write.at, write.len, write.place, write.stamp, id] {
+                all.extend_from_slice(&number.to_le_bytes())?;
+            }
+        }
+    }
+    Ok(all)
+}
+
+fn log_of(alloc: Global, set: &Set, writer: usize) -> Result<Vec<u8>, NoMemory> {
+    let mut all = Vec::new(alloc);
+    for place in 0..logged(set, writer) {
+        all.push(byte_at(writer, place))?;
+    }
+    Ok(all)
+}
+
+// The bytes of an index dropping or a log.
+fn file(alloc: Global, set: &Set, file: &Name) -> Result<Vec<u8>, NoMemory> {
+    for writer in 0..3 {
+        let (index, log) = FILES[writer];
+        let (id, _) = WRITERS[writer];
+        if *file == name(index) {
+            return index_of(alloc, set, writer, id);
+        }
+        if *file == name(log) {
+            return log_of(alloc, set, writer);
+        }
+    }
+    Ok(Vec::new(alloc))
+}
+
+fn part(alloc: Global, all: &[u8], at: u64, len: u64) -> Result<Bytes, NoMemory> {
+    let mut some = Vec::new(alloc);
+    for place in at..at.saturating_add(len) {
+        match all.get(place as usize) {
+            Some(byte) => some.push(*byte)?,
+            None => return Ok(Bytes::from_vec(some)),
+        }
+    }
+    Ok(Bytes::from_vec(some))
+}
+
+// The names of the truncates, in byte order.
+fn marks(alloc: Global, set: &Set) -> Result<NameList, NoMemory> {
+    let mut names = Vec::new(alloc);
+    for (stamp, size) in set.truncs.as_slice() {
+        names.push(name(format!(in alloc; "{stamp}.{size}")?.as_str()))?;
+    }
+    names.sort_unstable();
+    Ok(NameList::from_vec(names))
+}
+
+/// What a call of a reader is told.
+pub(crate) fn reply_to(alloc: Global, set: &Set, call: &Call) -> Result<Reply, NoMemory> {
+    let Call::Look { look, .. } = call else {
+        return Ok(Reply::Fault);
+    };
+    let answer = match look {
+        Look::Length { path } => Answer::Number {
+            value: file(alloc, set, &path.file)?.as_slice().len() as u64,
+        },
+        Look::Read { path, at, len } => {
+            let all = file(alloc, set, &path.file)?;
+            Answer::Bytes(part(alloc, all.as_slice(), *at, *len)?)
+        }
+        _ => Answer::Names(marks(alloc, set)?),
+    };
+    Ok(Reply::Looked(answer))
+}
+
+// ---- what the file is
+
+// Whether no truncate took what was written there at this stamp.
+fn is_left(set: &Set, x: u64, stamp: u64) -> bool {
+    set.truncs
+        .as_slice()
+        .iter()
+        .all(|(cut, size)| x < *size || *cut < stamp)
+}
+
+/// The byte of the newest write there, of the greater writer at one stamp, or 0 where none is left.
+pub(crate) fn newest(set: &Set, x: u64) -> u8 {
+    let mut last = (0, 0);
+    let mut byte = 0;
+    for write in set.writes.as_slice() {
+        let is_there = write.at <= x && x - write.at < write.len && is_left(set, x, write.stamp);
+        if is_there && (write.stamp, write.writer) >= last {
+            last = (write.stamp, write.writer);
+            byte = byte_at(write.writer, write.place.saturating_add(x - write.at));
+        }
+    }
+    byte
+}
+
+/// The size of the file: that of the last truncate, and then the greatest end of what was written after it.
+pub(crate) fn size(set: &Set) -> u64 {
+    let mut last = 0;
+    let mut size = 0;
+    for (stamp, cut) in set.truncs.as_slice() {
+        if *stamp > last || (*stamp == last && *cut > size) {
+            last = *stamp;
+            size = *cut;
+        }
+    }
+    for write in set.writes.as_slice() {
+        if write.stamp > last {
+            size = size.max(write.at.saturating_add(write.len));
+        }
+    }
+    size
+}
