@@ -54,18 +54,18 @@ safe_migrates caller number (m ∷ metas) sofar state f = safe_writer caller num
 
 -- ---- those that were chosen
 
-all_push : (P : Metadata → Type 0) (ms : List Metadata) (m : Metadata) → AllByRecursion P ms → P m → AllByRecursion P (ms ++ m ∷ [])
+pub all_push : (P : Metadata → Type 0) (ms : List Metadata) (m : Metadata) → AllByRecursion P ms → P m → AllByRecursion P (ms ++ m ∷ [])
 all_push P [] m a p = (p, tt)
 all_push P (x ∷ ms) m a p = (a.0, all_push P ms m a.1 p)
 
-all_put : (P : Metadata → Type 0) (m : Metadata) (ms : List Metadata) → P m → AllByRecursion P ms → AllByRecursion P (put_by (λ (x : Metadata). x.writer) m ms)
+pub all_put : (P : Metadata → Type 0) (m : Metadata) (ms : List Metadata) → P m → AllByRecursion P ms → AllByRecursion P (put_by (λ (x : Metadata). x.writer) m ms)
 all_put P m [] p a = (p, tt)
 all_put P m (x ∷ ms) p a = elim (nat_le m.writer x.writer) as (λ b. AllByRecursion P (if b then m ∷ x ∷ ms else x ∷ put_by (λ (y : Metadata). y.writer) m ms)) [
   | true ↦ (p, a)
   | false ↦ (a.0, all_put P m ms p a.1)
 ]
 
-all_ordered : (P : Metadata → Type 0) (ms : List Metadata) → AllByRecursion P ms → AllByRecursion P (metadata_by_writer ms)
+pub all_ordered : (P : Metadata → Type 0) (ms : List Metadata) → AllByRecursion P ms → AllByRecursion P (metadata_by_writer ms)
 all_ordered P [] a = tt
 all_ordered P (m ∷ ms) a = all_put P m (metadata_by_writer ms) a.0 (all_ordered P ms a.1)
 
@@ -77,13 +77,13 @@ all_behind P droppings last (m ∷ ms) sofar a b =
       | false ↦ all_behind P droppings (Some m.writer) ms sofar a.1 b
     ]
 
-all_chosen : (P : Metadata → Type 0) (droppings : List Dropping) (ms : List Metadata) → AllByRecursion P ms → AllByRecursion P (chosen droppings ms)
+pub all_chosen : (P : Metadata → Type 0) (droppings : List Dropping) (ms : List Metadata) → AllByRecursion P ms → AllByRecursion P (chosen droppings ms)
 all_chosen P droppings ms a = all_behind P droppings None (metadata_by_writer ms) [] (all_ordered P ms a) tt
 
 -- ---- those that were listed
 
 -- what went on went on with what was there
-went_on : {A B : Type 0} (o : Option A) (why : Stuck) (next : A → Result B Stuck) (b : B) → or_trouble o why next ≡ Ok b → (a : A) × (o ≡ Some a) × (next a ≡ Ok b)
+pub went_on : {A B : Type 0} (o : Option A) (why : Stuck) (next : A → Result B Stuck) (b : B) → or_trouble o why next ≡ Ok b → (a : A) × (o ≡ Some a) × (next a ≡ Ok b)
 went_on {A} {B} None why next b h = let clash : ◌≡◌ {A = Result B Stuck} (Err why) (Ok b) = h in absurd (not_ok why b clash)
   where
     not_ok : (w : Stuck) (x : B) → ◌≡◌ {A = Result B Stuck} (Err w) (Ok x) → ⊥
@@ -91,7 +91,7 @@ went_on {A} {B} None why next b h = let clash : ◌≡◌ {A = Result B Stuck} (
 went_on (Some a) why next b h = (a, refl, h)
 
 -- what holds of each named one
-named_all : (P : Metadata → Type 0) (names all : List Name) (sofar metas : List Metadata) → ((name : Name) → is_listed name names ≡ true → is_listed name all ≡ true) → ((name : Name) (m : Metadata) → is_listed name all ≡ true → IsIn metadata name (Meta m.last m.bytes m.stamp m.host m.writer) → P m)
+pub named_all : (P : Metadata → Type 0) (names all : List Name) (sofar metas : List Metadata) → ((name : Name) → is_listed name names ≡ true → is_listed name all ≡ true) → ((name : Name) (m : Metadata) → is_listed name all ≡ true → IsIn metadata name (Meta m.last m.bytes m.stamp m.host m.writer) → P m)
     → metas_named names sofar ≡ Ok metas → AllByRecursion P sofar → AllByRecursion P metas
 named_all P [] all sofar metas within each h a = subst (AllByRecursion P) (same_list sofar metas h) a
   where

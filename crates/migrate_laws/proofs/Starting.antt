@@ -67,7 +67,7 @@ right_in l state s number room there host writer es some few x =
 
 -- ---- it starts
 
-start_made : (f : Flattening) (table : Table) (told : Told) (flat : ℕ) → reply_of.Started flat ≡ (start_outcome f table told).reply → (told ≡ made) × (flat ≡ f.id)
+pub start_made : (f : Flattening) (table : Table) (told : Told) (flat : ℕ) → reply_of.Started flat ≡ (start_outcome f table told).reply → (told ≡ made) × (flat ≡ f.id)
 start_made f table (Ok Made) flat e = (refl, cc)
 start_made f table (Ok NoRoom) flat e = absurd (cc)
 start_made f table (Ok NoFolder) flat e = absurd (cc)
@@ -75,7 +75,7 @@ start_made f table (Ok answer) flat e = absurd (cc)
 start_made f table (Err trouble.Fault) flat e = absurd (cc)
 start_made f table (Err trouble.NoMemory) flat e = absurd (cc)
 
-no_flattening : (f : Flattening) (flat id : ℕ) (flattenings : List Flattening) → flat ≡ id → flattening_at id flattenings ≡ None → flattening_at flat flattenings ≡ Some f → ⊥
+pub no_flattening : (f : Flattening) (flat id : ℕ) (flattenings : List Flattening) → flat ≡ id → flattening_at id flattenings ≡ None → flattening_at flat flattenings ≡ Some f → ⊥
 no_flattening f flat id flattenings same none some = let clash : None ≡ Some f = sym none ∙ ap (λ q. flattening_at q flattenings) (sym same) ∙ some in cc
 
 module _ (caller number flat : ℕ) (m : Metadata) (es : List Entry) (some : 1 ≤ length es) (few : length es ≤ MAX_PACKED) (l : Ledger) (old new : State) (s : IsSoundFor l old) (may : May old caller (unbroken (StartPack number m.host m.writer)))

@@ -34,7 +34,7 @@ use Rattle.migrate_laws.proofs.Looking.{of_bytes, of_number}
 use Rattle.migrate_laws.proofs.Reading.{Measured, Reading, Ready, begins, measured_at, measured_stays, read_at, reading_stays, ready_now, ready_stays}
 use Rattle.migrate_laws.proofs.Starting.{LastsBeside, beside_lasts, put_lasts, started_so}
 
-of_flat : (reply : Reply) (flat : ℕ) → flat_in reply ≡ Some flat → reply ≡ Started flat
+pub of_flat : (reply : Reply) (flat : ℕ) → flat_in reply ≡ Some flat → reply ≡ Started flat
 of_flat (Started told) flat e = let same : told ≡ flat = cc in ap (λ n. Started n) same
 of_flat reply flat e = absurd cc
 

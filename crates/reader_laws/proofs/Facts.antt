@@ -13,6 +13,7 @@ pub use Rattle.reader_laws.proofs.Portions.{HasAllOf, all_of, all_together}
 pub use Rattle.reader_laws.proofs.Readers.{covers_of_cut, listing_right, opens_alone}
 pub use Rattle.reader_laws.proofs.ScanFails.{top_fails}
 pub use Rattle.reader_laws.proofs.ShareFails.{listed_container, shares_fail, truncates_fail}
+pub use Rattle.reader_laws.proofs.ShownFails.{HasShown, shown_at, shown_fails, shown_stays}
 pub use Rattle.reader_laws.proofs.TailFails.{HasEntries, has_entries}
 pub use Rattle.reader_laws.proofs.Troubles.{answered, fails_first, fails_rest}
 pub use Rattle.reader_laws.proofs.Workers.{opens_each}

@@ -36,5 +36,6 @@ mod KnownNames
 mod ScanOwners
 mod ScanStands
 mod ScanFails
+mod ShownFails
 mod ListingFails
 mod OpeningFails

@@ -48,7 +48,7 @@ never x why r a b = let clash : Ok x ≡ Err why = sym a ∙ b in cc
 -- ---- the folders of droppings
 
 -- each number is below those after it
-abbrev Rises : List ℕ → Type 0
+abbrev pub Rises : List ℕ → Type 0
 Rises [] = Unit {0}
 Rises (k ∷ ks) = AllByRecursion (λ l. k < l) ks × Rises ks
 
@@ -57,7 +57,7 @@ once k [] above a = a
 once k (l ∷ ks) above (inl e) = omega (arith, e, above.0)
 once k (l ∷ ks) above (inr a) = once k ks above.1 a
 
-no_openhosts : (k : ℕ) → hostdir_of k ≡ openhosts → ⊥
+pub no_openhosts : (k : ℕ) → hostdir_of k ≡ openhosts → ⊥
 no_openhosts k e = elsewhere (ap first e) refl
   where
     first : List ℕ → ℕ
@@ -65,7 +65,7 @@ no_openhosts k e = elsewhere (ap first e) refl
     first (b ∷ bytes) = b
 
 -- the folders that the top named, of these numbers, are there
-abbrev AreThere : Moment → ℕ → List Name → List ℕ → Type 0
+abbrev pub AreThere : Moment → ℕ → List Name → List ℕ → Type 0
 AreThere m room top ks = (k : ℕ) → Among k ks → has_name (hostdir_of k) top ≡ true → HadFolder m room (hostdir_of k)
 
 pub scans_fail : (caller room id : ℕ) (flat : Flat) (m : Moment) (top : List Name) (ks : List ℕ) (events : List Event) (scan : Scan) (why : Stuck) → IsSoundAt m → IsContainerAt m room → AllByRecursion (λ k. k < 32) ks → Rises ks → AreThere m room top ks → IsScanned m room top ks flat.covers scan → IsLawful m.state events
@@ -120,7 +120,7 @@ above : (from n k : ℕ) → k < from → AllByRecursion (λ l. k < l) (range_wi
 above from zero k low = tt
 above from (suc n) k low = (low, above (from + 1) n k (omega (arith, low)))
 
-range_rises : (from n : ℕ) → Rises (range_with_len from n)
+pub range_rises : (from n : ℕ) → Rises (range_with_len from n)
 range_rises from zero = tt
 range_rises from (suc n) = (above (from + 1) n from (omega arith), range_rises (from + 1) n)
 
@@ -148,10 +148,10 @@ module _ (m : Moment) (s : IsSoundAt m) (room : ℕ) (names : List Name) (c : Ha
   its_container : IsContainer (IsDrawnBy (last_id m.state) s.shape.tree) l.room
   its_container = subst (λ r. IsContainer (IsDrawnBy (last_id m.state) s.shape.tree) r) listed_room c.is
 
-  top_shown : top_shows names ≡ Ok (shown names hostdirs)
+  pub top_shown : top_shows names ≡ Ok (shown names hostdirs)
   top_shown = top_told (IsDrawnBy (last_id m.state) s.shape.tree) l.room names its_container l.entries
 
-  top_there : AreThere m room names hostdirs
+  pub top_there : AreThere m room names hostdirs
   top_there k a named = had_it m s room (hostdir_of k) c
       (subst (λ r. has_folder r (hostdir_of k) ≡ true) (sym listed_room) (hostdir_there (IsDrawnBy (last_id m.state) s.shape.tree) l.room names its_container l.entries k (has_true (hostdir_of k) names named)))
 

@@ -46,14 +46,14 @@ use Rattle.trouble_laws.proofs.Walking.{Ends, ends_call, ends_done}
 
 -- ---- troubles that are no damage
 
-fault_plain : (why : Stuck) → why ≡ stuck.Fault → IsNoDamage why
+pub fault_plain : (why : Stuck) → why ≡ stuck.Fault → IsNoDamage why
 fault_plain why is = subst IsNoDamage (sym is) tt
 
 fails_plain : (caller : ℕ) (start : State) (events : List Event) (why : Stuck) → FailsOrLacks caller start events why → IsNoDamage why
 fails_plain caller start events why (inl fails) = fault_plain why fails.0
 fails_plain caller start events why (inr lacks) = subst IsNoDamage (sym lacks) tt
 
-plain_if : {A : Type 0} (value : Result A Stuck) → ((why : Stuck) → value ≡ Err why → IsNoDamage why) → IsUndamaged value
+pub plain_if : {A : Type 0} (value : Result A Stuck) → ((why : Stuck) → value ≡ Err why → IsNoDamage why) → IsUndamaged value
 plain_if (Ok a) each = tt
 plain_if (Err why) each = each why refl
 

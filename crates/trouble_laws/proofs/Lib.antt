@@ -6,4 +6,7 @@ mod Naming
 mod Checks
 mod Recovering
 mod Flattening
+mod PackChecks
+mod Stamped
+mod Migrating
 pub mod Facts

@@ -1,5 +1,5 @@
 -- What a listing of a container's folder tells in a sound state, and that each of its names is an item's.
-use Rattle.std.proofs.Common.{◌≡◌, ◌≤◌, ℕ, Bool, true, false, List, get_or, Option, Some, refl, ap, sym, ◌∙◌, ◌⊎◌, inl, inr, subst}
+use Rattle.std.proofs.Common.{◌≡◌, ◌≤◌, ℕ, Bool, true, false, List, [], get_or, Option, Some, refl, ap, sym, ◌∙◌, ◌⊎◌, inl, inr, subst}
 use Rattle.std.specs.Prelude.{Result, Ok, Err, slice_get, if◌then◌else◌}
 use Rattle.plfs_types.specs.declared.entries.Trunc.{Trunc}
 use Rattle.plfs_types.specs.declared.names.Path.{Path}
@@ -14,13 +14,14 @@ use Rattle.store_api.specs.declared.store.Trouble.TheVariants as trouble_
 use Rattle.store_api.specs.declared.tree.Room.{Room}
 use Rattle.store_api.specs.Acts.{Acts}
 use Rattle.store_api.specs.Room.{has_folder, is_top}
+use Rattle.store_laws.specs.Files.{file_at}
 use Rattle.store_laws.specs.Says.{ListTells}
 use Rattle.store_laws.specs.There.{LacksFolder, ListsFolder}
 use Rattle.store_laws.proofs.Facts.{acts_told, list_tells, look_answered}
 use Rattle.mount_model.specs.declared.call.Call.TheVariants.{Look}
-use Rattle.mount_model.specs.declared.call.Look.TheVariants.{List as ListFolder}
+use Rattle.mount_model.specs.declared.call.Look.TheVariants.{List as ListFolder, Top}
 use Rattle.mount_model.specs.declared.reply.Reply.{Reply}
-use Rattle.mount_model.specs.declared.reply.Reply.TheVariants.{Damaged, Fault, Looked, NoMemory}
+use Rattle.mount_model.specs.declared.reply.Reply.TheVariants.{Damaged, Looked}
 use Rattle.mount_model.specs.Looking.{listing_reply, look_outcome, look_step}
 use Rattle.mount_model.specs.Making.{MakesAct, Refuses, Told, room_check}
 use Rattle.mount_model.specs.Paths.{Name, metadata, openhosts, truncs}
@@ -31,6 +32,7 @@ use Rattle.mount_model.proofs.Facts.{is_container, match_cases}
 use Rattle.mount_shape.specs.Container.{IsContainer, IsOfId}
 use Rattle.mount_shape.specs.Shape.{IsDrawnBy}
 use Rattle.mount_shape.proofs.Facts.{container_at, shape_of}
+use Rattle.mount_sound.specs.Items.{HasItem}
 use Rattle.mount_sound.specs.Ledger.{Ledger}
 use Rattle.mount_sound.specs.Sound.{IsSoundFor}
 use Rattle.flow.specs.declared.trouble.Stuck.{Stuck}
@@ -128,6 +130,14 @@ module _ (issued : Ledger) (state : State) (s : IsSoundFor issued state) (caller
     | inr (inr plain) ↦ subst (λ b. IsUndamaged (if b then absent else told_by folder tells reply)) (sym (plain_folder reply plain)) (told_plain folder tells reply plain)
   ]
 
+-- the same of a listing of a container's top
+pub top_ends : (issued : Ledger) (state : State) (s : IsSoundFor issued state) (caller number : ℕ) (reply : Reply) (after : State) → IsStep state caller (unbroken (Look number Top)) reply after → ListEnds issued state s number [] reply
+top_ends issued state s caller number reply after step =
+    elim (match_cases (room_check state number) (MakesAct (look_step number Top) (look_outcome Top state) state reply after) (λ why. Refuses why state reply after) step.does) as (λ _. ListEnds issued state s number [] reply) [
+      | inl (none, m) ↦ by_told issued state s caller number [] reply after (is_container state number none) m.told m.made m.answered
+      | inr (why, some, refused) ↦ inr (inr (subst IsPlain (sym refused.0) tt))
+    ]
+
 -- ---- names
 
 -- it goes on with an item that is known
@@ -162,11 +172,20 @@ module _ (issued : Ledger) (state : State) (s : IsSoundFor issued state) (number
 
 -- each name of these folders is known
 module _ (issued : Ledger) (state : State) (s : IsSoundFor issued state) (number : ℕ) (names : List Name) where
-  pub metas_known : IsListed issued state s number metadata names → (name : Name) → Among name names → (m : Metadata) × (meta_in name ≡ Some m)
-  metas_known l name a =
+  -- a metadata dropping that is there
+  pub metas_there : (l : IsListed issued state s number metadata names) (name : Name) → Among name names → (m : Metadata) × (meta_in name ≡ Some m) × ((content : List ℕ) × HasItem l.lists.room (item.Meta m.last m.bytes m.stamp m.host m.writer) content)
+  metas_there l name a =
       let n = its_item issued state s number metadata refl names l name a in
       let m = meta_item n.item n.of_folder in
-      (record { last = m.0; bytes = m.1; stamp = m.2; host = m.3; writer = m.4 }, meta_in-is name m.0 m.1 m.2 m.3 m.4 (subst (IsIn metadata name) m.5 n.is))
+      let is : IsIn metadata name (item.Meta m.0 m.1 m.2 m.3 m.4) = subst (IsIn metadata name) m.5 n.is in
+      let f = named_file l.lists.room metadata name names refl l.lists.entries a in (
+        record { last = m.0; bytes = m.1; stamp = m.2; host = m.3; writer = m.4 },
+        meta_in-is name m.0 m.1 m.2 m.3 m.4 is,
+        (f.0, record { is_item = is.is_item; there = ap (λ p. file_at l.lists.room p) (sym is.printed) ∙ f.1 }),
+      )
+
+  pub metas_known : IsListed issued state s number metadata names → (name : Name) → Among name names → (m : Metadata) × (meta_in name ≡ Some m)
+  metas_known l name a = let x = metas_there l name a in (x.0, x.1)
 
   pub truncs_known : IsListed issued state s number truncs names → (name : Name) → Among name names → (t : Trunc) × (trunc_in name ≡ Some t)
   truncs_known l name a =

@@ -1,4 +1,4 @@
-use Rattle.trouble_laws.proofs.Facts.{close_ends, flatten_ends, open_ends, recover_ends, rename_ends, sync_ends, tell_ends, truncate_ends, write_ends}
+use Rattle.trouble_laws.proofs.Facts.{close_ends, flatten_ends, migrate_ends, open_ends, recover_ends, rename_ends, sync_ends, tell_ends, truncate_ends, write_ends}
 use Rattle.trouble_laws.proofs.laws.a_statement_shows_no_damage.Goals as goal
 
 pub returns-clause-open : goal.returns-clause-open
@@ -24,6 +24,9 @@ returns-clause-recover c name caller issued start = recover_ends caller name sta
 
 pub returns-clause-flatten : goal.returns-clause-flatten
 returns-clause-flatten c name caller issued start = flatten_ends caller name start issued
+
+pub returns-clause-migrate : goal.returns-clause-migrate
+returns-clause-migrate c name caller issued start = migrate_ends caller name start issued
 
 pub returns-clause-tell : goal.returns-clause-tell
 returns-clause-tell c name caller issued start = tell_ends caller name start issued

@@ -1,0 +1,422 @@
+-- A migration shows no damage.
+use Rattle.std.proofs.Common.{◌≡◌, ◌≢◌, ◌≤◌, ◌-◌, ◌*◌, ◌/◌, ℕ, zero, suc, nat_lt, Bool, true, false, List, [], ◌∷◌, ◌++◌, length, take, drop, get_or, Option, Some, None, refl, ap, sym, ◌∙◌, ◌⊎◌, inl, inr, subst, arith}
+use Rattle.std.specs.Prelude.{◌==◌, ◌&&◌, not, Result, Ok, Err, slice_get, if◌then◌else◌}
+use Rattle.std.specs.List.{AllByRecursion}
+use Rattle.std.proofs.lemmas.Bool.Decides.{nat_tests}
+use Rattle.plain_file.proofs.Facts.{Among}
+use Rattle.plfs_types.specs.declared.entries.Entry.{Entry}
+use Rattle.plfs_types.specs.declared.names.Path.{Path}
+use Rattle.container_layout.proofs.Facts.{elsewhere}
+use Rattle.index_entry.specs.Spelling.{spelling_all}
+use Rattle.index_entry.proofs.Facts.{length-spelling_all}
+use Rattle.store_api.specs.declared.step.Answer.{Answer}
+use Rattle.store_api.specs.declared.step.Answer.TheVariants as answer
+use Rattle.store_api.specs.declared.store.Trouble.TheVariants as trouble_
+use Rattle.store_api.specs.declared.tree.Room.{Room}
+use Rattle.store_api.specs.Acts.{Acts}
+use Rattle.store_api.specs.Room.{has_folder}
+use Rattle.store_laws.specs.Files.{file_at}
+use Rattle.store_laws.specs.Says.{LengthTells}
+use Rattle.store_laws.proofs.Facts.{acts_told, length_tells, look_answered}
+use Rattle.mount_model.specs.declared.call.Call.{Call}
+use Rattle.mount_model.specs.declared.call.Call.TheVariants.{InstallFlat, Look, PutFlat, StartPack, SyncFlat}
+use Rattle.mount_model.specs.declared.call.Look.TheVariants.{Length, List as ListFolder, Read, Top}
+use Rattle.mount_model.specs.declared.call.Ask.{Ask}
+use Rattle.mount_model.specs.declared.reply.Reply.{Reply}
+use Rattle.mount_model.specs.declared.reply.Reply.TheVariants.{Damaged, Done, Looked}
+use Rattle.mount_model.specs.Looking.{length_reply, look_outcome, look_step}
+use Rattle.mount_model.specs.Making.{MakesAct, Refuses, Told, room_check}
+use Rattle.mount_model.specs.Paths.{Name, index_path, metadata}
+use Rattle.mount_model.specs.State.{State, last_id}
+use Rattle.mount_model.specs.Step.{IsStep}
+use Rattle.mount_model.proofs.Facts.{is_container, match_cases}
+use Rattle.mount_shape.specs.Container.{IsContainer}
+use Rattle.mount_shape.specs.Shape.{IsDrawnBy}
+use Rattle.mount_shape.proofs.Facts.{container_at, shape_of}
+use Rattle.mount_sound.specs.Ledger.{Ledger}
+use Rattle.mount_sound.specs.Owed.{May}
+use Rattle.mount_sound.specs.Sound.{IsSoundFor}
+use Rattle.mount_sound.proofs.Facts.{some_room}
+use Rattle.mount_undamaged.specs.Damage.{ShowsNoDamage}
+use Rattle.flow.specs.declared.trouble.Stuck.{Stuck}
+use Rattle.flow.specs.Running.{Runs, unbroken}
+use Rattle.story.specs.Program.{done}
+use Rattle.looks.specs.declared.names.Metadata.{Metadata}
+use Rattle.looks.specs.Listed.{file_in, or_trouble, told_by}
+use Rattle.looks.specs.Names.{meta_in}
+use Rattle.looks.specs.Order.{metadata_by_writer}
+use Rattle.looks.specs.Replies.{Tries, bytes_in, damage, failure, given, on_ok, trouble}
+use Rattle.index_reader.specs.declared.listing.Dropping.{Dropping as Listed}
+use Rattle.index_reader.specs.declared.listing.Listing.{Listing}
+use Rattle.index_reader.specs.Opening.{no_flat, scans}
+use Rattle.index_reader.specs.Replies as replies
+use Rattle.index_reader.specs.Scanning.{nothing_found}
+use Rattle.index_reader.specs.Tops.{hostdirs, shown, top_shows}
+use Rattle.migrate_core.specs.declared.migrated.Migrated.{Migrated}
+use Rattle.migrate_core.specs.Chosen.{chosen, chosen_behind, is_again, is_open_to, metas_named}
+use Rattle.migrate_core.specs.Counting.{noted, nothing}
+use Rattle.migrate_core.specs.Entries.{checked, no_entries}
+use Rattle.migrate_core.specs.Longest.{packing}
+use Rattle.migrate_core.specs.Migrating.{lists_metadata, migrate_at_program, migrate_program, migrates, migrates_listed, migrates_shown, scans_then}
+use Rattle.migrate_core.specs.Words.{Fate, Packed, Tail, is_packed, passed_over}
+use Rattle.migrate_core.specs.Writers.{counts_of, flat_in, if_done, installs, next_read, number_in, or_damage, puts, reads, reads_left, reads_of, sized, starts, syncs, writer_program}
+use Rattle.migrate_laws.proofs.Facts.{IsWhole, IsWholeIn, all_ordered, all_push, whole_stays}
+use Rattle.gathering.specs.Moments.{Moment, file_in_room, file_told, file_then}
+use Rattle.gathering.proofs.Facts.{read_ends}
+use Rattle.reader_laws.proofs.Facts.{HasShown, answered, shown_at, shown_fails, shown_stays}
+use Rattle.trouble_laws.specs.Undamaged.{IsNoDamage, IsUndamaged}
+use Rattle.trouble_laws.proofs.Finding.{Anything, anything_stays, failure_plain, found_ends}
+use Rattle.trouble_laws.proofs.Flattening.{fault_plain, plain_if}
+use Rattle.trouble_laws.proofs.Listed.{IsPlain, list_ends, metas_there, top_ends}
+use Rattle.trouble_laws.proofs.PackChecks.{ComeNext, IsOn, read_on}
+use Rattle.trouble_laws.proofs.Stamped.{AreAllOf, HasAll, all_now, has_all_stays}
+use Rattle.trouble_laws.proofs.Walking.{Ends, Stays, ends_ask, ends_both, ends_call, ends_done, ends_given}
+
+both_ways : {b : Bool} → b ≡ true → b ≡ false → ⊥
+both_ways p q = let clash : true ≡ false = sym p ∙ q in cc
+
+one_file : (a b : List ℕ) (o : Option (List ℕ)) → o ≡ Some a → o ≡ Some b → a ≡ b
+one_file a b o p q = cc
+
+-- ---- replies that tell nothing
+
+plain_trouble : (path : Path) (reply : Reply) → IsPlain reply → IsNoDamage (trouble path reply)
+plain_trouble path (Looked found_) plain = absurd plain
+plain_trouble path (Damaged folder file) plain = absurd plain
+plain_trouble path reply plain = tt
+
+plain_top_trouble : (path : Path) (reply : Reply) → IsPlain reply → IsNoDamage (replies.trouble path reply)
+plain_top_trouble path (Looked found_) plain = absurd plain
+plain_top_trouble path (Damaged folder file) plain = absurd plain
+plain_top_trouble path reply plain = tt
+
+plain_number : (reply : Reply) → IsPlain reply → number_in reply ≡ None
+plain_number (Looked found_) plain = absurd plain
+plain_number (Damaged folder file) plain = absurd plain
+plain_number reply plain = refl
+
+plain_bytes : (reply : Reply) → IsPlain reply → bytes_in reply ≡ None
+plain_bytes (Looked found_) plain = absurd plain
+plain_bytes (Damaged folder file) plain = absurd plain
+plain_bytes reply plain = refl
+
+plain_names : (reply : Reply) → IsPlain reply → replies.names_in reply ≡ None
+plain_names (Looked found_) plain = absurd plain
+plain_names (Damaged folder file) plain = absurd plain
+plain_names reply plain = refl
+
+-- ---- looks at an index dropping that is there
+
+module _ (issued : Ledger) (state : State) (s : IsSoundFor issued state) (number : ℕ) (m : Metadata) (bytes : List ℕ) (room : Room) (there : slice_get s.shape.tree.rooms number ≡ Some room) (here : file_at room (index_path m.host m.writer) ≡ Some bytes) where
+  abbrev its_path : Path
+  its_path = index_path m.host m.writer
+
+  abbrev BytesOr : Reply → Reply → Type 0
+  BytesOr told_ reply = (reply ≡ told_) ⊎ IsPlain reply
+
+  abbrev Sized : Reply → Type 0
+  Sized reply = BytesOr (Looked (answer.Number (length bytes))) reply
+
+  housed : number ≢ state.marks → has_folder room (index_path m.host m.writer).folder ≡ true
+  housed apart =
+      let c : IsContainer (IsDrawnBy (last_id state) s.shape.tree) room = container_at (last_id state) state.marks state.mount number s.shape.tree room (shape_of state s.shape) apart there in
+      (c.files (index_path m.host m.writer) bytes here).housed
+
+  sized_by : number ≢ state.marks → (reply : Reply) (found_ : Answer) → LengthTells s.shape.tree number (index_path m.host m.writer) found_ → reply ≡ length_reply (index_path m.host m.writer) (Ok found_) → Sized reply
+  sized_by apart reply (answer.Number size) says is =
+      let same : says.0.room ≡ room = some_room says.0.room room (slice_get s.shape.tree.rooms number) says.0.has_room there in
+      let one : says.0.bytes ≡ bytes = one_file says.0.bytes bytes (file_at room (index_path m.host m.writer)) (subst (λ r. file_at r (index_path m.host m.writer) ≡ Some says.0.bytes) same says.0.there) here in
+      inl (is ∙ ap (λ n. Looked (answer.Number n)) (sym says.1 ∙ ap length one))
+  sized_by apart reply answer.Absent says is =
+      let same : says.room ≡ room = some_room says.room room (slice_get s.shape.tree.rooms number) says.has_room there in
+      let none : file_at room (index_path m.host m.writer) ≡ None = subst (λ r. file_at r (index_path m.host m.writer) ≡ None) same says.none in
+      absurd (let clash : Some bytes ≡ None = sym here ∙ none in cc)
+  sized_by apart reply answer.NoFolder says is =
+      let same : says.room ≡ room = some_room says.room room (slice_get s.shape.tree.rooms number) says.has_room there in
+      absurd (both_ways (housed apart) (subst (λ r. has_folder r (index_path m.host m.writer).folder ≡ false) same says.none))
+  sized_by apart reply answer.NoRoom says is = inr (subst IsPlain (sym is) tt)
+  sized_by apart reply found_ says is = absurd says
+
+  sized_told : number ≢ state.marks → (reply : Reply) (after : State) (told : Told) → Acts (look_step number (Length (index_path m.host m.writer))) state.store after.store told → reply ≡ length_reply (index_path m.host m.writer) told → Sized reply
+  sized_told apart reply after (Ok found_) made is =
+      let t = acts_told (look_step number (Length its_path)) state.store after.store s.shape.tree (Ok found_) s.shape.told made in
+      sized_by apart reply found_ (look_answered (look_step number (Length its_path)) s.shape.tree (LengthTells s.shape.tree number its_path) (length_tells s.shape.tree number its_path) found_ t.0 t.2).1 is
+  sized_told apart reply after (Err trouble_.Fault) made is = inr (subst IsPlain (sym is) tt)
+  sized_told apart reply after (Err trouble_.NoMemory) made is = inr (subst IsPlain (sym is) tt)
+
+  -- its length is told
+  pub sized_ends : (caller : ℕ) (reply : Reply) (after : State) → IsStep state caller (unbroken (Look number (Length (index_path m.host m.writer)))) reply after → Sized reply
+  sized_ends caller reply after step =
+      elim (match_cases (room_check state number) (MakesAct (look_step number (Length its_path)) (look_outcome (Length its_path) state) state reply after) (λ why. Refuses why state reply after) step.does) as (λ _. Sized reply) [
+        | inl (none, a) ↦ sized_told (is_container state number none) reply after a.told a.made a.answered
+        | inr (why, some, refused) ↦ inr (subst IsPlain (sym refused.0) tt)
+      ]
+
+  -- it is in no room of marks
+  apart_of : number ≢ state.marks
+  apart_of same =
+      let one : room ≡ s.shape.marks = some_room room s.shape.marks (slice_get s.shape.tree.rooms number) there (ap (λ n. slice_get s.shape.tree.rooms n) same ∙ s.shape.has_marks) in
+      let mark = s.shape.is_marks.files its_path bytes (subst (λ r. file_at r its_path ≡ Some bytes) one here) in
+      elsewhere (ap (λ (p : Path). get_or p.folder 0 0) mark.3) refl
+
+  -- its bytes are told
+  pub read_so : (caller at len : ℕ) (reply : Reply) (after : State) → IsStep state caller (unbroken (Look number (Read (index_path m.host m.writer) at len))) reply after → BytesOr (Looked (answer.Bytes (take len (drop at bytes)))) reply
+  read_so caller at len reply after step =
+      let now : Moment = record { state = state; issued = issued } in
+      let then_ : file_then now number its_path ≡ Some bytes = ap (λ o. file_told o number its_path) s.shape.told ∙ ap (λ o. file_in_room o its_path) there ∙ here in
+      elim (read_ends now s caller number its_path at len bytes reply after apart_of then_ (answered state caller (Look number (Read its_path at len)) (unbroken (Look number (Read its_path at len))) reply after refl step))
+      as (λ _. BytesOr (Looked (answer.Bytes (take len (drop at bytes)))) reply) [
+        | inl is ↦ inl is
+        | inr (inl (is, rose)) ↦ inr (subst IsPlain (sym is) tt)
+        | inr (inr (is, same)) ↦ inr (subst IsPlain (sym is) tt)
+      ]
+
+-- ---- one writer
+
+module _ (caller number : ℕ) (m : Metadata) where
+  abbrev FateEnds : Tries Fate → State → Type 0
+  FateEnds program state = Ends caller IsUndamaged program state
+
+  -- its packed index is made
+
+  if_done_ends : (next : Tries Fate) → ((state : State) → FateEnds next state) → (reply : Reply) → ShowsNoDamage reply → (state : State) → FateEnds (if_done next reply) state
+  if_done_ends next on Done shows = on
+  if_done_ends next on reply shows = ends_done caller IsUndamaged (Err (failure reply)) (failure_plain reply shows)
+
+  installs_end : (flat : ℕ) (packed : Packed) (state : State) → FateEnds (installs flat packed) state
+  installs_end flat packed = ends_call caller IsUndamaged (InstallFlat flat) (if_done (done (Ok (is_packed packed)))) (if_done_ends (done (Ok (is_packed packed))) (ends_done caller IsUndamaged (Ok (is_packed packed)) tt))
+
+  syncs_end : (flat : ℕ) (packed : Packed) (state : State) → FateEnds (syncs flat packed) state
+  syncs_end flat packed = ends_call caller IsUndamaged (SyncFlat flat) (if_done (installs flat packed)) (if_done_ends (installs flat packed) (installs_end flat packed))
+
+  puts_end : (bytes : List ℕ) (packed : Packed) (flat : ℕ) (state : State) → FateEnds (puts bytes packed flat) state
+  puts_end bytes packed flat = ends_call caller IsUndamaged (PutFlat flat bytes) (if_done (syncs flat packed)) (if_done_ends (syncs flat packed) (syncs_end flat packed))
+
+  starts_end : (bytes : List ℕ) (packed : Packed) (state : State) → FateEnds (starts number m bytes packed) state
+  starts_end bytes packed = ends_call caller IsUndamaged (StartPack number m.host m.writer) (λ reply. given (flat_in reply) (failure reply) (puts bytes packed))
+      (λ reply shows. ends_given caller (flat_in reply) (failure reply) (puts bytes packed) (failure_plain reply shows) (λ flat is. puts_end bytes packed flat))
+
+  module _ (es : List Entry) where
+    abbrev Whole : State → Type 0
+    Whole state = IsWhole number m es state
+
+    whole_lasts : Stays Whole
+    whole_lasts = whole_stays number m es
+
+    abbrev read_call : ℕ → Tail → Call
+    read_call left tail = Look number (Read (index_path m.host m.writer) (40 * tail.cover.count) (40 * next_read left))
+
+    -- its entries are read
+
+    abbrev ReadsEnd : ℕ → Type 0
+    ReadsEnd n = (left : ℕ) (tail : Tail) → IsOn es left tail → (state : State) → Whole state → FateEnds (reads n number m left tail) state
+
+    module _ (n left : ℕ) (tail : Tail) (on : IsOn es left tail) (again : ReadsEnd n) where
+      abbrev Onward : Reply → Tries Fate
+      Onward reply = given (bytes_in reply) (trouble (index_path m.host m.writer) reply) (λ bytes. or_damage (index_path m.host m.writer) (λ more. reads n number m (left - next_read left) more) (checked (next_read left) bytes tail))
+
+      next_end : (issued : Ledger) (state : State) (reply : Reply) (after : State) → May state caller (unbroken (read_call left tail)) → IsStep state caller (unbroken (read_call left tail)) reply after → IsSoundFor issued state → Whole state → FateEnds (Onward reply) after
+      next_end issued state reply after may step s f =
+          let f' : Whole after = whole_lasts issued state after caller (unbroken (read_call left tail)) reply may step s f in
+          let x = f s.shape.tree s.shape.told in
+          let w : IsWholeIn m.host m.writer es x.0 = x.2 in
+          let bytes : List ℕ = take (40 * next_read left) (drop (40 * tail.cover.count) (spelling_all es)) in
+          let r = read_on es left tail bytes on refl in
+          elim (read_so issued state s number m (spelling_all es) x.0 x.1 w.stands.there caller (40 * tail.cover.count) (40 * next_read left) reply after step) as (λ _. FateEnds (Onward reply) after) [
+            | inl is ↦ subst (λ y. FateEnds (Onward y) after) (sym is)
+                (subst (λ y. FateEnds (or_damage (index_path m.host m.writer) (λ more. reads n number m (left - next_read left) more) y) after) (sym r.1) (again (left - next_read left) r.0 r.2 after f'))
+            | inr plain ↦ subst (λ o. FateEnds (given o (trouble (index_path m.host m.writer) reply) (λ b. or_damage (index_path m.host m.writer) (λ more. reads n number m (left - next_read left) more) (checked (next_read left) b tail))) after) (sym (plain_bytes reply plain))
+                (ends_done caller IsUndamaged (Err (trouble (index_path m.host m.writer) reply)) (plain_trouble (index_path m.host m.writer) reply plain) after)
+          ]
+
+      read_end : (state : State) → Whole state → FateEnds (reads (suc n) number m left tail) state
+      read_end = ends_ask caller IsUndamaged Whole whole_lasts (read_call left tail) Onward next_end
+
+    reads_end : (n : ℕ) → ReadsEnd n
+    reads_end zero left tail on state f = starts_end (packing tail.entries) (counts_of tail.entries) state
+    reads_end (suc n) left tail on state f = read_end n left tail on (reads_end n) state f
+
+    -- its index dropping is measured
+
+    which_end : (many none : Bool) (p : Tries Fate) (why : Stuck) → none ≡ false → (state : State) → FateEnds p state → FateEnds (if many then done (Ok passed_over) else (if none then done (Err why) else p)) state
+    which_end true none p why is state on = ends_done caller IsUndamaged (Ok passed_over) tt state
+    which_end false true p why is state on = absurd (let clash : true ≡ false = is in cc)
+    which_end false false p why is state on = on
+
+    not_none : (n : ℕ) → 1 ≤ n → (n == 0) ≡ false
+    not_none n some = grind (arith, nat_tests, some)
+
+    sized_end : (told : ℕ) → told ≡ 40 * length es → 1 ≤ length es → ComeNext (no_entries m.writer).cover es → (state : State) → Whole state → FateEnds (sized number m told (told / 40)) state
+    sized_end told long some next state f =
+        let count : told / 40 ≡ length es = omega (arith, long) in
+        let on : IsOn es (told / 40) (no_entries m.writer) = record { rest = omega (arith, count); next = next } in
+        which_end _ ((told / 40) == 0) (reads_left number m (told / 40) (no_entries m.writer)) (damage (index_path m.host m.writer) told) (not_none (told / 40) (omega (arith, count, some))) state
+        (reads_end (reads_of (told / 40)) (told / 40) (no_entries m.writer) on state f)
+
+    -- all of its calls
+
+    abbrev Measured : Reply → Tries Fate
+    Measured reply = given (number_in reply) (trouble (index_path m.host m.writer) reply) (λ told. sized number m told (told / 40))
+
+    writer_ends : 1 ≤ length es → ComeNext (no_entries m.writer).cover es → (state : State) → Whole state → FateEnds (writer_program number m) state
+    writer_ends some next = ends_ask caller IsUndamaged Whole whole_lasts (Look number (Length (index_path m.host m.writer))) Measured
+        (λ issued state reply after may step s f.
+        let f' : Whole after = whole_lasts issued state after caller (unbroken (Look number (Length (index_path m.host m.writer)))) reply may step s f in
+        let x = f s.shape.tree s.shape.told in
+        let w : IsWholeIn m.host m.writer es x.0 = x.2 in
+        elim (sized_ends issued state s number m (spelling_all es) x.0 x.1 w.stands.there caller reply after step) as (λ _. FateEnds (Measured reply) after) [
+          | inl is ↦ subst (λ y. FateEnds (Measured y) after) (sym is) (sized_end (length (spelling_all es)) (length-spelling_all es) some next after f')
+          | inr plain ↦ subst (λ o. FateEnds (given o (trouble (index_path m.host m.writer) reply) (λ told. sized number m told (told / 40))) after) (sym (plain_number reply plain))
+              (ends_done caller IsUndamaged (Err (trouble (index_path m.host m.writer) reply)) (plain_trouble (index_path m.host m.writer) reply plain) after)
+        ])
+
+-- ---- one writer after the other
+
+abbrev HaveAll : ℕ → List Metadata → State → Type 0
+HaveAll number metas state = AllByRecursion (λ (m : Metadata). HasAll number m state) metas
+
+have_all_stay : (number : ℕ) (metas : List Metadata) → Stays (HaveAll number metas)
+have_all_stay number [] issued old new other asked reply may step s f = tt
+have_all_stay number (m ∷ metas) issued old new other asked reply may step s f = (has_all_stays number m issued old new other asked reply may step s f.0, have_all_stay number metas issued old new other asked reply may step s f.1)
+
+module _ (caller number : ℕ) where
+  -- what became of one writer leads on to the others
+  fate_ends : (metas : List Metadata) (sofar : Migrated) → ((then_so : Migrated) (now : State) → HaveAll number metas now → Ends caller IsUndamaged (migrates number metas then_so) now)
+      → (result : Result Fate Stuck) → IsUndamaged result → (now : State) → HaveAll number metas now → Ends caller IsUndamaged (on_ok (λ fate. migrates number metas (noted fate sofar)) result) now
+  fate_ends metas sofar others (Ok fate) plain now f = others (noted fate sofar) now f
+  fate_ends metas sofar others (Err why) plain now f = ends_done caller IsUndamaged (Err why) plain now
+
+  migrates_end : (metas : List Metadata) (sofar : Migrated) (state : State) → HaveAll number metas state → Ends caller IsUndamaged (migrates number metas sofar) state
+  migrates_end [] sofar state f = ends_done caller IsUndamaged (Ok sofar) tt state
+  migrates_end (m ∷ metas) sofar state f =
+      let x : AreAllOf number m f.0.0 state = f.0.1 in
+      ends_both caller IsUndamaged IsUndamaged (HaveAll number metas) (have_all_stay number metas) (writer_program number m) (on_ok (λ fate. migrates number metas (noted fate sofar))) state f.1
+      (writer_ends caller number m f.0.0 x.some x.next state x.whole)
+      (fate_ends metas sofar (λ then_so now have. migrates_end metas then_so now have))
+
+-- ---- those that are chosen
+
+-- it has all of its entries, if it has a stamp
+abbrev IsSuch : ℕ → State → Metadata → Type 0
+IsSuch number state m = nat_lt 0 m.stamp ≡ true → HasAll number m state
+
+abbrev AreSuch : ℕ → List Metadata → State → Type 0
+AreSuch number metas state = AllByRecursion (IsSuch number state) metas
+
+all_such_stay : (number : ℕ) (metas : List Metadata) → Stays (AreSuch number metas)
+all_such_stay number [] issued old new other asked reply may step s f = tt
+all_such_stay number (m ∷ metas) issued old new other asked reply may step s f = (
+  (λ stamped. has_all_stays number m issued old new other asked reply may step s (f.0 stamped)),
+  all_such_stay number metas issued old new other asked reply may step s f.1,
+)
+
+stamp_of : (a b c : Bool) → (a && (b && c)) ≡ true → b ≡ true
+stamp_of true true c e = refl
+stamp_of true false c e = e
+stamp_of false b c e = absurd (let clash : false ≡ true = e in cc)
+
+module _ (number : ℕ) (state : State) (droppings : List Listed) where
+  chosen_have : (last : Option ℕ) (metas sofar : List Metadata) → AreSuch number metas state → HaveAll number sofar state → HaveAll number (chosen_behind droppings last metas sofar) state
+  chosen_have last [] sofar a b = b
+  chosen_have last (m ∷ metas) sofar a b =
+      elim (not (is_again last m) && is_open_to droppings m) as (λ c. (not (is_again last m) && is_open_to droppings m) ≡ c → HaveAll number (if c then chosen_behind droppings (Some m.writer) metas (sofar ++ m ∷ []) else chosen_behind droppings (Some m.writer) metas sofar) state) [
+        | true ↦ λ is. chosen_have (Some m.writer) metas (sofar ++ m ∷ []) a.1 (all_push (λ (x : Metadata). HasAll number x state) sofar m b (a.0 (stamp_of (not (is_again last m)) (nat_lt 0 m.stamp) _ is)))
+        | false ↦ λ is. chosen_have (Some m.writer) metas sofar a.1 b
+      ] refl
+
+  all_chosen : (metas : List Metadata) → AreSuch number metas state → HaveAll number (chosen droppings metas) state
+  all_chosen metas a = chosen_have None (metadata_by_writer metas) [] (all_ordered (IsSuch number state) metas a) tt
+
+-- ---- those that are listed
+
+abbrev AreToldSuch : ℕ → State → Result (List Metadata) Stuck → Type 0
+AreToldSuch number state (Ok metas) = AreSuch number metas state
+AreToldSuch number state (Err why) = IsNoDamage why
+
+module _ (number : ℕ) (state : State) where
+  named_such : (names : List Name) (sofar : List Metadata) → ((name : Name) → Among name names → (m : Metadata) × (meta_in name ≡ Some m) × IsSuch number state m) → AreSuch number sofar state → AreToldSuch number state (metas_named names sofar)
+  named_such [] sofar each a = a
+  named_such (name ∷ names) sofar each a =
+      let here = each name (inl refl) in
+      subst (λ o. AreToldSuch number state (or_trouble o (damage (file_in metadata name) 0) (λ (m : Metadata). metas_named names (sofar ++ m ∷ [])))) (sym here.1)
+      (named_such names (sofar ++ here.0 ∷ []) (λ n b. each n (inr b)) (all_push (IsSuch number state) sofar here.0 a here.2))
+
+  told_such : (reply : Reply) → IsPlain reply → AreToldSuch number state (told_by metadata (λ names. metas_named names []) reply)
+  told_such (Looked found_) plain = absurd plain
+  told_such (Damaged folder file) plain = absurd plain
+  told_such reply plain = tt
+
+has_stamp : (n : ℕ) → nat_lt 0 n ≡ true → 1 ≤ n
+has_stamp n h = grind (arith, nat_tests, h)
+
+-- what the listing of the metadata tells
+listed_such : (issued : Ledger) (state : State) (s : IsSoundFor issued state) (caller number : ℕ) (reply : Reply) (after : State) → IsStep state caller (unbroken (Look number (ListFolder metadata))) reply after → AreToldSuch number state (told_by metadata (λ names. metas_named names []) reply)
+listed_such issued state s caller number reply after step = elim (list_ends issued state s caller number metadata reply after step) as (λ _. AreToldSuch number state (told_by metadata (λ names. metas_named names []) reply)) [
+  | inl (names, l, is) ↦ subst (λ r. AreToldSuch number state (told_by metadata (λ names. metas_named names []) r)) (sym is)
+      (named_such number state names []
+      (λ name a. (let x = metas_there issued state s number names l name a in (x.0, x.1, λ stamped. all_now issued state s number l.lists.room l.lists.has_room x.0 x.2.0 x.2.1 (has_stamp x.0.stamp stamped)))) tt)
+  | inr (inl (l, is)) ↦ absurd (both_ways l.is.has_metadata l.lacks.none)
+  | inr (inr plain) ↦ told_such number state reply plain
+]
+
+-- ---- all of its calls
+
+module _ (caller number : ℕ) where
+  -- what the folders of droppings show leads on
+  found_lead : (metas : List Metadata) (result : Result Listing Stuck) → IsUndamaged result → (now : State) → AreSuch number metas now → Ends caller IsUndamaged (on_ok (migrates_listed number metas) result) now
+  found_lead metas (Ok listing) plain now f = migrates_end caller number (chosen listing.droppings metas) nothing now (all_chosen number now listing.droppings metas f)
+  found_lead metas (Err why) plain now f = ends_done caller IsUndamaged (Err why) plain now
+
+  module _ (ks : List ℕ) where
+    abbrev Scan : Tries Listing
+    Scan = scans number 0 no_flat ks nothing_found
+
+    scans_end : (state : State) → HasShown state number ks → Ends caller IsUndamaged Scan state
+    scans_end state h issued events result lawful s runs =
+        plain_if result (λ why is. fault_plain why (shown_fails caller number ks issued state events why s h lawful (subst (λ r. Runs caller Scan events r) is runs)).0)
+
+    told_lead : (result : Result (List Metadata) Stuck) (issued : Ledger) (state after : State) (asked : Ask) (reply : Reply) → May state caller asked → IsStep state caller asked reply after → IsSoundFor issued state → AreToldSuch number state result → HasShown after number ks → Ends caller IsUndamaged (scans_then number Scan result) after
+    told_lead (Err why) issued state after asked reply may step s plain h = ends_done caller IsUndamaged (Err why) plain after
+    told_lead (Ok metas) issued state after asked reply may step s such h =
+        ends_both caller IsUndamaged IsUndamaged (AreSuch number metas) (all_such_stay number metas) Scan (on_ok (migrates_listed number metas)) after
+        (all_such_stay number metas issued state after caller asked reply may step s such) (scans_end after h) (found_lead metas)
+
+    abbrev metadata_call : Ask
+    metadata_call = unbroken (Look number (ListFolder metadata))
+
+    lists_end : (state : State) → HasShown state number ks → Ends caller IsUndamaged (lists_metadata number Scan) state
+    lists_end = ends_ask caller IsUndamaged (λ state. HasShown state number ks) (shown_stays number ks) (Look number (ListFolder metadata))
+        (λ reply. scans_then number Scan (told_by metadata (λ names. metas_named names []) reply))
+        (λ issued state reply after may step s h. told_lead (told_by metadata (λ names. metas_named names []) reply) issued state after metadata_call reply may step s
+        (listed_such issued state s caller number reply after step) (shown_stays number ks issued state after caller metadata_call reply may step s h))
+
+  abbrev top_call : Ask
+  top_call = unbroken (Look number Top)
+
+  abbrev top_path : Path
+  top_path = file_in [] []
+
+  abbrev Behind : List Name → Tries Migrated
+  Behind names = replies.on_ok (migrates_shown number) (top_shows names)
+
+  abbrev AtTop : Reply → Tries Migrated
+  AtTop reply = replies.given (replies.names_in reply) (replies.trouble top_path reply) Behind
+
+  top_leads : (issued : Ledger) (state : State) (reply : Reply) (after : State) → May state caller top_call → IsStep state caller top_call reply after → IsSoundFor issued state → Ends caller IsUndamaged (AtTop reply) after
+  top_leads issued state reply after may step s = elim (top_ends issued state s caller number reply after step) as (λ _. Ends caller IsUndamaged (AtTop reply) after) [
+    | inl (names, l, is) ↦
+        let t = shown_at issued state s number names l.lists l.apart l.is in
+        let ks : List ℕ = shown names hostdirs in
+        subst (λ r. Ends caller IsUndamaged (AtTop r) after) (sym is)
+        (subst (λ r. Ends caller IsUndamaged (replies.on_ok (migrates_shown number) r) after) (sym t.0)
+        (lists_end ks after (shown_stays number ks issued state after caller top_call reply may step s t.1)))
+    | inr (inl (l, is)) ↦ absurd (let clash : true ≡ false = l.lacks.none in cc)
+    | inr (inr plain) ↦ subst (λ o. Ends caller IsUndamaged (replies.given o (replies.trouble top_path reply) Behind) after) (sym (plain_names reply plain))
+        (ends_done caller IsUndamaged (Err (replies.trouble top_path reply)) (plain_top_trouble top_path reply plain) after)
+  ]
+
+  at_ends : (state : State) → Ends caller IsUndamaged (migrate_at_program number) state
+  at_ends state = ends_ask caller IsUndamaged Anything anything_stays (Look number Top) AtTop (λ issued now reply after may step s f. top_leads issued now reply after may step s) state tt
+
+pub migrate_ends : (caller : ℕ) (name : List ℕ) (state : State) → Ends caller IsUndamaged (migrate_program name) state
+migrate_ends caller name = found_ends caller name migrate_at_program (at_ends caller)
