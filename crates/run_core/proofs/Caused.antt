@@ -54,7 +54,7 @@ never_falls start (e ∷ es) lawful =
     let there = never_falls e.after es lawful.2 in
     omega (arith, here, there)
 
-well_or_risen : (start : State) (history : List Event) → IsLawful start history → HadMemory history → HasRisen start.store.faults (state_after start history).store.faults ⊎ AreWell IsWell NoFault history
+pub well_or_risen : (start : State) (history : List Event) → IsLawful start history → HadMemory history → HasRisen start.store.faults (state_after start history).store.faults ⊎ AreWell IsWell NoFault history
 well_or_risen start [] lawful had = inr tt
 well_or_risen start (e ∷ es) lawful had =
     let causes = step_causes start e.after e.caller e.ask e.reply lawful.1 in
@@ -72,7 +72,7 @@ none_at [] k line none lt bad = omega (arith, lt)
 none_at (l ∷ lines) zero line none lt bad = none.0 bad
 none_at (l ∷ lines) (suc k) line none lt bad = none_at lines k line none.1 (omega (arith, lt)) bad
 
-none_has : (lines : List Line) → AreGood IsWell NoFault lines → HasFault lines → ⊥
+pub none_has : (lines : List Line) → AreGood IsWell NoFault lines → HasFault lines → ⊥
 none_has lines none has = none_at lines has.0 has.1 none has.2 (subst TellsFault (sym has.3) has.4)
 
 -- Where a line of a play tells of a fault, the store's count of faults has risen.

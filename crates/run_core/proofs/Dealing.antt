@@ -27,7 +27,7 @@ dealt_none players = record {
   long = refl;
 }
 
-own_both : (n : ℕ) (first rest : List Numbered) → own n (first ++ rest) ≡ own n first ++ own n rest
+pub own_both : (n : ℕ) (first rest : List Numbered) → own n (first ++ rest) ≡ own n first ++ own n rest
 own_both n first rest = filter-append (λ (s : Numbered). s.actor == n) first rest
 
 dealt_then : (a b c : List Numbered) (old mid new : Player) → c ≡ a ++ b → IsDealt a old mid → IsDealt b mid new → IsDealt c old new

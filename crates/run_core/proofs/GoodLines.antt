@@ -38,7 +38,7 @@ module _ (Well : Ask → Reply → Type 0) (Good : Outcome → Type 0) where
   EndsGood (shares programs k alone) = EndsGood alone
 
   -- while its calls are answered well, it tells good lines
-  abbrev TellsGood : Course → Type 0
+  abbrev pub TellsGood : Course → Type 0
   TellsGood ends = ⊤
   TellsGood (pauses p) = TellsGood p
   TellsGood (tells line p) = Good line.outcome × TellsGood p
@@ -56,7 +56,7 @@ module _ (Well : Ask → Reply → Type 0) (Good : Outcome → Type 0) where
   statements_tell_good works [] next goes kept = goes kept
   statements_tell_good works (s ∷ ss) next goes kept = line_tells_good s.line (λ left. one_by_one ss next left) (work_of kept s.statement) (works kept s.statement) (statements_tell_good works ss next goes)
 
-  through_tells_good : ((kept : Kept) (statement : Statement) → EndsGood (work_of kept statement)) → (actor : ℕ) (phases : List Phase) → (kept : Kept) → TellsGood (through actor phases kept)
+  pub through_tells_good : ((kept : Kept) (statement : Statement) → EndsGood (work_of kept statement)) → (actor : ℕ) (phases : List Phase) → (kept : Kept) → TellsGood (through actor phases kept)
   through_tells_good works actor [] kept = tt
   through_tells_good works actor (phase ∷ phases) kept =
       statements_tell_good works (own actor phase.statements) (λ left. pauses (through actor phases left)) (through_tells_good works actor phases) kept

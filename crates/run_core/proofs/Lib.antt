@@ -25,3 +25,15 @@ mod UnowedCalls
 mod LoneWorks
 mod LoneSteps
 mod LonePlays
+mod Going
+mod Driving
+mod Acting
+mod Each
+mod Phasing
+mod Between
+mod Newcomers
+mod Closing
+mod Courses
+mod WrittenOrder
+mod RightRuns
+mod Handing

@@ -62,10 +62,10 @@ use Rattle.run_core.specs.Conditions.{IsPlayable}
 use Rattle.run_core.proofs.GoodLines.{EndsGood, AreWell, AreGood, lines_good}
 
 -- whatever is replied
-abbrev AnyReply : Ask → Reply → Type 0
+abbrev pub AnyReply : Ask → Reply → Type 0
 AnyReply question reply = ⊤
 
-abbrev HasText : Work → Type 0
+abbrev pub HasText : Work → Type 0
 HasText work = EndsGood AnyReply ListsLogicalNames work
 
 either_text : (b : Bool) (p q : Work) → HasText p → HasText q → HasText (if b then p else q)
@@ -217,14 +217,14 @@ does_text kept stop Ls = lists_text kept stop
 greeted_text : (kept : Kept) (statement : Statement) → HasText (greeted_work kept statement)
 greeted_text kept statement = either_text kept.gone (finishes (gone kept)) (does (disarmed kept) kept.armed statement) tt (does_text (disarmed kept) kept.armed statement)
 
-work_text : (kept : Kept) (statement : Statement) → HasText (work_of kept statement)
+pub work_text : (kept : Kept) (statement : Statement) → HasText (work_of kept statement)
 work_text kept statement = either_text kept.greeted (greeted_work kept statement) _ (greeted_text kept statement) (λ reply any. greeted_text (greeted kept) statement)
 
-any_well : (events : List Event) → AreWell AnyReply ListsLogicalNames events
+pub any_well : (events : List Event) → AreWell AnyReply ListsLogicalNames events
 any_well [] = tt
 any_well (e ∷ es) = (tt, any_well es)
 
-all_of_good : (lines : List Line) → AreGood AnyReply ListsLogicalNames lines → HaveText lines
+pub all_of_good : (lines : List Line) → AreGood AnyReply ListsLogicalNames lines → HaveText lines
 all_of_good [] good = All-nil (λ (line : Line). ListsLogicalNames line.outcome)
 all_of_good (line ∷ lines) good = All-cons (λ (z : Line). ListsLogicalNames z.outcome) line lines good.0 (all_of_good lines good.1)
 

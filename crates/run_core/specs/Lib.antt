@@ -10,3 +10,12 @@ pub mod Moving
 pub mod World
 pub mod Making
 pub mod Working
+pub mod Views
+pub mod Alone
+pub mod Driving
+pub mod Runners
+pub mod Each
+pub mod Phases
+pub mod Running
+pub mod Collecting
+pub mod Closing

@@ -1,0 +1,43 @@
+use Rattle.std.proofs.Common.{sym, ◌∙◌}
+use Rattle.actor_core.specs.Standings.{progress_of}
+use Rattle.run_core.proofs.Works.{not_refused}
+use Rattle.run_core.proofs.Driving.{driven_first, driven_ready, driven_asks, driven_out, driven_more, has_line, driven_line}
+use Rattle.run_core.proofs.threads.player.drive.Goals as goal
+
+pub loop-ask-init : goal.loop-ask-init
+loop-ask-init g c = driven_first c.args.turn.now c.args.pass.now (progress_of c.args.actor.now) c.requires.pass c.requires.known c.requires.may c.requires.busy
+
+pub next-requires : goal.next-requires
+next-requires g c = driven_ready c.args.turn.now c.args.pass.now c.loop-ask.pass (progress_of c.args.actor.now) (progress_of c.loop-ask.actor) c.loop-ask.invariant
+
+pub call-reply-requires-clause-may : goal.call-reply-requires-clause-may
+call-reply-requires-clause-may g c =
+    (driven_asks c.args.turn.now c.args.pass.now c.loop-ask.pass (progress_of c.args.actor.now) (progress_of c.loop-ask.actor) c.in-Some.ask c.loop-ask.invariant (sym c.in-Some.is ∙ c.in_ok-ask.ensures.ask)).may
+
+pub take-requires : goal.take-requires
+take-requires g c =
+    driven_out c.args.turn.now c.args.pass.now c.loop-ask.pass (progress_of c.args.actor.now) (progress_of c.loop-ask.actor) (progress_of c.next.new.self) c.in-Some.ask c.loop-ask.invariant (sym c.in-Some.is ∙ c.in_ok-ask.ensures.ask) c.in_ok-ask.ensures.goes_on
+
+pub loop-ask-preserved-in_ok-take : goal.loop-ask-preserved-in_ok-take
+loop-ask-preserved-in_ok-take g c =
+    driven_more c.args.turn.now c.args.pass.now c.loop-ask.pass c.call-reply.new.pass (progress_of c.args.actor.now) (progress_of c.loop-ask.actor) (progress_of c.next.new.self) (progress_of c.take.new.self) c.in-Some.ask c.call-reply.result
+    c.loop-ask.invariant (sym c.in-Some.is ∙ c.in_ok-ask.ensures.ask) c.in_ok-ask.ensures.goes_on c.call-reply.ensures.pass c.call-reply.ensures.called c.call-reply.ensures.legal (not_refused c.call-reply.result (λ bad. c.in_ok-take.ensures.no_memory bad)) c.in_ok-take.ensures.goes_on
+
+pub loop-ask-preserved-in_ok-take-2 : goal.loop-ask-preserved-in_ok-take-2
+loop-ask-preserved-in_ok-take-2 g c =
+    driven_more c.args.turn.now c.args.pass.now c.loop-ask.pass c.call-reply.new.pass (progress_of c.args.actor.now) (progress_of c.loop-ask.actor) (progress_of c.next.new.self) (progress_of c.take.new.self) c.in-Some.ask c.call-reply.result
+    c.loop-ask.invariant (sym c.in-Some.is ∙ c.in_ok-ask.ensures.ask) c.in_ok-ask.ensures.goes_on c.call-reply.ensures.pass c.call-reply.ensures.called c.call-reply.ensures.legal (not_refused c.call-reply.result (λ bad. c.in_ok-take.ensures.no_memory bad)) c.in_ok-take.ensures.goes_on
+
+pub loop-ask-preserved : goal.loop-ask-preserved
+loop-ask-preserved g c =
+    driven_more c.args.turn.now c.args.pass.now c.loop-ask.pass c.call-reply.new.pass (progress_of c.args.actor.now) (progress_of c.loop-ask.actor) (progress_of c.next.new.self) (progress_of c.take.new.self) c.in-Some.ask c.call-reply.result
+    c.loop-ask.invariant (sym c.in-Some.is ∙ c.in_ok-ask.ensures.ask) c.in_ok-ask.ensures.goes_on c.call-reply.ensures.pass c.call-reply.ensures.called c.call-reply.ensures.legal (not_refused c.call-reply.result (λ bad. c.in_ok-take.ensures.no_memory bad)) c.in_ok-take.ensures.goes_on
+
+pub unreachable-requires : goal.unreachable-requires
+unreachable-requires g c =
+    has_line c.args.turn.now c.args.pass.now c.loop-ask.pass (progress_of c.args.actor.now) (progress_of c.loop-ask.actor) (progress_of c.next.new.self) c.line.result c.loop-ask.invariant (sym c.in_default.is ∙ c.in_ok-ask.ensures.ask) c.in_ok-ask.ensures.goes_on c.line.ensures.line c.in-None.is
+
+pub returns-clause-comes : goal.returns-clause-comes
+returns-clause-comes g c =
+    driven_line c.args.turn.now c.args.pass.now c.loop-ask.pass (progress_of c.args.actor.now) (progress_of c.loop-ask.actor) (progress_of c.next.new.self) (progress_of c.line.new.self) c.in-Some-line.line c.loop-ask.invariant (sym c.in_default.is ∙ c.in_ok-ask.ensures.ask) c.in_ok-ask.ensures.goes_on
+    (sym c.in-Some-line.is ∙ c.line.ensures.line) c.line.ensures.taken

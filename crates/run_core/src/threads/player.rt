@@ -1,0 +1,153 @@
+//! One actor in a phase.
+ghost use Rattle.std.specs.Prelude.{◌≡◌, IfOk, OnOk, All};
+ghost use Rattle.mount_model.specs.Step.{IsStep};
+ghost use Rattle.mount_sound.specs.Owed.{Permits};
+ghost use Rattle.turn_object.specs.Front.{IsLegalFront};
+ghost use Rattle.turn_object.specs.Pass.{start_of, front, IsPassOf};
+ghost use Rattle.actor_core.specs.Progress.{IsIdle};
+ghost use Rattle.actor_core.specs.Standings.{progress_of};
+ghost use Rattle.run_core.specs.Players.{IsMade};
+ghost use Rattle.run_core.specs.Driving.{MayGoOn, IsAfter, ComesToIts};
+ghost use Rattle.run_core.specs.Runners.{MayAct, Acted, ActedAll, IsReadyFor, Played};
+
+use crate::threads::told::Told;
+use actor_core::Actor;
+use edge_io::{Clock, Gate};
+use mount_core::Mount;
+use plfs_types::NoMemory;
+use script_lang::{Line, Numbered};
+use std::alloc::Global;
+use std::sync::Wait;
+use store_api::Store;
+use turn_object::{Pass, Turn};
+
+/// An actor of a run: its pass, its place in the declarations, how many calls it has made, and the lines that it has told. The type of its pass is a bare
+/// parameter, since only so it is seen to cross threads.
+#[derive(Drop)]
+pub(crate) struct Player<P> {
+    pub(crate) pass: P,
+    pub(crate) place: u64,
+    pub(crate) made: u64,
+    pub(crate) actor: Actor,
+    pub(crate) told: Told,
+    /// Memory was never refused to it. Otherwise it does nothing more.
+    pub(crate) whole: bool,
+}
+
+impl<P> Player<P> {
+    /// Its pass and its lines, and whether memory was never refused to it.
+    pub(crate) fn apart(self) -> (P, Told, bool)
+        ensures pass { result.0 ≡ self.pass }
+        ensures told { result.1 ≡ self.told }
+        ensures whole { result.2 ≡ self.whole }
+    {
+        let Player {
+            pass,
+            place: _,
+            made: _,
+            actor: _,
+            told,
+            whole,
+        } = self;
+        (pass, told, whole)
+    }
+}
+
+/// Makes the calls of the statement in progress, each after the gate, and gives its line.
+fn drive<S: Store + Drop, C: Clock + Drop, G: Gate, W: Wait>(
+    rt: &W,
+    turn: &Turn<Mount<S, C>>,
+    gate: &G,
+    pass: &mut Pass<Mount<S, C>>,
+    place: u64,
+    made: &mut u64,
+    actor: &mut Actor,
+) -> Result<Line, NoMemory>
+    requires pass { IsPassOf turn.now pass.old }
+    requires known { IsLegalFront IsStep Permits (start_of turn.now) (front pass.old) }
+    requires may { MayGoOn (start_of turn.now) (front pass.old) (progress_of actor.old) }
+    requires busy { IsIdle (progress_of actor.old) → ⊥ }
+    ensures after { IsAfter turn.now pass.old pass.new }
+    ensures comes { IfOk result (λ line. ComesToIts line (front pass.old) (progress_of actor.old) (front pass.new) (progress_of actor.new)) }
+{
+    while let Some(ask) = actor.next()? {
+        *made = made.saturating_add(1);
+        gate.before(place, 0, *made);
+        let reply = turn.call(rt, pass, &ask);
+        actor.take(reply)?;
+    }
+    match actor.line() {
+        Some(line) => Ok(line),
+        None => unreachable!(),
+    }
+}
+
+/// Makes this statement, and keeps its line.
+fn act<S: Store + Drop, C: Clock + Drop, G: Gate, W: Wait>(
+    rt: &W,
+    alloc: Global,
+    turn: &Turn<Mount<S, C>>,
+    gate: &G,
+    player: &mut Player<Pass<Mount<S, C>>>,
+    statement: &Numbered,
+) -> Result<(), NoMemory>
+    requires may { MayAct turn.now player.old.pass }
+    requires made { IsMade statement.now }
+    requires idle { IsIdle (progress_of player.old.actor) }
+    ensures after { IsAfter turn.now player.old.pass player.new.pass }
+    ensures acted { OnOk result (Acted statement.now player.old player.new) }
+{
+    let copy = statement.statement.copy(alloc)?;
+    player.actor.begin(statement.line, copy)?;
+    let line = drive(
+        rt,
+        turn,
+        gate,
+        &mut player.pass,
+        player.place,
+        &mut player.made,
+        &mut player.actor,
+    )?;
+    player.told.push(line)?;
+    Ok(())
+}
+
+/// Makes those of these statements that are its own, one after the other.
+fn act_all<S: Store + Drop, C: Clock + Drop, G: Gate, W: Wait>(
+    rt: &W,
+    alloc: Global,
+    turn: &Turn<Mount<S, C>>,
+    gate: &G,
+    player: &mut Player<Pass<Mount<S, C>>>,
+    statements: &[Numbered],
+) -> Result<(), NoMemory>
+    requires may { MayAct turn.now player.old.pass }
+    requires made { All IsMade statements.now }
+    requires idle { IsIdle (progress_of player.old.actor) }
+    ensures after { IsAfter turn.now player.old.pass player.new.pass }
+    ensures acted { OnOk result (ActedAll statements.now player.old player.new) }
+{
+    for statement in statements {
+        if statement.actor == player.place {
+            act(rt, alloc, turn, gate, player, statement)?;
+        }
+    }
+    Ok(())
+}
+
+/// Plays its part of a phase, where it has had memory so far.
+pub(crate) fn play_own<S: Store + Drop, C: Clock + Drop, G: Gate, W: Wait>(
+    rt: &W,
+    alloc: Global,
+    turn: &Turn<Mount<S, C>>,
+    gate: &G,
+    player: &mut Player<Pass<Mount<S, C>>>,
+    statements: &[Numbered],
+)
+    requires { IsReadyFor turn.now statements.now player.old }
+    ensures { Played turn.now statements.now player.old player.new }
+{
+    if player.whole {
+        player.whole = act_all(rt, alloc, turn, gate, player, statements).is_ok();
+    }
+}
