@@ -2,23 +2,31 @@
 use Rattle.std.proofs.Common.{◌≡◌, ℕ, inl, inr, List, ◌++◌, Option, Result, Ok, Err, refl}
 use Rattle.story.specs.Process.{ends}
 use Rattle.story.specs.Plays.{Plays}
+use Rattle.mount_model.specs.declared.call.Call.TheVariants.{Find}
+use Rattle.mount_model.specs.declared.reply.Refusal.{Refusal}
+use Rattle.mount_model.specs.declared.reply.Refusal.TheVariants as refusal
 use Rattle.mount_model.specs.Paths.{Name}
 use Rattle.mount_model.specs.History.{Event}
 use Rattle.flow.specs.declared.trouble.Stuck.{Stuck}
 use Rattle.flow.specs.declared.trouble.Stuck.TheVariants as stuck
 use Rattle.flow.specs.Running.{Runs}
-use Rattle.looks.specs.Replies.{Tries}
+use Rattle.story.specs.Program.{ask}
+use Rattle.looks.specs.Replies.{Tries, failure, given, room_in}
+use Rattle.flatten_core.specs.declared.flattening.Flattened.{Flattened as WasFlattened}
+use Rattle.flatten_core.specs.Flattening.{flatten_program}
 use Rattle.torn_tail.specs.declared.recovering.Recovered.{Recovered as WasRecovered}
 use Rattle.torn_tail.specs.Recovering.{recover_program}
-use Rattle.trunc_rename.specs.Renaming.{rename_program}
-use Rattle.trunc_rename.specs.Truncating.{truncate_program}
+use Rattle.trunc_rename.specs.Holding.{holds}
+use Rattle.trunc_rename.specs.Renaming.{moves, rename_program}
+use Rattle.trunc_rename.specs.Truncating.{lists_metadata, truncate_program}
 use Rattle.script_lang.specs.declared.line.Line.{Line}
 use Rattle.script_lang.specs.declared.line.Outcome.{Outcome}
-use Rattle.script_lang.specs.declared.line.Outcome.TheVariants.{Recovered, Renamed, Stopped, Truncated}
+use Rattle.script_lang.specs.declared.line.Outcome.TheVariants.{Flattened, Recovered, Renamed, Stopped, Truncated}
 use Rattle.gathering.specs.Moments.{Moment, moment_after}
 use Rattle.trouble_laws.specs.Undamaged.{IsNoDamage}
-use Rattle.trouble_laws.proofs.Facts.{recover_ends, rename_ends, truncate_ends}
-use Rattle.outcomes.specs.Outcomes.{or_stuck, recover_outcome, rename_outcome, stuck_outcome, truncate_outcome}
+use Rattle.trouble_laws.proofs.Facts.{flatten_ends, recover_ends, rename_ends, truncate_ends}
+use Rattle.outcomes.specs.Counts.{counts_of}
+use Rattle.outcomes.specs.Outcomes.{flatten_outcome, or_stuck, recover_outcome, rename_outcome, stuck_outcome, truncate_outcome, why_of}
 use Rattle.actor_core.specs.declared.kept.Kept.{Kept}
 use Rattle.actor_core.specs.declared.kept.Stop.{Stop}
 use Rattle.actor_core.specs.Endings.{Ending, ending, stopped}
@@ -26,13 +34,19 @@ use Rattle.actor_core.specs.Stopping.{carried}
 use Rattle.actor_core.specs.Work.{finishes}
 use Rattle.run_core.specs.Course.{Course, then_line}
 use Rattle.play_laws.specs.Opening.{Stretch}
-use Rattle.play_laws.specs.Showing.{ShowsRecovery, ShowsRename, ShowsTruncate}
+use Rattle.play_laws.specs.Showing.{ShowsFlattening, ShowsRecovery, ShowsRename, ShowsTruncate, ShowsUnheld, ShowsUnnamed}
 use Rattle.play_laws.proofs.Carrying.{EndsSo, carried_on, ended_behind}
-use Rattle.play_laws.proofs.Changes.{renames_there, truncates_there}
+use Rattle.play_laws.proofs.Changes.{held_there, none_there, open_there, renames_there, taken_there, truncates_there}
+use Rattle.play_laws.proofs.Flattened.{flattens}
+use Rattle.play_laws.proofs.Missing.{IsThere, Stands, finds_none, metadata_there, moves_there}
+use Rattle.play_laws.proofs.Plainly.{Anything, IsPlain, metadata_plainly, moves_plainly}
+use Rattle.play_laws.proofs.Reasons.{GoesFor}
 use Rattle.play_laws.proofs.Recoveries.{recovered}
 use Rattle.play_laws.proofs.Renamed.{renamed}
 use Rattle.play_laws.proofs.Standing.{Both, Next, up_to}
+use Rattle.play_laws.proofs.Taken.{finds_taken}
 use Rattle.play_laws.proofs.Truncated.{truncated}
+use Rattle.play_laws.proofs.Unheld.{finds_held, finds_open, has_tried}
 
 module _ (start : Moment) (n : ℕ) (before greeting : List Event) (number : ℕ) (next : Kept → Course) (kept : Kept) (stop : Option Stop) where
   abbrev Now : Moment
@@ -59,19 +73,25 @@ module _ (start : Moment) (n : ℕ) (before greeting : List Event) (number : ℕ
         | inr h ↦ behind shows (stopped kept) part h.mine h.rest ws lines left h.all h.goes_on (refl, halted h.mine)
       ]
 
+  -- ---- a container that was not found, or not held
+
+  unheld : {R : Type 0} (hold : ℕ → ℕ → Tries R) → ((room holder : ℕ) → GoesFor IsPlain Anything n (hold room holder)) → ((room holder : ℕ) → GoesFor IsThere (Stands room) n (hold room holder)) → (name : Name) (because : Refusal) (mine : List Event) → Next start (before ++ greeting) mine
+      → Runs n (ask (Find name) (λ reply. given (room_in reply) (failure reply) (λ room. holds room (hold room)))) mine (Err (stuck.Refused because)) → ShowsUnheld start n (At mine) name (why_of because)
+  unheld hold plainly on name refusal.NoRoom mine whole runs = none_there start n before greeting mine name (finds_none n name hold Now mine on whole.lawful whole.sound runs)
+  unheld hold plainly on name (refusal.Busy host writer) mine whole runs = open_there start n before greeting mine name host writer (finds_open n Now name host writer mine (has_tried n name hold (refusal.Busy host writer) Now mine (λ plain. plain) plainly whole.lawful whole.sound runs))
+  unheld hold plainly on name refusal.Held mine whole runs = held_there start n before greeting mine name (finds_held n Now name mine (has_tried n name hold refusal.Held Now mine (λ plain. plain) plainly whole.lawful whole.sound runs))
+  unheld hold plainly on name because mine whole runs = tt
+
   -- ---- a truncate
 
   abbrev Truncates : Name → ℕ → List Event → Outcome → Type 0
   Truncates name size mine outcome = ShowsTruncate start n (At mine) name size outcome
 
-  truncate_trouble : (name : Name) (size : ℕ) (mine : List Event) (why : Stuck) → IsNoDamage why → Truncates name size mine (stuck_outcome why)
-  truncate_trouble name size mine stuck.Fault plain = tt
-  truncate_trouble name size mine (stuck.Damaged folder file place) plain = absurd plain
-  truncate_trouble name size mine (stuck.Refused because) plain = tt
-
   truncate_shows : (name : Name) (size : ℕ) (mine : List Event) (result : Result ℕ Stuck) → Next start (before ++ greeting) mine → Runs n (truncate_program name size) mine result → Truncates name size mine (truncate_outcome result)
   truncate_shows name size mine (Ok stamp) whole runs = truncates_there start n before greeting mine name size stamp (truncated n Now name size stamp mine whole.lawful whole.sound runs)
-  truncate_shows name size mine (Err why) whole runs = truncate_trouble name size mine why (truncate_ends n name size Now.state Now.issued mine (Err why) whole.lawful whole.sound runs)
+  truncate_shows name size mine (Err stuck.Fault) whole runs = tt
+  truncate_shows name size mine (Err (stuck.Damaged folder file place)) whole runs = absurd (truncate_ends n name size Now.state Now.issued mine (Err (stuck.Damaged folder file place)) whole.lawful whole.sound runs)
+  truncate_shows name size mine (Err (stuck.Refused because)) whole runs = unheld (lists_metadata size) (metadata_plainly n size) (λ room. metadata_there n room size) name because mine whole runs
 
   pub trunc_ends : (name : Name) (size : ℕ) (part : List Event) (ws : List (List Event)) (lines : List Line) (left : Course) → Next start before (greeting ++ part) → Plays n (then_line number next (carried (truncate_program name size) stop (λ left result. finishes (ending (truncate_outcome result) kept)) (finishes (stopped kept)))) part ws lines left
       → EndsSo n number next part ws lines left (λ mine e. (e.kept.reader ≡ kept.reader) × ShowsTruncate start n (record { before = before; events = greeting ++ mine }) name size e.outcome)
@@ -82,14 +102,18 @@ module _ (start : Moment) (n : ℕ) (before greeting : List Event) (number : ℕ
   abbrev Renames : Name → Name → List Event → Outcome → Type 0
   Renames name to mine outcome = ShowsRename start n (At mine) name to outcome
 
-  rename_trouble : (name to : Name) (mine : List Event) (why : Stuck) → IsNoDamage why → Renames name to mine (stuck_outcome why)
-  rename_trouble name to mine stuck.Fault plain = tt
-  rename_trouble name to mine (stuck.Damaged folder file place) plain = absurd plain
-  rename_trouble name to mine (stuck.Refused because) plain = tt
+  rename_refused : (name to : Name) (because : Refusal) (mine : List Event) → Next start (before ++ greeting) mine → Runs n (rename_program name to) mine (Err (stuck.Refused because)) → ShowsUnnamed start n (At mine) name to (why_of because)
+  rename_refused name to refusal.Exists mine whole runs = taken_there start n before greeting mine name to (finds_taken n name to Now mine whole.lawful whole.sound runs)
+  rename_refused name to refusal.Held mine whole runs = unheld (λ room. moves to) (λ room. moves_plainly n to) (λ room. moves_there n room to) name refusal.Held mine whole runs
+  rename_refused name to (refusal.Busy host writer) mine whole runs = unheld (λ room. moves to) (λ room. moves_plainly n to) (λ room. moves_there n room to) name (refusal.Busy host writer) mine whole runs
+  rename_refused name to refusal.NoRoom mine whole runs = unheld (λ room. moves to) (λ room. moves_plainly n to) (λ room. moves_there n room to) name refusal.NoRoom mine whole runs
+  rename_refused name to because mine whole runs = tt
 
   rename_shows : (name to : Name) (mine : List Event) (result : Result (Unit {0}) Stuck) → Next start (before ++ greeting) mine → Runs n (rename_program name to) mine result → Renames name to mine (rename_outcome result)
   rename_shows name to mine (Ok done) whole runs = renames_there start n before greeting mine name to (renamed n Now name to done mine whole.lawful whole.sound runs)
-  rename_shows name to mine (Err why) whole runs = rename_trouble name to mine why (rename_ends n name to Now.state Now.issued mine (Err why) whole.lawful whole.sound runs)
+  rename_shows name to mine (Err stuck.Fault) whole runs = tt
+  rename_shows name to mine (Err (stuck.Damaged folder file place)) whole runs = absurd (rename_ends n name to Now.state Now.issued mine (Err (stuck.Damaged folder file place)) whole.lawful whole.sound runs)
+  rename_shows name to mine (Err (stuck.Refused because)) whole runs = rename_refused name to because mine whole runs
 
   pub renaming_ends : (name to : Name) (part : List Event) (ws : List (List Event)) (lines : List Line) (left : Course) → Next start before (greeting ++ part) → Plays n (then_line number next (carried (rename_program name to) stop (λ left result. finishes (ending (rename_outcome result) kept)) (finishes (stopped kept)))) part ws lines left
       → EndsSo n number next part ws lines left (λ mine e. (e.kept.reader ≡ kept.reader) × ShowsRename start n (record { before = before; events = greeting ++ mine }) name to e.outcome)
@@ -112,3 +136,21 @@ module _ (start : Moment) (n : ℕ) (before greeting : List Event) (number : ℕ
   pub recovery_ends : (name : Name) (part : List Event) (ws : List (List Event)) (lines : List Line) (left : Course) → Next start before (greeting ++ part) → Plays n (then_line number next (carried (recover_program name) stop (λ left result. finishes (ending (recover_outcome result) kept)) (finishes (stopped kept)))) part ws lines left
       → EndsSo n number next part ws lines left (λ mine e. (e.kept.reader ≡ kept.reader) × ShowsRecovery start n (record { before = before; events = greeting ++ mine }) name e.outcome)
   recovery_ends name = program_ends (Recovers name) (recover_program name) (λ (r : WasRecovered). Recovered r.buried r.alive r.hold) (λ mine. tt) (recover_shows name)
+
+  -- ---- a flattening
+
+  abbrev FlattensSo : Name → List Event → Outcome → Type 0
+  FlattensSo name mine outcome = ShowsFlattening start n (At mine) name outcome
+
+  flatten_trouble : (name : Name) (mine : List Event) (why : Stuck) → IsNoDamage why → FlattensSo name mine (stuck_outcome why)
+  flatten_trouble name mine stuck.Fault plain = tt
+  flatten_trouble name mine (stuck.Damaged folder file place) plain = absurd plain
+  flatten_trouble name mine (stuck.Refused because) plain = tt
+
+  flatten_shows : (name : Name) (mine : List Event) (result : Result WasFlattened Stuck) → Next start (before ++ greeting) mine → Runs n (flatten_program name) mine result → FlattensSo name mine (flatten_outcome result)
+  flatten_shows name mine (Ok f) whole runs = flattens start n before greeting mine name f whole.lawful whole.sound runs
+  flatten_shows name mine (Err why) whole runs = flatten_trouble name mine why (flatten_ends n name Now.state Now.issued mine (Err why) whole.lawful whole.sound runs)
+
+  pub flattening_ends : (name : Name) (part : List Event) (ws : List (List Event)) (lines : List Line) (left : Course) → Next start before (greeting ++ part) → Plays n (then_line number next (carried (flatten_program name) stop (λ left result. finishes (ending (flatten_outcome result) kept)) (finishes (stopped kept)))) part ws lines left
+      → EndsSo n number next part ws lines left (λ mine e. (e.kept.reader ≡ kept.reader) × ShowsFlattening start n (record { before = before; events = greeting ++ mine }) name e.outcome)
+  flattening_ends name = program_ends (FlattensSo name) (flatten_program name) (λ (f : WasFlattened). Flattened f.flat f.pieces (counts_of f.covers)) (λ mine. tt) (flatten_shows name)

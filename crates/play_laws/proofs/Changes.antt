@@ -1,13 +1,15 @@
--- What a caller changed by a hold, told of the whole stretch of its statement.
+-- What a caller changed by a hold, or was refused, told of the whole stretch of its statement.
 use Rattle.std.proofs.Common.{◌≡◌, ℕ, List, ◌∷◌, ◌++◌, sym, ap, ◌∙◌, subst, append_assoc}
 use Rattle.mount_model.specs.declared.call.Call.{Call}
+use Rattle.mount_model.specs.declared.reply.Refusal.{Refusal}
 use Rattle.mount_model.specs.declared.reply.Reply.{Reply}
 use Rattle.mount_model.specs.History.{Event}
 use Rattle.mount_model.specs.Paths.{Name}
 use Rattle.gathering.specs.Moments.{Moment, moment_after, next_moment}
 use Rattle.gathering.proofs.Facts.{moment-append}
-use Rattle.play_laws.specs.Changing.{Change, IsChange, IsHolderOf, IsRenamed, IsTruncated, RenamesFile, TruncatesFile, until_changed}
+use Rattle.play_laws.specs.Changing.{Change, IsChange, IsFreeName, IsHolderOf, IsRenamed, IsTruncated, RenamesFile, TruncatesFile, until_changed}
 use Rattle.play_laws.specs.Opening.{IsRoomNamed, Stretch}
+use Rattle.play_laws.specs.Refusing.{Attempt, FindsHeld, FindsNone, FindsOpen, FindsTaken, HadOpenFirst, IsAttempt, WasShut, as_tried}
 use Rattle.play_laws.proofs.Held.{alone}
 
 -- moments behind what came before
@@ -64,4 +66,60 @@ module _ (start : Moment) (n : ℕ) (before greeting mine : List Event) where
     change = behind r.change;
     made = change_there name _ _ r.change r.made;
     renamed = subst (λ (m : Moment). IsRenamed m (next_moment m r.change.changing) r.change.room name to) (changed_there r.change) r.renamed;
+  }
+
+  -- ---- what was refused
+
+  -- the same attempt, behind the greeting
+  abbrev tried_behind : Attempt → Attempt
+  tried_behind a = record {
+    room = a.room;
+    earlier = greeting ++ a.earlier;
+    finding = a.finding;
+    between = a.between;
+    holding = a.holding;
+    later = a.later;
+  }
+
+  tried_there : (a : Attempt) → as_tried Now (alone mine) a ≡ as_tried start Whole (tried_behind a)
+  tried_there a = one_moment start before greeting a.earlier (a.finding ∷ a.between)
+
+  attempt_there : (name : Name) (why : Refusal) (a : Attempt) → IsAttempt Now n (alone mine) name why a → IsAttempt start n Whole name why (tried_behind a)
+  attempt_there name why a k = record {
+    split = ap (λ z. greeting ++ z) k.split ∙ sym (append_assoc greeting a.earlier (a.finding ∷ a.between ++ a.holding ∷ a.later));
+    finds = k.finds;
+    named = subst (λ m. IsRoomNamed m name a.room) (then_moment start before greeting a.earlier) k.named;
+    refuses = k.refuses;
+  }
+
+  pub open_there : (name : Name) (host writer : ℕ) → FindsOpen Now n (alone mine) name host writer → FindsOpen start n Whole name host writer
+  open_there name host writer f = record {
+    attempt = tried_behind f.attempt;
+    made = attempt_there name _ f.attempt f.made;
+    entry = subst (λ m. HadOpenFirst m f.attempt.room host writer) (tried_there f.attempt) f.entry;
+  }
+
+  pub held_there : (name : Name) → FindsHeld Now n (alone mine) name → FindsHeld start n Whole name
+  held_there name f = record {
+    attempt = tried_behind f.attempt;
+    made = attempt_there name _ f.attempt f.made;
+    shut = subst (λ m. WasShut m f.attempt.room) (tried_there f.attempt) f.shut;
+  }
+
+  pub taken_there : (name to : Name) → FindsTaken Now n (alone mine) name to → FindsTaken start n Whole name to
+  taken_there name to f = record {
+    change = behind f.change;
+    made = change_there name _ _ f.change f.made;
+    other = f.other;
+    taken = subst (λ m. IsRoomNamed m to f.other) (changed_there f.change) f.taken;
+  }
+
+  pub none_there : (name : Name) → FindsNone Now n (alone mine) name → FindsNone start n Whole name
+  none_there name f = record {
+    earlier = greeting ++ f.earlier;
+    finding = f.finding;
+    later = f.later;
+    split = ap (λ z. greeting ++ z) f.split ∙ sym (append_assoc greeting f.earlier (f.finding ∷ f.later));
+    finds = f.finds;
+    free = subst (λ m. IsFreeName m name) (then_moment start before greeting f.earlier) f.free;
   }

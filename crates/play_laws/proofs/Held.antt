@@ -4,6 +4,7 @@ use Rattle.std.specs.Prelude.{if◌then◌else◌}
 use Rattle.turn_object.specs.Callers.{made_by}
 use Rattle.store_api.specs.declared.step.Answer.TheVariants.{Made, NoFolder, NoRoom, NotEmpty}
 use Rattle.store_api.specs.declared.store.Trouble.TheVariants as trouble_of
+use Rattle.store_api.specs.declared.tree.Tree.{Tree}
 use Rattle.mount_model.specs.declared.call.Ask.{Ask}
 use Rattle.mount_model.specs.declared.call.Call.{Call}
 use Rattle.mount_model.specs.declared.call.Call.TheVariants.{Find, Hold, Look, Release}
@@ -47,6 +48,10 @@ found_room reply room e = absurd (cc)
 found_holder : (reply : Reply) (holder : ℕ) → holder_in reply ≡ Some holder → reply ≡ Holding holder
 found_holder (Holding number) holder e = let same : number ≡ holder = cc in ap Holding same
 found_holder reply holder e = absurd (cc)
+
+-- a store tells one tree
+pub one_tree : (a b : Tree) (o : Option Tree) → o ≡ Some a → o ≡ Some b → a ≡ b
+one_tree a b o p q = cc
 
 -- the caller's call, in its place
 pub answered_so : (n : ℕ) (call : Call) (reply : Reply) (event : Event) → event.caller ≡ n → event.ask ≡ unbroken call → event.reply ≡ reply → IsAnswered n call reply event
@@ -131,7 +136,7 @@ only_begun n room holder m after sound a h is =
 -- ---- a container is found and held
 
 -- The caller found the container of this name and held it, and went on so.
-pub record HasHeld {R : Type 0} (n : ℕ) (m : Moment) (name : Name) (next : ℕ → ℕ → Tries R) (events : List Event) (out : R) : Type 0 where
+pub record HasHeld {R : Type 0} (n : ℕ) (m : Moment) (name : Name) (next : ℕ → ℕ → Tries R) (events : List Event) (result : Result R Stuck) : Type 0 where
   pub room : ℕ
   pub holder : ℕ
   pub earlier : List Event
@@ -148,16 +153,21 @@ pub record HasHeld {R : Type 0} (n : ℕ) (m : Moment) (name : Name) (next : ℕ
   pub lawful : IsLawful now.state rest
   pub sound : IsSoundAt now
   pub only : HoldsOnly n holder room now.state
-  pub runs : Runs n (next room holder) rest (Ok out)
+  pub runs : Runs n (next room holder) rest result
 
-pub has_held : {R : Type 0} (n : ℕ) (m : Moment) (name : Name) (next : ℕ → ℕ → Tries R) (events : List Event) (out : R) → IsLawful m.state events → IsSoundAt m → Runs n (ask (Find name) (λ reply. given (room_in reply) (failure reply) (λ room. holds room (next room)))) events (Ok out) → HasHeld n m name next events out
-has_held {R} n m name next events out lawful sound runs =
-    let f = first_of n _ _ events (Ok out) runs in
-    let a = went_on (room_in f.event.reply) (failure f.event.reply) (λ room. holds room (next room)) n f.later out f.rest in
-    let g = first_of n _ _ f.later (Ok out) a.2 in
-    let b = went_on (holder_in g.event.reply) (failure g.event.reply) (next a.0) n g.later out g.rest in
-    let room_told : f.event.reply ≡ Room a.0 = found_room f.event.reply a.0 a.1 in
-    let holder_told : g.event.reply ≡ Holding b.0 = found_holder g.event.reply b.0 b.1 in
+abbrev pub OnFind : {R : Type 0} → (ℕ → ℕ → Tries R) → Reply → Tries R
+OnFind next reply = given (room_in reply) (failure reply) (λ room. holds room (next room))
+
+abbrev pub OnHold : {R : Type 0} → (ℕ → ℕ → Tries R) → ℕ → Reply → Tries R
+OnHold next room reply = given (holder_in reply) (failure reply) (next room)
+
+-- by the calls that found and held it
+pub held_so : {R : Type 0} (n : ℕ) (m : Moment) (name : Name) (next : ℕ → ℕ → Tries R) (events : List Event) (result : Result R Stuck) → IsLawful m.state events → IsSoundAt m
+    → (f : IsFirstOf n (Find name) (OnFind next) events result) (room : ℕ) → room_in f.event.reply ≡ Some room → (g : IsFirstOf n (Hold room) (OnHold next room) f.later result) (holder : ℕ) → holder_in g.event.reply ≡ Some holder
+    → Runs n (next room holder) g.later result → HasHeld n m name next events result
+held_so n m name next events result lawful sound f room found_so g holder held_by runs =
+    let room_told : f.event.reply ≡ Room room = found_room f.event.reply room found_so in
+    let holder_told : g.event.reply ≡ Holding holder = found_holder g.event.reply holder held_by in
     let all : IsLawful m.state (f.before ++ f.event ∷ f.later) = subst (IsLawful m.state) f.split lawful in
     let at_find : Moment = moment_after m f.before in
     let sound_find : IsSoundAt at_find = sound_after m f.before (legal_first m f.before (f.event ∷ f.later) all) sound in
@@ -169,27 +179,35 @@ has_held {R} n m name next events out lawful sound runs =
     let sound_hold : IsSoundAt at_hold = sound_after found g.before (legal_first found g.before (g.event ∷ g.later) from_found) sound_found in
     let from_hold : IsLawful at_hold.state (g.event ∷ g.later) = legal_rest found g.before (g.event ∷ g.later) from_found in
     let now : Moment = next_moment at_hold g.event in
-    let find_step : IsStep at_find.state n (unbroken (Find name)) (Room a.0) f.event.after = its_step n (Find name) (Room a.0) at_find.state f.event f.by_caller f.asked room_told from_find.1 in
-    let hold_step : IsStep at_hold.state n (unbroken (Hold a.0)) (Holding b.0) g.event.after = its_step n (Hold a.0) (Holding b.0) at_hold.state g.event g.by_caller g.asked holder_told from_hold.1 in
+    let find_step : IsStep at_find.state n (unbroken (Find name)) (Room room) f.event.after = its_step n (Find name) (Room room) at_find.state f.event f.by_caller f.asked room_told from_find.1 in
+    let hold_step : IsStep at_hold.state n (unbroken (Hold room)) (Holding holder) g.event.after = its_step n (Hold room) (Holding holder) at_hold.state g.event g.by_caller g.asked holder_told from_hold.1 in
     record {
-      room = a.0;
-      holder = b.0;
+      room = room;
+      holder = holder;
       earlier = f.before;
       finding = f.event;
       between = g.before;
       holding = g.event;
       rest = g.later;
       split = f.split ∙ ap (λ z. f.before ++ f.event ∷ z) g.split;
-      finds = answered_so n (Find name) (Room a.0) f.event f.by_caller f.asked room_told;
-      named = λ tree has. name_found at_find.state n name a.0 f.event.after tree (answered at_find.state n (Find name) (unbroken (Find name)) (Room a.0) f.event.after refl find_step) has;
-      holds = answered_so n (Hold a.0) (Holding b.0) g.event g.by_caller g.asked holder_told;
+      finds = answered_so n (Find name) (Room room) f.event f.by_caller f.asked room_told;
+      named = λ tree has. name_found at_find.state n name room f.event.after tree (answered at_find.state n (Find name) (unbroken (Find name)) (Room room) f.event.after refl find_step) has;
+      holds = answered_so n (Hold room) (Holding holder) g.event g.by_caller g.asked holder_told;
       now = now;
       is_now = λ later. moment-append m f.before (f.event ∷ g.before ++ (g.event ∷ later)) ∙ moment-append found g.before (g.event ∷ later);
       lawful = from_hold.2;
       sound = sound_after at_hold (g.event ∷ []) (from_hold.0, from_hold.1, tt) sound_hold;
-      only = only_begun n a.0 b.0 at_hold g.event.after sound_hold (answered at_hold.state n (Hold a.0) (unbroken (Hold a.0)) (Holding b.0) g.event.after refl hold_step);
-      runs = b.2;
+      only = only_begun n room holder at_hold g.event.after sound_hold (answered at_hold.state n (Hold room) (unbroken (Hold room)) (Holding holder) g.event.after refl hold_step);
+      runs = runs;
     }
+
+pub has_held : {R : Type 0} (n : ℕ) (m : Moment) (name : Name) (next : ℕ → ℕ → Tries R) (events : List Event) (out : R) → IsLawful m.state events → IsSoundAt m → Runs n (ask (Find name) (λ reply. given (room_in reply) (failure reply) (λ room. holds room (next room)))) events (Ok out) → HasHeld n m name next events (Ok out)
+has_held {R} n m name next events out lawful sound runs =
+    let f = first_of n (Find name) (OnFind next) events (Ok out) runs in
+    let a = went_on (room_in f.event.reply) (failure f.event.reply) (λ room. holds room (next room)) n f.later out f.rest in
+    let g = first_of n (Hold a.0) (OnHold next a.0) f.later (Ok out) a.2 in
+    let b = went_on (holder_in g.event.reply) (failure g.event.reply) (next a.0) n g.later out g.rest in
+    held_so n m name next events (Ok out) lawful sound f a.0 a.1 g b.0 b.1 b.2
 
 -- ---- what it calls next
 
@@ -275,8 +293,8 @@ abbrev pub alone : List Event → Stretch
 alone events = record { before = []; events = events }
 
 -- the calls by which it was changed
-abbrev pub change_of : {R : Type 0} (n : ℕ) (m : Moment) (name : Name) (next : ℕ → ℕ → Tries R) (events : List Event) (out : R) → HasHeld n m name next events out → List Event → Event → List Event → Change
-change_of n m name next events out h more changing later = record {
+abbrev pub change_of : {R : Type 0} (n : ℕ) (m : Moment) (name : Name) (next : ℕ → ℕ → Tries R) (events : List Event) (result : Result R Stuck) → HasHeld n m name next events result → List Event → Event → List Event → Change
+change_of n m name next events result h more changing later = record {
   room = h.room;
   holder = h.holder;
   earlier = h.earlier;
@@ -288,9 +306,9 @@ change_of n m name next events out h more changing later = record {
   later = later;
 }
 
-pub changed : {R : Type 0} (n : ℕ) (m : Moment) (name : Name) (next : ℕ → ℕ → Tries R) (events : List Event) (out : R) (call : ℕ → Call) (reply : Reply) (h : HasHeld n m name next events out) (more : List Event) (changing : Event) (later : List Event)
-    → h.rest ≡ more ++ changing ∷ later → IsAnswered n (call h.holder) reply changing → IsHolderOf (moment_after h.now more) n h.holder h.room → IsChange m n (alone events) name call reply (change_of n m name next events out h more changing later)
-changed n m name next events out call reply h more changing later split answers holds = record {
+pub changed : {R : Type 0} (n : ℕ) (m : Moment) (name : Name) (next : ℕ → ℕ → Tries R) (events : List Event) (result : Result R Stuck) (call : ℕ → Call) (reply : Reply) (h : HasHeld n m name next events result) (more : List Event) (changing : Event) (later : List Event)
+    → h.rest ≡ more ++ changing ∷ later → IsAnswered n (call h.holder) reply changing → IsHolderOf (moment_after h.now more) n h.holder h.room → IsChange m n (alone events) name call reply (change_of n m name next events result h more changing later)
+changed n m name next events result call reply h more changing later split answers holds = record {
   split = h.split ∙ ap (λ z. h.earlier ++ (h.finding ∷ h.between ++ (h.holding ∷ z))) split;
   finds = h.finds;
   named = h.named;

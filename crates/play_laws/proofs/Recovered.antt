@@ -1,7 +1,6 @@
 -- What the line of a recovery shows of its container.
 use Rattle.std.proofs.Common.{◌≡◌, ℕ, zero, suc, ◌+◌, ◌-◌, ◌*◌, ◌/◌, inl, inr, Bool, true, false, nat_eq, nat_le, List, [], ◌∷◌, ◌++◌, length, drop, min, Option, Some, None, Result, Ok, Err, refl, sym, ap, ◌∙◌, subst, arith, append_assoc}
 use Rattle.std.specs.Prelude.{if◌then◌else◌, slice_get}
-use Rattle.std.specs.List.{AllByRecursion}
 use Rattle.std.proofs.lemmas.Bool.Decides.{nat_tests}
 use Rattle.std.proofs.lemmas.List.{append-nil}
 use Rattle.plfs_types.specs.declared.entries.WriterCount.{WriterCount}
@@ -42,6 +41,7 @@ use Rattle.play_laws.specs.Recovering.{IsBuried, IsFoundLive}
 use Rattle.play_laws.proofs.Alive.{bury_refused_not, inspect_live, mend_not, meta_refused_not}
 use Rattle.play_laws.proofs.Held.{alone, answered_so, its_step}
 use Rattle.play_laws.proofs.NoBytes.{empty_there}
+use Rattle.play_laws.proofs.OpenWriters.{Adds}
 
 same_number : (a b : ℕ) → nat_eq a b ≡ true → a ≡ b
 same_number a b e = grind (arith, nat_tests)
@@ -67,13 +67,9 @@ module _ (n room : ℕ) (m : Moment) (events : List Event) (lawful : IsLawful m.
   sound_at : (first rest : List Event) → Here first rest → IsSoundAt (at first)
   sound_at first rest here = sound_after m first (legal_first m first rest (subst (IsLawful m.state) here lawful)) sound
 
-  -- what was told of those so far is so
-  abbrev pub AreSo : Recovered → Type 0
-  AreSo sofar = AllByRecursion IsOut sofar.buried × AllByRecursion IsOn sofar.alive × (sofar.hold ≡ false)
-
-  -- and of this one too, where it came to an end
+  -- it is told as what became of it, where it came to an end
   abbrev pub EndsSo : OpenEntry → Result Fate Stuck → Type 0
-  EndsSo e (Ok fate) = (sofar : Recovered) → AreSo sofar → AreSo (noted e fate sofar)
+  EndsSo e (Ok fate) = (sofar : Recovered) → Adds IsOut IsOn e sofar (noted e fate sofar)
   EndsSo e (Err why) = Unit {0}
 
   -- ---- a call
@@ -119,12 +115,8 @@ module _ (n room : ℕ) (m : Moment) (events : List Event) (lawful : IsLawful m.
 
   -- ---- a writer that is live
 
-  all_push : {X : Type 0} (P : X → Type 0) (xs : List X) (x : X) → AllByRecursion P xs → P x → AllByRecursion P (xs ++ x ∷ [])
-  all_push P [] x all p = (p, tt)
-  all_push P (y ∷ xs) x all p = (all.0, all_push P xs x all.1 p)
-
   live_so : (e : OpenEntry) (first : List Event) (event : Event) (later : List Event) → Here first (event ∷ later) → event.caller ≡ n → event.ask ≡ unbroken (Inspect e.writer) → event.reply ≡ Refused Alive → EndsSo e (not_done (Refused Alive))
-  live_so e first event later here own asked told = λ sofar so.
+  live_so e first event later here own asked told = λ sofar.
       let step = step_of first event later (Inspect e.writer) (Refused Alive) here own asked told in
       let on : IsOn e.writer = is_on e.writer (record {
         earlier = first;
@@ -134,7 +126,7 @@ module _ (n room : ℕ) (m : Moment) (events : List Event) (lawful : IsLawful m.
         inspects = answered_so n (Inspect e.writer) (Refused Alive) event own asked told;
         live = inspect_live (at first).state n event.after e.writer (answered (at first).state n (Inspect e.writer) (unbroken (Inspect e.writer)) (Refused Alive) event.after refl step);
       }) in
-      (so.0, all_push IsOn sofar.alive e.writer so.1 on, so.2)
+      inr (on, refl)
 
   not_done_so : (e : OpenEntry) (reply : Reply) → (reply ≡ Refused Alive → EndsSo e (not_done (Refused Alive))) → EndsSo e (not_done reply)
   not_done_so e (Refused Alive) live = live refl
@@ -218,7 +210,7 @@ module _ (n room : ℕ) (m : Moment) (events : List Event) (lawful : IsLawful m.
     buries_so count first rest result here w runs =
         let c = calls first rest (Bury room e.host e.writer) _ result here runs in
         done_or e _ c.later result c.event.reply c.runs (λ told. absurd (bury_refused_not (at c.until).state n c.event.after e.writer room e.host ((its_may c.until c.event c.later (Bury room e.host e.writer) c.here c.own c.asked).owes (sound_at c.until (c.event ∷ c.later) c.here).clean).0 (answer_of c.until c.event c.later (Bury room e.host e.writer) (Refused Alive) c.here c.own c.asked told)))
-        (λ told ended. subst (EndsSo e) ended.1 (λ sofar so. (all_push IsOut sofar.buried (record { writer = e.writer; count = count }) so.0 (out_so count c.until c.event c.later c.here c.own c.asked told (counted_on count first c.before c.until c.until_is w)), so.1, so.2)))
+        (λ told ended. subst (EndsSo e) ended.1 (λ sofar. inl (record { writer = e.writer; count = count }, refl, out_so count c.until c.event c.later c.here c.own c.asked told (counted_on count first c.before c.until c.until_is w), refl)))
 
     -- what is known of the count where it is 0
     abbrev pub IfNone : Run → List Event → Type 0

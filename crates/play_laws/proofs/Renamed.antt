@@ -29,7 +29,7 @@ use Rattle.trunc_rename.specs.Renaming.{moved, moves, rename_program}
 use Rattle.gathering.specs.Moments.{IsSoundAt, Moment, file_in_room, file_told, moment_after, next_moment}
 use Rattle.reader_laws.proofs.Facts.{answered}
 use Rattle.play_laws.specs.Changing.{IsRenamed, RenamesFile}
-use Rattle.play_laws.proofs.Held.{HoldsOnly, alone, answered_so, change_of, changed, has_called, has_held, its_step, let_go_so}
+use Rattle.play_laws.proofs.Held.{HoldsOnly, alone, answered_so, change_of, changed, has_called, has_held, its_step, let_go_so, one_tree}
 
 -- ---- what a rename did
 
@@ -62,9 +62,6 @@ is_moved n holder to m sound after a = elim (match_cases (holder_of n holder m.s
 -- it is the room that is held by this number
 moved_room : (n holder room : ℕ) (to : Name) (m : Moment) (sound : IsSoundAt m) (after : State) → HoldsOnly n holder room m.state → (i : IsMoved n holder to m sound after) → RoomRenamed sound.shape.tree room to i.tree
 moved_room n holder room to m sound after only i = subst (λ r. RoomRenamed sound.shape.tree r to i.tree) (only i.h (is_holding n holder m.state.table.holders i.h i.held)) i.made
-
-one_tree : (a b : Tree) (o : Option Tree) → o ≡ Some a → o ≡ Some b → a ≡ b
-one_tree a b o p q = cc
 
 one_room : (a b : RoomThere) (o : Option RoomThere) → o ≡ Some a → o ≡ Some b → a ≡ b
 one_room a b o p q = cc
@@ -129,7 +126,7 @@ renamed n m name to out events lawful sound runs =
     let its : i.h.room ≡ h.room = k.only i.h (is_holding n h.holder there.state.table.holders i.h i.held) in
     let made : RoomRenamed k.sound.shape.tree h.room to i.tree = moved_room n h.holder h.room to there k.sound k.event.after k.only i in
     record {
-      change = change_of n m name (λ room. moves to) events out h k.before k.event k.later;
-      made = changed n m name (λ room. moves to) events out (λ holder. Move holder to) Done h k.before k.event k.later k.split (answered_so n (Move h.holder to) Done k.event k.own k.asked told) (i.h, i.held, its);
+      change = change_of n m name (λ room. moves to) events (Ok out) h k.before k.event k.later;
+      made = changed n m name (λ room. moves to) events (Ok out) (λ holder. Move holder to) Done h k.before k.event k.later k.split (answered_so n (Move h.holder to) Done k.event k.own k.asked told) (i.h, i.held, its);
       renamed = subst (λ (x : Moment). IsRenamed x (next_moment x k.event) h.room name to) (sym (h.is_now k.before)) (is_renamed there (next_moment there k.event) h.room name to k.sound i.tree i.told made);
     }

@@ -21,7 +21,6 @@ use Rattle.gathering.specs.Moments.{Moment, IsSoundAt, moment_after}
 use Rattle.gathering.specs.Seen.{Asked, asked_in, calls_of}
 use Rattle.gathering.proofs.Facts.{its_call, legal_first, moment-append}
 use Rattle.reader_laws.proofs.Facts.{calls_append}
-use Rattle.flatten_core.specs.Flattening.{flatten_program}
 use Rattle.outcomes.specs.Data.{bytes_of}
 use Rattle.actor_core.specs.Names.{names_program}
 use Rattle.actor_core.specs.declared.kept.Kept.{Kept}
@@ -33,15 +32,14 @@ use Rattle.actor_core.specs.Work.{finishes}
 use Rattle.run_core.specs.Course.{Course, then_line}
 use Rattle.play_laws.specs.OneFile.{OneFile}
 use Rattle.play_laws.specs.Opening.{Stretch}
-use Rattle.play_laws.specs.Showing.{Shows, ShowsLook, ShowsRecovery, ShowsRename, ShowsTruncate}
+use Rattle.play_laws.specs.Showing.{Shows, ShowsFlattening, ShowsLook, ShowsRecovery, ShowsRename, ShowsTruncate}
 use Rattle.play_laws.proofs.Carrying.{EndsSo, ended, ends_later}
 use Rattle.play_laws.proofs.Opened.{Good, Keeps, keeps_later, no_calls}
 use Rattle.play_laws.proofs.Openings.{opening_ends}
 use Rattle.play_laws.proofs.Others.{Leaves, LeavesReader, at_once, open_leaves, write_leaves, sync_leaves, close_leaves, named_leaves, names_end}
-use Rattle.trouble_laws.proofs.Facts.{flatten_ends}
 use Rattle.play_laws.proofs.ReadLines.{read_ends, verify_ends, map_ends, close_ends}
 use Rattle.play_laws.proofs.Told.{look_ends}
-use Rattle.play_laws.proofs.Changed.{recovery_ends, renaming_ends, trunc_ends}
+use Rattle.play_laws.proofs.Changed.{flattening_ends, recovery_ends, renaming_ends, trunc_ends}
 use Rattle.play_laws.proofs.Standing.{AllOf, Both, Next, all_of_later, next_is, up_to}
 
 module _ (start : Moment) (sound : IsSoundAt start) (n : ℕ) (before greeting : List Event) (greets : All (λ (a : Asked). a.ask.call ≡ Greet) (calls_of n greeting)) (number : ℕ) (next : Kept → Course) where
@@ -115,7 +113,7 @@ module _ (start : Moment) (sound : IsSoundAt start) (n : ℕ) (before greeting :
   does_end kept stop Sync old part ws lines left fits keeps whole all plays = others_end kept stop Sync old part ws lines left (λ m o e l. (refl, l.none)) (sync_leaves start n before greeting number next kept stop kept.writer) keeps whole plays
   does_end kept stop Close old part ws lines left fits keeps whole all plays = others_end kept stop Close old part ws lines left (λ m o e l. (refl, l.none)) (close_leaves start n before greeting number next kept stop kept.writer) keeps whole plays
   does_end kept stop (Stat name) old part ws lines left fits keeps whole all plays = told_end kept (Stat name) old (λ mine outcome. ShowsLook start n (record { before = before; events = greeting ++ mine }) name outcome) part ws lines left (λ m o shows. (refl, shows)) keeps whole (look_ends start sound n before greeting greets name number next kept stop part ws lines left whole plays)
-  does_end kept stop (Flatten name) old part ws lines left fits keeps whole all plays = others_end kept stop (Flatten name) old part ws lines left (λ m o e l. (refl, l.none)) (named_leaves start n before greeting number next kept stop (flatten_program name) _ (flatten_ends n name) (λ r. tt)) keeps whole plays
+  does_end kept stop (Flatten name) old part ws lines left fits keeps whole all plays = told_end kept (Flatten name) old (λ mine outcome. ShowsFlattening start n (record { before = before; events = greeting ++ mine }) name outcome) part ws lines left (λ m o shows. (refl, shows)) keeps whole (flattening_ends start n before greeting number next kept stop name part ws lines left whole plays)
   does_end kept stop (Recover name) old part ws lines left fits keeps whole all plays = told_end kept (Recover name) old (λ mine outcome. ShowsRecovery start n (record { before = before; events = greeting ++ mine }) name outcome) part ws lines left (λ m o shows. (refl, shows)) keeps whole (recovery_ends start n before greeting number next kept stop name part ws lines left whole plays)
   does_end kept stop (Trunc name size) old part ws lines left fits keeps whole all plays = told_end kept (Trunc name size) old (λ mine outcome. ShowsTruncate start n (record { before = before; events = greeting ++ mine }) name size outcome) part ws lines left (λ m o shows. (refl, shows)) keeps whole (trunc_ends start n before greeting number next kept stop name size part ws lines left whole plays)
   does_end kept stop (Rename name to) old part ws lines left fits keeps whole all plays = told_end kept (Rename name to) old (λ mine outcome. ShowsRename start n (record { before = before; events = greeting ++ mine }) name to outcome) part ws lines left (λ m o shows. (refl, shows)) keeps whole (renaming_ends start n before greeting number next kept stop name to part ws lines left whole plays)

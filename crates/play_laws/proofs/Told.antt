@@ -1,5 +1,5 @@
 -- What the statement that tells of a file shows.
-use Rattle.std.proofs.Common.{◌≡◌, ◌⊎◌, inl, inr, ℕ, ◌+◌, ◌-◌, ◌≤◌, Bool, true, false, List, [], ◌∷◌, ◌++◌, length, Option, Some, None, Result, Ok, Err, refl, sym, ap, ◌∙◌, subst, arith, append_assoc}
+use Rattle.std.proofs.Common.{◌≡◌, inl, inr, ℕ, ◌+◌, ◌-◌, ◌≤◌, Bool, true, false, List, [], ◌∷◌, ◌++◌, length, Option, Some, None, Result, Ok, Err, refl, sym, ap, ◌∙◌, subst, arith, append_assoc}
 use Rattle.std.specs.Prelude.{if◌then◌else◌, ◌==◌}
 use Rattle.std.specs.List.{All, range_with_len}
 use Rattle.std.proofs.lemmas.Bool.Decides.{nat_tests}
@@ -9,31 +9,25 @@ use Rattle.plfs_types.specs.declared.entries.ShareBytes.{ShareBytes}
 use Rattle.plfs_types.specs.declared.entries.Trunc.{Trunc}
 use Rattle.index_entry.specs.Entries.{logged}
 use Rattle.turn_object.specs.Callers.{made_by}
-use Rattle.store_api.specs.declared.step.Answer.TheVariants as answer
 use Rattle.story.specs.Process.{ends}
 use Rattle.story.specs.Plays.{Plays}
-use Rattle.mount_model.specs.declared.call.Ask.{Ask}
 use Rattle.mount_model.specs.declared.call.Call.TheVariants.{Find, Greet, Look}
 use Rattle.mount_model.specs.declared.call.Look.TheVariants.{List as ListFolder}
 use Rattle.mount_model.specs.declared.reply.Reply.{Reply}
-use Rattle.mount_model.specs.declared.reply.Reply.TheVariants.{Looked, Room}
+use Rattle.mount_model.specs.declared.reply.Reply.TheVariants.{Room}
 use Rattle.mount_model.specs.Paths.{Name, openhosts}
 use Rattle.mount_model.specs.History.{Event}
-use Rattle.mount_model.specs.Step.{IsStep}
 use Rattle.mount_sound.specs.Owed.{IsLawful}
 use Rattle.flow.specs.declared.trouble.Stuck.{Stuck}
 use Rattle.flow.specs.declared.trouble.Stuck.TheVariants as stuck
 use Rattle.flow.specs.Running.{Runs, unbroken}
 use Rattle.script_lang.specs.declared.line.Line.{Line}
-use Rattle.looks.specs.declared.names.OpenEntry.{OpenEntry}
-use Rattle.looks.specs.Listed.{file_in, or_trouble}
-use Rattle.looks.specs.Names.{open_in}
-use Rattle.looks.specs.Replies.{damage, failure, given, on_ok, room_in}
+use Rattle.looks.specs.Replies.{failure, given, on_ok, room_in}
 use Rattle.attr_flow.specs.declared.attr.Attr.{Attr}
 use Rattle.attr_flow.specs.declared.attr_flow.AttrOut.{AttrOut}
 use Rattle.attr_flow.specs.declared.attr_flow.AttrOut.TheVariants.{Cached, MustMerge}
 use Rattle.attr_flow.specs.Asking.{attr_program, attributes, if_open, lists_metadata, lists_open, lists_truncs}
-use Rattle.attr_flow.specs.Listings.{has_entry, is_open}
+use Rattle.attr_flow.specs.Listings.{is_open}
 use Rattle.attr_flow.specs.Shares.{shares_covered, stored_in, with_share}
 use Rattle.index_reader.specs.declared.listing.Listing.{Listing}
 use Rattle.index_reader.specs.declared.opened.OpenReader.{OpenReader}
@@ -45,11 +39,11 @@ use Rattle.gathering.specs.Gathering.{Gathered}
 use Rattle.gathering.specs.Moments.{Moment, IsSoundAt, moment_after}
 use Rattle.gathering.specs.Seen.{Asked, calls_of}
 use Rattle.gathering.specs.View.{own_entries}
-use Rattle.gathering.proofs.Facts.{legal_first, legal_rest, moment-append, sound_after}
+use Rattle.gathering.proofs.Facts.{legal_first, legal_rest, sound_after}
 use Rattle.reader_laws.specs.Covering.{counts_in, cover_with, empty_cover}
 use Rattle.reader_laws.specs.Opened.{HasOpenedIn}
 use Rattle.reader_laws.specs.Opening.{Lists, shares_of}
-use Rattle.reader_laws.proofs.Facts.{answered, first_of, listing_fails, shares_fail, truncates_fail}
+use Rattle.reader_laws.proofs.Facts.{first_of, listing_fails, shares_fail, truncates_fail}
 use Rattle.trouble_laws.specs.Undamaged.{IsNoDamage}
 use Rattle.trouble_laws.proofs.Facts.{tell_ends}
 use Rattle.gather_flow.specs.OneIndex.{attr_of, reader_of}
@@ -63,13 +57,14 @@ use Rattle.actor_core.specs.Work.{finishes}
 use Rattle.run_core.specs.Course.{Course, then_line}
 use Rattle.play_laws.specs.Opening.{Stretch}
 use Rattle.play_laws.specs.Showing.{ShowsLook}
-use Rattle.play_laws.specs.Telling.{FindsNobody, ShowsTold, shares_seen}
+use Rattle.look_laws.specs.Shares.{shares_seen}
+use Rattle.play_laws.specs.Telling.{ShowsTold}
 use Rattle.play_laws.proofs.Alone.{read_alone, then_made}
 use Rattle.play_laws.proofs.Behind.{alone_opened}
+use Rattle.play_laws.proofs.Cached.{cached_told}
 use Rattle.play_laws.proofs.Carrying.{EndsSo, carried_on, ended_behind}
 use Rattle.play_laws.proofs.Dealing.{dealt_listed}
 use Rattle.play_laws.proofs.Earlier.{opened_earlier}
-use Rattle.play_laws.proofs.Finding.{name_found}
 use Rattle.play_laws.proofs.Listings.{FindsFirst, Gives, IsOf, IsSuch, made_such, open_at_of}
 use Rattle.play_laws.proofs.Opened.{HasOpenedFile, file_opened}
 use Rattle.play_laws.proofs.Standing.{Both, Next, up_to}
@@ -189,62 +184,12 @@ merges n room other later (Ok true) runs = same_merge room other runs.1
 merges n room other later (Ok false) runs = absurd (made_such IsCached (lists_metadata room) (made_by n later) (MustMerge other) (metadata_gives room) runs)
 merges n room other later (Err why) runs = (let clash : ◌≡◌ {A = Result AttrOut Stuck} (Err why) (Ok (MustMerge other)) = runs.1 in absurd (cc))
 
-not_merged : (n room : ℕ) (attr : Attr) (later : List Event) (result : Result Bool Stuck) → Runs n (on_ok (if_open room) result) later (Ok (Cached attr)) → result ≡ Ok false
-not_merged n room attr later (Ok true) runs = (let clash : ◌≡◌ {A = Result AttrOut Stuck} (Ok (MustMerge room)) (Ok (Cached attr)) = runs.1 in absurd (cc))
-not_merged n room attr later (Ok false) runs = refl
-not_merged n room attr later (Err why) runs = (let clash : ◌≡◌ {A = Result AttrOut Stuck} (Err why) (Ok (Cached attr)) = runs.1 in absurd (cc))
-
--- a name is that of an entry, or of none that is known
-known_none : (name : Name) (o : Option OpenEntry) (rest : Result Bool Stuck) → (rest ≡ Ok false → ⊥) → or_trouble o (damage (file_in openhosts name) 0) (λ entry. rest) ≡ Ok false → ⊥
-known_none name None rest never e = cc
-known_none name (Some entry) rest never e = never e
-
-never_none : (names : List Name) → has_entry names true ≡ Ok false → ⊥
-never_none [] e = (let clash : ◌≡◌ {A = Result Bool Stuck} (Ok true) (Ok false) = e in cc)
-never_none (name ∷ names) e = known_none name (open_in name) (has_entry names true) (never_none names) e
-
-nobody_in : (reply : Reply) → is_open reply ≡ Ok false → (reply ≡ Looked answer.NoFolder) ⊎ (reply ≡ Looked (answer.Names []))
-nobody_in (Looked answer.NoFolder) e = inl refl
-nobody_in (Looked (answer.Names [])) e = inr refl
-nobody_in (Looked (answer.Names (name ∷ names))) e = absurd (known_none name (open_in name) (has_entry names true) (never_none names) e)
-nobody_in (Looked found) e = absurd (cc)
-nobody_in reply e = absurd (cc)
-
 module _ (start : Moment) (sound : IsSoundAt start) (n : ℕ) (before greeting : List Event) (greets : All (λ (a : Asked). a.ask.call ≡ Greet) (calls_of n greeting)) (name : Name) where
   abbrev Now : Moment
   Now = moment_after start (before ++ greeting)
 
   abbrev At : List Event → Stretch
   At mine = record { before = before; events = greeting ++ mine }
-
-  -- nobody had it open
-  nobody_told : (first rest : List Event) (attr : Attr) → Next start (before ++ greeting) (first ++ rest) → Runs n (attr_program name) first (Ok (Cached attr)) → FindsNobody start n (At (first ++ rest)) name
-  nobody_told first rest attr next runs =
-      let f = asked_first n name first (Cached attr) runs in
-      let earlier : List Event = greeting ++ f.before in
-      let m : Moment = moment_after Now f.before in
-      let all : first ++ rest ≡ f.before ++ (f.event ∷ f.middle ++ f.listing ∷ (f.later ++ rest)) =
-      ap (λ z. z ++ rest) f.split ∙ append_assoc f.before (f.event ∷ f.middle ++ f.listing ∷ f.later) rest ∙ ap (λ z. f.before ++ f.event ∷ z) (append_assoc f.middle (f.listing ∷ f.later) rest) in
-      let there : moment_after start (before ++ earlier) ≡ m = ap (moment_after start) (sym (append_assoc before greeting f.before)) ∙ moment-append start (before ++ greeting) f.before in
-      let lawful : IsLawful m.state (f.event ∷ f.middle ++ f.listing ∷ (f.later ++ rest)) = legal_rest Now f.before (f.event ∷ f.middle ++ f.listing ∷ (f.later ++ rest)) (subst (IsLawful Now.state) all next.lawful) in
-      let step : IsStep (moment_after start (before ++ earlier)).state f.event.caller f.event.ask (Room f.room) f.event.after =
-      subst (λ reply. IsStep (moment_after start (before ++ earlier)).state f.event.caller f.event.ask reply f.event.after) f.told (subst (λ (x : Moment). IsStep x.state f.event.caller f.event.ask f.event.reply f.event.after) (sym there) lawful.1) in
-      record {
-        room = f.room;
-        earlier = earlier;
-        finding = f.event;
-        more = f.middle;
-        listing = f.listing;
-        later = f.later ++ rest;
-        split = ap (λ z. greeting ++ z) all ∙ sym (append_assoc greeting f.before (f.event ∷ f.middle ++ f.listing ∷ (f.later ++ rest)));
-        begins = f.own;
-        finds = ap (λ (q : Ask). q.call) f.asks;
-        found = f.told;
-        named = λ tree has. name_found (moment_after start (before ++ earlier)).state f.event.caller name f.room f.event.after tree (answered (moment_after start (before ++ earlier)).state f.event.caller (Find name) f.event.ask (Room f.room) f.event.after f.asks step) has;
-        lists = f.lists;
-        looks = ap (λ (q : Ask). q.call) f.looks;
-        nobody = nobody_in f.listing.reply (not_merged n f.room attr f.later (is_open f.listing.reply) f.rest);
-      }
 
   -- its index was gathered
   gathered_told : (room : ℕ) (first scanning mine : List Event) (listing : Listing) (attr : Attr) → Next start (before ++ greeting) (first ++ (scanning ++ mine)) → Runs n (attr_program name) first (Ok (MustMerge room)) → Runs n (open_at_program room) scanning (Ok listing)
@@ -264,8 +209,7 @@ module _ (start : Moment) (sound : IsSoundAt start) (n : ℕ) (before greeting :
             let opened : HasOpenedIn n there (scanning ++ mine) reader = alone_opened n there sound_there (open_at_program room) (inr (room, refl)) listing scanning scans attr_of 1 mine attr (omega arith) lawful r in
             let whole : HasOpenedIn n Now (first ++ (scanning ++ mine)) reader = opened_earlier n Now first f.before f.event (f.middle ++ f.listing ∷ f.later) (scanning ++ mine) reader next.sound f.split next.lawful f.waits f.own opened in
             let h : HasOpenedFile start n before greeting (first ++ (scanning ++ mine)) name reader = file_opened start n before greeting (first ++ (scanning ++ mine)) first (scanning ++ mine) name listing reader sound next greets refl finds refl whole in
-            let shares : attr.shares ≡ shares_seen h.file.moment h.file.cut = ap (λ (a : Attr). a.shares) r.opened.is ∙ ap shares_covered h.keeps.has.covers ∙ shares_counted h.file.moment h.file.cut in
-            inl (
+            let shares : attr.shares ≡ shares_seen h.file.moment h.file.cut = ap (λ (a : Attr). a.shares) r.opened.is ∙ ap shares_covered h.keeps.has.covers ∙ shares_counted h.file.moment h.file.cut in (
               h.file,
               h.opens,
               record {
@@ -329,20 +273,6 @@ module _ (start : Moment) (sound : IsSoundAt start) (n : ℕ) (before greeting :
               (is ∙ ap (λ z. first ++ (scanning ++ z)) h.all ∙ ap (λ z. first ++ z) (sym (append_assoc scanning h.mine h.rest)) ∙ sym (append_assoc first (scanning ++ h.mine) h.rest)) h.goes_on (stopped_tells (first ++ (scanning ++ h.mine)))
         ]
 
-    drop_none : (first : List Event) (P : List Event → Type 0) → P (first ++ []) → P first
-    drop_none first P holds = subst P (none first) holds
-      where
-        none : (es : List Event) → es ++ [] ≡ es
-        none [] = refl
-        none (e ∷ es) = ap (λ z. e ∷ z) (none es)
-
-    add_none : (first : List Event) (P : List Event → Type 0) → P first → P (first ++ [])
-    add_none first P holds = subst P (none first) holds
-      where
-        none : (es : List Event) → es ≡ es ++ []
-        none [] = refl
-        none (e ∷ es) = ap (λ z. e ∷ z) (none es)
-
     asked : (later : Option Stop) (part first : List Event) (result : Result AttrOut Stuck) (rest : List Event) (ws : List (List Event)) (lines : List Line) (left : Course) → Next start before (greeting ++ part) → part ≡ first ++ rest → Runs n (attr_program name) first result
         → Plays n (then_line number next (if_asked kept later result)) rest ws lines left → Comes part ws lines left
     asked later part first (Err why) rest ws lines left whole is runs plays =
@@ -351,7 +281,7 @@ module _ (start : Moment) (sound : IsSoundAt start) (n : ℕ) (before greeting :
     asked later part first (Ok (Cached attr)) rest ws lines left whole is runs plays =
         let b : Both start before greeting first = up_to start before greeting part first rest whole is in
         behind (told_of kept (Ok attr)) part first rest ws lines left is plays
-        (refl, inr (drop_none first (λ es. FindsNobody start n (At es) name) (nobody_told first [] attr (add_none first (Next start (before ++ greeting)) b.next) runs)))
+        (refl, cached_told start n before greeting first name attr sound b.next greets runs)
     asked later part first (Ok (MustMerge room)) rest ws lines left whole is runs plays =
         elim (carried_on n number next (open_at_program room) later (if_relisted kept) (finishes (stopped kept)) rest ws lines left plays) as (λ _. Comes part ws lines left) [
           | inl r ↦ relisted room r.stop part first r.result r.mine r.rest ws lines left whole (is ∙ ap (λ z. first ++ z) r.all) runs r.runs r.goes_on

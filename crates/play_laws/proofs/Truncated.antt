@@ -206,7 +206,7 @@ truncated n m name size stamp events lawful sound runs =
     let holds : IsHolderOf there n h.holder h.room = (i.h, i.held, k.only i.h (is_holding n h.holder there.state.table.holders i.h i.held)) in
     record {
       top = k.top;
-      change = change_of n m name (lists_metadata size) events stamp h k.more k.event k.later;
-      made = changed n m name (lists_metadata size) events stamp (λ holder. Mark holder size k.top) (Marked stamp) h k.more k.event k.later k.split (answered_so n (Mark h.holder size k.top) (Marked stamp) k.event k.own k.asked k.told) holds;
+      change = change_of n m name (lists_metadata size) events (Ok stamp) h k.more k.event k.later;
+      made = changed n m name (lists_metadata size) events (Ok stamp) (λ holder. Mark holder size k.top) (Marked stamp) h k.more k.event k.later k.split (answered_so n (Mark h.holder size k.top) (Marked stamp) k.event k.own k.asked k.told) holds;
       truncated = subst (λ (x : Moment). IsTruncated x (next_moment x k.event) h.room size stamp) (sym (h.is_now k.more)) (mark_truncates n h.holder h.room size stamp there k.sound k.event one k.only i);
     }

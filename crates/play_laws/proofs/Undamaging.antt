@@ -16,7 +16,7 @@ use Rattle.script_lang.specs.declared.script.Numbered.{Numbered}
 use Rattle.script_lang.specs.declared.script.Phase.{Phase}
 use Rattle.script_lang.specs.declared.script.Script.{Script}
 use Rattle.script_lang.specs.declared.script.Statement.{Statement}
-use Rattle.script_lang.specs.declared.script.Statement.TheVariants.{Map, Rclose, Read, Recover, Rename, Ropen, Stat, Trunc, Verify}
+use Rattle.script_lang.specs.declared.script.Statement.TheVariants.{Flatten, Map, Rclose, Read, Recover, Rename, Ropen, Stat, Trunc, Verify}
 use Rattle.script_lang.specs.Ranges.{FitsNumbered, FitsPhase, FitsScript}
 use Rattle.gathering.specs.Moments.{Moment}
 use Rattle.run_core.specs.Cast.{statements_in}
@@ -28,7 +28,7 @@ use Rattle.play_laws.specs.Ending.{DoesNothing}
 use Rattle.play_laws.specs.OneFile.{OneFile}
 use Rattle.play_laws.specs.Opening.{Stretch}
 use Rattle.play_laws.specs.Readers.{ReadersShow, ShowsEach}
-use Rattle.play_laws.specs.Showing.{Shows, ShowsClosing, ShowsLook, ShowsMap, ShowsNone, ShowsOpening, ShowsRead, ShowsRecovery, ShowsRename, ShowsTruncate, ShowsVerified}
+use Rattle.play_laws.specs.Showing.{Shows, ShowsClosing, ShowsFlattening, ShowsLook, ShowsMap, ShowsNone, ShowsOpening, ShowsRead, ShowsRecovery, ShowsRename, ShowsTruncate, ShowsVerified}
 use Rattle.play_laws.proofs.Casts.{readers_show}
 use Rattle.play_laws.specs.Undamaged.{AreUndamaged, IsUndamaged}
 
@@ -80,6 +80,10 @@ module _ (start : Moment) (caller : ℕ) (stretch : Stretch) where
   recovery_undamaged name (Damaged folder file place) shows = absurd shows
   recovery_undamaged name outcome shows = tt
 
+  flattening_undamaged : (name : List ℕ) (outcome : Outcome) → ShowsFlattening start caller stretch name outcome → IsUndamaged outcome
+  flattening_undamaged name (Damaged folder file place) shows = absurd shows
+  flattening_undamaged name outcome shows = tt
+
   shown_undamaged : (old : Option OneFile) (statement : Statement) (outcome : Outcome) (new : Option OneFile) → Shows start caller stretch old statement outcome new → IsUndamaged outcome
   shown_undamaged None (Ropen name workers) outcome new shows = opening_undamaged name outcome new shows
   shown_undamaged (Some file) (Ropen name workers) outcome new shows = nothing_undamaged _ outcome shows.1
@@ -94,6 +98,7 @@ module _ (start : Moment) (caller : ℕ) (stretch : Stretch) where
   shown_undamaged old (Trunc name size) outcome new shows = truncate_undamaged name size outcome shows.1
   shown_undamaged old (Rename name to) outcome new shows = rename_undamaged name to outcome shows.1
   shown_undamaged old (Recover name) outcome new shows = recovery_undamaged name outcome shows.1
+  shown_undamaged old (Flatten name) outcome new shows = flattening_undamaged name outcome shows.1
   shown_undamaged old statement outcome new shows = none_undamaged outcome shows.1
 
 -- ---- one actor

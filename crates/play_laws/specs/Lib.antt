@@ -4,7 +4,9 @@ pub mod Ending
 pub mod Comparing
 pub mod Telling
 pub mod Changing
+pub mod Flattening
 pub mod Recovering
+pub mod Refusing
 pub mod Showing
 pub mod Readers
 pub mod Undamaged

@@ -6,11 +6,12 @@ use Rattle.plain_file.specs.declared.pieces.Piece.{Piece}
 use Rattle.plain_file.specs.File.{slice}
 use Rattle.mount_model.specs.Paths.{Name}
 use Rattle.script_lang.specs.declared.line.Outcome.{Outcome}
-use Rattle.script_lang.specs.declared.line.Outcome.TheVariants.{Reader, Read as WasRead, Same, Differs, Map as Mapped, ReaderClosed, Stat as Told, Truncated, Renamed, Recovered, Damaged, Gone}
-use Rattle.script_lang.specs.declared.line.Why.TheVariants.{AlreadyOpen, NotOpen}
+use Rattle.script_lang.specs.declared.line.Outcome.TheVariants.{Reader, Read as WasRead, Same, Differs, Map as Mapped, ReaderClosed, Stat as Told, Truncated, Renamed, Recovered, Flattened, Refused, Damaged, Gone}
+use Rattle.script_lang.specs.declared.line.Why.{Why}
+use Rattle.script_lang.specs.declared.line.Why.TheVariants.{AlreadyOpen, Busy, Exists, Held, NoFile, NotOpen}
 use Rattle.script_lang.specs.declared.script.Data.{Data}
 use Rattle.script_lang.specs.declared.script.Statement.{Statement}
-use Rattle.script_lang.specs.declared.script.Statement.TheVariants.{Ropen, Read, Verify, Map, Rclose, Stat, Trunc as Truncate, Rename, Recover}
+use Rattle.script_lang.specs.declared.script.Statement.TheVariants.{Ropen, Read, Verify, Map, Rclose, Stat, Trunc as Truncate, Rename, Recover, Flatten}
 use Rattle.outcomes.specs.Data.{bytes_of, length_of}
 use Rattle.outcomes.specs.Outcomes.{map_text}
 use Rattle.gathering.specs.Moments.{Moment}
@@ -19,7 +20,9 @@ use Rattle.play_laws.specs.Opening.{Stretch, OpensOneFile}
 use Rattle.play_laws.specs.Comparing.{FirstDifference}
 use Rattle.play_laws.specs.Telling.{ShowsTold}
 use Rattle.play_laws.specs.Changing.{RenamesFile, TruncatesFile}
+use Rattle.play_laws.specs.Flattening.{FlattensFile}
 use Rattle.play_laws.specs.Recovering.{RecoversFile}
+use Rattle.play_laws.specs.Refusing.{FindsHeld, FindsNone, FindsOpen, FindsTaken}
 use Rattle.play_laws.specs.Ending.{EndsEarly, DoesNothing, OpensNone}
 
 -- ---- the line of an opening
@@ -85,18 +88,36 @@ abbrev pub ShowsLook : Moment → ℕ → Stretch → Name → Outcome → Type 
 ShowsLook start caller stretch name (Told size stored shares truncs) = ShowsTold start caller stretch name size stored shares truncs
 ShowsLook start caller stretch name other = ShowsNone other
 
--- a file was truncated so, renamed, or recovered; no other line is one of a reader, nor of damage
+-- why a container was not held: there was none of this name, a writer had it open, or it was held
+abbrev pub ShowsUnheld : Moment → ℕ → Stretch → Name → Why → Type 0
+ShowsUnheld start caller stretch name NoFile = FindsNone start caller stretch name
+ShowsUnheld start caller stretch name (Busy host writer) = FindsOpen start caller stretch name host writer
+ShowsUnheld start caller stretch name Held = FindsHeld start caller stretch name
+ShowsUnheld start caller stretch name because = ⊤
+
+-- the same, or that its new name was taken
+abbrev pub ShowsUnnamed : Moment → ℕ → Stretch → Name → Name → Why → Type 0
+ShowsUnnamed start caller stretch name to Exists = FindsTaken start caller stretch name to
+ShowsUnnamed start caller stretch name to because = ShowsUnheld start caller stretch name because
+
+-- a file was truncated so, renamed, recovered, or flattened, or why it was not; no other line is one of a reader, nor of damage
 abbrev pub ShowsTruncate : Moment → ℕ → Stretch → Name → ℕ → Outcome → Type 0
 ShowsTruncate start caller stretch name size (Truncated stamp) = TruncatesFile start caller stretch name size stamp
+ShowsTruncate start caller stretch name size (Refused because) = ShowsUnheld start caller stretch name because
 ShowsTruncate start caller stretch name size other = ShowsNone other
 
 abbrev pub ShowsRename : Moment → ℕ → Stretch → Name → Name → Outcome → Type 0
 ShowsRename start caller stretch name to Renamed = RenamesFile start caller stretch name to
+ShowsRename start caller stretch name to (Refused because) = ShowsUnnamed start caller stretch name to because
 ShowsRename start caller stretch name to other = ShowsNone other
 
 abbrev pub ShowsRecovery : Moment → ℕ → Stretch → Name → Outcome → Type 0
 ShowsRecovery start caller stretch name (Recovered buried alive hold) = RecoversFile start caller stretch name buried alive hold
 ShowsRecovery start caller stretch name other = ShowsNone other
+
+abbrev pub ShowsFlattening : Moment → ℕ → Stretch → Name → Outcome → Type 0
+ShowsFlattening start caller stretch name (Flattened id pieces cut) = FlattensFile start caller stretch name id pieces cut
+ShowsFlattening start caller stretch name other = ShowsNone other
 
 -- In this stretch the caller makes a statement. It had this file open before it, or none, and has that one or none after it. Its line shows so much.
 abbrev pub Shows : Moment → ℕ → Stretch → Option OneFile → Statement → Outcome → Option OneFile → Type 0
@@ -109,4 +130,5 @@ Shows start caller stretch old (Stat name) outcome new = (new ≡ old) × ShowsL
 Shows start caller stretch old (Truncate name size) outcome new = (new ≡ old) × ShowsTruncate start caller stretch name size outcome
 Shows start caller stretch old (Rename name to) outcome new = (new ≡ old) × ShowsRename start caller stretch name to outcome
 Shows start caller stretch old (Recover name) outcome new = (new ≡ old) × ShowsRecovery start caller stretch name outcome
+Shows start caller stretch old (Flatten name) outcome new = (new ≡ old) × ShowsFlattening start caller stretch name outcome
 Shows start caller stretch old other outcome new = (new ≡ old) × ShowsNone outcome
