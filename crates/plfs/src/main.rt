@@ -78,7 +78,7 @@ fn main(rt: HostRuntime) -> ExitCode {
 }
 
 // Runs the command over several folders as one store.
-fn serve_several<H: Threads + Wait>(
+fn serve_several<H: Threads + Wait + Sync>(
     handle: &H,
     rt: HostRuntime,
     root: &Word,
@@ -102,7 +102,7 @@ fn serve_several<H: Threads + Wait>(
 }
 
 // Runs the command over the store, the standard streams and the system's clock.
-fn run<H: Threads + Wait, S: Store + Drop>(
+fn run<H: Threads + Wait + Sync, S: Store + Drop + Send>(
     handle: &H,
     rt: &HostRuntime,
     command: &[Word],

@@ -19,7 +19,7 @@ fn main(rt: HostRuntime) -> ExitCode {
 }
 
 // The status of the command over the missing folder.
-fn play<H: Threads + Wait>(handle: &H, rt: &HostRuntime) -> Result<u8, NoMemory> {
+fn play<H: Threads + Wait + Sync>(handle: &H, rt: &HostRuntime) -> Result<u8, NoMemory> {
     let root = Word::copy(rt.alloc(), "missing")?;
     let command = [Word::copy(rt.alloc(), "play")?];
     let store = FolderStore::open(*rt, rt.alloc(), &root)?;

@@ -13,11 +13,11 @@ use Rattle.script_lang.specs.declared.line.Line.{Line}
 use Rattle.script_lang.specs.declared.script.Script.{Script}
 use Rattle.script_lang.specs.Ranges.{FitsScript}
 use Rattle.run_core.specs.Leading.{GoesOn}
-use Rattle.run_core.specs.Play.{IsPlay}
 use Rattle.run_core.proofs.Facts.{went_both}
 use Rattle.plfs_program.specs.Calling.{IsRun, IsPlayedOn, Leaves, broke_off, ran}
 use Rattle.plfs_program.specs.Catting.{WentOn}
 use Rattle.plfs_program.specs.SoundTrees.{TellsSoundTree}
+use Rattle.plfs_program.specs.Ways.{Way, HasLines, by_turns, on_threads}
 use Rattle.plfs_program.proofs.Plain.{plain_on}
 
 -- a mount was made, and its calls led to what is left
@@ -25,15 +25,15 @@ pub was_run : (times : Option (List ℕ)) (before after : Stored) (start end : S
 was_run times before after start end mounted called left = record { start = start; end = end; mounted = mounted; called = called; left = sym left }
 
 -- a mount was made, and the script was played on it
-pub was_played : (times : Option (List ℕ)) (before after : Stored) (script : Script) (lines : List Line) (start end : State) → FitsScript script → IsMounted 0 times before start → IsPlay script start lines end → after ≡ end.store
-    → IsPlayedOn times before script lines after
-was_played times before after script lines start end fits mounted play left = record {
+pub was_played : (way : Way) (times : Option (List ℕ)) (before after : Stored) (script : Script) (lines : List Line) (start end : State) → FitsScript script → IsMounted 0 times before start → HasLines way script start lines end → after ≡ end.store
+    → IsPlayedOn way times before script lines after
+was_played way times before after script lines start end fits mounted play left = record {
   start = start;
   end = end;
   mounted = mounted;
   play = play;
   left = sym left;
-  plain = plain_on times before script lines start end fits mounted play;
+  plain = plain_on way times before script lines start end fits mounted play;
 }
 
 -- the tree that a mount's calls left of a sound one
@@ -46,13 +46,18 @@ leaves_sound times before after tree run told sound =
     let Told : Stored → Type 0 = λ stored. stored.tree ≡ Some ends.shape.tree in
     (ends.shape.tree, subst Told run.left ends.shape.told, left_sound ledger run.end ends)
 
--- the calls of a play are calls of a mount
-pub play_runs : (times : Option (List ℕ)) (before after : Stored) (script : Script) (lines : List Line) → IsPlayedOn times before script lines after → IsRun times before after
-play_runs times before after script lines played = record {
+-- the calls that a script's lines follow from
+lines_go_on : (way : Way) (script : Script) (start : State) (lines : List Line) (end : State) → HasLines way script start lines end → GoesOn start end
+lines_go_on by_turns script start lines end play = record { events = play.history; leads = play.leads }
+lines_go_on on_threads script start lines end right = record { events = right.history; leads = right.leads }
+
+-- they are calls of a mount
+pub play_runs : (way : Way) (times : Option (List ℕ)) (before after : Stored) (script : Script) (lines : List Line) → IsPlayedOn way times before script lines after → IsRun times before after
+play_runs way times before after script lines played = record {
   start = played.start;
   end = played.end;
   mounted = played.mounted;
-  called = record { events = played.play.history; leads = played.play.leads };
+  called = lines_go_on way script played.start lines played.end played.play;
   left = played.left;
 }
 

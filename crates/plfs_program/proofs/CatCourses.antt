@@ -32,6 +32,7 @@ use Rattle.plfs_program.specs.Output.{IsPrinted, IsCutOff}
 use Rattle.plfs_program.specs.Playing.{IsPlayedAs, IsStoreLeft}
 use Rattle.plfs_program.specs.ReadOut.{ShowOneFile}
 use Rattle.plfs_program.specs.SoundTrees.{TellsSoundTree}
+use Rattle.plfs_program.specs.Ways.{by_turns}
 use Rattle.plfs_program.proofs.Calls.{was_run}
 use Rattle.plfs_program.proofs.CatLemmas.{seen_so}
 use Rattle.plfs_program.proofs.CommandLemmas.{statements_fit}
@@ -59,7 +60,7 @@ line_text name start now line play = play_has_text (cat_script name 0) start (li
 -- the pieces are those of one plain file, where the tree was sound
 shown_on : (name : List ℕ) (count : ℕ) (times : Option (List ℕ)) (before : Stored) (lines : List Line) (start end : State) → IsMounted 0 times before start → (play : IsPlay (cat_script name count) start lines end) → TellsSoundTree before → ShowOneFile start play.history name lines
 shown_on name count times before lines start end made play told =
-    cat_shows name count start end lines play (plain_on times before (cat_script name count) lines start end (cat_playable name count).fits made play told)
+    cat_shows name count start end lines play (plain_on by_turns times before (cat_script name count) lines start end (cat_playable name count).fits made play told)
 
 pub read_out : (name : List ℕ) (count : ℕ) (lines : List Line) (e : Ends) (start end : State) (after : Stored) → e.stored_after ≡ Some after → IsMounted 0 e.times e.stored start → after ≡ end.store → IsPlay (cat_script name count) start lines end → IsReadOut name count lines e
 read_out name count lines e start end after is made left play =
@@ -74,10 +75,10 @@ read_out name count lines e start end after is made left play =
           mounted = made;
           play = play;
           left = sym left;
-          plain = plain_on e.times e.stored (cat_script name count) lines start end fits made play;
+          plain = plain_on by_turns e.times e.stored (cat_script name count) lines start end fits made play;
         });
         cause = play_cause {E = Unit {0}} e.times e.stored after start end (Ok lines) made left (play_caused (cat_script name count) start lines end (cat_playable name count) play);
-        undamaged = undamaged_on e.times e.stored (cat_script name count) lines start end fits made play;
+        undamaged = undamaged_on by_turns e.times e.stored (cat_script name count) lines start end fits made play;
       };
       plain = shown_on name count e.times e.stored lines start end made play;
     }

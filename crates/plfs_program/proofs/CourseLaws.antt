@@ -1,39 +1,44 @@
 -- What a run over a sound tree leaves, and which status it never has.
-use Rattle.std.proofs.Common.{ℕ, ◌≡◌, ◌≢◌, ◌+◌, Bool, true, false, ◌||◌, if◌then◌else◌, List, [], ◌∷◌, ◌++◌, length, Option, Some, refl, sym, ap, ◌∙◌, subst}
+use Rattle.std.proofs.Common.{inl, inr, ℕ, ◌≡◌, ◌≢◌, Bool, true, false, ◌||◌, if◌then◌else◌, List, [], ◌∷◌, ◌++◌, Ok, Err, Option, Some, refl, sym, ap, ◌∙◌, subst}
 use Rattle.std.specs.Prelude.{◌==◌}
 use Rattle.std.proofs.lemmas.List.Folds.{list_any-append}
 use Rattle.edge_io.specs.Source.{Given}
 use Rattle.store_api.specs.Acts.{Stored}
-use Rattle.mount_model.specs.State.{State}
+use Rattle.command_line.specs.Commands.{IsCommand}
+use Rattle.command_line.specs.declared.commands.Command.{Command}
+use Rattle.command_line.specs.declared.commands.Command.TheVariants.{Run}
 use Rattle.script_lang.specs.declared.line.Line.{Line}
 use Rattle.script_lang.specs.declared.script.Script.{Script}
-use Rattle.run_core.specs.Leading.{GoesOn}
-use Rattle.plfs_program.specs.Calling.{IsRun, Leaves, broke_off, ran}
+use Rattle.plfs_program.specs.Calling.{Leaves, broke_off, ran}
 use Rattle.plfs_program.specs.Cat.{unopened, unsaid, whole, stuck, broken, starved, hungry as wants}
-use Rattle.plfs_program.specs.Catting.{CatCourse, IsLeftBehind, IsReadOut}
-use Rattle.plfs_program.specs.Course.{Course, InputCourse, faulty, played, starved as unplayed, usage, unread, read, planned, cats, hungry}
+use Rattle.plfs_program.specs.Catting.{CatCourse, IsLeftBehind}
+use Rattle.plfs_program.specs.Commands.{IsBuiltCommand, IsServed}
+use Rattle.plfs_program.specs.Course.{Course, InputCourse, faulty, played, starved as unplayed, usage, unread, read, planned, cats, migrates, hungry}
 use Rattle.plfs_program.specs.Ends.{Ends, IsUntouched}
 use Rattle.plfs_program.specs.Lines.{AreLinesOf, unmounted, mounted}
+use Rattle.plfs_program.specs.Migrating.{IsMigratedAs, IsSaidOf, MigrateCourse, Said, is_broken_by, line_zero, said_status, printed as said, cut_off as unsaid_whole, exhausted as starved_so, unmounted as not_mounted, mounted as on_mount}
 use Rattle.plfs_program.specs.Outcomes.{has_line, is_damage, is_fault, is_refusal, status_of}
 use Rattle.plfs_program.specs.Playing.{IsPlayedAs, IsStoreLeft, PlayCourse, printed, cut_off, exhausted}
 use Rattle.plfs_program.specs.Showing.{Shows, all_lines, behind_opening, is_reader, shows_of}
 use Rattle.plfs_program.specs.SoundTrees.{TellsSoundTree, LeavesSoundTree}
+use Rattle.plfs_program.specs.Ways.{Way, by_turns}
 use Rattle.plfs_program.specs.declared.showing.Shown.{Shown}
 use Rattle.plfs_program.specs.declared.showing.Shown.TheVariants as shown
 use Rattle.plfs_program.proofs.Calls.{FailingLeavesSound, all_leave_sound, play_runs, went_runs}
+use Rattle.plfs_program.proofs.MigrateCourses.{calls_lead}
 
 -- ---- a sound tree is left
 
-lines_leave : (times : Option (List ℕ)) (before after : Stored) (script : Script) (lines : List Line) → AreLinesOf times before after script lines → Leaves times before after
-lines_leave times before after script lines (unmounted trouble failed says) = broke_off trouble failed
-lines_leave times before after script lines (mounted on) = ran (play_runs times before after script lines on)
+lines_leave : (way : Way) (times : Option (List ℕ)) (before after : Stored) (script : Script) (lines : List Line) → AreLinesOf way times before after script lines → Leaves times before after
+lines_leave way times before after script lines (unmounted trouble failed says) = broke_off trouble failed
+lines_leave way times before after script lines (mounted on) = ran (play_runs way times before after script lines on)
 
 module _ (failing : FailingLeavesSound) where
   left_so : (e : Ends) (after : Stored) → e.stored_after ≡ Some after → Leaves e.times e.stored after → TellsSoundTree e.stored → LeavesSoundTree e.stored_after
   left_so e after is left told = (after, is, all_leave_sound e.times e.stored after failing left told)
 
-  played_leaves : (script : Script) (lines : List Line) (e : Ends) → IsPlayedAs script lines e → TellsSoundTree e.stored → LeavesSoundTree e.stored_after
-  played_leaves script lines e p told = left_so e p.after p.left (lines_leave e.times e.stored p.after script lines p.in_turn) told
+  played_leaves : (way : Way) (script : Script) (lines : List Line) (e : Ends) → IsPlayedAs way script lines e → TellsSoundTree e.stored → LeavesSoundTree e.stored_after
+  played_leaves way script lines e p told = left_so e p.after p.left (lines_leave way e.times e.stored p.after script lines p.in_turn) told
 
   store_leaves : (e : Ends) → IsStoreLeft e → TellsSoundTree e.stored → LeavesSoundTree e.stored_after
   store_leaves e left told = left_so e left.after left.left left.lawful told
@@ -41,35 +46,48 @@ module _ (failing : FailingLeavesSound) where
   untouched_leaves : (e : Ends) → IsUntouched e → TellsSoundTree e.stored → LeavesSoundTree e.stored_after
   untouched_leaves e same told = (e.stored, same, told)
 
-  play_leaves : (script : Script) (shows : Shows) (e : Ends) (status : ℕ) → PlayCourse script shows e status → TellsSoundTree e.stored → LeavesSoundTree e.stored_after
-  play_leaves script shows e status (printed lines p all is) told = played_leaves script lines e p told
-  play_leaves script shows e status (cut_off lines p part is) told = played_leaves script lines e p told
-  play_leaves script shows e status (exhausted left same is) told = store_leaves e left told
+  play_leaves : (way : Way) (script : Script) (shows : Shows) (e : Ends) (status : ℕ) → PlayCourse way script shows e status → TellsSoundTree e.stored → LeavesSoundTree e.stored_after
+  play_leaves way script shows e status (printed lines p all is) told = played_leaves way script lines e p told
+  play_leaves way script shows e status (cut_off lines p part is) told = played_leaves way script lines e p told
+  play_leaves way script shows e status (exhausted left same is) told = store_leaves e left told
 
   behind_leaves : (name : List ℕ) (lines : List Line) (e : Ends) → IsLeftBehind name lines e → TellsSoundTree e.stored → LeavesSoundTree e.stored_after
   behind_leaves name lines e b told = left_so e b.after b.left (ran (went_runs name e.times e.stored b.after lines b.start b.end b.mounted b.went b.is)) told
 
   cat_leaves : (name : List ℕ) (e : Ends) (status : ℕ) → CatCourse name e status → TellsSoundTree e.stored → LeavesSoundTree e.stored_after
-  cat_leaves name e status (unopened line p none all is) told = played_leaves _ _ e p.played told
-  cat_leaves name e status (unsaid line p none part is) told = played_leaves _ _ e p.played told
-  cat_leaves name e status (whole opened reads size tells p all out is) told = played_leaves _ _ e p.played told
-  cat_leaves name e status (stuck opened reads last size tells within p all not_read out is) told = played_leaves _ _ e p.played told
-  cat_leaves name e status (broken opened reads last size mid tells within p all last_read out part is) told = played_leaves _ _ e p.played told
+  cat_leaves name e status (unopened line p none all is) told = played_leaves by_turns _ _ e p.played told
+  cat_leaves name e status (unsaid line p none part is) told = played_leaves by_turns _ _ e p.played told
+  cat_leaves name e status (whole opened reads size tells p all out is) told = played_leaves by_turns _ _ e p.played told
+  cat_leaves name e status (stuck opened reads last size tells within p all not_read out is) told = played_leaves by_turns _ _ e p.played told
+  cat_leaves name e status (broken opened reads last size mid tells within p all last_read out part is) told = played_leaves by_turns _ _ e p.played told
   cat_leaves name e status (starved opened reads b all out is) told = behind_leaves name (opened ∷ reads) e b told
   cat_leaves name e status (wants left same is) told = store_leaves e left told
 
-  input_leaves : (bytes : List ℕ) (e : Ends) (status : ℕ) → InputCourse bytes e status → TellsSoundTree e.stored → LeavesSoundTree e.stored_after
-  input_leaves bytes e status (faulty fault has same says is) told = untouched_leaves e same told
-  input_leaves bytes e status (played script reads play) told = play_leaves script all_lines e status play told
-  input_leaves bytes e status (unplayed same none is) told = untouched_leaves e same told
+  said_leaves : (name : List ℕ) (times : Option (List ℕ)) (before after : Stored) (s : Said) → IsSaidOf times before after name s → Leaves times before after
+  said_leaves name times before after s (not_mounted trouble outcome failed told is) = broke_off trouble failed
+  said_leaves name times before after s (on_mount ended m is) = ran (record { start = m.start; end = m.end; mounted = m.mounted; called = calls_lead m.start m.end (record { events = m.made.events; made = m.made.made }); left = m.left })
 
-  pub course_leaves : (words : List (List ℕ)) (given after : Given) (e : Ends) (status : ℕ) → Course words given after e status → TellsSoundTree e.stored → LeavesSoundTree e.stored_after
-  course_leaves words given after e status (usage none same untouched says is) told = untouched_leaves e untouched told
-  course_leaves words given after e status (unread command risen untouched none is) told = untouched_leaves e untouched told
-  course_leaves words given after e status (read bytes command input course) told = input_leaves bytes e status course told
-  course_leaves words given after e status (planned command plan spelled plans same play) told = play_leaves plan.script (shows_of plan.shown) e status play told
-  course_leaves words given after e status (cats name command same cat) told = cat_leaves name e status cat told
-  course_leaves words given after e status (hungry untouched none is) told = untouched_leaves e untouched told
+  migrated_leaves : (name : List ℕ) (s : Said) (e : Ends) → IsMigratedAs name s e → TellsSoundTree e.stored → LeavesSoundTree e.stored_after
+  migrated_leaves name s e m told = left_so e m.after m.left (said_leaves name e.times e.stored m.after s m.came) told
+
+  migrate_leaves : (name : List ℕ) (e : Ends) (status : ℕ) → MigrateCourse name e status → TellsSoundTree e.stored → LeavesSoundTree e.stored_after
+  migrate_leaves name e status (said s m all is) told = migrated_leaves name s e m told
+  migrate_leaves name e status (unsaid_whole s m part is) told = migrated_leaves name s e m told
+  migrate_leaves name e status (starved_so left same is) told = store_leaves e left told
+
+  input_leaves : (way : Way) (bytes : List ℕ) (e : Ends) (status : ℕ) → InputCourse way bytes e status → TellsSoundTree e.stored → LeavesSoundTree e.stored_after
+  input_leaves way bytes e status (faulty fault has same says is) told = untouched_leaves e same told
+  input_leaves way bytes e status (played script reads play) told = play_leaves way script all_lines e status play told
+  input_leaves way bytes e status (unplayed same none is) told = untouched_leaves e same told
+
+  pub course_leaves : (Serves : Command → Type 0) (words : List (List ℕ)) (given after : Given) (e : Ends) (status : ℕ) → Course Serves words given after e status → TellsSoundTree e.stored → LeavesSoundTree e.stored_after
+  course_leaves Serves words given after e status (usage none same untouched says is) told = untouched_leaves e untouched told
+  course_leaves Serves words given after e status (unread way served command risen untouched none is) told = untouched_leaves e untouched told
+  course_leaves Serves words given after e status (read way bytes served command input course) told = input_leaves way bytes e status course told
+  course_leaves Serves words given after e status (planned command plan spelled plans same play) told = play_leaves by_turns plan.script (shows_of plan.shown) e status play told
+  course_leaves Serves words given after e status (cats name command same cat) told = cat_leaves name e status cat told
+  course_leaves Serves words given after e status (migrates name command same m) told = migrate_leaves name e status m told
+  course_leaves Serves words given after e status (hungry untouched none is) told = untouched_leaves e untouched told
 
 -- ---- no status tells of damage
 
@@ -107,10 +125,10 @@ shown_none shown.All = λ lines none. none
 shown_none shown.PastOpening = behind_undamaged
 shown_none shown.Summed = λ lines none. none
 
-play_undamaged : (script : Script) (shows : Shows) (e : Ends) (status : ℕ) → ShowsNone shows → PlayCourse script shows e status → TellsSoundTree e.stored → status ≢ 7
-play_undamaged script shows e status keeps (printed lines p all is) told = none_damaged (shows.decide lines) status (keeps lines (p.undamaged told)) is
-play_undamaged script shows e status keeps (cut_off lines p part is) told = apart status 6 is refl
-play_undamaged script shows e status keeps (exhausted left same is) told = apart status 3 is refl
+play_undamaged : (way : Way) (script : Script) (shows : Shows) (e : Ends) (status : ℕ) → ShowsNone shows → PlayCourse way script shows e status → TellsSoundTree e.stored → status ≢ 7
+play_undamaged way script shows e status keeps (printed lines p all is) told = none_damaged (shows.decide lines) status (keeps lines (p.undamaged told)) is
+play_undamaged way script shows e status keeps (cut_off lines p part is) told = apart status 6 is refl
+play_undamaged way script shows e status keeps (exhausted left same is) told = apart status 3 is refl
 
 pub last_undamaged : (lines : List Line) (last : Line) → has_line is_damage (lines ++ last ∷ []) ≡ false → has_line is_damage (last ∷ []) ≡ false
 last_undamaged lines last none = (both_false (has_line is_damage lines) (has_line is_damage (last ∷ [])) (sym (list_any-append (λ (line : Line). is_damage line.outcome) lines (last ∷ [])) ∙ none)).1
@@ -124,15 +142,44 @@ cat_undamaged name e status (broken opened reads last size mid tells within p al
 cat_undamaged name e status (starved opened reads b all out is) told = apart status 3 is refl
 cat_undamaged name e status (wants left same is) told = apart status 3 is refl
 
-input_undamaged : (bytes : List ℕ) (e : Ends) (status : ℕ) → InputCourse bytes e status → TellsSoundTree e.stored → status ≢ 7
-input_undamaged bytes e status (faulty fault has same says is) told = apart status 2 is refl
-input_undamaged bytes e status (played script reads play) told = play_undamaged script all_lines e status (shown_none shown.All) play told
-input_undamaged bytes e status (unplayed same none is) told = apart status 3 is refl
+said_undamaged : (s : Said) (status : ℕ) → is_broken_by is_damage s ≡ false → status ≡ said_status s → status ≢ 7
+said_undamaged (Ok out) status none is = apart status 0 is refl
+said_undamaged (Err outcome) status none is = none_damaged (line_zero outcome ∷ []) status (ap (λ b. b || false) none) is
 
-pub course_undamaged : (words : List (List ℕ)) (given after : Given) (e : Ends) (status : ℕ) → Course words given after e status → TellsSoundTree e.stored → status ≢ 7
-course_undamaged words given after e status (usage none same untouched says is) told = apart status 2 is refl
-course_undamaged words given after e status (unread command risen untouched none is) told = apart status 5 is refl
-course_undamaged words given after e status (read bytes command input course) told = input_undamaged bytes e status course told
-course_undamaged words given after e status (planned command plan spelled plans same play) told = play_undamaged plan.script (shows_of plan.shown) e status (shown_none plan.shown) play told
-course_undamaged words given after e status (cats name command same cat) told = cat_undamaged name e status cat told
-course_undamaged words given after e status (hungry untouched none is) told = apart status 3 is refl
+migrate_undamaged : (name : List ℕ) (e : Ends) (status : ℕ) → MigrateCourse name e status → TellsSoundTree e.stored → status ≢ 7
+migrate_undamaged name e status (said s m all is) told = said_undamaged s status (m.undamaged told) is
+migrate_undamaged name e status (unsaid_whole s m part is) told = apart status 6 is refl
+migrate_undamaged name e status (starved_so left same is) told = apart status 3 is refl
+
+input_undamaged : (way : Way) (bytes : List ℕ) (e : Ends) (status : ℕ) → InputCourse way bytes e status → TellsSoundTree e.stored → status ≢ 7
+input_undamaged way bytes e status (faulty fault has same says is) told = apart status 2 is refl
+input_undamaged way bytes e status (played script reads play) told = play_undamaged way script all_lines e status (shown_none shown.All) play told
+input_undamaged way bytes e status (unplayed same none is) told = apart status 3 is refl
+
+pub course_undamaged : (Serves : Command → Type 0) (words : List (List ℕ)) (given after : Given) (e : Ends) (status : ℕ) → Course Serves words given after e status → TellsSoundTree e.stored → status ≢ 7
+course_undamaged Serves words given after e status (usage none same untouched says is) told = apart status 2 is refl
+course_undamaged Serves words given after e status (unread way served command risen untouched none is) told = apart status 5 is refl
+course_undamaged Serves words given after e status (read way bytes served command input course) told = input_undamaged way bytes e status course told
+course_undamaged Serves words given after e status (planned command plan spelled plans same play) told = play_undamaged by_turns plan.script (shows_of plan.shown) e status (shown_none plan.shown) play told
+course_undamaged Serves words given after e status (cats name command same cat) told = cat_undamaged name e status cat told
+course_undamaged Serves words given after e status (migrates name command same m) told = migrate_undamaged name e status m told
+course_undamaged Serves words given after e status (hungry untouched none is) told = apart status 3 is refl
+
+-- ---- with threads
+
+none_served : (words : List (List ℕ)) (command : Command) → ((other : Command) → IsBuiltCommand other → IsCommand words other → ⊥) → (IsCommand words Run → ⊥) → IsServed command → IsCommand words command → ⊥
+none_served words command none not_run (inl built) spelled = none command built spelled
+none_served words command none not_run (inr run) spelled = let P : Command → Type 0 = λ c. IsCommand words c in not_run (subst P run spelled)
+
+pub same_command : (a b : Command) → Some a ≡ Some b → a ≡ b
+same_command a b same = cc
+
+-- other words go the same way where `run` is served
+pub goes_as_before : (words : List (List ℕ)) (given after : Given) (e : Ends) (status : ℕ) → (IsCommand words Run → ⊥) → Course IsBuiltCommand words given after e status → Course IsServed words given after e status
+goes_as_before words given after e status not_run (usage none same untouched says is) = usage (λ command served spelled. none_served words command none not_run served spelled) same untouched says is
+goes_as_before words given after e status not_run (unread way built command risen untouched none is) = unread way (inl built) command risen untouched none is
+goes_as_before words given after e status not_run (read way bytes built command input course) = read way bytes (inl built) command input course
+goes_as_before words given after e status not_run (planned command plan spelled plans same play) = planned command plan spelled plans same play
+goes_as_before words given after e status not_run (cats name command same cat) = cats name command same cat
+goes_as_before words given after e status not_run (migrates name command same m) = migrates name command same m
+goes_as_before words given after e status not_run (hungry untouched none is) = hungry untouched none is

@@ -2,11 +2,13 @@ mod Calls
 mod CatCourses
 mod CatLemmas
 mod CommandLemmas
+mod CompleteLaws
 mod CourseLaws
 mod CourseLemmas
 mod Lines
 mod ListingLemmas
 mod MarkLaws
+mod MigrateCourses
 mod MountLemmas
 mod InputLemmas
 mod OutputLemmas

@@ -45,7 +45,7 @@ acts_keep step old new (Ok answer) made = omega (arith, made.faults)
 acts_keep step old new (Err Fault) made = made.faults
 acts_keep step old new (Err NoMemory) made = omega (arith, ap (λ (s : Stored). s.faults) made)
 
-mounting_keeps : (times : Option (List ℕ)) (before : Stored) (start : State) → IsMounted 0 times before start → before.faults ≤ start.store.faults
+pub mounting_keeps : (times : Option (List ℕ)) (before : Stored) (start : State) → IsMounted 0 times before start → before.faults ≤ start.store.faults
 mounting_keeps times before start m =
     let d = m.draws in
     let first = acts_keep marks_step before d.roomed d.tells.told d.tells.made in

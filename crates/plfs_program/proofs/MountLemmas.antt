@@ -25,7 +25,6 @@ use Rattle.script_lang.specs.declared.line.Line.{Line}
 use Rattle.script_lang.specs.declared.line.Outcome.{Outcome}
 use Rattle.script_lang.specs.declared.script.Script.{Script}
 use Rattle.script_lang.specs.Ranges.{FitsScript}
-use Rattle.run_core.specs.Play.{IsPlay}
 use Rattle.mount_model.specs.Making.{Told}
 use Rattle.mount_model.specs.Paths.{marks_name, marks_folder}
 use Rattle.mount_model.specs.State.{State}
@@ -40,6 +39,7 @@ use Rattle.script_lang.specs.declared.line.Why.TheVariants.{MountsSpent}
 use Rattle.plfs_program.specs.Lines.{AreLinesOf, unmounted, mounted}
 use Rattle.plfs_program.specs.Outcomes.{has_line, is_damage, is_fault}
 use Rattle.plfs_program.specs.SoundTrees.{TellsSoundTree}
+use Rattle.plfs_program.specs.Ways.{Way, HasLines}
 use Rattle.plfs_program.proofs.Calls.{was_played}
 use Rattle.plfs_program.proofs.ListingLemmas.{of_listed}
 use Rattle.plfs_program.proofs.MarkLaws.{IsUpTo, above_greatest}
@@ -297,20 +297,20 @@ has_next serial times opened new m tree is =
 
 -- ---- the lines, where memory wasn't refused
 
-pub all_mounted : {E : Type 0} (times : Option (List ℕ)) (before after : Stored) (script : Script) (start end : State) (result : Result (List Line) E) → FitsScript script → IsMounted 0 times before start → after ≡ end.store
-    → IfOk result (λ lines. IsPlay script start lines end) → IfOk result (AreLinesOf times before after script)
-all_mounted times before after script start end (Ok lines) fits made left play = mounted (was_played times before after script lines start end fits made play left)
-all_mounted times before after script start end (Err e) fits made left play = tt
+pub all_mounted : {E : Type 0} (way : Way) (times : Option (List ℕ)) (before after : Stored) (script : Script) (start end : State) (result : Result (List Line) E) → FitsScript script → IsMounted 0 times before start → after ≡ end.store
+    → IfOk result (λ lines. HasLines way script start lines end) → IfOk result (AreLinesOf way times before after script)
+all_mounted way times before after script start end (Ok lines) fits made left play = mounted (was_played way times before after script lines start end fits made play left)
+all_mounted way times before after script start end (Err e) fits made left play = tt
 
-pub all_undamaged : {E : Type 0} (times : Option (List ℕ)) (before : Stored) (script : Script) (start end : State) (result : Result (List Line) E) → FitsScript script → IsMounted 0 times before start
-    → IfOk result (λ lines. IsPlay script start lines end) → IfOk result (λ lines. TellsSoundTree before → has_line is_damage lines ≡ false)
-all_undamaged times before script start end (Ok lines) fits made play = undamaged_on times before script lines start end fits made play
-all_undamaged times before script start end (Err e) fits made play = tt
+pub all_undamaged : {E : Type 0} (way : Way) (times : Option (List ℕ)) (before : Stored) (script : Script) (start end : State) (result : Result (List Line) E) → FitsScript script → IsMounted 0 times before start
+    → IfOk result (λ lines. HasLines way script start lines end) → IfOk result (λ lines. TellsSoundTree before → has_line is_damage lines ≡ false)
+all_undamaged way times before script start end (Ok lines) fits made play = undamaged_on way times before script lines start end fits made play
+all_undamaged way times before script start end (Err e) fits made play = tt
 
-pub all_unmounted : {E : Type 0} (times : Option (List ℕ)) (before after : Stored) (why : MountTrouble) (script : Script) (result : Result (List Line) E) → FailsToMount before why after → IfOk result (IsUnmounted why)
-    → IfOk result (AreLinesOf times before after script)
-all_unmounted times before after why script (Ok lines) failed only = unmounted why failed only
-all_unmounted times before after why script (Err e) failed only = tt
+pub all_unmounted : {E : Type 0} (way : Way) (times : Option (List ℕ)) (before after : Stored) (why : MountTrouble) (script : Script) (result : Result (List Line) E) → FailsToMount before why after → IfOk result (IsUnmounted why)
+    → IfOk result (AreLinesOf way times before after script)
+all_unmounted way times before after why script (Ok lines) failed only = unmounted why failed only
+all_unmounted way times before after why script (Err e) failed only = tt
 
 by_trouble : (why : MountTrouble) (outcome : Outcome) (R : Type 0) → unmounted_of why ≡ Some outcome → (why ≡ trouble.Fault → R) → (is_fault outcome || false) ≡ true → R
 by_trouble (trouble.Damaged file) outcome R is cause bad = let same : outcome ≡ of.Damaged marks_folder file 0 = cc in absurd (let wrong : false ≡ true = ap (λ o. is_fault o || false) (sym same) ∙ bad in cc)

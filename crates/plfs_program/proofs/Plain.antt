@@ -4,28 +4,29 @@ use Rattle.std.proofs.lemmas.List.Folds.{list_any_none}
 use Rattle.store_api.specs.Acts.{Stored}
 use Rattle.mount_model.specs.State.{State}
 use Rattle.mount_model.specs.Mounting.{IsMounted}
-use Rattle.mount_sound.specs.Sound.{IsClean}
-use Rattle.mount_sound.proofs.Facts.{mounted_fine}
+use Rattle.mount_sound.specs.Sound.{IsClean, IsFine}
+use Rattle.mount_sound.proofs.Facts.{mounted_fine, mounted_sound}
 use Rattle.script_lang.specs.Ranges.{FitsScript}
 use Rattle.script_lang.specs.declared.line.Line.{Line}
 use Rattle.script_lang.specs.declared.line.Outcome.{Outcome}
 use Rattle.script_lang.specs.declared.line.Outcome.TheVariants as of
 use Rattle.script_lang.specs.declared.script.Script.{Script}
-use Rattle.run_core.specs.Play.{IsPlay}
-use Rattle.play_laws.specs.Readers.{PlayShows}
-use Rattle.play_laws.proofs.Facts.{play_shows}
-use Rattle.play_laws.specs.Undamaged.{IsUndamaged}
-use Rattle.play_laws.proofs.Facts.{play_undamaged}
+use Rattle.play_laws.specs.Undamaged.{AreUndamaged, IsUndamaged}
+use Rattle.play_laws.proofs.Facts.{play_shows, play_undamaged, readers_show, right_undamaged}
 use Rattle.plfs_program.specs.Outcomes.{has_line, is_damage}
 use Rattle.plfs_program.specs.SoundTrees.{TellsSoundTree}
+use Rattle.plfs_program.specs.Ways.{Way, HasLines, ShowsFiles, by_turns, on_threads}
 
 -- a mount over a store that told a sound tree begins clean
-mounted_clean : (times : Option (List ℕ)) (before : Stored) (start : State) → IsMounted 0 times before start → TellsSoundTree before → IsClean start
+pub mounted_clean : (times : Option (List ℕ)) (before : Stored) (start : State) → IsMounted 0 times before start → TellsSoundTree before → IsClean start
 mounted_clean times before start made (tree, told, sound) = (tree, ap (λ (s : Stored). s.tree) made.opened_is ∙ told, sound)
 
 -- the lines of each reader are those of one plain file
-pub plain_on : (times : Option (List ℕ)) (before : Stored) (script : Script) (lines : List Line) (start end : State) → FitsScript script → IsMounted 0 times before start → (play : IsPlay script start lines end) → TellsSoundTree before → PlayShows script start lines end play
-plain_on times before script lines start end fits made play told = play_shows script start lines end fits (mounted_fine 0 times before start made) (mounted_clean times before start made told) play
+pub plain_on : (way : Way) (times : Option (List ℕ)) (before : Stored) (script : Script) (lines : List Line) (start end : State) → FitsScript script → IsMounted 0 times before start → (play : HasLines way script start lines end) → TellsSoundTree before → ShowsFiles way script start lines end play
+plain_on by_turns times before script lines start end fits made play told = play_shows script start lines end fits (mounted_fine 0 times before start made) (mounted_clean times before start made told) play
+plain_on on_threads times before script lines start end fits made right (tree, told, sound) =
+    let begins = mounted_sound 0 times before start tree made told sound in
+    record { issued = sound.issued; sound = begins; show = readers_show script (record { state = start; issued = sound.issued }) lines end fits begins right }
 
 -- ---- no line is damaged
 
@@ -53,7 +54,11 @@ not_damage of.Stopped none = refl
 not_damage of.Gone none = refl
 not_damage (of.Refused why) none = refl
 
-pub undamaged_on : (times : Option (List ℕ)) (before : Stored) (script : Script) (lines : List Line) (start end : State) → FitsScript script → IsMounted 0 times before start → IsPlay script start lines end → TellsSoundTree before → has_line is_damage lines ≡ false
-undamaged_on times before script lines start end fits made play told =
-    let all = play_undamaged script start lines end fits (mounted_fine 0 times before start made) (mounted_clean times before start made told) play in
+are_undamaged : (way : Way) (script : Script) (start : State) (lines : List Line) (end : State) → FitsScript script → IsFine start → IsClean start → HasLines way script start lines end → AreUndamaged lines
+are_undamaged by_turns script start lines end fits fine clean play = play_undamaged script start lines end fits fine clean play
+are_undamaged on_threads script start lines end fits fine clean right = right_undamaged script start lines end fits fine clean right
+
+pub undamaged_on : (way : Way) (times : Option (List ℕ)) (before : Stored) (script : Script) (lines : List Line) (start end : State) → FitsScript script → IsMounted 0 times before start → HasLines way script start lines end → TellsSoundTree before → has_line is_damage lines ≡ false
+undamaged_on way times before script lines start end fits made play told =
+    let all = are_undamaged way script start lines end fits (mounted_fine 0 times before start made) (mounted_clean times before start made told) play in
     list_any_none (λ (line : Line). is_damage line.outcome) lines (λ k d lt. not_damage _ (all k d lt))

@@ -18,6 +18,7 @@ use Rattle.plfs_program.specs.Outcomes.{status_of}
 use Rattle.plfs_program.specs.Output.{IsPrinted, IsCutOff}
 use Rattle.plfs_program.specs.ReadOut.{AreOfOneFile, ShowOneFile}
 use Rattle.plfs_program.specs.SoundTrees.{TellsSoundTree}
+use Rattle.plfs_program.specs.Ways.{by_turns}
 
 -- Calls followed a play with these lines.
 pub record WentOn (name : List ℕ) (start : State) (lines : List Line) (end : State) : Type 0 where
@@ -56,7 +57,7 @@ pub data FailsAt (k : ℕ) (reader : LoneReader) (now : State) (taking : Taking)
 
 -- These are the lines of the script with so many pieces. Where the store told a sound tree, the pieces are those of one plain file.
 pub record IsReadOut (name : List ℕ) (count : ℕ) (lines : List Line) (e : Ends) : Type 0 where
-  pub played : IsPlayedAs (cat_script name count) lines e
+  pub played : IsPlayedAs by_turns (cat_script name count) lines e
   pub plain : TellsSoundTree e.stored → AreOfOneFile name lines played.in_turn
 
 -- A mount was made, and calls followed a play with these lines. Where the store told a sound tree, they are those of one plain file.

@@ -1,5 +1,5 @@
 -- The commands, and the scripts that they play.
-use Rattle.std.specs.Prelude.{◌≡◌, ℕ, ◌≤◌, List, [], ◌∷◌, Option, Some, None, codes}
+use Rattle.std.specs.Prelude.{◌≡◌, ◌⊎◌, ℕ, ◌≤◌, List, [], ◌∷◌, Option, Some, None, codes}
 use Rattle.plfs_types.specs.Names.{IsLogicalName}
 use Rattle.command_line.specs.declared.commands.Command.{Command}
 use Rattle.command_line.specs.declared.commands.Command.TheVariants as command
@@ -56,10 +56,16 @@ plan_of other = None
 abbrev pub IsPlanned : Command → Plan → Type 0
 IsPlanned asked planned = plan_of asked ≡ Some planned
 
+-- the commands that need no threads
 abbrev pub IsBuiltCommand : Command → Type 0
 IsBuiltCommand command.Play = Unit {0}
 IsBuiltCommand (command.Cat name) = Unit {0}
+IsBuiltCommand (command.Migrate name) = Unit {0}
 IsBuiltCommand asked = (planned : Plan) × IsPlanned asked planned
+
+-- with threads `run` is served beside them
+abbrev pub IsServed : Command → Type 0
+IsServed asked = IsBuiltCommand asked ⊎ (asked ≡ command.Run)
 
 -- the files that it names have logical names, and its writers are 1 to 256
 abbrev pub FitsCommand : Command → Type 0
@@ -78,4 +84,5 @@ FitsCommand other = Unit {0}
 abbrev pub IsBuiltAs : Command → Built → Type 0
 IsBuiltAs asked built.Play = asked ≡ command.Play
 IsBuiltAs asked (built.Cat name) = (asked ≡ command.Cat name) × IsLogicalName name
+IsBuiltAs asked (built.Migrate name) = asked ≡ command.Migrate name
 IsBuiltAs asked (built.Planned planned) = IsPlanned asked planned × FitsScript planned.script

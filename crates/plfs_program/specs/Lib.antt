@@ -2,11 +2,13 @@ pub mod Calling
 pub mod Cat
 pub mod Catting
 pub mod Commands
+pub mod Complete
 pub mod Course
 pub mod Ends
 pub mod Faults
 pub mod Input
 pub mod Lines
+pub mod Migrating
 pub mod Mounting
 pub mod Outcomes
 pub mod Output
@@ -15,3 +17,4 @@ pub mod ReadOut
 pub mod Showing
 pub mod SoundTrees
 pub mod Summary
+pub mod Ways

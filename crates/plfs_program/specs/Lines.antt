@@ -7,8 +7,9 @@ use Rattle.script_lang.specs.declared.line.Line.{Line}
 use Rattle.script_lang.specs.declared.script.Script.{Script}
 use Rattle.plfs_program.specs.Calling.{IsPlayedOn}
 use Rattle.plfs_program.specs.Mounting.{IsUnmounted}
+use Rattle.plfs_program.specs.Ways.{Way}
 
--- The mounting broke off, which line 0 says alone; or a mount was made, and these are the lines of the script's play on it.
-pub data AreLinesOf (times : Option (List ℕ)) (before after : Stored) (script : Script) (lines : List Line) : Type 0 where
-  unmounted : (trouble : MountTrouble) → FailsToMount before trouble after → IsUnmounted trouble lines → AreLinesOf times before after script lines
-  mounted : IsPlayedOn times before script lines after → AreLinesOf times before after script lines
+-- The mounting broke off, which line 0 says alone; or a mount was made, and these are the lines that the script, played in this way, has on it.
+pub data AreLinesOf (way : Way) (times : Option (List ℕ)) (before after : Stored) (script : Script) (lines : List Line) : Type 0 where
+  unmounted : (trouble : MountTrouble) → FailsToMount before trouble after → IsUnmounted trouble lines → AreLinesOf way times before after script lines
+  mounted : IsPlayedOn way times before script lines after → AreLinesOf way times before after script lines

@@ -11,6 +11,7 @@ use Rattle.script_lang.specs.declared.line.Line.{Line}
 use Rattle.script_lang.specs.declared.script.Script.{Script}
 use Rattle.plfs_program.specs.Cat.{IsRead, contents, piece_length, pieces_of, reader_size}
 use Rattle.plfs_program.specs.Lines.{AreLinesOf, unmounted, mounted}
+use Rattle.plfs_program.specs.Ways.{by_turns}
 
 -- In the first of these calls the file of this name was opened, from a state that was sound for what had been issued before.
 pub record WasOpened (start : State) (history : List Event) (name : List ℕ) (file : OneFile) : Type 0 where
@@ -36,6 +37,6 @@ ShowOneFile start history name [] = Unit {0}
 ShowOneFile start history name (opened ∷ lines) = (size : ℕ) → reader_size opened.outcome ≡ Some size → ReadsOneFile start history name size lines
 
 -- of a file that is written out the lines are those of one file, in the calls of their own play
-abbrev pub AreOfOneFile : {times : Option (List ℕ)} {before after : Stored} {script : Script} (name : List ℕ) (lines : List Line) → AreLinesOf times before after script lines → Type 0
+abbrev pub AreOfOneFile : {times : Option (List ℕ)} {before after : Stored} {script : Script} (name : List ℕ) (lines : List Line) → AreLinesOf by_turns times before after script lines → Type 0
 AreOfOneFile name lines (unmounted trouble failed says) = Unit {0}
 AreOfOneFile name lines (mounted played) = ShowOneFile played.start played.play.history name lines

@@ -102,8 +102,8 @@ fn write_piece<S: Store + Drop, C: Clock + Drop, O: Sink>(
     }
 }
 
-// Prints one line, and ends with its status.
-fn say_line<O: Sink>(alloc: Global, out: &mut O, line: Line) -> u8
+/// Prints one line, and ends with its status.
+pub(crate) fn say_line<O: Sink>(alloc: Global, out: &mut O, line: Line) -> u8
     requires { HaveText (line ∷ []) }
     ensures told { ((result ≡ status (line ∷ [])) × IsPrinted (text_of (line ∷ [])) (O.taking out.old) (O.taking out.new))
         ⊎ ((result ≡ 6) × IsCutOff (text_of (line ∷ [])) (O.taking out.old) (O.taking out.new))

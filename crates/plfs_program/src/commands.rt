@@ -25,6 +25,8 @@ pub(crate) enum Built {
     Play,
     /// It writes this file out.
     Cat { name: LogicalName },
+    /// It packs the closed writers of this file.
+    Migrate { name: LogicalName },
     /// Its words tell its script.
     Planned(Plan),
 }
@@ -105,6 +107,7 @@ pub(crate) fn built_command(alloc: Global, command: Command) -> Result<Option<Bu
     match command {
         Command::Play => Ok(Some(Built::Play)),
         Command::Cat { name } => Ok(Some(Built::Cat { name })),
+        Command::Migrate { name } => Ok(Some(Built::Migrate { name })),
         Command::Gen { writers } => Ok(planned(generate(alloc, writers)?, Shown::Summed)),
         Command::Map { name } => Ok(planned(map_script(alloc, name)?, Shown::PastOpening)),
         Command::Stat { name } => of_one(alloc, Statement::Stat { name }),
@@ -113,6 +116,6 @@ pub(crate) fn built_command(alloc: Global, command: Command) -> Result<Option<Bu
         Command::Trunc { name, size } => of_one(alloc, Statement::Trunc { name, size }),
         Command::Rename { name, to } => of_one(alloc, Statement::Rename { name, to }),
         Command::Ls => of_one(alloc, Statement::Ls),
-        Command::Run | Command::Migrate { .. } => Ok(None),
+        Command::Run => Ok(None),
     }
 }

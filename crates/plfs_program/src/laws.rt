@@ -12,6 +12,7 @@ ghost use Rattle.script_lang.specs.declared.line.Line.{Line};
 ghost use Rattle.script_lang.specs.declared.script.Script.{Script};
 ghost use Rattle.plfs_program.specs.Calling.{IsPlayedOn, IsRun};
 ghost use Rattle.plfs_program.specs.Mounting.{AreSpent, AreDamagedAt, AreWhy, HaveNext, listed_marks};
+ghost use Rattle.plfs_program.specs.Ways.{Way};
 
 /// A law: the listed marks of a told tree decide what its mounting says: no two of its answers fit one listing, and no
 /// two names of damage.
@@ -32,8 +33,8 @@ pub fn marks_are_why()
 {}
 
 /// A law: where the store told a sound tree and a mount was made of it, the tree that the calls left is sound. The calls of a
-/// play are such calls.
+/// play are such calls, by turns and on threads.
 pub fn a_run_leaves_a_sound_tree()
-    ensures play { (times : Option (List ℕ)) (before after : Stored) (script : Script) (lines : List Line) → IsPlayedOn times before script lines after → IsRun times before after }
+    ensures play { (way : Way) (times : Option (List ℕ)) (before after : Stored) (script : Script) (lines : List Line) → IsPlayedOn way times before script lines after → IsRun times before after }
     ensures sound { (times : Option (List ℕ)) (before after : Stored) (tree : Tree) → IsRun times before after → before.tree ≡ Some tree → IsSoundTree tree → (left : Tree) × (after.tree ≡ Some left) × IsSoundTree left }
 {}

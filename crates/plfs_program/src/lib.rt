@@ -6,12 +6,15 @@ mod commands;
 mod faults;
 mod input;
 mod laws;
+mod migrating;
 mod output;
 mod reporting;
+mod running;
 mod showing;
 mod summary;
 mod top;
 mod work;
 
 pub use laws::{a_run_leaves_a_sound_tree, marks_are_why, marks_decide};
-pub use top::{Ended, USAGE, plfs, single};
+pub use running::plfs;
+pub use top::{Ended, USAGE, single};

@@ -1,44 +1,45 @@
-//! The whole of a run: words, input, script, mount, work, output, status.
+//! The whole of a run that needs no threads: words, input, script, mount, work, output, status.
 ghost use Rattle.std.specs.Prelude.{◌≡◌, ◌≢◌, ◌⊎◌, ℕ, List, Option, Some, option_map};
 ghost use Rattle.command_line.specs.Commands.{IsCommand};
 ghost use Rattle.edge_io.specs.Source.{Given};
 ghost use Rattle.command_line.specs.declared.commands.Command.{Command as Asked};
-ghost use Rattle.command_line.specs.declared.commands.Command.TheVariants.{Play, Cat};
+ghost use Rattle.command_line.specs.declared.commands.Command.TheVariants.{Play, Cat, Migrate};
 ghost use Rattle.plfs_types.specs.Names.{IsLogicalName};
 ghost use Rattle.plfs_program.specs.Commands.{IsBuiltCommand, IsPlanned, FitsCommand};
 ghost use Rattle.script_lang.specs.Faults.{HasFault};
 ghost use Rattle.script_lang.specs.Grammar.{IsScript};
 ghost use Rattle.script_lang.specs.Ranges.{FitsScript};
 ghost use Rattle.run_core.specs.Conditions.{IsPlayable};
+ghost use Rattle.plfs_program.specs.Complete.{IsAsked, HadNoTrouble, IsDone};
 ghost use Rattle.plfs_program.specs.Course.{Course, InputCourse};
 ghost use Rattle.plfs_program.specs.Playing.{PlayCourse};
 ghost use Rattle.plfs_program.specs.Ends.{ends_of, IsSaid};
 ghost use Rattle.plfs_program.specs.Output.{IsPrinted, IsCutOff};
 ghost use Rattle.plfs_program.specs.Showing.{shows_of};
 ghost use Rattle.plfs_program.specs.SoundTrees.{TellsSoundTree, LeavesSoundTree};
+ghost use Rattle.plfs_program.specs.Ways.{Way, by_turns};
 
 use crate::cat::{cat_mounted, say_unmounted};
 use crate::commands::{Built, Plan, built_command};
 use crate::faults::fault_line;
 use crate::input::{NoInput, read_input};
+use crate::migrating::migrate_mounted;
 use crate::output::write_out;
 use crate::reporting::report;
 use crate::showing::Shown;
 use crate::work::{Worked, work};
 use command_line::Command;
-use edge_io::{Clock, Gate, Sink, Source};
+use edge_io::{Clock, Sink, Source};
 use mount_core::Mount;
 use mount_sound::a_failed_mounting_leaves_a_sound_tree;
 use plfs_types::{LogicalName, Word};
 use script_lang::{Kind, Script, ScriptTrouble};
 use std::alloc::Global;
-use std::sync::Wait;
-use std::thread::Threads;
 use store_api::Store;
 
 /// The usage line, which words outside the grammar print, with its line feed.
 pub const USAGE: &[u8] =
-    b"usage: plfs ROOT run|play|gen N|cat NAME|stat NAME|map NAME|flatten NAME|trunc NAME SIZE|rename OLD NEW|recover NAME|ls\n";
+    b"usage: plfs ROOT run|play|gen N|cat NAME|stat NAME|map NAME|flatten NAME|trunc NAME SIZE|rename OLD NEW|recover NAME|ls|migrate NAME\n";
 
 /// What a run leaves: the store, and the status with which the program ends.
 #[derive(Drop)]
@@ -51,8 +52,8 @@ pub struct Ended<S> {
     pub status: u8,
 }
 
-// The end of a run with this status.
-fn ends<S>(store: S, status: u8) -> Ended<S>
+/// The end of a run with this status.
+pub(crate) fn ends<S>(store: S, status: u8) -> Ended<S>
     ensures store { result.store ≡ Some store }
     ensures status { result.status ≡ status }
 {
@@ -79,7 +80,7 @@ fn play_script<S: Store + Drop, C: Clock + Drop, O: Sink>(
     clock: C,
 ) -> Ended<S>
     requires { IsPlayable script.now }
-    ensures { PlayCourse script.now (shows_of shown) (ends_of (C.times clock) (O.taking out.old) (O.taking out.new) (S.stored store) (option_map S.stored result.store)) result.status }
+    ensures { PlayCourse by_turns script.now (shows_of shown) (ends_of (C.times clock) (O.taking out.old) (O.taking out.new) (S.stored store) (option_map S.stored result.store)) result.status }
 {
     let Worked { store, lines } = work(alloc, store, clock, script);
     let Ok(lines) = lines else {
@@ -89,15 +90,15 @@ fn play_script<S: Store + Drop, C: Clock + Drop, O: Sink>(
     ends(store, status)
 }
 
-// Ends where the script has this fault.
-fn end_faulty<S: Store, O: Sink>(
+/// Ends where the script has this fault.
+pub(crate) fn end_faulty<S: Store, O: Sink>(
     alloc: Global,
     line: u64,
     kind: Kind,
     out: &mut O,
     store: S,
 ) -> Ended<S>
-    ensures { (bytes : List ℕ) (times : Option (List ℕ)) → HasFault bytes (record { line = line; kind = kind }) → InputCourse bytes (ends_of times (O.taking out.old) (O.taking out.new) (S.stored store) (option_map S.stored result.store)) result.status }
+    ensures { (way : Way) (bytes : List ℕ) (times : Option (List ℕ)) → HasFault bytes (record { line = line; kind = kind }) → InputCourse way bytes (ends_of times (O.taking out.old) (O.taking out.new) (S.stored store) (option_map S.stored result.store)) result.status }
 {
     let Ok(text) = fault_line(alloc, line, kind) else {
         return ends(store, 3);
@@ -115,7 +116,7 @@ fn play_read<S: Store + Drop, C: Clock + Drop, O: Sink>(
     clock: C,
 ) -> Ended<S>
     requires { FitsScript script.now }
-    ensures { (bytes : List ℕ) → IsScript bytes script.now → InputCourse bytes (ends_of (C.times clock) (O.taking out.old) (O.taking out.new) (S.stored store) (option_map S.stored result.store)) result.status }
+    ensures { (bytes : List ℕ) → IsScript bytes script.now → InputCourse by_turns bytes (ends_of (C.times clock) (O.taking out.old) (O.taking out.new) (S.stored store) (option_map S.stored result.store)) result.status }
 {
     play_script(alloc, script, Shown::All, out, store, clock)
 }
@@ -128,7 +129,7 @@ fn play_input<S: Store + Drop, C: Clock + Drop, O: Sink>(
     store: S,
     clock: C,
 ) -> Ended<S>
-    ensures { InputCourse bytes.now (ends_of (C.times clock) (O.taking out.old) (O.taking out.new) (S.stored store) (option_map S.stored result.store)) result.status }
+    ensures { InputCourse by_turns bytes.now (ends_of (C.times clock) (O.taking out.old) (O.taking out.new) (S.stored store) (option_map S.stored result.store)) result.status }
 {
     match Script::read(alloc, bytes) {
         Ok(script) => play_read(alloc, &script, out, store, clock),
@@ -145,7 +146,7 @@ fn play<S: Store + Drop, C: Clock + Drop, I: Source, O: Sink>(
     store: S,
     clock: C,
 ) -> Ended<S>
-    ensures { (words : List (List ℕ)) → IsCommand words Play → Course words (I.given input.old) (I.given input.new) (ends_of (C.times clock) (O.taking out.old) (O.taking out.new) (S.stored store) (option_map S.stored result.store)) result.status }
+    ensures { (words : List (List ℕ)) → IsCommand words Play → Course IsBuiltCommand words (I.given input.old) (I.given input.new) (ends_of (C.times clock) (O.taking out.old) (O.taking out.new) (S.stored store) (option_map S.stored result.store)) result.status }
 {
     match read_input(alloc, input) {
         Ok(bytes) => play_input(alloc, bytes.as_slice(), out, store, clock),
@@ -164,7 +165,7 @@ fn play_plan<S: Store + Drop, C: Clock + Drop, I: Source, O: Sink>(
     clock: C,
 ) -> Ended<S>
     requires fits { FitsScript plan.now.script }
-    ensures { (words : List (List ℕ)) (command : Asked) → IsCommand words command → IsPlanned command plan.now → Course words (I.given input.old) (I.given input.new) (ends_of (C.times clock) (O.taking out.old) (O.taking out.new) (S.stored store) (option_map S.stored result.store)) result.status }
+    ensures { (words : List (List ℕ)) (command : Asked) → IsCommand words command → IsPlanned command plan.now → Course IsBuiltCommand words (I.given input.old) (I.given input.new) (ends_of (C.times clock) (O.taking out.old) (O.taking out.new) (S.stored store) (option_map S.stored result.store)) result.status }
 {
     play_script(alloc, &plan.script, plan.shown, out, store, clock)
 }
@@ -179,7 +180,7 @@ fn cat<S: Store + Drop, C: Clock + Drop, I: Source, O: Sink>(
     clock: C,
 ) -> Ended<S>
     requires { IsLogicalName name }
-    ensures { (words : List (List ℕ)) → IsCommand words (Cat name) → Course words (I.given input.old) (I.given input.new) (ends_of (C.times clock) (O.taking out.old) (O.taking out.new) (S.stored store) (option_map S.stored result.store)) result.status }
+    ensures { (words : List (List ℕ)) → IsCommand words (Cat name) → Course IsBuiltCommand words (I.given input.old) (I.given input.new) (ends_of (C.times clock) (O.taking out.old) (O.taking out.new) (S.stored store) (option_map S.stored result.store)) result.status }
 {
     match Mount::open(alloc, store, clock) {
         Ok(mount) => {
@@ -194,17 +195,41 @@ fn cat<S: Store + Drop, C: Clock + Drop, I: Source, O: Sink>(
     }
 }
 
-// Prints the usage line.
-fn refuse<S: Store, O: Sink>(out: &mut O, store: S) -> Ended<S>
+// Packs the closed writers of a file.
+fn migrate<S: Store + Drop, C: Clock + Drop, I: Source, O: Sink>(
+    alloc: Global,
+    name: LogicalName,
+    input: &mut I,
+    out: &mut O,
+    store: S,
+    clock: C,
+) -> Ended<S>
+    ensures { (words : List (List ℕ)) → IsCommand words (Migrate name) → Course IsBuiltCommand words (I.given input.old) (I.given input.new) (ends_of (C.times clock) (O.taking out.old) (O.taking out.new) (S.stored store) (option_map S.stored result.store)) result.status }
+{
+    match Mount::open(alloc, store, clock) {
+        Ok(mount) => {
+            let mut mount = mount;
+            let status = migrate_mounted(alloc, &mut mount, name, out);
+            ends(mount.close(), status)
+        }
+        Err((store, trouble)) => {
+            let status = say_unmounted(alloc, out, trouble);
+            ends(store, status)
+        }
+    }
+}
+
+/// Prints the usage line.
+pub(crate) fn refuse<S: Store, O: Sink>(out: &mut O, store: S) -> Ended<S>
     ensures { (words : List (List ℕ)) (given : Given) (times : Option (List ℕ)) → ((command : Asked) → IsBuiltCommand command → IsCommand words command → ⊥)
-        → Course words given given (ends_of times (O.taking out.old) (O.taking out.new) (S.stored store) (option_map S.stored result.store)) result.status }
+        → Course IsBuiltCommand words given given (ends_of times (O.taking out.old) (O.taking out.new) (S.stored store) (option_map S.stored result.store)) result.status }
 {
     say(out, USAGE);
     ends(store, 2)
 }
 
-// Does what the words of this command ask for, where no other command has them.
-fn obey<S: Store + Drop, C: Clock + Drop, I: Source, O: Sink>(
+/// Does what the words of this command ask for, where no other command has them.
+pub(crate) fn obey<S: Store + Drop, C: Clock + Drop, I: Source, O: Sink>(
     alloc: Global,
     command: Command,
     input: &mut I,
@@ -214,7 +239,7 @@ fn obey<S: Store + Drop, C: Clock + Drop, I: Source, O: Sink>(
 ) -> Ended<S>
     requires { FitsCommand command }
     ensures { (words : List (List ℕ)) → IsCommand words command → ((other : Asked) → IsCommand words other → other ≡ command)
-        → Course words (I.given input.old) (I.given input.new) (ends_of (C.times clock) (O.taking out.old) (O.taking out.new) (S.stored store) (option_map S.stored result.store)) result.status }
+        → Course IsBuiltCommand words (I.given input.old) (I.given input.new) (ends_of (C.times clock) (O.taking out.old) (O.taking out.new) (S.stored store) (option_map S.stored result.store)) result.status }
 {
     let Ok(built) = built_command(alloc, command) else {
         return ends(store, 3);
@@ -225,6 +250,7 @@ fn obey<S: Store + Drop, C: Clock + Drop, I: Source, O: Sink>(
     match built {
         Built::Play => play(alloc, input, out, store, clock),
         Built::Cat { name } => cat(alloc, name, input, out, store, clock),
+        Built::Migrate { name } => migrate(alloc, name, input, out, store, clock),
         Built::Planned(plan) => play_plan(alloc, &plan, input, out, store, clock),
     }
 }
@@ -238,7 +264,7 @@ fn follow<S: Store + Drop, C: Clock + Drop, I: Source, O: Sink>(
     store: S,
     clock: C,
 ) -> Ended<S>
-    ensures { Course words.now (I.given input.old) (I.given input.new) (ends_of (C.times clock) (O.taking out.old) (O.taking out.new) (S.stored store) (option_map S.stored result.store)) result.status }
+    ensures { Course IsBuiltCommand words.now (I.given input.old) (I.given input.new) (ends_of (C.times clock) (O.taking out.old) (O.taking out.new) (S.stored store) (option_map S.stored result.store)) result.status }
 {
     let Ok(command) = Command::read(alloc, words) else {
         return ends(store, 3);
@@ -254,8 +280,9 @@ fn follow<S: Store + Drop, C: Clock + Drop, I: Source, O: Sink>(
 ///
 /// `play` reads a script from the input. A script with a fault prints `script`, the fault's line and its kind. `stat`, `recover`, `trunc`, `rename`, `ls` and `flatten` make
 /// this one statement of one actor, and print its line with number 0; `map` opens a reader first, whose line is shown where
-/// it is none. `cat` writes a file out, each piece before the next one is read; a trouble behind the opening has no line. `gen` plays the generated script, and prints how many lines of each kind it has, and the file's size. Words
-/// that are no command, or one that isn't built yet, print the usage line.
+/// it is none. `cat` writes a file out, each piece before the next one is read; a trouble behind the opening has no line. `gen` plays the generated script, and prints how many lines of each kind it has, and the file's size.
+/// `migrate` packs the index droppings of a file's closed writers, and prints how many writers, entries and runs it packed and how many
+/// writers it left, or its trouble's line with number 0. Words that are no command, or one that wants threads, print the usage line.
 ///
 /// What is printed is the text of the lines of a play: from the mounting to the end, the script's actors made their calls in
 /// the order of the written turns, each call following from the replies before it, and these are the lines of their
@@ -264,7 +291,10 @@ fn follow<S: Store + Drop, C: Clock + Drop, I: Source, O: Sink>(
 /// with it, and `marks_decide` that its answers exclude each other.
 ///
 /// Where the store told a sound tree, the lines of each reader of the play are those of one plain file, which `cat` writes,
-/// or a front of it; no line tells of damage, and the status is not 7; and a sound tree is left.
+/// or a front of it; no line tells of damage, and the status is not 7; the packed indices that `migrate` counts stand and are
+/// right; and a sound tree is left.
+/// Where moreover the words are a command's, the script has no fault, no count of the source, the sink or the store has
+/// risen and the sink took something of each piece, the status is 0, 1 or 3.
 pub fn single<S: Store + Drop, C: Clock + Drop, I: Source, O: Sink>(
     alloc: Global,
     words: &[Word],
@@ -273,28 +303,11 @@ pub fn single<S: Store + Drop, C: Clock + Drop, I: Source, O: Sink>(
     store: S,
     clock: C,
 ) -> Ended<S>
-    ensures course { Course words.now (I.given input.old) (I.given input.new) (ends_of (C.times clock) (O.taking out.old) (O.taking out.new) (S.stored store) (option_map S.stored result.store)) result.status }
+    ensures course { Course IsBuiltCommand words.now (I.given input.old) (I.given input.new) (ends_of (C.times clock) (O.taking out.old) (O.taking out.new) (S.stored store) (option_map S.stored result.store)) result.status }
     ensures undamaged { TellsSoundTree (S.stored store) → result.status ≢ 7 }
     ensures sound { TellsSoundTree (S.stored store) → LeavesSoundTree (option_map S.stored result.store) }
+    ensures complete { TellsSoundTree (S.stored store) → IsAsked IsBuiltCommand words.now (I.given input.old) (I.given input.new) → HadNoTrouble (I.given input.old) (I.given input.new) (ends_of (C.times clock) (O.taking out.old) (O.taking out.new) (S.stored store) (option_map S.stored result.store)) → IsDone result.status }
 {
     a_failed_mounting_leaves_a_sound_tree();
     follow(alloc, words, input, out, store, clock)
-}
-
-/// Runs a command. So far no command waits or starts threads, and this is `single`.
-pub fn plfs<R: Threads + Wait, S: Store + Drop, C: Clock + Drop, I: Source, O: Sink, G: Gate>(
-    _rt: &R,
-    alloc: Global,
-    words: &[Word],
-    input: &mut I,
-    out: &mut O,
-    store: S,
-    clock: C,
-    _gate: &G,
-) -> Ended<S>
-    ensures course { Course words.now (I.given input.old) (I.given input.new) (ends_of (C.times clock) (O.taking out.old) (O.taking out.new) (S.stored store) (option_map S.stored result.store)) result.status }
-    ensures undamaged { TellsSoundTree (S.stored store) → result.status ≢ 7 }
-    ensures sound { TellsSoundTree (S.stored store) → LeavesSoundTree (option_map S.stored result.store) }
-{
-    single(alloc, words, input, out, store, clock)
 }

@@ -2,16 +2,18 @@
 use crate::runs::{Setup, ends, playing, plays, run_fresh};
 use std::test::Fail;
 
-const USAGE: &str =
-    "usage: plfs ROOT run|play|gen N|cat NAME|stat NAME|map NAME|flatten NAME|trunc NAME SIZE|rename OLD NEW|recover NAME|ls\n";
+/// The line of words that are no command.
+pub(crate) const USAGE: &str =
+    "usage: plfs ROOT run|play|gen N|cat NAME|stat NAME|map NAME|flatten NAME|trunc NAME SIZE|rename OLD NEW|recover NAME|ls|migrate NAME\n";
 
-// Words that are no command, or of one that is still to come.
+// Words that are no command, or of one that wants threads.
 const OTHERS: &[&[&str]] = &[
     &["run", "play"],
     &["run"],
     &["ls", "f"],
     &["map"],
     &["map", ".f"],
+    &["migrate"],
     &["trunc", "f", "007"],
     &["cat", "--", "f"],
     &["gen", "0"],

@@ -19,6 +19,8 @@ mod losses;
 #[cfg(test)]
 mod marks;
 #[cfg(test)]
+mod migrations;
+#[cfg(test)]
 mod pieces;
 #[cfg(test)]
 mod rows;
@@ -28,3 +30,5 @@ mod runs;
 mod sessions;
 #[cfg(test)]
 mod several;
+#[cfg(test)]
+mod threads;

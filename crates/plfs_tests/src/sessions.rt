@@ -5,11 +5,11 @@ use std::process::Abort;
 use std::test::Fail;
 use store_memory::{Fail as Planned, FailList, MemoryStore};
 
-// The words of a run and its script, its status, and what it prints.
-type Ran = (&'static [&'static str], &'static str, u8, &'static str);
+/// The words of a run and its script, its status, and what it prints.
+pub(crate) type Ran = (&'static [&'static str], &'static str, u8, &'static str);
 
-// The acts that fault, each with how many bytes it leaves, and the runs.
-type Session = (&'static [(u64, u64)], &'static [Ran]);
+/// The acts that fault, each with how many bytes it leaves, and the runs.
+pub(crate) type Session = (&'static [(u64, u64)], &'static [Ran]);
 
 const HELLO: &str =
     "actor a\na open f\na write 0 text:hello\na sync\na close\na ropen f\na read 0 5\n";
@@ -17,7 +17,12 @@ const HELLO: &str =
 const HELLO_LINES: &str =
     "2 open 4294967297\n3 wrote 0 5 10\n4 synced 1\n5 closed 1\n6 reader 5 cut 4294967297:1 trunc -\n7 read 0 68656c6c6f\n";
 
-fn play_sessions(rt: &impl Abort, alloc: Global, sessions: &[Session]) -> Result<(), Fail> {
+/// Each of the sessions plays so.
+pub(crate) fn play_sessions(
+    rt: &impl Abort,
+    alloc: Global,
+    sessions: &[Session],
+) -> Result<(), Fail> {
     for (fails, runs) in sessions {
         let mut planned = FailList::new(alloc);
         for (act, part) in *fails {

@@ -16,5 +16,10 @@ returns-in-Cat g c words are one =
     let so = rw c.in-Cat.is at (rw c.in-Some.is at c.in-Ok.ensures.same) in
     c.cat.ensures words (subst (λ command. IsCommand words command) so.0 are)
 
+pub returns-in-Migrate : goal.returns-in-Migrate
+returns-in-Migrate g c words are one =
+    let so = rw c.in-Migrate.is at (rw c.in-Some.is at c.in-Ok.ensures.same) in
+    c.migrate.ensures words (subst (λ command. IsCommand words command) so are)
+
 pub returns-in-Planned : goal.returns-in-Planned
 returns-in-Planned g c words are one = c.play_plan.ensures words c.args.command are (rw c.in-Planned.is at (rw c.in-Some.is at c.in-Ok.ensures.same)).0

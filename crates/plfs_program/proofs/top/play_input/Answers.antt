@@ -1,5 +1,6 @@
 use Rattle.script_lang.specs.declared.trouble.ScriptTrouble.TheVariants.{Fault}
 use Rattle.script_lang.specs.Told.{IsScriptTrouble}
+use Rattle.plfs_program.specs.Ways.{by_turns}
 use Rattle.plfs_program.proofs.top.play_input.Goals as goal
 
 pub returns-in-Ok : goal.returns-in-Ok
@@ -8,4 +9,4 @@ returns-in-Ok g c = c.play_read.ensures c.args.bytes.now c.in-Ok.ensures.script
 pub returns-in-Err-Fault : goal.returns-in-Err-Fault
 returns-in-Err-Fault g c =
     let failed : IsScriptTrouble c.args.bytes.now (Fault c.in-Err-Fault.line c.in-Err-Fault.kind) = rw c.in-Err-Fault.field-0-is at c.in-Err-Fault.ensures.fault in
-    c.end_faulty.ensures c.args.bytes.now (g.C.Clock.times c.args.clock) failed
+    c.end_faulty.ensures by_turns c.args.bytes.now (g.C.Clock.times c.args.clock) failed

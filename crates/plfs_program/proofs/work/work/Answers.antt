@@ -1,6 +1,7 @@
 use Rattle.plfs_types.specs.Counts.{HasRisen}
 use Rattle.mount_sound.proofs.Facts.{mounted_fine}
 use Rattle.plfs_program.specs.Calling.{broke_off}
+use Rattle.plfs_program.specs.Ways.{by_turns}
 use Rattle.plfs_program.proofs.Lines.{play_cause}
 use Rattle.plfs_program.proofs.MountLemmas.{all_mounted, all_undamaged, all_unmounted, all_caused}
 use Rattle.plfs_program.proofs.SoundMarks.{all_unmounted_undamaged}
@@ -11,11 +12,11 @@ play-lines-requires-clause-fine g c = mounted_fine 0 (g.C.Clock.times c.args.clo
 
 pub returns-in-Ok-clause-in_turn : goal.returns-in-Ok-clause-in_turn
 returns-in-Ok-clause-in_turn g c =
-    all_mounted (g.C.Clock.times c.args.clock) (g.S.Store.stored c.args.store) (g.S.Store.stored c.close.result) c.args.script.now c.in-Ok.mount c.play-lines.new.mount c.play-lines.result c.requires.fits c.in-Ok.ensures.ok c.close.ensures c.play-lines.ensures.plays
+    all_mounted by_turns (g.C.Clock.times c.args.clock) (g.S.Store.stored c.args.store) (g.S.Store.stored c.close.result) c.args.script.now c.in-Ok.mount c.play-lines.new.mount c.play-lines.result c.requires.fits c.in-Ok.ensures.ok c.close.ensures c.play-lines.ensures.plays
 
 pub returns-in-Ok-clause-undamaged : goal.returns-in-Ok-clause-undamaged
 returns-in-Ok-clause-undamaged g c =
-    all_undamaged (g.C.Clock.times c.args.clock) (g.S.Store.stored c.args.store) c.args.script.now c.in-Ok.mount c.play-lines.new.mount c.play-lines.result c.requires.fits c.in-Ok.ensures.ok c.play-lines.ensures.plays
+    all_undamaged by_turns (g.C.Clock.times c.args.clock) (g.S.Store.stored c.args.store) c.args.script.now c.in-Ok.mount c.play-lines.new.mount c.play-lines.result c.requires.fits c.in-Ok.ensures.ok c.play-lines.ensures.plays
 
 pub returns-in-Ok-clause-cause : goal.returns-in-Ok-clause-cause
 returns-in-Ok-clause-cause g c =
@@ -26,7 +27,7 @@ returns-in-Err-clause-left g c = broke_off c.in-Err.trouble c.in-Err.ensures.err
 
 pub returns-in-Err-clause-in_turn : goal.returns-in-Err-clause-in_turn
 returns-in-Err-clause-in_turn g c =
-    all_unmounted (g.C.Clock.times c.args.clock) (g.S.Store.stored c.args.store) (g.S.Store.stored c.in-Err.store) c.in-Err.trouble c.args.script.now c.mounting_line.result c.in-Err.ensures.err c.mounting_line.ensures.line
+    all_unmounted by_turns (g.C.Clock.times c.args.clock) (g.S.Store.stored c.args.store) (g.S.Store.stored c.in-Err.store) c.in-Err.trouble c.args.script.now c.mounting_line.result c.in-Err.ensures.err c.mounting_line.ensures.line
 
 pub returns-in-Err-clause-cause : goal.returns-in-Err-clause-cause
 returns-in-Err-clause-cause g c =

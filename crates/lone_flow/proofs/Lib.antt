@@ -1,0 +1,4 @@
+mod Causes
+mod Coming
+mod Migrations
+mod Packs

@@ -1,0 +1,38 @@
+//! A machine is driven by one caller.
+ghost use Rattle.std.specs.Prelude.{IfOk};
+ghost use Rattle.flow.specs.Running.{unbroken};
+ghost use Rattle.mount_model.specs.Step.{IsStep, OwedBy};
+ghost use Rattle.lone_flow.specs.Driving.{CallsOn, Drives, MayDrive};
+
+use edge_io::Clock;
+use flow::Flow;
+use mount_core::Mount;
+use mount_model::{Ask, Call, Reply};
+use plfs_types::NoMemory;
+use store_api::Store;
+
+// Makes a call of caller 0.
+fn make<S: Store + Drop, C: Clock + Drop>(mount: &mut Mount<S, C>, call: Call) -> Reply
+    requires { OwedBy call }
+    ensures { IsStep mount.old 0 (unbroken call) result mount.new }
+{
+    mount.apply(0, &Ask { call, stop: None })
+}
+
+/// Greets, and then makes all calls of the machine, as caller 0; answers what the machine ends with. After `NoMemory` the
+/// calls that were made until then stand.
+pub fn drive<S: Store + Drop, C: Clock + Drop, F: Flow + Drop>(
+    mount: &mut Mount<S, C>,
+    mut machine: F,
+) -> Result<F::Out, NoMemory>
+    requires may { MayDrive (F.standing machine) mount.old }
+    ensures drives { IfOk result (λ out. Drives (F.standing machine) mount.old out mount.new) }
+    ensures calls_on { CallsOn mount.old mount.new }
+{
+    make(mount, Call::Greet);
+    while let Some(call) = machine.next()? {
+        let reply = make(mount, call);
+        machine.take(reply)?;
+    }
+    Ok(machine.out())
+}

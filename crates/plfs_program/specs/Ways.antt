@@ -1,0 +1,37 @@
+-- How a script's actors make their calls, and which lines the script then has.
+use Rattle.std.specs.Prelude.{List}
+use Rattle.mount_model.specs.State.{State}
+use Rattle.mount_sound.specs.Ledger.{Ledger}
+use Rattle.mount_sound.specs.Sound.{IsSoundFor}
+use Rattle.command_line.specs.declared.commands.Command.{Command}
+use Rattle.command_line.specs.declared.commands.Command.TheVariants.{Play, Run}
+use Rattle.script_lang.specs.declared.line.Line.{Line}
+use Rattle.script_lang.specs.declared.script.Script.{Script}
+use Rattle.run_core.specs.Play.{IsPlay, IsRight}
+use Rattle.play_laws.specs.Readers.{PlayShows, ReadersShow}
+
+-- in the order of the written turns, or each on a thread of its own
+pub data Way : Type 0 where
+  by_turns : Way
+  on_threads : Way
+
+-- the command that has the script of the input made so
+abbrev pub command_of : Way → Command
+command_of by_turns = Play
+command_of on_threads = Run
+
+-- by turns the lines are those of a play, on threads they are right
+abbrev pub HasLines : Way → Script → State → List Line → State → Type 0
+HasLines by_turns script start lines end = IsPlay script start lines end
+HasLines on_threads script start lines end = IsRight script start lines end
+
+-- The lines of the readers show so, for what had been issued before.
+pub record RightShows (script : Script) (start : State) (lines : List Line) (end : State) (right : IsRight script start lines end) : Type 0 where
+  pub issued : Ledger
+  pub sound : IsSoundFor issued start
+  pub show : ReadersShow script (record { state = start; issued = issued }) lines end right
+
+-- either way the lines of each reader are those of one plain file
+abbrev pub ShowsFiles : (way : Way) (script : Script) (start : State) (lines : List Line) (end : State) → HasLines way script start lines end → Type 0
+ShowsFiles by_turns script start lines end play = PlayShows script start lines end play
+ShowsFiles on_threads script start lines end right = RightShows script start lines end right

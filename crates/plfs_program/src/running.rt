@@ -1,0 +1,178 @@
+//! The whole of a run with threads: `run` has the script's actors make their calls on threads, and all other words go as
+//! they go without threads.
+ghost use Rattle.std.specs.Prelude.{◌≡◌, ◌≢◌, ℕ, List, true, false, option_map};
+ghost use Rattle.command_line.specs.Commands.{IsCommand};
+ghost use Rattle.command_line.specs.declared.commands.Command.TheVariants.{Run};
+ghost use Rattle.script_lang.specs.Grammar.{IsScript};
+ghost use Rattle.script_lang.specs.Ranges.{FitsScript};
+ghost use Rattle.run_core.specs.Conditions.{IsPlayable};
+ghost use Rattle.plfs_program.specs.Commands.{IsServed};
+ghost use Rattle.plfs_program.specs.Complete.{IsAsked, HadNoTrouble, IsDone};
+ghost use Rattle.plfs_program.specs.Course.{Course, InputCourse};
+ghost use Rattle.plfs_program.specs.Ends.{ends_of};
+ghost use Rattle.plfs_program.specs.Playing.{PlayCourse};
+ghost use Rattle.plfs_program.specs.Showing.{all_lines};
+ghost use Rattle.plfs_program.specs.SoundTrees.{TellsSoundTree, LeavesSoundTree};
+ghost use Rattle.plfs_program.specs.Ways.{on_threads};
+
+use crate::input::{NoInput, read_input};
+use crate::reporting::report;
+use crate::showing::Shown;
+use crate::top::{Ended, end_faulty, ends, obey, refuse};
+use crate::work::{Worked, work_on_threads};
+use command_line::Command;
+use edge_io::{Clock, Gate, Sink, Source};
+use mount_sound::a_failed_mounting_leaves_a_sound_tree;
+use plfs_types::Word;
+use script_lang::{Script, ScriptTrouble};
+use std::alloc::Global;
+use std::sync::Wait;
+use std::thread::Threads;
+use store_api::Store;
+
+// Runs the script on the store, and prints its lines.
+fn run_script<
+    R: Threads + Wait + Sync,
+    S: Store + Drop + Send,
+    C: Clock + Drop + Send,
+    O: Sink,
+    G: Gate + Sync,
+>(rt: &R, alloc: Global, script: &Script, out: &mut O, store: S, clock: C, gate: &G) -> Ended<S>
+    requires { IsPlayable script.now }
+    ensures { PlayCourse on_threads script.now all_lines (ends_of (C.times clock) (O.taking out.old) (O.taking out.new) (S.stored store) (option_map S.stored result.store)) result.status }
+{
+    let Worked { store, lines } = work_on_threads(rt, alloc, store, clock, script, gate);
+    let Ok(lines) = lines else {
+        return ends(store, 3);
+    };
+    let status = report(alloc, out, lines, Shown::All);
+    ends(store, status)
+}
+
+// Runs the script that was read.
+fn run_read<
+    R: Threads + Wait + Sync,
+    S: Store + Drop + Send,
+    C: Clock + Drop + Send,
+    O: Sink,
+    G: Gate + Sync,
+>(rt: &R, alloc: Global, script: &Script, out: &mut O, store: S, clock: C, gate: &G) -> Ended<S>
+    requires { FitsScript script.now }
+    ensures { (bytes : List ℕ) → IsScript bytes script.now → InputCourse on_threads bytes (ends_of (C.times clock) (O.taking out.old) (O.taking out.new) (S.stored store) (option_map S.stored result.store)) result.status }
+{
+    run_script(rt, alloc, script, out, store, clock, gate)
+}
+
+// Runs the script that these bytes are.
+fn run_input<
+    R: Threads + Wait + Sync,
+    S: Store + Drop + Send,
+    C: Clock + Drop + Send,
+    O: Sink,
+    G: Gate + Sync,
+>(rt: &R, alloc: Global, bytes: &[u8], out: &mut O, store: S, clock: C, gate: &G) -> Ended<S>
+    ensures { InputCourse on_threads bytes.now (ends_of (C.times clock) (O.taking out.old) (O.taking out.new) (S.stored store) (option_map S.stored result.store)) result.status }
+{
+    match Script::read(alloc, bytes) {
+        Ok(script) => run_read(rt, alloc, &script, out, store, clock, gate),
+        Err(ScriptTrouble::Fault { line, kind }) => end_faulty(alloc, line, kind, out, store),
+        Err(ScriptTrouble::NoMemory) => ends(store, 3),
+    }
+}
+
+// Reads the input, and runs it.
+fn run<
+    R: Threads + Wait + Sync,
+    S: Store + Drop + Send,
+    C: Clock + Drop + Send,
+    I: Source,
+    O: Sink,
+    G: Gate + Sync,
+>(rt: &R, alloc: Global, input: &mut I, out: &mut O, store: S, clock: C, gate: &G) -> Ended<S>
+    ensures { (words : List (List ℕ)) → IsCommand words Run → Course IsServed words (I.given input.old) (I.given input.new) (ends_of (C.times clock) (O.taking out.old) (O.taking out.new) (S.stored store) (option_map S.stored result.store)) result.status }
+{
+    match read_input(alloc, input) {
+        Ok(bytes) => run_input(rt, alloc, bytes.as_slice(), out, store, clock, gate),
+        Err(NoInput::Failed) => ends(store, 5),
+        Err(NoInput::NoMemory) => ends(store, 3),
+    }
+}
+
+// Whether the command is `run`.
+fn is_run(command: &Command) -> bool
+    ensures run { result ≡ true → command.now ≡ Run }
+    ensures other { result ≡ false → command.now ≢ Run }
+{
+    matches!(command, Command::Run)
+}
+
+// Reads the words, and does what they ask for.
+fn follow<
+    R: Threads + Wait + Sync,
+    S: Store + Drop + Send,
+    C: Clock + Drop + Send,
+    I: Source,
+    O: Sink,
+    G: Gate + Sync,
+>(
+    rt: &R,
+    alloc: Global,
+    words: &[Word],
+    input: &mut I,
+    out: &mut O,
+    store: S,
+    clock: C,
+    gate: &G,
+) -> Ended<S>
+    ensures { Course IsServed words.now (I.given input.old) (I.given input.new) (ends_of (C.times clock) (O.taking out.old) (O.taking out.new) (S.stored store) (option_map S.stored result.store)) result.status }
+{
+    let Ok(command) = Command::read(alloc, words) else {
+        return ends(store, 3);
+    };
+    let Some(command) = command else {
+        return refuse(out, store);
+    };
+    if is_run(&command) {
+        run(rt, alloc, input, out, store, clock, gate)
+    } else {
+        obey(alloc, command, input, out, store, clock)
+    }
+}
+
+/// Runs a command. `run` reads a script as `play` does, and has each of its actors make the calls of a phase on a thread of
+/// its own; the gate is asked before each call. All other words go as with `single`.
+///
+/// What is printed of a script that is run is the text of right lines: from the mounting to the end, in some order of all
+/// calls, the script's actors made theirs, all of one phase before those of the next, each call following from the
+/// replies before it, and these are the lines of their statements. What `single` says of a play's lines, of what is left of
+/// the store, of line 0 and of the statuses holds of them too.
+///
+/// Where the store told a sound tree, the lines of each reader are those of one plain file; no line tells of damage, and the
+/// status is not 7; and a sound tree is left.
+/// Where moreover the words are a command's, the script has no fault, no count of the source, the sink or the store has
+/// risen and the sink took something of each piece, the status is 0, 1 or 3.
+pub fn plfs<
+    R: Threads + Wait + Sync,
+    S: Store + Drop + Send,
+    C: Clock + Drop + Send,
+    I: Source,
+    O: Sink,
+    G: Gate + Sync,
+>(
+    rt: &R,
+    alloc: Global,
+    words: &[Word],
+    input: &mut I,
+    out: &mut O,
+    store: S,
+    clock: C,
+    gate: &G,
+) -> Ended<S>
+    ensures course { Course IsServed words.now (I.given input.old) (I.given input.new) (ends_of (C.times clock) (O.taking out.old) (O.taking out.new) (S.stored store) (option_map S.stored result.store)) result.status }
+    ensures undamaged { TellsSoundTree (S.stored store) → result.status ≢ 7 }
+    ensures sound { TellsSoundTree (S.stored store) → LeavesSoundTree (option_map S.stored result.store) }
+    ensures complete { TellsSoundTree (S.stored store) → IsAsked IsServed words.now (I.given input.old) (I.given input.new) → HadNoTrouble (I.given input.old) (I.given input.new) (ends_of (C.times clock) (O.taking out.old) (O.taking out.new) (S.stored store) (option_map S.stored result.store)) → IsDone result.status }
+{
+    a_failed_mounting_leaves_a_sound_tree();
+    follow(rt, alloc, words, input, out, store, clock, gate)
+}
