@@ -48,7 +48,7 @@ def the_manual_is_well_formed_and_has_each_status_and_word(trial):
 def completion_offers_what_the_program_plays(trial):
     file = trial.top / "completions" / "plfs.bash"
     (trial.folder / "store").mkdir()
-    for words, wanted in (("/tmp ''", "play\ngen\ncat\nstat\nmap\nflatten\ntrunc\nrename\nrecover\nls"), ("/tmp : sto", "store"), ("/tmp : store p", "play")):
+    for words, wanted in (("/tmp ''", "run\nplay\ngen\ncat\nstat\nmap\nflatten\ntrunc\nrename\nrecover\nls\nmigrate"), ("/tmp : sto", "store"), ("/tmp : store p", "play")):
         last = words.count(" ") + 1
         asks = f"source '{file}'; COMP_WORDS=(plfs {words}); COMP_CWORD={last}; _plfs; printf '%s\\n' \"${{COMPREPLY[@]}}\""
         how = {"stdout": subprocess.PIPE, "stderr": subprocess.PIPE, "text": True, "timeout": 20, "cwd": trial.folder}

@@ -134,3 +134,8 @@ def ignore(number):
 def size_limit(most):
     """A limit for `start`: no file gets longer than so many bytes."""
     resource.setrlimit(resource.RLIMIT_FSIZE, (most, most))
+
+
+def process_limit(most):
+    """A limit for `start`: its user has no more than so many processes and threads."""
+    resource.setrlimit(resource.RLIMIT_NPROC, (most, most))
