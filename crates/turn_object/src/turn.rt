@@ -9,14 +9,17 @@ use crate::rule::{FrontOf, InTurn, Slot};
 use atomic_table::{Seat, Table, TableRule};
 use std::alloc::Global;
 use std::snapshot::Snapshot;
+use std::sync::Mutex;
 
 /// An object that threads use in turn. It serves 2^63 calls.
 pub type Turn<O> = Lock<Slot<O>, FrontOf<O>, Snapshot<O>, InTurn<O>>;
 
-/// The words and the slot of a `Turn`. Its types are bare parameters, since only so it is seen to cross threads.
+/// The words and the slot of a `Turn`, and the gate where its callers sleep until they may take a ticket. Its types are bare parameters, since only so it is
+/// seen to cross threads.
 #[derive(Drop)]
 pub struct Lock<S, V, K, P: TableRule<S, V, K>> {
     table: Table<S, V, K, P, Global>,
+    gate: Mutex<()>,
     ghost shape: { (table.shared.table_id.words ≡ 2) × (table.shared.table_id.slots ≡ 1) },
 }
 

@@ -14,6 +14,7 @@ use atomic_table::{Refused, Table};
 use plfs_types::NoMemory;
 use std::alloc::{AllocFailed, Global};
 use std::snapshot::Snapshot;
+use std::sync::Mutex;
 
 // The object that lay in the slot.
 fn taken_out<O: Object>(resting: Slot<O>) -> O
@@ -41,7 +42,10 @@ impl<O: Object> Turn<O> {
             return Err((taken_out(value), NoMemory));
         }
         match Table::new(alloc, &[0, 0], slots, &about) {
-            Ok((table, seat)) => Ok((Lock { table }, Numbered { seat, number: None })),
+            Ok((table, seat)) => {
+                let gate = Mutex::new(());
+                Ok((Lock { table, gate }, Numbered { seat, number: None }))
+            }
             Err(Refused { mut slots }) => {
                 let Some(value) = slots.pop() else {
                     unreachable!()
@@ -64,7 +68,7 @@ impl<O: Object> Turn<O> {
         ensures whole { IsWhole (front pass) }
         ensures apart { AreApart (as_ended (mine_of pass) ++ ended_of pass) }
     {
-        let Lock { table } = self;
+        let Lock { table, gate: _ } = self;
         let Numbered { seat, number: _ } = pass;
         let mut closed = table.close_with(seat);
         let resting = closed.take(0);
