@@ -98,14 +98,24 @@ impl Stage {
         ensures fewer { calls_left result < calls_left self }
     {
         match self {
-            Stage::Finding(_) => match room_in(&reply) {
-                Some(room) => Stage::Holding(room),
-                None => Stage::Ended(Err(failure(&reply))),
-            },
-            Stage::Holding(room) => match holder_in(&reply) {
-                Some(holder) => Stage::ListingMetadata { room, holder },
-                None => Stage::Ended(Err(failure(&reply))),
-            },
+            Stage::Finding(_) => {
+                let found = room_in(&reply);
+                let why = failure(&reply);
+                drop(reply);
+                match found {
+                    Some(room) => Stage::Holding(room),
+                    None => Stage::Ended(Err(why)),
+                }
+            }
+            Stage::Holding(room) => {
+                let held = holder_in(&reply);
+                let why = failure(&reply);
+                drop(reply);
+                match held {
+                    Some(holder) => Stage::ListingMetadata { room, holder },
+                    None => Stage::Ended(Err(why)),
+                }
+            }
             Stage::ListingMetadata { room, holder } => match top_of_metadata(reply) {
                 Ok(top) => Stage::ListingTruncs { room, holder, top },
                 Err(why) => Stage::Releasing {
@@ -120,12 +130,20 @@ impl Stage {
                     outcome: Err(why),
                 },
             },
-            Stage::Marking { holder, .. } => Stage::Releasing {
-                holder,
-                outcome: marked(&reply),
-            },
-            Stage::Releasing { outcome, .. } => Stage::Ended(released(outcome, &reply)),
-            Stage::Ended(outcome) => Stage::Ended(outcome),
+            Stage::Marking { holder, .. } => {
+                let outcome = marked(&reply);
+                drop(reply);
+                Stage::Releasing { holder, outcome }
+            }
+            Stage::Releasing { outcome, .. } => {
+                let outcome = released(outcome, &reply);
+                drop(reply);
+                Stage::Ended(outcome)
+            }
+            Stage::Ended(outcome) => {
+                drop(reply);
+                Stage::Ended(outcome)
+            }
         }
     }
 }
