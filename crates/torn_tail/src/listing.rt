@@ -27,9 +27,13 @@ fn entries_in(alloc: Global, names: &[Name]) -> Result<Result<OpenEntryList, Stu
     let mut list = Vec::new(alloc);
     for name in names {
         let Some(entry) = open_in(*name) else {
+            drop(list);
             return Ok(Err(damage(&file_in(*name), 0)));
         };
-        list.push(entry)?;
+        let Ok(()) = list.push(entry) else {
+            drop(list);
+            return Err(NoMemory);
+        };
     }
     Ok(Ok(OpenEntryList::from_vec(list)))
 }

@@ -140,11 +140,17 @@ fn goes_on(underway: Underway, after: After) -> Result<Stage, NoMemory>
             entry,
             step,
         })),
-        After::Is(Err(why)) => Ok(Stage::Ended(Err(why))),
-        After::Is(Ok(fate)) => {
-            note(&mut sofar, entry, fate)?;
-            Ok(next_stage(room, rest, sofar))
+        After::Is(Err(why)) => {
+            drop((rest, sofar));
+            Ok(Stage::Ended(Err(why)))
         }
+        After::Is(Ok(fate)) => match note(&mut sofar, entry, fate) {
+            Ok(()) => Ok(next_stage(room, rest, sofar)),
+            Err(why) => {
+                drop((rest, sofar));
+                Err(why)
+            }
+        },
     }
 }
 
@@ -211,24 +217,37 @@ impl Stage {
         ensures fewer { IfOk result (λ stage. calls_left stage < calls_left self) }
     {
         match self {
-            Stage::Finding(_) => Ok(match room_in(&reply) {
-                Some(room) => Stage::ListingOpen(room),
-                None => Stage::Ended(Err(failure(&reply))),
-            }),
+            Stage::Finding(_) => {
+                let found = room_in(&reply);
+                let why = failure(&reply);
+                drop(reply);
+                Ok(match found {
+                    Some(room) => Stage::ListingOpen(room),
+                    None => Stage::Ended(Err(why)),
+                })
+            }
             Stage::ListingOpen(room) => {
                 if is_no_folder(&reply) {
+                    drop(reply);
                     return Ok(Stage::MendingHold(room));
                 }
                 let found = listed(alloc, reply)?;
                 begun(alloc, room, found)
             }
-            Stage::MendingHold(_) => Ok(Stage::Ended(hold_mended(alloc, &reply))),
+            Stage::MendingHold(_) => {
+                let mended = hold_mended(alloc, &reply);
+                drop(reply);
+                Ok(Stage::Ended(mended))
+            }
             Stage::Underway(underway) => {
                 let after = underway.step.after(underway.room, underway.entry, reply);
                 let next = goes_on(underway, after)?;
                 Ok(next)
             }
-            Stage::Ended(outcome) => Ok(Stage::Ended(outcome)),
+            Stage::Ended(outcome) => {
+                drop(reply);
+                Ok(Stage::Ended(outcome))
+            }
         }
     }
 }
@@ -249,7 +268,8 @@ impl Flow for RecoverFlow {
             return Err(NoMemory);
         }
         let stage = mem::replace(&mut self.stage, Stage::Ended(Err(Stuck::Fault)));
-        self.stage = stage.after(self.alloc, reply)?;
+        let stage = stage.after(self.alloc, reply)?;
+        drop(mem::replace(&mut self.stage, stage));
         Ok(())
     }
 

@@ -116,17 +116,19 @@ impl Step {
         ensures goes_on { after_program room entry result ≡ replied (rest_of (ready (step_program room entry self))) reply }
         ensures fewer { after_calls result < step_calls self }
     {
-        match self {
+        let after = match self {
+            Step::Entries(reads) => return after_read(entry, reads, reply),
             Step::Inspect => if_done(Step::Index, &reply),
             Step::Index => after_index(entry, &reply),
             Step::Log(told) => after_log(entry, told, &reply),
-            Step::Entries(reads) => after_read(entry, reads, reply),
             Step::Mend(counted) => if_done(kept(counted), &reply),
             Step::SyncLog(landed) => if_synced(Step::SyncIndex(landed), &reply),
             Step::SyncIndex(landed) => if_synced(Step::Meta(landed), &reply),
             Step::Meta(landed) => if_done(Step::Bury(landed.counted.run.cover.count), &reply),
             Step::Bury(count) => if_buried(count, &reply),
-        }
+        };
+        drop(reply);
+        after
     }
 }
 
