@@ -80,10 +80,15 @@ impl Stage {
         ensures fewer { IfOk result (λ stage. calls_left stage < calls_left self) }
     {
         match self {
-            Stage::Finding(_) => Ok(match room_in(&reply) {
-                Some(room) => Stage::ListingOpen(room),
-                None => Stage::Ended(Err(failure(&reply))),
-            }),
+            Stage::Finding(_) => {
+                let found = room_in(&reply);
+                let why = failure(&reply);
+                drop(reply);
+                Ok(match found {
+                    Some(room) => Stage::ListingOpen(room),
+                    None => Stage::Ended(Err(why)),
+                })
+            }
             Stage::ListingOpen(room) => Ok(match is_open(reply) {
                 Ok(true) => Stage::Ended(Ok(AttrOut::MustMerge { room })),
                 Ok(false) => Stage::ListingMetadata(room),
@@ -93,11 +98,24 @@ impl Stage {
                 Ok(metas) => Stage::ListingTruncs { room, metas },
                 Err(why) => Stage::Ended(Err(why)),
             }),
-            Stage::ListingTruncs { metas, .. } => Ok(match listed_truncs(alloc, reply)? {
-                Ok(listed) => Stage::Ended(Ok(AttrOut::Cached(cached(alloc, metas, listed)?))),
-                Err(why) => Stage::Ended(Err(why)),
-            }),
-            Stage::Ended(outcome) => Ok(Stage::Ended(outcome)),
+            Stage::ListingTruncs { metas, .. } => match listed_truncs(alloc, reply) {
+                Ok(Ok(listed)) => {
+                    let attr = cached(alloc, metas, listed)?;
+                    Ok(Stage::Ended(Ok(AttrOut::Cached(attr))))
+                }
+                Ok(Err(why)) => {
+                    drop(metas);
+                    Ok(Stage::Ended(Err(why)))
+                }
+                Err(why) => {
+                    drop(metas);
+                    Err(why)
+                }
+            },
+            Stage::Ended(outcome) => {
+                drop(reply);
+                Ok(Stage::Ended(outcome))
+            }
         }
     }
 }
@@ -118,7 +136,8 @@ impl Flow for AttrFlow {
             return Err(NoMemory);
         }
         let stage = mem::replace(&mut self.stage, Stage::Ended(Err(Stuck::Fault)));
-        self.stage = stage.after(self.alloc, reply)?;
+        let stage = stage.after(self.alloc, reply)?;
+        drop(mem::replace(&mut self.stage, stage));
         Ok(())
     }
 

@@ -36,6 +36,7 @@ pub(crate) fn is_open(reply: Reply) -> Result<bool, Stuck>
     ensures { result ≡ is_open_by reply }
 {
     if is_no_folder(&reply) {
+        drop(reply);
         return Ok(false);
     }
     let why = trouble(&file_in(openhosts(), Name::empty()), &reply);
@@ -51,9 +52,13 @@ fn metadata_in(alloc: Global, names: &[Name]) -> Result<Result<MetadataList, Stu
     let mut list = Vec::new(alloc);
     for name in names {
         let Some(meta) = meta_in(*name) else {
+            drop(list);
             return Ok(Err(damage(&file_in(metadata(), *name), 0)));
         };
-        list.push(meta)?;
+        let Ok(()) = list.push(meta) else {
+            drop(list);
+            return Err(NoMemory);
+        };
     }
     Ok(Ok(MetadataList::from_vec(list)))
 }
@@ -64,9 +69,13 @@ fn truncs_in(alloc: Global, names: &[Name]) -> Result<Result<TruncList, Stuck>, 
     let mut list = Vec::new(alloc);
     for name in names {
         let Some(trunc) = trunc_in(*name) else {
+            drop(list);
             return Ok(Err(damage(&file_in(truncs(), *name), 0)));
         };
-        list.push(trunc)?;
+        let Ok(()) = list.push(trunc) else {
+            drop(list);
+            return Err(NoMemory);
+        };
     }
     Ok(Ok(TruncList::from_vec(list)))
 }
