@@ -45,7 +45,8 @@ impl AllRead {
     {
         let gathered = gather(alloc, self.listed.take(), self.shares, self.truncs)?;
         let _merged = gathered.flat.pieces.as_slice();
-        let attr = attr_of(alloc, &gathered.flat, &gathered.truncs)?;
-        Ok(attr)
+        let attr = attr_of(alloc, &gathered.flat, &gathered.truncs);
+        drop(gathered);
+        attr
     }
 }

@@ -77,9 +77,21 @@ impl Gathering {
                 shares: sofar,
             });
         }
-        let share = dealt(alloc, listed.get().droppings.as_slice(), workers, worker)?;
+        let share = match dealt(alloc, listed.get().droppings.as_slice(), workers, worker) {
+            Ok(share) => share,
+            Err(why) => {
+                drop((listed, sofar));
+                return Err(why);
+            }
+        };
         let _count = share.as_slice().len();
-        let covers = copied(alloc, listed.get().flat.covers.as_slice())?;
+        let covers = match copied(alloc, listed.get().flat.covers.as_slice()) {
+            Ok(covers) => covers,
+            Err(why) => {
+                drop((listed, share, sofar));
+                return Err(why);
+            }
+        };
         let flow = ShareRead::new(alloc, listed.get().room, share, covers);
         Ok(Gathering::Shares {
             flow,
@@ -108,10 +120,16 @@ impl Gathering {
                 let mut sofar = sofar;
                 match flow.out() {
                     Ok(share) => {
-                        sofar.push(share)?;
+                        if let Err(why) = sofar.push(share) {
+                            drop((listed, sofar));
+                            return Err(why);
+                        }
                         Gathering::on(alloc, listed, workers, worker, sofar)
                     }
-                    Err(because) => Ok(Gathering::Ended(Err(because))),
+                    Err(because) => {
+                        drop((listed, sofar));
+                        Ok(Gathering::Ended(Err(because)))
+                    }
                 }
             }
             Gathering::Truncs {
@@ -124,7 +142,10 @@ impl Gathering {
                     shares,
                     truncs,
                 }))),
-                Err(because) => Ok(Gathering::Ended(Err(because))),
+                Err(because) => {
+                    drop((listed, shares));
+                    Ok(Gathering::Ended(Err(because)))
+                }
             },
             Gathering::Ended(_) => unreachable!(),
         }
