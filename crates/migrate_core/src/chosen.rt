@@ -28,9 +28,13 @@ fn metas_in(alloc: Global, names: &[Name]) -> Result<Result<MetadataList, Stuck>
     let mut list = Vec::new(alloc);
     for name in names {
         let Some(meta) = meta_in(*name) else {
+            drop(list);
             return Ok(Err(damage(&file_in(*name), 0)));
         };
-        list.push(meta)?;
+        let Ok(()) = list.push(meta) else {
+            drop(list);
+            return Err(NoMemory);
+        };
     }
     Ok(Ok(MetadataList::from_vec(list)))
 }

@@ -161,9 +161,14 @@ fn after_listing(
 {
     let listing = match listing {
         Ok(listing) => listing,
-        Err(why) => return Ok(Stage::Ended(Err(why))),
+        Err(why) => {
+            drop(metas);
+            return Ok(Stage::Ended(Err(why)));
+        }
     };
-    let rest = counted(chosen(alloc, listing.droppings.as_slice(), metas)?);
+    let chosen = chosen(alloc, listing.droppings.as_slice(), metas);
+    drop(listing);
+    let rest = counted(chosen?);
     Ok(next_stage(room, rest, nothing()))
 }
 
@@ -180,7 +185,10 @@ fn scans_on(
 {
     let metas = match listed {
         Ok(metas) => metas,
-        Err(why) => return Ok(Stage::Ended(Err(why))),
+        Err(why) => {
+            drop(scan);
+            return Ok(Stage::Ended(Err(why)));
+        }
     };
     match scan.get() {
         AfterOpen::GoesOn(scan) => Ok(Stage::Scanning { room, scan, metas }),
@@ -248,7 +256,13 @@ fn give_look(scan: OpenRead) -> Result<(OpenRead, Option<Call>), NoMemory>
     ensures left { IfOk result (λ given. open_calls_left given.0 ≡ open_calls_left scan) }
 {
     let mut scan = scan;
-    let asked = scan.next()?;
+    let asked = match scan.next() {
+        Ok(asked) => asked,
+        Err(why) => {
+            drop(scan);
+            return Err(why);
+        }
+    };
     Ok((scan, asked))
 }
 
@@ -312,18 +326,29 @@ impl Stage {
         ensures underway { IfOk result IsUnderway }
     {
         match self {
-            Stage::Finding(_) => Ok(match room_in(&reply) {
-                Some(room) => Stage::Top(room),
-                None => Stage::Ended(Err(failure(&reply))),
-            }),
-            Stage::Top(room) => after_top(alloc, room, reply),
-            Stage::Metadata { room, scan } => {
-                let found = listed(alloc, reply)?;
-                scans_on(alloc, room, scan, found)
+            Stage::Finding(_) => {
+                let found = room_in(&reply);
+                let why = failure(&reply);
+                drop(reply);
+                Ok(match found {
+                    Some(room) => Stage::Top(room),
+                    None => Stage::Ended(Err(why)),
+                })
             }
+            Stage::Top(room) => after_top(alloc, room, reply),
+            Stage::Metadata { room, scan } => match listed(alloc, reply) {
+                Ok(found) => scans_on(alloc, room, scan, found),
+                Err(why) => {
+                    drop(scan);
+                    Err(why)
+                }
+            },
             Stage::Scanning { room, scan, metas } => after_scan(alloc, room, scan, metas, reply),
             Stage::Underway(current) => after_step(alloc, current, reply),
-            Stage::Ended(outcome) => Ok(Stage::Ended(outcome)),
+            Stage::Ended(outcome) => {
+                drop(reply);
+                Ok(Stage::Ended(outcome))
+            }
         }
     }
 }

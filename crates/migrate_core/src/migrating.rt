@@ -70,7 +70,8 @@ impl Flow for MigrateFlow {
     }
 
     fn out(self) -> Result<Migrated, Stuck> {
-        match self.stage {
+        let MigrateFlow { stage, .. } = self;
+        match stage {
             Stage::Ended(outcome) => outcome,
             _ => unreachable!(),
         }

@@ -133,18 +133,44 @@ impl Step {
         ensures fewer { IfOk result (λ after. after_calls after < step_calls self) }
     {
         match self {
-            Step::Measure => Ok(after_length(alloc, meta, &reply)),
-            Step::Read(reads) => after_read(alloc, meta, reads, reply),
-            Step::Start(packing) => Ok(match flat_in(&reply) {
-                Some(flat) => After::GoesOn(Step::Putting(flat, packing)),
-                None => After::Is(Err(failure(&reply))),
-            }),
-            Step::Putting(flat, packing) => {
-                Ok(if_done(Step::Sync(flat, packing.packed), &reply))
+            Step::Measure => {
+                let after = after_length(alloc, meta, &reply);
+                drop(reply);
+                Ok(after)
             }
-            Step::Put(flat, packed) => Ok(if_done(Step::Sync(flat, packed), &reply)),
-            Step::Sync(flat, packed) => Ok(if_done(Step::Install(flat, packed), &reply)),
-            Step::Install(_, packed) => Ok(if_installed(packed, &reply)),
+            Step::Read(reads) => after_read(alloc, meta, reads, reply),
+            Step::Start(packing) => {
+                let begun = flat_in(&reply);
+                let why = failure(&reply);
+                drop(reply);
+                match begun {
+                    Some(flat) => Ok(After::GoesOn(Step::Putting(flat, packing))),
+                    None => {
+                        drop(packing);
+                        Ok(After::Is(Err(why)))
+                    }
+                }
+            }
+            Step::Putting(flat, packing) => {
+                let after = if_done(Step::Sync(flat, packing.packed), &reply);
+                drop((packing, reply));
+                Ok(after)
+            }
+            Step::Put(flat, packed) => {
+                let after = if_done(Step::Sync(flat, packed), &reply);
+                drop(reply);
+                Ok(after)
+            }
+            Step::Sync(flat, packed) => {
+                let after = if_done(Step::Install(flat, packed), &reply);
+                drop(reply);
+                Ok(after)
+            }
+            Step::Install(_, packed) => {
+                let after = if_installed(packed, &reply);
+                drop(reply);
+                Ok(after)
+            }
         }
     }
 }
@@ -156,7 +182,10 @@ fn if_done(next: Step, reply: &Reply) -> After
 {
     match reply {
         Reply::Done => After::GoesOn(next),
-        _ => After::Is(Err(failure(reply))),
+        _ => {
+            drop(next);
+            After::Is(Err(failure(reply)))
+        }
     }
 }
 
@@ -205,12 +234,14 @@ fn after_read(alloc: Global, meta: Metadata, reads: Reads, reply: Reply) -> Resu
 {
     let why = trouble(&index_path(meta), &reply);
     let Some(bytes) = bytes_in(reply) else {
+        drop(reads);
         return Ok(After::Is(Err(why)));
     };
     let asked = next_read(reads.left);
     let left = reads.left - asked;
-    let went = reads.tail.checked(asked, bytes.as_slice())?;
-    let after = read_on(alloc, meta, left, went)?;
+    let went = reads.tail.checked(asked, bytes.as_slice());
+    drop(bytes);
+    let after = read_on(alloc, meta, left, went?)?;
     Ok(after)
 }
 
