@@ -38,7 +38,13 @@ fn look_on(scan: OpenRead) -> Result<(OpenRead, Option<Call>), NoMemory>
     ensures left { IfOk result (λ given. open_calls_left given.0 ≡ open_calls_left scan) }
 {
     let mut scan = scan;
-    let asked = scan.next()?;
+    let asked = match scan.next() {
+        Ok(asked) => asked,
+        Err(why) => {
+            drop(scan);
+            return Err(why);
+        }
+    };
     Ok((scan, asked))
 }
 

@@ -88,7 +88,7 @@ impl Flow for InstallFlow {
     fn next(&mut self) -> Result<Option<Call>, NoMemory> {
         let stage = mem::replace(&mut self.stage, Stage::Ended(Err(Stuck::Fault)));
         let (stage, call) = stage.give(self.room, self.flat)?;
-        self.stage = stage;
+        drop(mem::replace(&mut self.stage, stage));
         Ok(call)
     }
 
@@ -97,12 +97,14 @@ impl Flow for InstallFlow {
             return Err(NoMemory);
         }
         let stage = mem::replace(&mut self.stage, Stage::Ended(Err(Stuck::Fault)));
-        self.stage = stage.after(self.alloc, self.room, self.flat, reply)?;
+        let stage = stage.after(self.alloc, self.room, self.flat, reply)?;
+        drop(mem::replace(&mut self.stage, stage));
         Ok(())
     }
 
     fn out(self) -> Result<(), Stuck> {
-        match self.stage {
+        let InstallFlow { stage, .. } = self;
+        match stage {
             Stage::Ended(outcome) => outcome,
             _ => unreachable!(),
         }

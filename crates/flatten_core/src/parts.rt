@@ -187,8 +187,13 @@ fn after_scan(
     ensures underway { IfOk result IsPartUnderway }
 {
     let mut scan = scan;
-    scan.take(reply)?;
-    list_on(alloc, started, scan)
+    match scan.take(reply) {
+        Ok(()) => list_on(alloc, started, scan),
+        Err(why) => {
+            drop(scan);
+            Err(why)
+        }
+    }
 }
 
 /// Goes on with the listing, unless there was a trouble.
@@ -329,19 +334,29 @@ impl Part {
         ensures underway { IfOk result IsPartUnderway }
     {
         match self {
-            Part::Beginning(stage) => Ok(after_start(alloc, stage, &reply)),
+            Part::Beginning(stage) => {
+                let part = after_start(alloc, stage, &reply);
+                drop(reply);
+                Ok(part)
+            }
             Part::Listing { scan, started } => after_scan(alloc, started, scan, reply),
             Part::Gathering {
+                call,
                 gathering,
                 started,
-                ..
-            } => after_call(alloc, started, gathering, reply),
+            } => {
+                drop(call);
+                after_call(alloc, started, gathering, reply)
+            }
             Part::Ending {
                 stage,
                 started,
                 told,
             } => after_end(alloc, stage, started, told, reply),
-            Part::Ended(outcome) => Ok(Part::Ended(outcome)),
+            Part::Ended(outcome) => {
+                drop(reply);
+                Ok(Part::Ended(outcome))
+            }
         }
     }
 }

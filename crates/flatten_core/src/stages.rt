@@ -79,14 +79,23 @@ fn after_listing(
 {
     let listing = match listing {
         Ok(listing) => listing,
-        Err(why) => return Ok(Stage::Ended(Err(why))),
+        Err(why) => {
+            drop((covers, bytes));
+            return Ok(Stage::Ended(Err(why)));
+        }
     };
-    let found = covered(alloc, listing.droppings.as_slice(), covers.as_slice())?;
+    let found = covered(alloc, listing.droppings.as_slice(), covers.as_slice());
+    drop((listing, covers));
     match found {
-        Ok(droppings) => Ok(next_dropping(Queue::of(droppings), bytes)),
-        Err(place) => {
+        Ok(Ok(droppings)) => Ok(next_dropping(Queue::of(droppings), bytes)),
+        Ok(Err(place)) => {
+            drop(bytes);
             let why = damage(&print(&Item::Flat { id: flat }), place);
             Ok(Stage::Ended(Err(why)))
+        }
+        Err(why) => {
+            drop(bytes);
+            Err(why)
         }
     }
 }
@@ -101,7 +110,13 @@ fn give_look(scan: OpenRead) -> Result<(OpenRead, Option<Call>), NoMemory>
     ensures left { IfOk result (λ given. open_calls_left given.0 ≡ open_calls_left scan) }
 {
     let mut scan = scan;
-    let asked = scan.next()?;
+    let asked = match scan.next() {
+        Ok(asked) => asked,
+        Err(why) => {
+            drop(scan);
+            return Err(why);
+        }
+    };
     Ok((scan, asked))
 }
 
@@ -184,7 +199,10 @@ fn if_done(next: Stage, reply: &Reply) -> Stage
 {
     match reply {
         Reply::Done => next,
-        _ => Stage::Ended(Err(failure(reply))),
+        _ => {
+            drop(next);
+            Stage::Ended(Err(failure(reply)))
+        }
     }
 }
 
@@ -282,21 +300,47 @@ impl Stage {
                 dropping,
                 rest,
                 bytes,
-            } => Ok(if_done(
-                Stage::SyncingIndex {
-                    dropping,
-                    rest,
-                    bytes,
-                },
-                &reply,
-            )),
-            Stage::SyncingIndex { rest, bytes, .. } => {
-                Ok(if_done(next_dropping(rest, bytes), &reply))
+            } => {
+                let next = if_done(
+                    Stage::SyncingIndex {
+                        dropping,
+                        rest,
+                        bytes,
+                    },
+                    &reply,
+                );
+                drop(reply);
+                Ok(next)
             }
-            Stage::Putting(_) | Stage::Put => Ok(if_done(Stage::SyncingFlat, &reply)),
-            Stage::SyncingFlat => Ok(if_done(Stage::Installing, &reply)),
-            Stage::Installing => Ok(Stage::Ended(done_or(&reply))),
-            Stage::Ended(outcome) => Ok(Stage::Ended(outcome)),
+            Stage::SyncingIndex { rest, bytes, .. } => {
+                let next = if_done(next_dropping(rest, bytes), &reply);
+                drop(reply);
+                Ok(next)
+            }
+            Stage::Putting(bytes) => {
+                let next = if_done(Stage::SyncingFlat, &reply);
+                drop((bytes, reply));
+                Ok(next)
+            }
+            Stage::Put => {
+                let next = if_done(Stage::SyncingFlat, &reply);
+                drop(reply);
+                Ok(next)
+            }
+            Stage::SyncingFlat => {
+                let next = if_done(Stage::Installing, &reply);
+                drop(reply);
+                Ok(next)
+            }
+            Stage::Installing => {
+                let outcome = done_or(&reply);
+                drop(reply);
+                Ok(Stage::Ended(outcome))
+            }
+            Stage::Ended(outcome) => {
+                drop(reply);
+                Ok(Stage::Ended(outcome))
+            }
         }
     }
 }

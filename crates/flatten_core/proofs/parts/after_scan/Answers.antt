@@ -16,13 +16,13 @@ use Rattle.flatten_core.proofs.FollowLemmas.{ok_so}
 use Rattle.flatten_core.proofs.PartLemmas.{reply_then}
 use Rattle.flatten_core.proofs.parts.after_scan.Goals as goal
 
-pub returns-clause-goes_on : goal.returns-clause-goes_on
-returns-clause-goes_on c =
+pub returns-in-Ok-clause-goes_on : goal.returns-in-Ok-clause-goes_on
+returns-in-Ok-clause-goes_on c =
     ok_so
     (λ (part : Part). parted part ≡ then_on (open_standing c.take.new.self) (on_ok (gathers c.args.started)))
     (λ (part : Part). parted part ≡ ready (replied (rest_of (parted (Listing c.args.scan c.args.started))) c.args.reply))
     c.list_on.result
     (λ part h. h
-    ∙ ap (λ (s : Standing Call Reply (Result Listed Stuck)). then_on s (on_ok (gathers c.args.started))) c.in_ok-take.ensures.goes_on
+    ∙ ap (λ (s : Standing Call Reply (Result Listed Stuck)). then_on s (on_ok (gathers c.args.started))) c.in-Ok.ensures.goes_on
     ∙ ap ready (reply_then (on_ok (gathers c.args.started)) (open_standing c.args.scan) c.args.reply c.requires))
     c.list_on.ensures.goes_on
