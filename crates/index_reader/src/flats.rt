@@ -73,10 +73,14 @@ fn if_read(alloc: Global, id: u64, part: AfterPart) -> Result<AfterFlat, NoMemor
             step: FlatStep::Bytes(read),
         })),
         AfterPart::Is(Err(why)) => Ok(AfterFlat::Is(Err(why))),
-        AfterPart::Is(Ok(bytes)) => match told(alloc, bytes.as_slice())? {
-            Ok(flat) => Ok(AfterFlat::Is(Ok(flat))),
-            Err(place) => Ok(AfterFlat::Is(Err(damage(&flat_path(id), place)))),
-        },
+        AfterPart::Is(Ok(bytes)) => {
+            let told = told(alloc, bytes.as_slice());
+            drop(bytes);
+            match told? {
+                Ok(flat) => Ok(AfterFlat::Is(Ok(flat))),
+                Err(place) => Ok(AfterFlat::Is(Err(damage(&flat_path(id), place)))),
+            }
+        }
     }
 }
 
@@ -140,8 +144,11 @@ fn after_length(alloc: Global, id: u64, reply: Reply) -> Result<AfterFlat, NoMem
 {
     let path = flat_path(id);
     let Some(told) = number_in(&reply) else {
-        return Ok(AfterFlat::Is(Err(trouble(&path, &reply))));
+        let why = trouble(&path, &reply);
+        drop(reply);
+        return Ok(AfterFlat::Is(Err(why)));
     };
+    drop(reply);
     let room = Vec::with_capacity(alloc, told as usize)?;
     let bytes = Bytes::from_vec(room);
     let part = read_on(path, told, told, bytes);

@@ -1,6 +1,6 @@
 //! What comes of a listing and the shares of its droppings.
-ghost use Rattle.std.specs.Prelude.{◌≡◌, ◌++◌, ℕ, IfOk, OnOk};
-ghost use Rattle.index_reader.specs.Gathered.{covers_of, pieces_of_each, IsGatheredOf, IsJoinedOf};
+ghost use Rattle.std.specs.Prelude.{◌≡◌, ◌++◌, ◌∷◌, ℕ, IfOk, OnOk};
+ghost use Rattle.index_reader.specs.Gathered.{covers_of, pieces_of_each, AreFirstOf, ArePiecesOfAll, IsGatheredOf, IsJoinedOf};
 
 use crate::firsts::first_covers;
 use crate::listing::{DroppingList, Listing};
@@ -47,6 +47,42 @@ fn add_parts(
     Ok(())
 }
 
+/// The index of these shares and a flattened one: of each writer the cover of its share, or else the flattened index's,
+/// and the pieces of all.
+fn one_index(alloc: Global, flat: Flat, shares: ShareList) -> Result<Flat, NoMemory>
+    ensures covers { IfOk result (λ made. AreFirstOf (covers_of shares ++ flat.covers) made.covers) }
+    ensures pieces { IfOk result (λ made. ArePiecesOfAll (flat.pieces ∷ pieces_of_each shares) made.pieces) }
+{
+    let Flat {
+        covers: covered,
+        pieces,
+    } = flat;
+    let mut covers = Vec::new(alloc);
+    let mut lists = PiecesList::new(alloc);
+    if let Err(why) = lists.push(pieces) {
+        drop((covered, covers, lists, shares));
+        return Err(why);
+    }
+    if let Err(why) = add_parts(&mut covers, &mut lists, shares) {
+        drop((covered, covers, lists));
+        return Err(why);
+    }
+    let added = covers.extend_from_slice(covered.as_slice());
+    drop(covered);
+    let Ok(()) = added else {
+        drop((covers, lists));
+        return Err(NoMemory);
+    };
+    let first = first_covers(alloc, covers.as_slice());
+    drop(covers);
+    let Ok(covers) = first else {
+        drop(lists);
+        return Err(NoMemory);
+    };
+    let pieces = merge_all(alloc, lists)?;
+    Ok(Flat { covers, pieces })
+}
+
 /// What was gathered by these shares of a listing's droppings, and these truncates: of each writer the cover of its share,
 /// or else the listing's, and the pieces of all. Of two covers of one writer the first counts. A share in which several
 /// were joined may stand for them.
@@ -63,23 +99,18 @@ pub fn gather(
         droppings,
         flat,
     } = listing;
-    let Flat {
-        covers: covered,
-        pieces,
-    } = flat;
-    let mut covers = Vec::new(alloc);
-    let mut lists = PiecesList::new(alloc);
-    lists.push(pieces)?;
-    add_parts(&mut covers, &mut lists, shares)?;
-    covers.extend_from_slice(covered.as_slice())?;
-    let covers = first_covers(alloc, covers.as_slice())?;
-    let pieces = merge_all(alloc, lists)?;
-    Ok(Gathered {
-        room,
-        flat: Flat { covers, pieces },
-        droppings,
-        truncs,
-    })
+    match one_index(alloc, flat, shares) {
+        Ok(flat) => Ok(Gathered {
+            room,
+            flat,
+            droppings,
+            truncs,
+        }),
+        Err(why) => {
+            drop((droppings, truncs));
+            Err(why)
+        }
+    }
 }
 
 /// One share of these shares, whose pieces are merged by up to so many threads: a cover of each writer that one of them
@@ -94,8 +125,16 @@ pub fn join_shares<R: Threads + Sync>(
 {
     let mut covers = Vec::new(alloc);
     let mut lists = PiecesList::new(alloc);
-    add_parts(&mut covers, &mut lists, shares)?;
-    let covers = first_covers(alloc, covers.as_slice())?;
+    if let Err(why) = add_parts(&mut covers, &mut lists, shares) {
+        drop((covers, lists));
+        return Err(why);
+    }
+    let first = first_covers(alloc, covers.as_slice());
+    drop(covers);
+    let Ok(covers) = first else {
+        drop(lists);
+        return Err(NoMemory);
+    };
     let pieces = merge_on(rt, alloc, lists, workers)?;
     Ok(Share { covers, pieces })
 }

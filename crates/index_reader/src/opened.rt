@@ -66,7 +66,13 @@ impl OpenReader {
         } = gathered;
         let Flat { covers, pieces } = flat;
         let size = size(&pieces, truncs.as_slice());
-        let clipped = clipped(alloc, pieces, truncs.as_slice())?;
+        let clipped = match clipped(alloc, pieces, truncs.as_slice()) {
+            Ok(clipped) => clipped,
+            Err(why) => {
+                drop((covers, droppings, truncs));
+                return Err(why);
+            }
+        };
         Ok(OpenReader {
             room,
             droppings: Droppings::of(droppings),

@@ -160,9 +160,12 @@ fn after_find(name: LogicalName, reply: Reply) -> Stage
     ensures goes_on { open_left result ≡ replied (rest_of (ready (open_read_program name))) reply }
     ensures fewer { open_calls result < 2 ^ 64 + 60 }
 {
-    match room_in(&reply) {
+    let found = room_in(&reply);
+    let why = trouble(&file_in(Name::empty(), Name::empty()), &reply);
+    drop(reply);
+    match found {
         Some(room) => Stage::Flats { room },
-        None => Stage::Failed(trouble(&file_in(Name::empty(), Name::empty()), &reply)),
+        None => Stage::Failed(why),
     }
 }
 
@@ -175,7 +178,9 @@ fn after_flats(alloc: Global, room: u64, reply: Reply) -> Stage
     let Some(names) = names_in(reply) else {
         return Stage::Failed(why);
     };
-    match newest_in(names.as_slice()) {
+    let newest = newest_in(names.as_slice());
+    drop(names);
+    match newest {
         Err(why) => Stage::Failed(why),
         Ok(None) => Stage::Top {
             room,
@@ -273,9 +278,17 @@ fn after_top(
 {
     let why = trouble(&file_in(Name::empty(), Name::empty()), &reply);
     let Some(names) = names_in(reply) else {
+        drop(flat);
         return Ok(Stage::Failed(why));
     };
-    let shown = folders(alloc, names.as_slice())?;
+    let shown = match folders(alloc, names.as_slice()) {
+        Ok(shown) => shown,
+        Err(why) => {
+            drop((names, flat));
+            return Err(why);
+        }
+    };
+    drop(names);
     let stage = begin_scan(alloc, room, id, flat, shown)?;
     Ok(stage)
 }
@@ -293,7 +306,10 @@ fn begin_scan(
     ensures fewer { IfOk result (λ stage. open_calls stage < 40) }
 {
     match shown {
-        Err(why) => Ok(Stage::Failed(why)),
+        Err(why) => {
+            drop(flat);
+            Ok(Stage::Failed(why))
+        }
         Ok(shown) => next_folder(alloc, room, id, flat, Queue::of(shown), Scan::new(alloc)),
     }
 }

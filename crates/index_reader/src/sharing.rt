@@ -178,7 +178,7 @@ impl Flow for ShareRead {
             return Err(NoMemory);
         }
         let stage = mem::replace(&mut self.stage, Stage::Ended(Err(Stuck::Fault)));
-        self.stage = after_reply(
+        let stage = after_reply(
             self.alloc,
             self.room,
             &self.covers,
@@ -187,6 +187,7 @@ impl Flow for ShareRead {
             stage,
             reply,
         )?;
+        drop(mem::replace(&mut self.stage, stage));
         Ok(())
     }
 

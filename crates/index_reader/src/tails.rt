@@ -113,10 +113,14 @@ impl TailRead {
     {
         let path = index_path(self.dropping);
         let Some(told) = number_in(&reply) else {
-            return After::Is(Err(trouble(&path, &reply)));
+            let why = trouble(&path, &reply);
+            drop((self, reply));
+            return After::Is(Err(why));
         };
+        drop(reply);
         let whole = told / ENTRY;
         if whole < self.tail.cover.count {
+            drop(self);
             return After::Is(Err(damage(&path, told)));
         }
         After::GoesOn(DroppingRead::Entries(TailRead {
@@ -134,9 +138,13 @@ impl TailRead {
     {
         let path = log_path(self.dropping.host, self.dropping.writer);
         let Some(log) = log_length_in(&reply) else {
-            return After::Is(Err(trouble(&path, &reply)));
+            let why = trouble(&path, &reply);
+            drop((self, reply));
+            return After::Is(Err(why));
         };
+        drop(reply);
         if log < self.tail.cover.bytes {
+            drop(self);
             return After::Is(Err(damage(&path, log)));
         }
         let left = whole - self.tail.cover.count;

@@ -6,4 +6,4 @@ use Rattle.index_reader.proofs.opened.OpenReader.new.Goals as goal
 
 pub returns-clause-truncated : goal.returns-clause-truncated
 returns-clause-truncated c =
-    subst (λ (ts : List Trunc). (entries : List Entry) → ArePieces entries [] c.args.gathered.flat.pieces → ArePieces entries ts c.in_ok-clipped.clipped) c.as_slice-2.ensures c.in_ok-clipped.ensures.truncated
+    subst (λ (ts : List Trunc). (entries : List Entry) → ArePieces entries [] c.args.gathered.flat.pieces → ArePieces entries ts c.in-Ok.clipped) c.as_slice-2.ensures c.in-Ok.ensures.truncated
