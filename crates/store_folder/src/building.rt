@@ -36,7 +36,9 @@ impl<C: Calls<File = F>, F: Drop> Disk<C, F> {
         let path = join(self.alloc, self.root.as_str(), part(name)?)?;
         let value = self.rooms.len() as u64;
         self.rooms.push(*name)?;
-        if let Err(failure) = self.build_room(path.as_str(), folders, files) {
+        let built = self.build_room(path.as_str(), folders, files);
+        drop(path);
+        if let Err(failure) = built {
             self.rooms.pop();
             return Err(failure);
         }

@@ -1,16 +1,17 @@
 //! The steps of files.
-ghost use Rattle.std.specs.Prelude.{◌≡◌, ◌≤◌, ◌<◌, ◌∷◌, [], ℕ, length, None, Ok, IfOk, IfSome, OnOk, OnErr};
+ghost use Rattle.std.specs.Prelude.{◌≡◌, ◌≤◌, ◌<◌, ◌∷◌, [], ℕ, length, None, Ok, IfOk, IfSome, OnOk, OnErr, string_bytes};
 ghost use Rattle.store_api.specs.Step.{step_of};
 ghost use Rattle.std.specs.Map.{remove_entry};
 ghost use Rattle.folder_calls.specs.Calls.{Makes, looked_at, failed_calls};
 ghost use Rattle.store_folder.specs.Files.{CreatesFile, RemovesFile, ReplacesFile, FailsToOpen, OpensFile};
 ghost use Rattle.folder_calls.specs.Keys.{same_file, with_name};
-ghost use Rattle.store_folder.specs.Paths.{room_path, folder_path};
+ghost use Rattle.store_folder.specs.Paths.{room_path, folder_path, item_of};
 ghost use Rattle.folder_calls.specs.Opened.{held_at};
 ghost use Rattle.store_folder.specs.Places.{FindsFile, ActsAt, ActsOnFile};
 ghost use Rattle.store_folder.specs.Rooms.{IsStill, HasRooms, InRoom};
 
 use crate::disk::Disk;
+use crate::folders::Spot;
 use folder_calls::{Calls, Failure, FileKey, Held, Kind, join, part};
 use plfs_types::Name;
 use store_api::{Answer, Step};
@@ -31,12 +32,24 @@ impl<C: Calls<File = F>, F: Drop> Disk<C, F> {
         ensures gone { OnErr result (held_at self.new.open key.now ≡ None) }
         ensures well { IfOk result (λ _. failed_calls (C.log self.new.calls) ≡ failed_calls (C.log self.old.calls)) }
     {
-        self.open.take(key);
+        drop(self.open.take(key));
         let Some(spot) = self.spot(key.room, &key.folder)? else {
             return Ok(Answer::NoRoom);
         };
+        let answer = self.create_in(&spot, key);
+        drop(spot);
+        answer
+    }
+
+    // Adds the file to this folder.
+    fn create_in(&mut self, spot: &Spot, key: &FileKey) -> Result<Answer, Failure>
+        ensures creates { IfOk result (CreatesFile (C.log self.old.calls) (C.log self.new.calls) (string_bytes spot.now.room) (string_bytes spot.now.folder) key.now.file) }
+        ensures rooms { HasRooms self.old self.new }
+        ensures open { OnErr result (self.new.open ≡ self.old.open) }
+        ensures well { IfOk result (λ _. failed_calls (C.log self.new.calls) ≡ failed_calls (C.log self.old.calls)) }
+    {
         let path = join(self.alloc, spot.folder.as_str(), part(&key.file)?)?;
-        if !self.enter(&spot)? {
+        if !self.enter(spot)? {
             return Ok(Answer::NoFolder);
         }
         match self.calls.create(path.as_str())? {
@@ -72,12 +85,23 @@ impl<C: Calls<File = F>, F: Drop> Disk<C, F> {
         ensures gone { held_at self.new.open key.now ≡ None }
         ensures well { IfOk result (λ _. failed_calls (C.log self.new.calls) ≡ failed_calls (C.log self.old.calls)) }
     {
-        self.open.take(key);
+        drop(self.open.take(key));
         let Some(spot) = self.spot(key.room, &key.folder)? else {
             return Ok(Answer::NoRoom);
         };
-        let path = join(self.alloc, spot.folder.as_str(), part(&key.file)?)?;
-        if !self.enter(&spot)? {
+        let answer = self.remove_in(&spot, &key.file);
+        drop(spot);
+        answer
+    }
+
+    // Removes a file of this folder.
+    fn remove_in(&mut self, spot: &Spot, file: &Name) -> Result<Answer, Failure>
+        ensures removes { IfOk result (RemovesFile (C.log self.old.calls) (C.log self.new.calls) (string_bytes spot.now.room) (string_bytes spot.now.folder) file.now) }
+        ensures still { IsStill self.old self.new }
+        ensures well { IfOk result (λ _. failed_calls (C.log self.new.calls) ≡ failed_calls (C.log self.old.calls)) }
+    {
+        let path = join(self.alloc, spot.folder.as_str(), part(file)?)?;
+        if !self.enter(spot)? {
             return Ok(Answer::NoFolder);
         }
         if self.calls.remove_file(path.as_str())? {
@@ -97,29 +121,62 @@ impl<C: Calls<File = F>, F: Drop> Disk<C, F> {
         ensures gone { (held_at self.new.open from.now ≡ None) × (held_at self.new.open (with_name from.now to.now) ≡ None) }
         ensures well { IfOk result (λ _. failed_calls (C.log self.new.calls) ≡ failed_calls (C.log self.old.calls)) }
     {
-        self.open.take(from);
-        self.open.take(&FileKey {
-            room: from.room,
-            folder: from.folder,
-            file: *to,
-        });
+        drop(self.open.take(from));
+        drop(
+            self.open.take(&FileKey {
+                room: from.room,
+                folder: from.folder,
+                file: *to,
+            }),
+        );
         let Some(spot) = self.spot(from.room, &from.folder)? else {
             return Ok(Answer::NoRoom);
         };
-        let old = join(self.alloc, spot.folder.as_str(), part(&from.file)?)?;
+        let answer = self.replace_in(&spot, &from.file, to);
+        drop(spot);
+        answer
+    }
+
+    // Gives a file of this folder another name.
+    fn replace_in(&mut self, spot: &Spot, from: &Name, to: &Name) -> Result<Answer, Failure>
+        ensures replaces { IfOk result (ReplacesFile (C.log self.old.calls) (C.log self.new.calls) (string_bytes spot.now.room) (string_bytes spot.now.folder) from.now to.now) }
+        ensures still { IsStill self.old self.new }
+        ensures well { IfOk result (λ _. failed_calls (C.log self.new.calls) ≡ failed_calls (C.log self.old.calls)) }
+    {
+        let old = join(self.alloc, spot.folder.as_str(), part(from)?)?;
         let new = join(self.alloc, spot.folder.as_str(), part(to)?)?;
-        if !self.enter(&spot)? {
+        let answer = self.rename_in(spot, from, to, old.as_str(), new.as_str());
+        drop((old, new));
+        answer
+    }
+
+    // The same, by the paths of both names.
+    fn rename_in(
+        &mut self,
+        spot: &Spot,
+        from: &Name,
+        to: &Name,
+        old: &str,
+        new: &str,
+    ) -> Result<Answer, Failure>
+        requires old { old.now ≡ item_of (string_bytes spot.now.folder) from.now }
+        requires new { new.now ≡ item_of (string_bytes spot.now.folder) to.now }
+        ensures replaces { IfOk result (ReplacesFile (C.log self.old.calls) (C.log self.new.calls) (string_bytes spot.now.room) (string_bytes spot.now.folder) from.now to.now) }
+        ensures still { IsStill self.old self.new }
+        ensures well { IfOk result (λ _. failed_calls (C.log self.new.calls) ≡ failed_calls (C.log self.old.calls)) }
+    {
+        if !self.enter(spot)? {
             return Ok(Answer::NoFolder);
         }
-        match self.calls.look(old.as_str())? {
+        match self.calls.look(old)? {
             Kind::File { .. } => {}
             Kind::Absent => return Ok(Answer::Absent),
             Kind::Folder | Kind::Other => return Err(Failure::Failed),
         }
-        if from.file == *to {
+        if *from == *to {
             return Ok(Answer::Made);
         }
-        self.calls.rename(old.as_str(), new.as_str())?;
+        self.calls.rename(old, new)?;
         self.calls.sync_folder(spot.folder.as_str())?;
         Ok(Answer::Made)
     }

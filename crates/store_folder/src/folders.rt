@@ -101,7 +101,17 @@ impl<C: Calls<File = F>, F: Drop> Disk<C, F> {
         let Some(spot) = self.spot(room, folder)? else {
             return Ok(Answer::NoRoom);
         };
-        self.enter_room(&spot)?;
+        let answer = self.add_folder(&spot);
+        drop(spot);
+        answer
+    }
+
+    fn add_folder(&mut self, spot: &Spot) -> Result<Answer, Failure>
+        ensures makes { IfOk result (MakesFolder (C.log self.old.calls) (C.log self.new.calls) (string_bytes spot.now.room) (string_bytes spot.now.folder)) }
+        ensures still { IsStill self.old self.new }
+        ensures well { IfOk result (λ _. failed_calls (C.log self.new.calls) ≡ failed_calls (C.log self.old.calls)) }
+    {
+        self.enter_room(spot)?;
         if self.calls.make_folder(spot.folder.as_str())? {
             self.calls.sync_folder(spot.room.as_str())?;
             return Ok(Answer::Made);

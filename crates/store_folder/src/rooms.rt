@@ -131,13 +131,17 @@ impl<C: Calls<File = F>, F: Drop> Disk<C, F> {
             return Ok(Answer::NoRoom);
         };
         if self.number_of(to).is_some() {
+            drop(old);
             return Ok(Answer::TargetThere);
         }
         if !is_room_name(to.bytes()) {
+            drop(old);
             return Err(Failure::Failed);
         }
         let new = join(self.alloc, self.root.as_str(), part(to)?)?;
-        self.calls.rename(old.as_str(), new.as_str())?;
+        let renamed = self.calls.rename(old.as_str(), new.as_str());
+        drop((old, new));
+        renamed?;
         self.call_room(room, to);
         self.calls.sync_folder(self.root.as_str())?;
         Ok(Answer::Made)
