@@ -170,18 +170,32 @@ fn phase(alloc: Global, statements: StatementList) -> Phase
     }
 }
 
+// Puts the phases into an empty list.
+fn add_phases(alloc: Global, n: u32, phases: &mut PhaseList) -> Result<(), NoMemory>
+    requires some { 1 ≤ n }
+    requires few { n ≤ 256 }
+    requires none { phases.old ≡ [] }
+    ensures { OnOk result (phases.new ≡ (generated n).phases) }
+{
+    let writers = u64::from(n);
+    let blocks = u64::from(ROUNDS * n);
+    phases.push(phase(alloc, opens(alloc, writers + 1, n)?))?;
+    phases.push(phase(alloc, writes(alloc, 2 * writers + 2, n)?))?;
+    phases.push(phase(alloc, closes(alloc, 2 * writers + blocks + 3, n)?))?;
+    phases.push(phase(alloc, checks(alloc, 3 * writers + blocks + 4, n)?))?;
+    Ok(())
+}
+
 fn phases(alloc: Global, n: u32) -> Result<PhaseList, NoMemory>
     requires some { 1 ≤ n }
     requires few { n ≤ 256 }
     ensures { IfOk result (λ phases. phases ≡ (generated n).phases) }
 {
-    let writers = u64::from(n);
-    let blocks = u64::from(ROUNDS * n);
     let mut phases = PhaseList::new(alloc);
-    phases.push(phase(alloc, opens(alloc, writers + 1, n)?))?;
-    phases.push(phase(alloc, writes(alloc, 2 * writers + 2, n)?))?;
-    phases.push(phase(alloc, closes(alloc, 2 * writers + blocks + 3, n)?))?;
-    phases.push(phase(alloc, checks(alloc, 3 * writers + blocks + 4, n)?))?;
+    if let Err(why) = add_phases(alloc, n, &mut phases) {
+        drop(phases);
+        return Err(why);
+    }
     Ok(phases)
 }
 

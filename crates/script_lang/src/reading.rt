@@ -42,7 +42,10 @@ fn read_lines(alloc: Global, bytes: &[u8]) -> Result<Draft, ScriptTrouble>
         let (line, later) = cut(lines, b'\n');
         match draft.line(alloc, number, line) {
             Ok(()) => {}
-            Err(flaw) => return Err(trouble(number, flaw)),
+            Err(flaw) => {
+                drop(draft);
+                return Err(trouble(number, flaw));
+            }
         }
         number += 1;
         rest = later;
