@@ -72,6 +72,7 @@ impl LoneReader {
     {
         while let Some(ask) = self.actor.next()? {
             let reply = call_unowed(mount, &ask);
+            drop(ask);
             self.actor.take(reply)?;
         }
         match self.actor.line() {

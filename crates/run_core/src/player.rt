@@ -91,6 +91,7 @@ impl Player {
         while let Some(ask) = self.actor.next()? {
             let free = greets(&ask.call);
             let reply = call(mount, self.number, &ask);
+            drop(ask);
             self.actor.take(reply)?;
             if !free {
                 return Ok(true);
@@ -174,6 +175,7 @@ impl Player {
     {
         while let Some(ask) = self.actor.next()? {
             let reply = call(mount, self.number, &ask);
+            drop(ask);
             self.actor.take(reply)?;
         }
         match self.actor.line() {

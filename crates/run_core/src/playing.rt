@@ -28,7 +28,13 @@ fn cast_of(alloc: Global, actors: &[ActorDecl]) -> Result<Vec<Player>, NoMemory>
     for declared in actors {
         let number = players.len() as u64;
         let player = Player::new(alloc, number, *declared);
-        players.push(player)?;
+        match players.push(player) {
+            Ok(()) => {}
+            Err(failed) => {
+                drop((failed, players));
+                return Err(NoMemory);
+            }
+        }
     }
     Ok(players)
 }

@@ -74,6 +74,7 @@ fn drive<S: Store + Drop, C: Clock + Drop, G: Gate, W: Wait>(
         *made = made.saturating_add(1);
         gate.before(place, 0, *made);
         let reply = turn.call(rt, pass, &ask);
+        drop(ask);
         actor.take(reply)?;
     }
     match actor.line() {

@@ -12,6 +12,6 @@ pub loop-declared-preserved : goal.loop-declared-preserved
 loop-declared-preserved c =
     let i = c.loop-declared.declared-index in
     let many : c.len-number.result ≡ length c.loop-declared.players.items = search rules in
-    subst (λ (z : List Player). IsCast (take (i + 1) c.args.actors.now) z) (sym c.in_ok-push.ensures.items)
+    subst (λ (z : List Player). IsCast (take (i + 1) c.args.actors.now) z) (sym c.in-Ok.ensures.items)
     (cast_more c.args.actors.now i c.declared-item.result c.loop-declared.players.items c.new-player.result (taken_item c.args.actors.now i c.declared-item.result c.loop-declared-test.true c.declared-item.is) c.loop-declared.invariant
     (c.new-player.ensures.number ∙ many) c.new-player.ensures.progress c.new-player.ensures.queue c.new-player.ensures.ahead)

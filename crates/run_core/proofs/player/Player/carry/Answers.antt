@@ -19,20 +19,6 @@ take-requires g c = is_out c.loop-ask.self.number c.loop-ask.mount (progress_of 
 pub returns-in_err-take-clause-goes_on : goal.returns-in_err-take-clause-goes_on
 returns-in_err-take-clause-goes_on g c = went_near c.args.self.now c.loop-ask.self c.args.mount.now c.loop-ask.mount c.call-reply.new.mount c.loop-ask.invariant.so_far (went c.loop-ask.mount c.call-reply.new.mount _ c.call-reply.ensures)
 
-pub loop-ask-preserved-in_ok-take : goal.loop-ask-preserved-in_ok-take
-loop-ask-preserved-in_ok-take g c = record {
-  so_far = nearer c.args.self.now c.loop-ask.self _ c.args.mount.now c.loop-ask.mount c.call-reply.new.mount c.in-Some.ask c.call-reply.result c.loop-ask.invariant.so_far (asks_next c.loop-ask.self.number c.loop-ask.mount (progress_of c.loop-ask.self.actor) c.in-Some.ask c.loop-ask.invariant.so_far.fit.safe (sym c.in-Some.is ∙ c.in_ok-ask.ensures.ask)) c.call-reply.ensures (not_refused c.call-reply.result (λ bad. c.in_ok-take.ensures.no_memory bad))
-      (c.in_ok-take.ensures.goes_on ∙ ap (λ z. with_reply z c.call-reply.result) c.in_ok-ask.ensures.goes_on) (record { number = refl; queue = refl; ahead = refl });
-  busy = not_idle (progress_of c.take.new.self) (asks_next c.loop-ask.self.number c.loop-ask.mount (progress_of c.loop-ask.self.actor) c.in-Some.ask c.loop-ask.invariant.so_far.fit.safe (sym c.in-Some.is ∙ c.in_ok-ask.ensures.ask)).number ((asks_next c.loop-ask.self.number c.loop-ask.mount (progress_of c.loop-ask.self.actor) c.in-Some.ask c.loop-ask.invariant.so_far.fit.safe (sym c.in-Some.is ∙ c.in_ok-ask.ensures.ask)).next c.call-reply.result) (after_reply c.loop-ask.self.number c.loop-ask.mount (progress_of c.loop-ask.self.actor) c.in-Some.ask (asks_next c.loop-ask.self.number c.loop-ask.mount (progress_of c.loop-ask.self.actor) c.in-Some.ask c.loop-ask.invariant.so_far.fit.safe (sym c.in-Some.is ∙ c.in_ok-ask.ensures.ask)) (progress_of c.take.new.self) c.call-reply.result (c.in_ok-take.ensures.goes_on ∙ ap (λ z. with_reply z c.call-reply.result) c.in_ok-ask.ensures.goes_on));
-}
-
-pub loop-ask-preserved-in_ok-take-2 : goal.loop-ask-preserved-in_ok-take-2
-loop-ask-preserved-in_ok-take-2 g c = record {
-  so_far = nearer c.args.self.now c.loop-ask.self _ c.args.mount.now c.loop-ask.mount c.call-reply.new.mount c.in-Some.ask c.call-reply.result c.loop-ask.invariant.so_far (asks_next c.loop-ask.self.number c.loop-ask.mount (progress_of c.loop-ask.self.actor) c.in-Some.ask c.loop-ask.invariant.so_far.fit.safe (sym c.in-Some.is ∙ c.in_ok-ask.ensures.ask)) c.call-reply.ensures (not_refused c.call-reply.result (λ bad. c.in_ok-take.ensures.no_memory bad))
-      (c.in_ok-take.ensures.goes_on ∙ ap (λ z. with_reply z c.call-reply.result) c.in_ok-ask.ensures.goes_on) (record { number = refl; queue = refl; ahead = refl });
-  busy = not_idle (progress_of c.take.new.self) (asks_next c.loop-ask.self.number c.loop-ask.mount (progress_of c.loop-ask.self.actor) c.in-Some.ask c.loop-ask.invariant.so_far.fit.safe (sym c.in-Some.is ∙ c.in_ok-ask.ensures.ask)).number ((asks_next c.loop-ask.self.number c.loop-ask.mount (progress_of c.loop-ask.self.actor) c.in-Some.ask c.loop-ask.invariant.so_far.fit.safe (sym c.in-Some.is ∙ c.in_ok-ask.ensures.ask)).next c.call-reply.result) (after_reply c.loop-ask.self.number c.loop-ask.mount (progress_of c.loop-ask.self.actor) c.in-Some.ask (asks_next c.loop-ask.self.number c.loop-ask.mount (progress_of c.loop-ask.self.actor) c.in-Some.ask c.loop-ask.invariant.so_far.fit.safe (sym c.in-Some.is ∙ c.in_ok-ask.ensures.ask)) (progress_of c.take.new.self) c.call-reply.result (c.in_ok-take.ensures.goes_on ∙ ap (λ z. with_reply z c.call-reply.result) c.in_ok-ask.ensures.goes_on));
-}
-
 pub loop-ask-preserved : goal.loop-ask-preserved
 loop-ask-preserved g c = record {
   so_far = nearer c.args.self.now c.loop-ask.self _ c.args.mount.now c.loop-ask.mount c.call-reply.new.mount c.in-Some.ask c.call-reply.result c.loop-ask.invariant.so_far (asks_next c.loop-ask.self.number c.loop-ask.mount (progress_of c.loop-ask.self.actor) c.in-Some.ask c.loop-ask.invariant.so_far.fit.safe (sym c.in-Some.is ∙ c.in_ok-ask.ensures.ask)) c.call-reply.ensures (not_refused c.call-reply.result (λ bad. c.in_ok-take.ensures.no_memory bad))

@@ -18,16 +18,6 @@ pub take-requires : goal.take-requires
 take-requires g c =
     driven_out c.args.turn.now c.args.pass.now c.loop-ask.pass (progress_of c.args.actor.now) (progress_of c.loop-ask.actor) (progress_of c.next.new.self) c.in-Some.ask c.loop-ask.invariant (sym c.in-Some.is ∙ c.in_ok-ask.ensures.ask) c.in_ok-ask.ensures.goes_on
 
-pub loop-ask-preserved-in_ok-take : goal.loop-ask-preserved-in_ok-take
-loop-ask-preserved-in_ok-take g c =
-    driven_more c.args.turn.now c.args.pass.now c.loop-ask.pass c.call-reply.new.pass (progress_of c.args.actor.now) (progress_of c.loop-ask.actor) (progress_of c.next.new.self) (progress_of c.take.new.self) c.in-Some.ask c.call-reply.result
-    c.loop-ask.invariant (sym c.in-Some.is ∙ c.in_ok-ask.ensures.ask) c.in_ok-ask.ensures.goes_on c.call-reply.ensures.pass c.call-reply.ensures.called c.call-reply.ensures.legal (not_refused c.call-reply.result (λ bad. c.in_ok-take.ensures.no_memory bad)) c.in_ok-take.ensures.goes_on
-
-pub loop-ask-preserved-in_ok-take-2 : goal.loop-ask-preserved-in_ok-take-2
-loop-ask-preserved-in_ok-take-2 g c =
-    driven_more c.args.turn.now c.args.pass.now c.loop-ask.pass c.call-reply.new.pass (progress_of c.args.actor.now) (progress_of c.loop-ask.actor) (progress_of c.next.new.self) (progress_of c.take.new.self) c.in-Some.ask c.call-reply.result
-    c.loop-ask.invariant (sym c.in-Some.is ∙ c.in_ok-ask.ensures.ask) c.in_ok-ask.ensures.goes_on c.call-reply.ensures.pass c.call-reply.ensures.called c.call-reply.ensures.legal (not_refused c.call-reply.result (λ bad. c.in_ok-take.ensures.no_memory bad)) c.in_ok-take.ensures.goes_on
-
 pub loop-ask-preserved : goal.loop-ask-preserved
 loop-ask-preserved g c =
     driven_more c.args.turn.now c.args.pass.now c.loop-ask.pass c.call-reply.new.pass (progress_of c.args.actor.now) (progress_of c.loop-ask.actor) (progress_of c.next.new.self) (progress_of c.take.new.self) c.in-Some.ask c.call-reply.result
