@@ -18,7 +18,7 @@ use torn_tail::RecoverFlow;
 use trunc_rename::{RenameFlow, TruncFlow};
 
 impl Actor {
-    pub(crate) fn next_truncating(&mut self, mut flow: TruncFlow) -> Result<Option<Ask>, NoMemory>
+    pub(crate) fn next_truncating(&mut self, flow: TruncFlow) -> Result<Option<Ask>, NoMemory>
         requires idle { self.old.state ≡ Idle }
         requires ready { IsReady (busy self.old.number (doing_ready self.old.kept self.old.stop (Doing.Truncating flow))) }
         ensures ask { IfOk result (λ ask. ask ≡ ask_of (busy self.old.number (doing_ready self.old.kept self.old.stop (Doing.Truncating flow)))) }
@@ -26,18 +26,19 @@ impl Actor {
         ensures goes_on { OnOk result (progress_of self.new ≡ given (busy self.old.number (doing_ready self.old.kept self.old.stop (Doing.Truncating flow)))) }
         ensures left { OnOk result (calls_left self.new ≤ doing_left (Doing.Truncating flow)) }
     {
-        if let Some(ask) = next_ask(&mut flow, self.stop)? {
-            self.set(State::Asked(Doing::Truncating(flow)));
+        let (next, asked) = next_ask(flow, self.stop)?;
+        if let Some(ask) = asked {
+            self.set(State::Asked(Doing::Truncating(next)));
             return Ok(Some(ask));
         }
-        let made = flow.out();
+        let made = next.out();
         self.tell(truncate_outcome(made));
         Ok(None)
     }
 }
 
 impl Actor {
-    pub(crate) fn next_flattening(&mut self, mut flow: FlattenFlow) -> Result<Option<Ask>, NoMemory>
+    pub(crate) fn next_flattening(&mut self, flow: FlattenFlow) -> Result<Option<Ask>, NoMemory>
         requires idle { self.old.state ≡ Idle }
         requires ready { IsReady (busy self.old.number (doing_ready self.old.kept self.old.stop (Doing.Flattening flow))) }
         ensures ask { IfOk result (λ ask. ask ≡ ask_of (busy self.old.number (doing_ready self.old.kept self.old.stop (Doing.Flattening flow)))) }
@@ -45,18 +46,12 @@ impl Actor {
         ensures goes_on { OnOk result (progress_of self.new ≡ given (busy self.old.number (doing_ready self.old.kept self.old.stop (Doing.Flattening flow)))) }
         ensures left { OnOk result (calls_left self.new ≤ doing_left (Doing.Flattening flow)) }
     {
-        let asked = match next_ask(&mut flow, self.stop) {
-            Ok(asked) => asked,
-            Err(why) => {
-                drop(flow);
-                return Err(why);
-            }
-        };
+        let (next, asked) = next_ask(flow, self.stop)?;
         if let Some(ask) = asked {
-            self.set(State::Asked(Doing::Flattening(flow)));
+            self.set(State::Asked(Doing::Flattening(next)));
             return Ok(Some(ask));
         }
-        let made = flow.out();
+        let made = next.out();
         let outcome = flatten_outcome(self.alloc, made)?;
         self.tell(outcome);
         Ok(None)
@@ -64,7 +59,7 @@ impl Actor {
 }
 
 impl Actor {
-    pub(crate) fn next_renaming(&mut self, mut flow: RenameFlow) -> Result<Option<Ask>, NoMemory>
+    pub(crate) fn next_renaming(&mut self, flow: RenameFlow) -> Result<Option<Ask>, NoMemory>
         requires idle { self.old.state ≡ Idle }
         requires ready { IsReady (busy self.old.number (doing_ready self.old.kept self.old.stop (Doing.Renaming flow))) }
         ensures ask { IfOk result (λ ask. ask ≡ ask_of (busy self.old.number (doing_ready self.old.kept self.old.stop (Doing.Renaming flow)))) }
@@ -72,18 +67,19 @@ impl Actor {
         ensures goes_on { OnOk result (progress_of self.new ≡ given (busy self.old.number (doing_ready self.old.kept self.old.stop (Doing.Renaming flow)))) }
         ensures left { OnOk result (calls_left self.new ≤ doing_left (Doing.Renaming flow)) }
     {
-        if let Some(ask) = next_ask(&mut flow, self.stop)? {
-            self.set(State::Asked(Doing::Renaming(flow)));
+        let (next, asked) = next_ask(flow, self.stop)?;
+        if let Some(ask) = asked {
+            self.set(State::Asked(Doing::Renaming(next)));
             return Ok(Some(ask));
         }
-        let made = flow.out();
+        let made = next.out();
         self.tell(rename_outcome(made));
         Ok(None)
     }
 }
 
 impl Actor {
-    pub(crate) fn next_recovering(&mut self, mut flow: RecoverFlow) -> Result<Option<Ask>, NoMemory>
+    pub(crate) fn next_recovering(&mut self, flow: RecoverFlow) -> Result<Option<Ask>, NoMemory>
         requires idle { self.old.state ≡ Idle }
         requires ready { IsReady (busy self.old.number (doing_ready self.old.kept self.old.stop (Doing.Recovering flow))) }
         ensures ask { IfOk result (λ ask. ask ≡ ask_of (busy self.old.number (doing_ready self.old.kept self.old.stop (Doing.Recovering flow)))) }
@@ -91,18 +87,19 @@ impl Actor {
         ensures goes_on { OnOk result (progress_of self.new ≡ given (busy self.old.number (doing_ready self.old.kept self.old.stop (Doing.Recovering flow)))) }
         ensures left { OnOk result (calls_left self.new ≤ doing_left (Doing.Recovering flow)) }
     {
-        if let Some(ask) = next_ask(&mut flow, self.stop)? {
-            self.set(State::Asked(Doing::Recovering(flow)));
+        let (next, asked) = next_ask(flow, self.stop)?;
+        if let Some(ask) = asked {
+            self.set(State::Asked(Doing::Recovering(next)));
             return Ok(Some(ask));
         }
-        let made = flow.out();
+        let made = next.out();
         self.tell(recover_outcome(made));
         Ok(None)
     }
 }
 
 impl Actor {
-    pub(crate) fn next_naming(&mut self, mut flow: NamesRead) -> Result<Option<Ask>, NoMemory>
+    pub(crate) fn next_naming(&mut self, flow: NamesRead) -> Result<Option<Ask>, NoMemory>
         requires idle { self.old.state ≡ Idle }
         requires ready { IsReady (busy self.old.number (doing_ready self.old.kept self.old.stop (Doing.Naming flow))) }
         ensures ask { IfOk result (λ ask. ask ≡ ask_of (busy self.old.number (doing_ready self.old.kept self.old.stop (Doing.Naming flow)))) }
@@ -110,11 +107,12 @@ impl Actor {
         ensures goes_on { OnOk result (progress_of self.new ≡ given (busy self.old.number (doing_ready self.old.kept self.old.stop (Doing.Naming flow)))) }
         ensures left { OnOk result (calls_left self.new ≤ doing_left (Doing.Naming flow)) }
     {
-        if let Some(ask) = next_ask(&mut flow, self.stop)? {
-            self.set(State::Asked(Doing::Naming(flow)));
+        let (next, asked) = next_ask(flow, self.stop)?;
+        if let Some(ask) = asked {
+            self.set(State::Asked(Doing::Naming(next)));
             return Ok(Some(ask));
         }
-        let made = flow.out();
+        let made = next.out();
         self.tell(list_outcome(made));
         Ok(None)
     }

@@ -19,16 +19,20 @@ use plfs_types::NoMemory;
 use script_lang::{Line, Outcome};
 use writer_flow::{CloseFlow, OpenWrite, SyncFlow, WriteFlow};
 
-/// The next call of the machine, broken off where the stop is within it.
-pub(crate) fn next_ask<F: Flow>(flow: &mut F, stop: Option<Stop>) -> Result<Option<Ask>, NoMemory>
-    ensures ask { IfOk result (λ ask. ask ≡ option_map (stoppable_of stop) (next_of (F.standing flow.old))) }
-    ensures owed { IfOk result (λ ask. IfSome ask IsOwed) }
-    ensures rest { OnOk result (rest_of (F.standing flow.new) ≡ rest_of (F.standing flow.old)) }
-    ensures left { OnOk result (F.left flow.new ≡ F.left flow.old) }
+/// The machine once it was asked for its next call, and that call, broken off where the stop is within it.
+pub(crate) fn next_ask<F: Flow + Drop>(
+    flow: F,
+    stop: Option<Stop>,
+) -> Result<(F, Option<Ask>), NoMemory>
+    ensures ask { IfOk result (λ asked. asked.1 ≡ option_map (stoppable_of stop) (next_of (F.standing flow))) }
+    ensures owed { IfOk result (λ asked. IfSome asked.1 IsOwed) }
+    ensures rest { IfOk result (λ asked. rest_of (F.standing asked.0) ≡ rest_of (F.standing flow)) }
+    ensures left { IfOk result (λ asked. F.left asked.0 ≡ F.left flow) }
 {
+    let mut flow = flow;
     match flow.next()? {
-        Some(call) => Ok(Some(stoppable(stop, call))),
-        None => Ok(None),
+        Some(call) => Ok((flow, Some(stoppable(stop, call)))),
+        None => Ok((flow, None)),
     }
 }
 
@@ -74,7 +78,7 @@ impl Actor {
         self.set(State::Told(Line { number, outcome }));
     }
 
-    fn next_opening(&mut self, mut flow: OpenWrite) -> Result<Option<Ask>, NoMemory>
+    fn next_opening(&mut self, flow: OpenWrite) -> Result<Option<Ask>, NoMemory>
         requires idle { self.old.state ≡ Idle }
         requires ready { IsReady (busy self.old.number (doing_ready self.old.kept self.old.stop (Doing.Opening flow))) }
         ensures ask { IfOk result (λ ask. ask ≡ ask_of (busy self.old.number (doing_ready self.old.kept self.old.stop (Doing.Opening flow)))) }
@@ -82,11 +86,12 @@ impl Actor {
         ensures goes_on { OnOk result (progress_of self.new ≡ given (busy self.old.number (doing_ready self.old.kept self.old.stop (Doing.Opening flow)))) }
         ensures left { OnOk result (calls_left self.new ≤ doing_left (Doing.Opening flow)) }
     {
-        if let Some(ask) = next_ask(&mut flow, self.stop)? {
-            self.set(State::Asked(Doing::Opening(flow)));
+        let (next, asked) = next_ask(flow, self.stop)?;
+        if let Some(ask) = asked {
+            self.set(State::Asked(Doing::Opening(next)));
             return Ok(Some(ask));
         }
-        match flow.out() {
+        match next.out() {
             Ok(handle) => {
                 self.kept.writer = Some(handle);
                 self.tell(Outcome::Opened {
@@ -103,12 +108,7 @@ impl Actor {
 }
 
 impl Actor {
-    fn next_writing(
-        &mut self,
-        mut flow: WriteFlow,
-        at: u64,
-        len: u64,
-    ) -> Result<Option<Ask>, NoMemory>
+    fn next_writing(&mut self, flow: WriteFlow, at: u64, len: u64) -> Result<Option<Ask>, NoMemory>
         requires idle { self.old.state ≡ Idle }
         requires ready { IsReady (busy self.old.number (doing_ready self.old.kept self.old.stop (Doing.Writing flow at len))) }
         ensures ask { IfOk result (λ ask. ask ≡ ask_of (busy self.old.number (doing_ready self.old.kept self.old.stop (Doing.Writing flow at len)))) }
@@ -116,11 +116,16 @@ impl Actor {
         ensures goes_on { OnOk result (progress_of self.new ≡ given (busy self.old.number (doing_ready self.old.kept self.old.stop (Doing.Writing flow at len)))) }
         ensures left { OnOk result (calls_left self.new ≤ doing_left (Doing.Writing flow at len)) }
     {
-        if let Some(ask) = next_ask(&mut flow, self.stop)? {
-            self.set(State::Asked(Doing::Writing { flow, at, len }));
+        let (next, asked) = next_ask(flow, self.stop)?;
+        if let Some(ask) = asked {
+            self.set(State::Asked(Doing::Writing {
+                flow: next,
+                at,
+                len,
+            }));
             return Ok(Some(ask));
         }
-        let out = flow.out();
+        let out = next.out();
         self.kept.writer = out.handle;
         self.tell(write_outcome(at, len, out.result));
         Ok(None)
@@ -128,7 +133,7 @@ impl Actor {
 }
 
 impl Actor {
-    fn next_syncing(&mut self, mut flow: SyncFlow) -> Result<Option<Ask>, NoMemory>
+    fn next_syncing(&mut self, flow: SyncFlow) -> Result<Option<Ask>, NoMemory>
         requires idle { self.old.state ≡ Idle }
         requires ready { IsReady (busy self.old.number (doing_ready self.old.kept self.old.stop (Doing.Syncing flow))) }
         ensures ask { IfOk result (λ ask. ask ≡ ask_of (busy self.old.number (doing_ready self.old.kept self.old.stop (Doing.Syncing flow)))) }
@@ -136,11 +141,12 @@ impl Actor {
         ensures goes_on { OnOk result (progress_of self.new ≡ given (busy self.old.number (doing_ready self.old.kept self.old.stop (Doing.Syncing flow)))) }
         ensures left { OnOk result (calls_left self.new ≤ doing_left (Doing.Syncing flow)) }
     {
-        if let Some(ask) = next_ask(&mut flow, self.stop)? {
-            self.set(State::Asked(Doing::Syncing(flow)));
+        let (next, asked) = next_ask(flow, self.stop)?;
+        if let Some(ask) = asked {
+            self.set(State::Asked(Doing::Syncing(next)));
             return Ok(Some(ask));
         }
-        let out = flow.out();
+        let out = next.out();
         self.kept.writer = out.handle;
         self.tell(sync_outcome(out.result));
         Ok(None)
@@ -148,7 +154,7 @@ impl Actor {
 }
 
 impl Actor {
-    fn next_closing(&mut self, mut flow: CloseFlow) -> Result<Option<Ask>, NoMemory>
+    fn next_closing(&mut self, flow: CloseFlow) -> Result<Option<Ask>, NoMemory>
         requires idle { self.old.state ≡ Idle }
         requires ready { IsReady (busy self.old.number (doing_ready self.old.kept self.old.stop (Doing.Closing flow))) }
         ensures ask { IfOk result (λ ask. ask ≡ ask_of (busy self.old.number (doing_ready self.old.kept self.old.stop (Doing.Closing flow)))) }
@@ -156,11 +162,12 @@ impl Actor {
         ensures goes_on { OnOk result (progress_of self.new ≡ given (busy self.old.number (doing_ready self.old.kept self.old.stop (Doing.Closing flow)))) }
         ensures left { OnOk result (calls_left self.new ≤ doing_left (Doing.Closing flow)) }
     {
-        if let Some(ask) = next_ask(&mut flow, self.stop)? {
-            self.set(State::Asked(Doing::Closing(flow)));
+        let (next, asked) = next_ask(flow, self.stop)?;
+        if let Some(ask) = asked {
+            self.set(State::Asked(Doing::Closing(next)));
             return Ok(Some(ask));
         }
-        let out = flow.out();
+        let out = next.out();
         self.kept.writer = out.handle;
         self.tell(close_outcome(out.result));
         Ok(None)

@@ -22,7 +22,7 @@ use plfs_types::NoMemory;
 impl Actor {
     pub(crate) fn next_listing(
         &mut self,
-        mut flow: OpenRead,
+        flow: OpenRead,
         purpose: Purpose,
     ) -> Result<Option<Ask>, NoMemory>
         requires idle { self.old.state ≡ Idle }
@@ -32,11 +32,15 @@ impl Actor {
         ensures goes_on { OnOk result (progress_of self.new ≡ given (busy self.old.number (doing_ready self.old.kept self.old.stop (Doing.Listing flow purpose)))) }
         ensures left { OnOk result (calls_left self.new ≤ doing_left (Doing.Listing flow purpose)) }
     {
-        if let Some(ask) = next_ask(&mut flow, self.stop)? {
-            self.set(State::Asked(Doing::Listing { flow, purpose }));
+        let (next, asked) = next_ask(flow, self.stop)?;
+        if let Some(ask) = asked {
+            self.set(State::Asked(Doing::Listing {
+                flow: next,
+                purpose,
+            }));
             return Ok(Some(ask));
         }
-        match flow.out() {
+        match next.out() {
             Ok(listing) => {
                 let gathering = Gathering::new(self.alloc, Listed::of(listing), purpose.workers())?;
                 self.next_gathering(gathering, purpose)

@@ -16,11 +16,7 @@ use plfs_types::NoMemory;
 use script_lang::Data;
 
 impl Actor {
-    pub(crate) fn next_reading(
-        &mut self,
-        mut flow: Reading,
-        at: u64,
-    ) -> Result<Option<Ask>, NoMemory>
+    pub(crate) fn next_reading(&mut self, flow: Reading, at: u64) -> Result<Option<Ask>, NoMemory>
         requires idle { self.old.state ≡ Idle }
         requires ready { IsReady (busy self.old.number (doing_ready self.old.kept self.old.stop (Doing.Reading flow at))) }
         ensures ask { IfOk result (λ ask. ask ≡ ask_of (busy self.old.number (doing_ready self.old.kept self.old.stop (Doing.Reading flow at)))) }
@@ -28,11 +24,12 @@ impl Actor {
         ensures goes_on { OnOk result (progress_of self.new ≡ given (busy self.old.number (doing_ready self.old.kept self.old.stop (Doing.Reading flow at)))) }
         ensures left { OnOk result (calls_left self.new ≤ doing_left (Doing.Reading flow at)) }
     {
-        if let Some(ask) = next_ask(&mut flow, self.stop)? {
-            self.set(State::Asked(Doing::Reading { flow, at }));
+        let (next, asked) = next_ask(flow, self.stop)?;
+        if let Some(ask) = asked {
+            self.set(State::Asked(Doing::Reading { flow: next, at }));
             return Ok(Some(ask));
         }
-        let made = flow.out();
+        let made = next.out();
         self.tell(read_outcome(at, made));
         Ok(None)
     }
@@ -41,7 +38,7 @@ impl Actor {
 impl Actor {
     pub(crate) fn next_verifying(
         &mut self,
-        mut flow: Reading,
+        flow: Reading,
         at: u64,
         content: Data,
     ) -> Result<Option<Ask>, NoMemory>
@@ -52,11 +49,16 @@ impl Actor {
         ensures goes_on { OnOk result (progress_of self.new ≡ given (busy self.old.number (doing_ready self.old.kept self.old.stop (Doing.Verifying flow at content)))) }
         ensures left { OnOk result (calls_left self.new ≤ doing_left (Doing.Verifying flow at content)) }
     {
-        if let Some(ask) = next_ask(&mut flow, self.stop)? {
-            self.set(State::Asked(Doing::Verifying { flow, at, content }));
+        let (next, asked) = next_ask(flow, self.stop)?;
+        if let Some(ask) = asked {
+            self.set(State::Asked(Doing::Verifying {
+                flow: next,
+                at,
+                content,
+            }));
             return Ok(Some(ask));
         }
-        let made = flow.out();
+        let made = next.out();
         self.tell(verify_outcome(at, &content, made));
         Ok(None)
     }

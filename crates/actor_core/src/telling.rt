@@ -17,7 +17,7 @@ use outcomes::{stat_outcome, stuck_outcome};
 use plfs_types::NoMemory;
 
 impl Actor {
-    pub(crate) fn next_telling(&mut self, mut flow: AttrFlow) -> Result<Option<Ask>, NoMemory>
+    pub(crate) fn next_telling(&mut self, flow: AttrFlow) -> Result<Option<Ask>, NoMemory>
         requires idle { self.old.state ≡ Idle }
         requires ready { IsReady (busy self.old.number (doing_ready self.old.kept self.old.stop (Doing.Telling flow))) }
         ensures ask { IfOk result (λ ask. ask ≡ ask_of (busy self.old.number (doing_ready self.old.kept self.old.stop (Doing.Telling flow)))) }
@@ -25,11 +25,12 @@ impl Actor {
         ensures goes_on { OnOk result (progress_of self.new ≡ given (busy self.old.number (doing_ready self.old.kept self.old.stop (Doing.Telling flow)))) }
         ensures left { OnOk result (calls_left self.new ≤ doing_left (Doing.Telling flow)) }
     {
-        if let Some(ask) = next_ask(&mut flow, self.stop)? {
-            self.set(State::Asked(Doing::Telling(flow)));
+        let (next, asked) = next_ask(flow, self.stop)?;
+        if let Some(ask) = asked {
+            self.set(State::Asked(Doing::Telling(next)));
             return Ok(Some(ask));
         }
-        match flow.out() {
+        match next.out() {
             Ok(AttrOut::Cached(attr)) => {
                 self.tell(stat_outcome(attr));
                 Ok(None)
