@@ -48,39 +48,67 @@ const OTHER: [Told; 3] = [
     Told::Spelled(b"", &[6, 2, 0, 13, 3]),
 ];
 
+fn add(alloc: Global, shares: &mut ShareList, writer: u64, told: &[Told]) -> Result<(), Fail> {
+    let share = share_of(alloc, writer, told)?;
+    shares.push(share)?;
+    Ok(())
+}
+
+fn add_both(alloc: Global, shares: &mut ShareList) -> Result<(), Fail> {
+    add(alloc, shares, 9, &FIRST)?;
+    add(alloc, shares, 3, &OTHER)
+}
+
 #[test]
 fn a_joined_share_has_each_writer_and_the_newest_bytes(rt: HostRuntime) -> Result<(), Fail> {
     let alloc = rt.alloc();
-    let first = share_of(alloc, 9, &FIRST)?;
-    let other = share_of(alloc, 3, &OTHER)?;
-    let shares = ShareList::from_vec(vec![in alloc; first, other]?);
+    let mut shares = ShareList::new(alloc);
+    if let Err(fail) = add_both(alloc, &mut shares) {
+        drop(shares);
+        return Err(fail);
+    }
+    let share = join_shares(&rt, alloc, shares, 2)?;
     let mut line = String::new(alloc);
-    join_shares(&rt, alloc, shares, 2)?.tell(&mut line)?;
+    let told = share.tell(&mut line);
+    drop(share);
+    told?;
     assert!(rt; line.as_str() == "share 3:1 9:2 0+4 4+2 6+2", "{line}");
     Ok(())
+}
+
+fn listing(alloc: Global) -> Result<Listing, Fail>
+    ensures { IfOk result (λ listing. listed.AreByWriter listing.droppings) }
+{
+    let droppings = droppings(alloc, 9, false)?;
+    let pieces = Pieces::read(PieceList::new(alloc)).ok().ok_or("pieces")?;
+    let flat = Flat {
+        covers: CoverList::new(alloc),
+        pieces,
+    };
+    Ok(Listing {
+        room: 1,
+        droppings,
+        flat,
+    })
 }
 
 // What was gathered of the file of the two entries, which was truncated so.
 fn gathered(alloc: Global, truncs: TruncList) -> Result<Gathered, Fail>
     ensures { IfOk result (λ all. listed.AreByWriter all.droppings) }
 {
-    let share = share_of(alloc, 9, &FIRST)?;
-    let pieces = Pieces::read(PieceList::new(alloc)).ok().ok_or("pieces")?;
-    let flat = Flat {
-        covers: CoverList::new(alloc),
-        pieces,
+    let mut shares = ShareList::new(alloc);
+    if let Err(fail) = add(alloc, &mut shares, 9, &FIRST) {
+        drop((shares, truncs));
+        return Err(fail);
+    }
+    let listing = match listing(alloc) {
+        Ok(listing) => listing,
+        Err(fail) => {
+            drop((shares, truncs));
+            return Err(fail);
+        }
     };
-    let listing = Listing {
-        room: 1,
-        droppings: droppings(alloc, 9, false)?,
-        flat,
-    };
-    let all = gather(
-        alloc,
-        listing,
-        ShareList::from_vec(vec![in alloc; share]?),
-        truncs,
-    )?;
+    let all = gather(alloc, listing, shares, truncs)?;
     Ok(all)
 }
 
@@ -89,9 +117,13 @@ fn a_gathered_index_tells_of_its_file(rt: HostRuntime) -> Result<(), Fail> {
     let alloc = rt.alloc();
     let trunc = Trunc { stamp: 20, size: 3 };
     let all = gathered(alloc, TruncList::from_vec(vec![in alloc; trunc]?))?;
-    let attr = attr_of(alloc, &all.flat, &all.truncs)?;
+    let attr = attr_of(alloc, &all.flat, &all.truncs);
+    drop(all);
+    let attr = attr?;
     let mut line = String::new(alloc);
-    attr.tell(&mut line)?;
+    let told = attr.tell(&mut line);
+    drop(attr);
+    told?;
     assert!(rt;
         line.as_str() == "size 3 stored 8 9=8 truncates 20:3",
         "{line}"
@@ -101,7 +133,9 @@ fn a_gathered_index_tells_of_its_file(rt: HostRuntime) -> Result<(), Fail> {
 
 pub(crate) fn read(alloc: Global, told: &[Told], shown: &mut Shown) -> Result<(), Fail> {
     let reader = OpenReader::new(alloc, gathered(alloc, TruncList::new(alloc))?)?;
-    show(alloc, Reading::new(alloc, &reader, 0, 100)?, told, shown)
+    let flow = Reading::new(alloc, &reader, 0, 100);
+    drop(reader);
+    show(alloc, flow?, told, shown)
 }
 
 const CASES: [Case; 2] = [

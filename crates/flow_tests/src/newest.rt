@@ -87,22 +87,61 @@ fn listing(alloc: Global) -> Result<Listing, Fail>
     })
 }
 
+fn add(
+    alloc: Global,
+    set: &Set,
+    shares: &mut ShareList,
+    droppings: Vec<Dropping>,
+) -> Result<(), Fail> {
+    let share = share_of(alloc, set, DroppingList::from_vec(droppings))?;
+    shares.push(share)?;
+    Ok(())
+}
+
+// The shares of two workers.
+fn add_both(alloc: Global, set: &Set, shares: &mut ShareList) -> Result<(), Fail> {
+    add(alloc, set, shares, vec![in alloc; dropping(0)]?)?;
+    add(
+        alloc,
+        set,
+        shares,
+        vec![in alloc; dropping(1), dropping(2)]?,
+    )
+}
+
+// The shares of two workers as one.
+fn joined<R: Threads + Sync>(rt: &R, alloc: Global, set: &Set) -> Result<ShareList, Fail> {
+    let mut shares = ShareList::new(alloc);
+    if let Err(fail) = add_both(alloc, set, &mut shares) {
+        drop(shares);
+        return Err(fail);
+    }
+    let share = join_shares(rt, alloc, shares, 2)?;
+    Ok(ShareList::from_vec(vec![in alloc; share]?))
+}
+
 // What two workers gather.
 fn gathered<R: Threads + Sync>(rt: &R, alloc: Global, set: &Set) -> Result<Gathered, Fail>
     ensures { IfOk result (λ all. listed.AreByWriter all.droppings) }
 {
-    let first = vec![in alloc; dropping(0)]?;
-    let others = vec![in alloc; dropping(1), dropping(2)]?;
-    let shares = vec![in alloc;
-        share_of(alloc, set, DroppingList::from_vec(first))?,
-        share_of(alloc, set, DroppingList::from_vec(others))?,
-    ]?;
-    let share = join_shares(rt, alloc, ShareList::from_vec(shares), 2)?;
     let truncs = ended(alloc, set, TruncRead::new(alloc, 1))?
         .ok()
         .ok_or("no truncates")?;
-    let shares = ShareList::from_vec(vec![in alloc; share]?);
-    Ok(gather(alloc, listing(alloc)?, shares, truncs)?)
+    let shares = match joined(rt, alloc, set) {
+        Ok(shares) => shares,
+        Err(fail) => {
+            drop(truncs);
+            return Err(fail);
+        }
+    };
+    let listing = match listing(alloc) {
+        Ok(listing) => listing,
+        Err(fail) => {
+            drop((shares, truncs));
+            return Err(fail);
+        }
+    };
+    Ok(gather(alloc, listing, shares, truncs)?)
 }
 
 // What is to be read there.
@@ -125,14 +164,22 @@ fn reads(alloc: Global, set: &Set, reader: &OpenReader, at: u64, len: u64) -> Re
     Ok(given.as_slice() == want.as_slice())
 }
 
+// Whether all of these reads do.
+fn reads_each(alloc: Global, set: &Set, reader: &OpenReader) -> Result<bool, Fail> {
+    Ok(
+        reads(alloc, set, reader, 0, 64)?
+            && reads(alloc, set, reader, 7, 20)?
+            && reads(alloc, set, reader, 31, 1)?,
+    )
+}
+
 fn shows<R: Threads + Sync>(rt: &R, alloc: Global, set: &Set) -> Result<bool, Fail> {
     let reader = OpenReader::new(alloc, gathered(rt, alloc, set)?)?;
-    Ok(
-        reader.size() == size(set)
-            && reads(alloc, set, &reader, 0, 64)?
-            && reads(alloc, set, &reader, 7, 20)?
-            && reads(alloc, set, &reader, 31, 1)?,
-    )
+    let is_long = reader.size() == size(set);
+    let shown = reads_each(alloc, set, &reader);
+    drop(reader);
+    let shown = shown?;
+    Ok(is_long && shown)
 }
 
 fn all_show<R: Threads + Sync + Abort>(
