@@ -66,12 +66,14 @@ fn line(alloc: Global, body: &[u8], scratch: &mut Vec<u8>) -> Result<Line, Troub
 {
     let read = loose_line(alloc, body)?;
     if !lists_logical_names(&read.outcome) {
+        drop(read);
         return Err(Trouble::Bad);
     }
     // One spelling of each line counts.
     scratch.clear();
     append_body(scratch, &read)?;
     if scratch.as_slice() != body {
+        drop(read);
         return Err(Trouble::Bad);
     }
     Ok(read)
