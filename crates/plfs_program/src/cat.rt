@@ -94,9 +94,13 @@ fn write_piece<S: Store + Drop, C: Clock + Drop, O: Sink>(
         return Err(3);
     };
     let Some(bytes) = content_of(&line) else {
-        return Err(status_of_line(&line));
+        let status = status_of_line(&line);
+        drop(line);
+        return Err(status);
     };
-    match write_out(out, bytes) {
+    let written = write_out(out, bytes);
+    drop(line);
+    match written {
         Ok(()) => Ok(()),
         Err(_) => Err(6),
     }
