@@ -1,5 +1,5 @@
 -- The covers of a reader are one list.
-use Rattle.std.proofs.Common.{◌≡◌, ℕ, ◌<◌, ◌≤◌, true, false, inl, inr, List, [], ◌∷◌, map, Option, Some, None, refl, ap, sym, ◌∙◌, subst, arith, nat_eq, nat_lt}
+use Rattle.std.proofs.Common.{◌≡◌, ℕ, ◌<◌, ◌≤◌, true, false, inl, inr, List, [], ◌∷◌, ◌++◌, map, Option, Some, None, refl, ap, sym, ◌∙◌, subst, arith, nat_eq, nat_lt}
 use Rattle.std.specs.List.{All}
 use Rattle.std.proofs.lemmas.Bool.{cases_Bool, cases_order}
 use Rattle.std.proofs.lemmas.Bool.Decides.{nat_tests}
@@ -15,7 +15,7 @@ abbrev writer_in : Cover → ℕ
 writer_in c = c.writer
 
 -- the first cover of a writer
-abbrev cover_in : ℕ → List Cover → Option Cover
+abbrev pub cover_in : ℕ → List Cover → Option Cover
 cover_in writer covers = item_of (λ (c : Cover). c.writer) writer covers
 
 abbrev Above : ℕ → List Cover → Type 0
@@ -155,3 +155,24 @@ first_is (c ∷ told) n = with_is c (first_covers told) n ∙ (elim (cases_Bool 
 -- a cover of each writer that is told of is the first one
 pub covers_are : (told covers : List Cover) → AreFirstOf told covers → covers ≡ first_covers told
 covers_are told covers are = same_covers covers (first_covers told) are.ascend (first_rise told) (λ n. are.each n ∙ sym (first_is told n))
+
+-- lists with the same cover of each writer have the same first covers
+pub first_same : (told other : List Cover) → ((n : ℕ) → cover_in n told ≡ cover_in n other) → first_covers told ≡ first_covers other
+first_same told other same =
+    same_covers (first_covers told) (first_covers other) (first_rise told) (first_rise other) (λ n. first_is told n ∙ same n ∙ sym (first_is other n))
+
+abbrev or_else : Option Cover → Option Cover → Option Cover
+or_else None other = other
+or_else (Some c) other = Some c
+
+found_behind : (n : ℕ) (covers rest : List Cover) → cover_in n (covers ++ rest) ≡ or_else (cover_in n covers) (cover_in n rest)
+found_behind n [] rest = refl
+found_behind n (c ∷ covers) rest = elim (cases_Bool (nat_eq c.writer n)) [
+  | inl here ↦ rw here refl
+  | inr there ↦ rw there (found_behind n covers rest)
+]
+
+-- and so have they with the same covers behind them
+pub same_behind : (told other rest : List Cover) → ((n : ℕ) → cover_in n told ≡ cover_in n other) → (n : ℕ) → cover_in n (told ++ rest) ≡ cover_in n (other ++ rest)
+same_behind told other rest same n =
+    found_behind n told rest ∙ ap (λ found. or_else found (cover_in n rest)) (same n) ∙ sym (found_behind n other rest)

@@ -3,3 +3,4 @@ pub mod Throughs
 pub mod ReaderLemmas
 pub mod Machines
 pub mod Making
+pub mod Joining

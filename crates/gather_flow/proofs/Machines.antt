@@ -66,11 +66,14 @@ pub called_over : (old mid : Gathering) (made : Result AllRead Stuck) → gather
     → IsTried mid (tried.Over made) → IsCalled old (called.Over made)
 called_over old mid made same is = sym same ∙ is
 
+-- so many calls are left of a share of so many droppings
+pub few_calls : (left count : ℕ) → count ≤ 2 ^ 64 → left ≤ count * (2 ^ 64 + 3) → left ≤ share_bound
+few_calls left count few bound = omega (arith, few, bound)
+
 -- so many calls are left where one share more is to come
-pub one_share : (workers worker left count : ℕ) → worker < workers → count ≤ 2 ^ 64 → left ≤ count * (2 ^ 64 + 3)
+pub one_share : (workers worker left : ℕ) → worker < workers → left ≤ share_bound
     → left + shares_bound (workers - (worker + 1)) ≤ shares_bound (workers - worker)
-one_share workers worker left count lt few bound =
+one_share workers worker left lt most =
     let e : workers - worker ≡ (workers - (worker + 1)) + 1 = omega arith in
-    let most : left ≤ share_bound = omega (arith, few, bound) in
     let more : (workers - worker) * share_bound ≡ (workers - (worker + 1)) * share_bound + share_bound = omega (arith, e) in
     omega (arith, most, more)

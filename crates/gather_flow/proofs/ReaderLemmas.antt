@@ -1,6 +1,7 @@
 -- The reader that is opened, and what is told of a file, are those of what was read.
-use Rattle.std.proofs.Common.{◌≡◌, ℕ, ◌+◌, ◌-◌, ◌<◌, ◌≤◌, suc, List, [], ◌∷◌, ◌++◌, map, sym, ap, ◌∙◌, arith}
+use Rattle.std.proofs.Common.{◌≡◌, ℕ, ◌+◌, ◌-◌, ◌<◌, ◌≤◌, suc, List, [], ◌∷◌, ◌++◌, map, sym, ap, ◌∙◌, arith, append_assoc}
 use Rattle.std.specs.List.{range_with_len}
+use Rattle.std.proofs.lemmas.List.{append-nil, map-append}
 use Rattle.plfs_types.specs.declared.entries.Trunc.{Trunc}
 use Rattle.plain_file.specs.Size.{size_from}
 use Rattle.plain_file.specs.Sources.{source_at, kept_source}
@@ -12,6 +13,8 @@ use Rattle.index_reader.specs.declared.gathered.Gathered.{Gathered}
 use Rattle.index_reader.specs.declared.listing.Listing.{Listing}
 use Rattle.index_reader.specs.declared.opened.OpenReader.{OpenReader}
 use Rattle.index_reader.specs.declared.sharing.Share.{Share}
+use Rattle.index_reader.specs.declared.sharing.ShareRead.{ShareRead}
+use Rattle.index_reader.specs.Stages.{share_standing}
 use Rattle.std.specs.Prelude.{Result}
 use Rattle.flow.specs.declared.trouble.Stuck.{Stuck}
 use Rattle.flow.specs.Standing.{Standing, ready}
@@ -105,3 +108,26 @@ pub begins_truncs : (workers : ℕ) (listing : Listing) (worker : ℕ) (sofar : 
 begins_truncs workers listing worker sofar s le is =
     ap (λ t. then_on t (on_ok (if_truncs_listed listing sofar))) is
     ∙ sym (ap (λ programs. ready (by_itself programs sofar (reads_truncs listing))) (no_programs workers listing worker le))
+
+-- the machines of the workers, one after the other
+module _ (workers : ℕ) (listing : Listing) where
+  abbrev begin_from : ℕ → List (Standing Call Reply (Result Share Stuck))
+  begin_from worker = map (λ program. ready program) (programs_from workers listing worker)
+
+  pub one_work_more : (worker : ℕ) (works : List ShareRead) (flow : ShareRead) → worker < workers → share_standing flow ≡ ready (worker_program workers listing worker)
+      → map (λ (f : ShareRead). share_standing f) works ++ begin_from worker ≡ begin_from 0
+      → map (λ (f : ShareRead). share_standing f) (works ++ flow ∷ []) ++ begin_from (worker + 1) ≡ begin_from 0
+  one_work_more worker works flow lt is sofar =
+      ap (λ ss. ss ++ begin_from (worker + 1)) (map-append (λ (f : ShareRead). share_standing f) works (flow ∷ []))
+      ∙ append_assoc (map (λ (f : ShareRead). share_standing f) works) (share_standing flow ∷ []) (begin_from (worker + 1))
+      ∙ ap (λ s. map (λ (f : ShareRead). share_standing f) works ++ s ∷ begin_from (worker + 1)) is
+      ∙ ap (λ programs. map (λ (f : ShareRead). share_standing f) works ++ map (λ program. ready program) programs) (sym (programs_on workers listing worker lt))
+      ∙ sofar
+
+  pub all_works : (worker : ℕ) (works : List ShareRead) → workers ≤ worker
+      → map (λ (f : ShareRead). share_standing f) works ++ begin_from worker ≡ begin_from 0
+      → map (λ (f : ShareRead). share_standing f) works ≡ begin_from 0
+  all_works worker works le sofar =
+      sym (append-nil (map (λ (f : ShareRead). share_standing f) works))
+      ∙ ap (λ programs. map (λ (f : ShareRead). share_standing f) works ++ map (λ program. ready program) programs) (sym (no_programs workers listing worker le))
+      ∙ sofar

@@ -1,15 +1,14 @@
 //! The shares and the truncates of a container that is gathered.
-ghost use Rattle.std.specs.Prelude.{◌≡◌, ◌<◌, ◌≤◌, ◌+◌, ◌-◌, [], IfOk};
+ghost use Rattle.std.specs.Prelude.{◌≡◌, ◌<◌, ◌≤◌, ◌+◌, ◌-◌, [], ◌∷◌, IfOk};
 ghost use Rattle.flow.specs.Standing.{ready, replied, Awaits};
-ghost use Rattle.gather_flow.specs.Gathering.{shares_from, shares_bound, gather_standing, gather_rest, gather_left, machines_left, IsThrough};
+ghost use Rattle.gather_flow.specs.Gathering.{shares_from, reads_truncs, shares_bound, gather_standing, gather_rest, gather_left, machines_left, IsThrough};
 ghost use Rattle.gather_flow.specs.Called.{IsTried, IsCalled};
 
 use crate::all_read::AllRead;
-use crate::copying::copied;
-use crate::dealing::dealt;
 use crate::listed::Listed;
+use crate::work_list::share_read;
 use flow::{Flow, Stuck};
-use index_reader::{ShareList, ShareRead, TruncRead};
+use index_reader::{Share, ShareList, ShareRead, TruncRead};
 use mount_model::{Call, Reply};
 use plfs_types::NoMemory;
 use std::alloc::Global;
@@ -57,6 +56,16 @@ impl Gathering {
         Gathering::on(alloc, listed, workers, 0, ShareList::new(alloc))
     }
 
+    /// Goes on behind the shares that workers read, which were joined into this one.
+    pub fn behind(alloc: Global, listed: Listed, share: Share) -> Result<Self, NoMemory>
+        ensures standing { IfOk result (λ g. gather_standing g ≡ ready (reads_truncs listed (share ∷ []))) }
+        ensures left { IfOk result (λ g. gather_left g ≤ shares_bound 0) }
+    {
+        let mut shares = ShareList::new(alloc);
+        shares.push(share)?;
+        Gathering::on(alloc, listed, 0, 0, shares)
+    }
+
     /// Goes on with the share of this worker, or with the truncates.
     fn on(
         alloc: Global,
@@ -77,22 +86,13 @@ impl Gathering {
                 shares: sofar,
             });
         }
-        let share = match dealt(alloc, listed.get().droppings.as_slice(), workers, worker) {
-            Ok(share) => share,
+        let flow = match share_read(alloc, &listed, workers, worker) {
+            Ok(flow) => flow,
             Err(why) => {
                 drop((listed, sofar));
                 return Err(why);
             }
         };
-        let _count = share.as_slice().len();
-        let covers = match copied(alloc, listed.get().flat.covers.as_slice()) {
-            Ok(covers) => covers,
-            Err(why) => {
-                drop((listed, share, sofar));
-                return Err(why);
-            }
-        };
-        let flow = ShareRead::new(alloc, listed.get().room, share, covers);
         Ok(Gathering::Shares {
             flow,
             listed,
