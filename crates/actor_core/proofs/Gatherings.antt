@@ -1,5 +1,5 @@
 -- How a container that is gathered goes on.
-use Rattle.std.proofs.Common.{◌≡◌, ℕ, ◌-◌, [], Option, Some, None, Result, Ok, Err, refl, sym, ap, ◌∙◌}
+use Rattle.std.proofs.Common.{◌≡◌, ℕ, [], Option, Some, None, Result, Ok, Err, refl, sym, ap, ◌∙◌}
 use Rattle.std.specs.Prelude.{option_map}
 use Rattle.std.proofs.lemmas.Option.{none-some}
 use Rattle.story.specs.Program.{done, ask}

@@ -3,6 +3,7 @@ mod Carrying
 mod Doings
 mod Making
 mod Gatherings
+mod Handings
 mod Tellings
 mod NameLemmas
 mod WriterOwing

@@ -27,3 +27,9 @@ module _ {R : Type 0} (makes : Listing → List Share → List Trunc → R) wher
       → carried (by_itself programs [] (reads_truncs listing)) stop (λ left result. next left (made_of makes result)) halted ≡ carried (by_itself programs [] (made_at_once makes listing)) stop next halted
   made_alone listing programs stop next halted =
       sym (carried_made (by_itself programs [] (reads_truncs listing)) stop next halted) ∙ ap (λ p. carried p stop next halted) (itself_made makes listing programs [])
+
+  -- the same behind shares that were read
+  pub made_behind : (listing : Listing) (shares : List Share) (stop : Option Stop) (next : Option Stop → Result R Stuck → Work) (halted : Work)
+      → carried (reads_truncs listing shares) stop (λ left result. next left (made_of makes result)) halted ≡ carried (made_at_once makes listing shares) stop next halted
+  made_behind listing shares stop next halted =
+      sym (carried_made (reads_truncs listing shares) stop next halted) ∙ ap (λ p. carried p stop next halted) (itself_made makes listing [] shares)

@@ -3,7 +3,7 @@ use Rattle.std.proofs.Common.{◌≡◌, ℕ, Option, None, refl}
 use Rattle.std.specs.Prelude.{◌≢◌}
 use Rattle.script_lang.specs.declared.line.Line.{Line}
 use Rattle.actor_core.specs.declared.actor.State.{State}
-use Rattle.actor_core.specs.declared.actor.State.TheVariants.{Idle, Told, Ready, Asked, Greeting, Greeted}
+use Rattle.actor_core.specs.declared.actor.State.TheVariants.{Idle, Told, Ready, Asked, HandedOut, Greeting, Greeted}
 use Rattle.actor_core.specs.declared.kept.Kept.{Kept}
 use Rattle.actor_core.specs.declared.kept.Stop.{Stop}
 use Rattle.actor_core.specs.Progress.{line_taken, waiting_line}
@@ -40,6 +40,7 @@ module _ (number : ℕ) (kept : Kept) (stop : Option Stop) where
   no_line (Told line) none = absurd (none line refl)
   no_line (Ready doing) none = none_busy number (doing_ready kept stop doing)
   no_line (Asked doing) none = none_busy number (doing_asked kept stop doing)
+  no_line (HandedOut listed) none = refl
   no_line (Greeting doing) none = none_greeting number (doing_ready kept stop doing)
   no_line (Greeted doing) none = none_greeted number (doing_ready kept stop doing)
 
@@ -48,5 +49,6 @@ module _ (number : ℕ) (kept : Kept) (stop : Option Stop) where
   none_taken (Told line) none = absurd (none line refl)
   none_taken (Ready doing) none = same_busy number (doing_ready kept stop doing)
   none_taken (Asked doing) none = same_busy number (doing_asked kept stop doing)
+  none_taken (HandedOut listed) none = refl
   none_taken (Greeting doing) none = same_greeting number (doing_ready kept stop doing)
   none_taken (Greeted doing) none = same_greeted number (doing_ready kept stop doing)

@@ -12,6 +12,7 @@ pub mod Purposes
 pub mod Naming
 pub mod Statements
 pub mod Progress
+pub mod Handing
 pub mod Standings
 pub mod Owed
 pub mod Along

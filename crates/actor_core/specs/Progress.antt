@@ -1,8 +1,10 @@
 -- How far an actor is with its statement.
-use Rattle.std.specs.Prelude.{ℕ, false, Option, Some, None}
+use Rattle.std.specs.Prelude.{ℕ, false, List, Option, Some, None, Result}
 use Rattle.story.specs.Process.{ends, pauses, tells, asks, shares}
+use Rattle.flow.specs.declared.trouble.Stuck.{Stuck}
 use Rattle.mount_model.specs.declared.call.Ask.{Ask}
 use Rattle.mount_model.specs.declared.reply.Reply.{Reply}
+use Rattle.index_reader.specs.declared.sharing.Share.{Share}
 use Rattle.script_lang.specs.declared.line.Line.{Line}
 use Rattle.script_lang.specs.declared.script.Statement.{Statement}
 use Rattle.actor_core.specs.declared.kept.Kept.{Kept}
@@ -17,6 +19,8 @@ pub data Progress : Type 0 where
   going : ℕ → Work → Progress
   -- a call of it is out, and it goes on so with the reply
   asked : ℕ → (Reply → Work) → Progress
+  -- the shares of its reader are handed out to workers, and it goes on so with their results
+  handed : ℕ → (List (Result Share Stuck) → Work) → Progress
   -- it is at its end, and its line waits
   told : Line → Kept → Progress
 
@@ -28,9 +32,10 @@ abbrev pub IsIdle : Progress → Type 0
 IsIdle (idle kept) = Unit {0}
 IsIdle _ = ⊥
 
--- no reply is awaited
+-- no reply is awaited, and no results of workers
 abbrev pub IsReady : Progress → Type 0
 IsReady (asked number k) = ⊥
+IsReady (handed number k) = ⊥
 IsReady _ = Unit {0}
 
 abbrev pub IsAsked : Progress → Type 0

@@ -1,7 +1,8 @@
 -- Where an actor's fields stand in what it does.
-use Rattle.std.specs.Prelude.{ℕ, ◌+◌, ◌^◌, Option}
+use Rattle.std.specs.Prelude.{ℕ, ◌+◌, ◌^◌, List, Option, Result}
 use Rattle.story.specs.Process.{asks, ends}
 use Rattle.flow.specs.Standing.{Standing, ready, asked as out, Rest, over, awaits, rest_of, Awaits}
+use Rattle.flow.specs.declared.trouble.Stuck.{Stuck}
 use Rattle.flow.specs.Running.{unbroken}
 use Rattle.mount_model.specs.declared.call.Call.{Call}
 use Rattle.mount_model.specs.declared.call.Call.TheVariants.{Greet}
@@ -10,6 +11,9 @@ use Rattle.writer_flow.specs.OpeningStages.{open_standing, open_left}
 use Rattle.writer_flow.specs.WritingStages.{write_standing, write_left}
 use Rattle.writer_flow.specs.SyncingStages.{sync_standing, sync_left}
 use Rattle.writer_flow.specs.ClosingStages.{close_standing, close_left}
+use Rattle.index_reader.specs.declared.listing.Listing.{Listing as Listed}
+use Rattle.index_reader.specs.declared.sharing.Share.{Share}
+use Rattle.index_reader.specs.Replies.{on_ok}
 use Rattle.index_reader.specs.OpenStages.{open_standing as list_standing, open_calls_left}
 use Rattle.index_reader.specs.ReadingStages.{read_standing, read_left}
 use Rattle.attr_flow.specs.Stages.{attr_standing, attr_left}
@@ -22,7 +26,7 @@ use Rattle.actor_core.specs.declared.kept.Kept.{Kept}
 use Rattle.actor_core.specs.declared.doing.Doing.{Doing}
 use Rattle.actor_core.specs.declared.doing.Doing.TheVariants.{Known, Opening, Writing, Syncing, Closing, Listing, Gathering, Reading, Verifying, Telling, Truncating, Renaming, Recovering, Naming, Flattening}
 use Rattle.actor_core.specs.declared.actor.State.{State}
-use Rattle.actor_core.specs.declared.actor.State.TheVariants.{Idle, Told, Ready, Asked, Greeting, Greeted}
+use Rattle.actor_core.specs.declared.actor.State.TheVariants.{Idle, Told, Ready, Asked, HandedOut, Greeting, Greeted}
 use Rattle.actor_core.specs.declared.actor.Actor.{Actor}
 use Rattle.actor_core.specs.Stopping.{carried, carried_on}
 use Rattle.actor_core.specs.Endings.{ending, stopped, opened, wrote, synced, closed, read_from, verified, truncated, renamed, recovered, names_listed, flattened}
@@ -31,7 +35,9 @@ use Rattle.actor_core.specs.Purposes.{workers_of, if_listed_for, ended_for}
 use Rattle.actor_core.specs.Naming.{names_standing, names_left}
 use Rattle.gather_flow.specs.Gathering.{gather_standing, gather_rest, gather_left, shares_bound}
 use Rattle.actor_core.specs.Work.{Work, finishes}
-use Rattle.actor_core.specs.Progress.{Progress, idle, going, asked, told}
+use Rattle.actor_core.specs.Opened.{opens, reader_opened}
+use Rattle.actor_core.specs.Sharing.{all_of}
+use Rattle.actor_core.specs.Progress.{Progress, idle, going, asked, handed, told}
 
 -- The machine of the statement at work has a call out.
 abbrev pub AwaitsReply : Doing → Type 0
@@ -103,6 +109,10 @@ doing_asked kept stop (Renaming flow) = asked_of (rest_of (rename_standing flow)
 doing_asked kept stop (Recovering flow) = asked_of (rest_of (recover_standing flow)) stop (λ left result. finishes (recovered kept result)) (finishes (stopped kept))
 doing_asked kept stop (Naming flow) = asked_of (rest_of (names_standing flow)) stop (λ left result. finishes (names_listed kept result)) (finishes (stopped kept))
 
+-- how a reader is opened with what its workers came to
+abbrev pub with_shares : Kept → Option Stop → Listed → List (Result Share Stuck) → Work
+with_shares kept stop listed results = carried (on_ok (opens listed) (all_of results)) stop (λ left result. finishes (reader_opened kept result)) (finishes (stopped kept))
+
 abbrev pub busy : ℕ → Underway → Progress
 busy number (goes work) = going number work
 busy number (waits k) = asked number k
@@ -122,6 +132,7 @@ state_progress number kept stop Idle = idle kept
 state_progress number kept stop (Told line) = told line kept
 state_progress number kept stop (Ready doing) = busy number (doing_ready kept stop doing)
 state_progress number kept stop (Asked doing) = busy number (doing_asked kept stop doing)
+state_progress number kept stop (HandedOut listed) = handed number (with_shares kept stop listed)
 state_progress number kept stop (Greeting doing) = greeting number (doing_ready kept stop doing)
 state_progress number kept stop (Greeted doing) = greeting_out number (doing_ready kept stop doing)
 
@@ -155,6 +166,7 @@ state_left Idle = 0
 state_left (Told line) = 0
 state_left (Ready doing) = doing_left doing
 state_left (Asked doing) = doing_left doing
+state_left (HandedOut listed) = shares_bound 0 + 1
 state_left (Greeting doing) = doing_left doing + 1
 state_left (Greeted doing) = doing_left doing + 1
 

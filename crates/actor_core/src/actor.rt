@@ -3,6 +3,7 @@ ghost use Rattle.std.specs.Prelude.{◌≤◌};
 
 use crate::doing::Doing;
 use crate::kept::{Kept, Stop};
+use gather_flow::Listed;
 use script_lang::Line;
 use std::alloc::Global;
 
@@ -30,6 +31,8 @@ pub(crate) enum State {
     Ready(Doing),
     /// A call of it is out.
     Asked(Doing),
+    /// The shares of the reader that it opens are with workers. The container was listed so.
+    HandedOut(Listed),
     /// The actor is to greet before the statement.
     Greeting(Doing),
     /// Its greeting is out.

@@ -9,6 +9,7 @@
 mod actor;
 mod by_name;
 mod doing;
+mod handing;
 mod kept;
 mod laws;
 mod machines;

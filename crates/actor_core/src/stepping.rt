@@ -92,7 +92,7 @@ impl Actor {
     }
 
     /// Takes the state out, and leaves the idle one.
-    fn state_taken(&mut self) -> State
+    pub(crate) fn state_taken(&mut self) -> State
         ensures state { result ≡ self.old.state }
         ensures kept { self.new.kept ≡ self.old.kept }
         ensures number { self.new.number ≡ self.old.number }
@@ -105,7 +105,7 @@ impl Actor {
 
 impl Actor {
     /// The next call of its statement, its greeting before the first one; or None exactly where no statement is in progress or
-    /// it has no further call. Then its line is ready.
+    /// it has no further call. Then its line is ready. Shares that weren't handed out are read by the actor itself.
     pub fn next(&mut self) -> Result<Option<Ask>, NoMemory>
         requires { IsReady (progress_of self.old) }
         ensures ask { IfOk result (λ ask. ask ≡ ask_of (progress_of self.old)) }
@@ -136,6 +136,11 @@ impl Actor {
                 self.set(State::Greeted(doing));
                 Ok(None)
             }
+            // Nor where workers are at work.
+            State::HandedOut(listed) => {
+                self.set(State::HandedOut(listed));
+                Ok(None)
+            }
         }
     }
 
@@ -158,7 +163,7 @@ impl Actor {
                 self.set(State::Ready(doing));
                 Ok(())
             }
-            State::Idle | State::Told(_) => unreachable!(),
+            State::Idle | State::Told(_) | State::HandedOut(_) => unreachable!(),
         }
     }
 

@@ -4,7 +4,7 @@ use Rattle.flatten_core.specs.FlattenStages.{flatten_standing}
 use Rattle.actor_core.specs.declared.doing.Doing.TheVariants.{Flattening}
 use Rattle.actor_core.specs.declared.actor.State.TheVariants.{Asked}
 use Rattle.actor_core.specs.Endings.{ending, stopped, flattened}
-use Rattle.actor_core.specs.Progress.{Progress, ask_of, given, line_of, told}
+use Rattle.actor_core.specs.Progress.{ask_of, given, line_of, told}
 use Rattle.actor_core.specs.Work.{finishes}
 use Rattle.actor_core.proofs.Carrying.{asks_so, at_end, ends_so, is_out, placed}
 use Rattle.actor_core.proofs.actor.Actor.next_flattening.Goals as goal

@@ -1,0 +1,149 @@
+//! The shares of a reader that workers read.
+ghost use Rattle.std.specs.Prelude.{◌≡◌, ◌≤◌, ◌+◌, List, None, Result as AResult, IfOk, OnOk};
+ghost use Rattle.flow.specs.declared.trouble.Stuck.{Stuck as AStuck};
+ghost use Rattle.index_reader.specs.declared.sharing.Share.{Share as AShare};
+ghost use Rattle.actor_core.specs.declared.actor.State.TheVariants.{Idle};
+ghost use Rattle.actor_core.specs.Progress.{IsReady, going};
+ghost use Rattle.actor_core.specs.Handing.{IsHandedOut, IsHanded, IsOutcomeOf, with_results};
+ghost use Rattle.actor_core.specs.Standings.{progress_of, calls_left, busy, doing_ready, doing_left, with_shares};
+ghost use Rattle.gather_flow.specs.Gathering.{shares_bound};
+
+use crate::actor::{Actor, State};
+use crate::doing::Doing;
+use crate::purpose::Purpose;
+use flow::{Flow, Stuck};
+use gather_flow::{Gathering, Listed, WorkList, works};
+use index_reader::{OpenRead, Share};
+use outcomes::stuck_outcome;
+use plfs_types::NoMemory;
+
+impl Actor {
+    /// Hands the shares of the reader that it opens out to workers: a machine for each worker, in their order. Some comes exactly
+    /// where the container was listed without a trouble, no stop is armed within the statement, and none of the shares was begun
+    /// or handed out; else nothing changes. Who never asks for them leaves them to `next`.
+    pub fn shares(&mut self) -> Result<Option<WorkList>, NoMemory>
+        requires { IsReady (progress_of self.old) }
+        ensures handed { IfOk result (λ works. IsHandedOut (progress_of self.old) works (progress_of self.new)) }
+        ensures left { OnOk result (calls_left self.new ≤ calls_left self.old) }
+    {
+        match self.state_taken() {
+            State::Ready(doing) => self.hand_out(doing),
+            other => {
+                self.set(other);
+                Ok(None)
+            }
+        }
+    }
+
+    /// Goes on where the shares were handed out: with one share that was joined of what the workers read, or with the trouble of the
+    /// lowest worker that has one. The statement is then as if the actor had taken the workers' replies itself.
+    pub fn give(&mut self, outcome: Result<Share, Stuck>) -> Result<(), NoMemory>
+        requires { IsHanded (progress_of self.old) }
+        ensures goes_on { OnOk result ((results : List (AResult AShare AStuck)) → IsOutcomeOf results outcome → progress_of self.new ≡ with_results (progress_of self.old) results) }
+        ensures left { OnOk result (calls_left self.new ≤ calls_left self.old) }
+    {
+        match self.state_taken() {
+            State::HandedOut(listed) => self.go_on_with(listed, outcome),
+            _ => unreachable!(),
+        }
+    }
+}
+
+impl Actor {
+    fn hand_out(&mut self, doing: Doing) -> Result<Option<WorkList>, NoMemory>
+        requires { self.old.state ≡ Idle }
+        ensures handed { IfOk result (λ works. IsHandedOut (busy self.old.number (doing_ready self.old.kept self.old.stop doing)) works (progress_of self.new)) }
+        ensures left { OnOk result (calls_left self.new ≤ doing_left doing) }
+    {
+        match doing {
+            Doing::Listing { flow, purpose } => self.hand_out_for(flow, purpose),
+            other => {
+                self.set(State::Ready(other));
+                Ok(None)
+            }
+        }
+    }
+
+    fn hand_out_for(
+        &mut self,
+        flow: OpenRead,
+        purpose: Purpose,
+    ) -> Result<Option<WorkList>, NoMemory>
+        requires { self.old.state ≡ Idle }
+        ensures handed { IfOk result (λ works. IsHandedOut (busy self.old.number (doing_ready self.old.kept self.old.stop (Doing.Listing flow purpose))) works (progress_of self.new)) }
+        ensures left { OnOk result (calls_left self.new ≤ doing_left (Doing.Listing flow purpose)) }
+    {
+        match purpose {
+            Purpose::Opens { workers } => match self.stop {
+                None => self.hand_out_shares(flow, workers),
+                Some(_) => {
+                    self.set(State::Ready(Doing::Listing { flow, purpose }));
+                    Ok(None)
+                }
+            },
+            Purpose::Tells => {
+                self.set(State::Ready(Doing::Listing { flow, purpose }));
+                Ok(None)
+            }
+        }
+    }
+
+    fn hand_out_shares(
+        &mut self,
+        flow: OpenRead,
+        workers: u32,
+    ) -> Result<Option<WorkList>, NoMemory>
+        requires idle { self.old.state ≡ Idle }
+        requires stop { self.old.stop ≡ None }
+        ensures handed { IfOk result (λ works. IsHandedOut (busy self.old.number (doing_ready self.old.kept self.old.stop (Doing.Listing flow (Purpose.Opens workers)))) works (progress_of self.new)) }
+        ensures left { OnOk result (calls_left self.new ≤ doing_left (Doing.Listing flow (Purpose.Opens workers))) }
+    {
+        let mut flow = flow;
+        let call = match flow.next() {
+            Ok(call) => call,
+            Err(why) => {
+                drop(flow);
+                return Err(why);
+            }
+        };
+        if let Some(call) = call {
+            drop(call);
+            let purpose = Purpose::Opens { workers };
+            self.set(State::Ready(Doing::Listing { flow, purpose }));
+            return Ok(None);
+        }
+        match flow.out() {
+            Ok(listing) => {
+                let listed = Listed::of(listing);
+                let list = works(self.alloc, &listed, workers)?;
+                self.set(State::HandedOut(listed));
+                Ok(Some(list))
+            }
+            Err(because) => {
+                let outcome = stuck_outcome(because);
+                self.set(State::Ready(Doing::Known(outcome)));
+                Ok(None)
+            }
+        }
+    }
+
+    fn go_on_with(&mut self, listed: Listed, outcome: Result<Share, Stuck>) -> Result<(), NoMemory>
+        requires { self.old.state ≡ Idle }
+        ensures goes_on { OnOk result ((results : List (AResult AShare AStuck)) → IsOutcomeOf results outcome
+            → progress_of self.new ≡ going self.old.number (with_shares self.old.kept self.old.stop listed results)) }
+        ensures left { OnOk result (calls_left self.new ≤ shares_bound 0 + 1) }
+    {
+        match outcome {
+            Ok(share) => {
+                let flow = Gathering::behind(self.alloc, listed, share)?;
+                let purpose = Purpose::Opens { workers: 1 };
+                self.set(State::Ready(Doing::Gathering { flow, purpose }));
+            }
+            Err(because) => {
+                let outcome = stuck_outcome(because);
+                self.set(State::Ready(Doing::Known(outcome)));
+            }
+        }
+        Ok(())
+    }
+}
