@@ -21,6 +21,8 @@ use Rattle.index_reader.specs.Opening.{open_at_program, open_read_program}
 use Rattle.index_reader.specs.Reading.{read_program}
 use Rattle.index_reader.specs.declared.listing.Listing.{Listing}
 use Rattle.index_reader.specs.declared.opened.OpenReader.{OpenReader}
+use Rattle.index_reader.specs.declared.sharing.Share.{Share}
+use Rattle.index_reader.specs.Replies.{on_ok}
 use Rattle.flatten_core.specs.Flattening.{flatten_program}
 use Rattle.script_lang.specs.declared.script.Data.{Data}
 use Rattle.script_lang.specs.declared.script.Statement.{Statement}
@@ -35,6 +37,7 @@ use Rattle.actor_core.specs.Telling.{if_asked, if_relisted, tells_by, tells_of_f
 use Rattle.actor_core.specs.Opened.{opens as opens_after, reader_opened}
 use Rattle.actor_core.specs.Readers.{opens_reader, if_listed, reads, verifies, maps, closes_reader}
 use Rattle.gather_flow.specs.Shares.{programs_from, by_itself}
+use Rattle.actor_core.specs.Sharing.{all_of}
 use Rattle.actor_core.specs.Statements.{does, greeted, greeted_work, disarmed, work_of}
 use Rattle.actor_core.specs.Stopping.{carried, is_due, one_nearer}
 use Rattle.actor_core.specs.Work.{Work, finishes}
@@ -80,9 +83,14 @@ itself_comes kept workers stop listing =
     let program = by_itself (programs_from workers listing 0) [] (opens_after listing) in
     carried_comes program stop (λ left result. finishes (reader_opened kept result)) (finishes (stopped kept)) (λ left result. tt) tt
 
+-- what workers read leads to the line as well
+shared_comes : (kept : Kept) (listing : Listing) (results : List (Result Share Stuck)) → ComesToLine (carried (on_ok (opens_after listing) (all_of results)) None (λ left result. finishes (reader_opened kept result)) (finishes (stopped kept)))
+shared_comes kept listing results =
+    carried_comes (on_ok (opens_after listing) (all_of results)) None (λ left result. finishes (reader_opened kept result)) (finishes (stopped kept)) (λ left result. tt) tt
+
 listed_comes : (kept : Kept) (workers : ℕ) (stop : Option Stop) (result : Result Listing Stuck) → ComesToLine (if_listed kept workers stop result)
 listed_comes kept workers stop (Err because) = tt
-listed_comes kept workers None (Ok listing) = itself_comes kept workers None listing
+listed_comes kept workers None (Ok listing) = (shared_comes kept listing, itself_comes kept workers None listing)
 listed_comes kept workers (Some stop) (Ok listing) = itself_comes kept workers (Some stop) listing
 
 opens_reader_comes : (kept : Kept) (stop : Option Stop) (name : List ℕ) (workers : ℕ) (reader : Option OpenReader) → ComesToLine (opens_reader kept stop name workers reader)

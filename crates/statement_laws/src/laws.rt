@@ -17,7 +17,7 @@ pub fn statements_are_always_allowed()
         → IsSafeProcess IsStep Permits caller (work_of kept statement) state }
 {}
 
-/// A law: whatever is replied, a statement comes to its line.
+/// A law: whatever is replied, and whatever its workers come to, a statement comes to its line.
 pub fn statements_come_to_a_line()
     ensures { (kept : Kept) (statement : Statement) → ComesToLine (work_of kept statement) }
 {}
