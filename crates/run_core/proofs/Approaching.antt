@@ -13,7 +13,7 @@ use Rattle.story.specs.InTurns.{ToEnd}
 use Rattle.script_lang.specs.declared.line.Line.{Line}
 use Rattle.script_lang.specs.declared.script.Numbered.{Numbered}
 use Rattle.actor_core.specs.declared.kept.Kept.{Kept}
-use Rattle.actor_core.specs.Progress.{Progress, idle, going, asked, told, given, with_reply, IsIdle}
+use Rattle.actor_core.specs.Progress.{Progress, idle, going, asked, handed, told, given, with_reply, IsIdle}
 use Rattle.actor_core.specs.Standings.{progress_of}
 use Rattle.run_core.specs.declared.player.Player.{Player}
 use Rattle.run_core.specs.Course.{Course}
@@ -138,6 +138,7 @@ is_none : (progress : Progress) → IsIdle progress → in_progress progress ≡
 is_none (idle kept) rests = refl
 is_none (going number work) rests = absurd rests
 is_none (asked number k) rests = absurd rests
+is_none (handed number k) rests = absurd rests
 is_none (told line kept) rests = absurd rests
 
 -- a player with lines left and none ahead has a statement

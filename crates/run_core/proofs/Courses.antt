@@ -36,7 +36,7 @@ line_told number next (pauses work) calls lines comes plays = absurd comes
 line_told number next (tells ending work) calls lines comes plays = (ending.kept, calls, plays.0, ap length plays.1 ∙ omega arith, plays.2)
 line_told number next (asks q k) [] lines comes plays = absurd plays
 line_told number next (asks q k) (e ∷ calls) lines comes plays = line_told number next (k e.reply) calls lines (comes e.reply) plays.1
-line_told number next (shares ps k alone) calls lines comes plays = line_told number next alone calls lines comes plays
+line_told number next (shares ps k alone) calls lines comes plays = line_told number next alone calls lines comes.1 plays
 
 statements_told : (ss : List Numbered) (next : Kept → Course) (kept : Kept) (calls : List Event) (lines : List Line) → PlaysAlone (one_by_one ss next kept) calls lines
     → (left : Kept) × (later : List Event) × (others : List Line) × (length lines ≡ length ss + length others) × PlaysAlone (next left) later others

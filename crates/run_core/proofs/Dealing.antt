@@ -10,7 +10,7 @@ use Rattle.script_lang.specs.Ranges.{FitsNumbered}
 use Rattle.story.specs.Process.{pauses}
 use Rattle.story.specs.Performers.{performer, paused}
 use Rattle.actor_core.specs.declared.kept.Kept.{Kept}
-use Rattle.actor_core.specs.Progress.{Progress, idle, going, asked, told}
+use Rattle.actor_core.specs.Progress.{Progress, idle, going, asked, handed, told}
 use Rattle.actor_core.specs.Standings.{progress_of}
 use Rattle.run_core.specs.declared.player.Player.{Player}
 use Rattle.run_core.specs.Course.{Course, one_by_one, own, through}
@@ -76,6 +76,7 @@ kept_in : (me : ℕ) (now : State) (progress : Progress) → IsSafeProgress me p
 kept_in me now (idle kept) safe none = (kept, refl)
 kept_in me now (going number work) safe none = absurd (omega (arith, none))
 kept_in me now (asked number k) safe none = absurd safe
+kept_in me now (handed number k) safe none = absurd safe
 kept_in me now (told line kept) safe none = absurd (omega (arith, none))
 
 pub rests_of : (place : ℕ) (player : Player) (now : State) → Stands [] place player now → Rests player

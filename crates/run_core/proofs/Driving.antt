@@ -21,7 +21,7 @@ use Rattle.story.specs.Safe.{PassSafeProcess}
 use Rattle.story.proofs.Facts.{process_may, safe_call}
 use Rattle.actor_core.specs.declared.kept.Kept.{Kept}
 use Rattle.actor_core.specs.Work.{Work}
-use Rattle.actor_core.specs.Progress.{Progress, idle, going, asked, told, next_ask, ask_of, given, with_reply, waiting_line, line_taken, line_of, IsIdle, IsReady, IsAsked}
+use Rattle.actor_core.specs.Progress.{Progress, idle, going, asked, handed, told, next_ask, ask_of, given, with_reply, waiting_line, line_taken, line_of, IsIdle, IsReady, IsAsked}
 use Rattle.statement_laws.specs.Coming.{ComesToLine}
 use Rattle.run_core.specs.Course.{Course, then_line, one_by_one}
 use Rattle.run_core.specs.Players.{IsSafeProgress, course_at}
@@ -69,7 +69,7 @@ asks_work start v number (asks q k) question own comes safe is =
       goes = λ w reply called memory statements later. goes_call start v w q (λ r. then_line number (λ kept. one_by_one statements later kept) (k r)) reply own called memory;
     })
 asks_work start v number (shares programs k alone) question own comes safe is =
-    let a = asks_work start v number alone question own comes (λ caller can. (safe caller can).1) is in
+    let a = asks_work start v number alone question own comes.1 (λ caller can. (safe caller can).1) is in
     record {
       number = a.number;
       next = a.next;
@@ -85,6 +85,7 @@ pub pass_asks : (start : State) (v : View) (old : Progress) (question : Ask) →
 pass_asks start v (idle kept) question own may is = absurd (cc)
 pass_asks start v (going number work) question own may is = asks_work start v number work question own (as_one start v (going number work) may).1.0 (λ caller can. (may caller can).1) is
 pass_asks start v (asked number k) question own may is = absurd (as_one start v (asked number k) may).1
+pass_asks start v (handed number k) question own may is = absurd (as_one start v (handed number k) may).1
 pass_asks start v (told line kept) question own may is = absurd (cc)
 
 -- How the actor tells its line.
@@ -105,7 +106,7 @@ tells_work v number (tells ending work) comes is = record {
 }
 tells_work v number (asks q k) comes is = absurd (cc)
 tells_work v number (shares programs k alone) comes is =
-    let a = tells_work v number alone comes is in
+    let a = tells_work v number alone comes.1 is in
     record {
       line = a.line;
       kept = a.kept;
@@ -119,12 +120,14 @@ pass_tells : (v : View) (n : ℕ) (now : State) (old : Progress) → IsSafeProgr
 pass_tells v n now (idle kept) safe busy is = absurd (busy tt)
 pass_tells v n now (going number work) safe busy is = tells_work v number work safe.0 is
 pass_tells v n now (asked number k) safe busy is = absurd safe
+pass_tells v n now (handed number k) safe busy is = absurd safe
 pass_tells v n now (told line kept) safe busy is = record { line = line; kept = kept; out = refl; goes = λ statements later. goes_tells v line (one_by_one statements later kept) }
 
 ready_at : (n : ℕ) (now : State) (progress : Progress) → IsSafeProgress n progress now → IsReady progress
 ready_at n now (idle kept) safe = tt
 ready_at n now (going number work) safe = tt
 ready_at n now (asked number k) safe = absurd safe
+ready_at n now (handed number k) safe = absurd safe
 ready_at n now (told line kept) safe = tt
 
 module _ {P : Type 0} (turn : TheTurn P) where

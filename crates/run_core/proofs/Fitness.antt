@@ -13,7 +13,7 @@ use Rattle.story.specs.Safe.{AreOthers, IsSafeProcess}
 use Rattle.story.proofs.Facts.{process_lasts}
 use Rattle.script_lang.specs.declared.script.Numbered.{Numbered}
 use Rattle.actor_core.specs.declared.kept.Kept.{Kept}
-use Rattle.actor_core.specs.Progress.{Progress, idle, going, asked, told}
+use Rattle.actor_core.specs.Progress.{Progress, idle, going, asked, handed, told}
 use Rattle.actor_core.specs.Standings.{progress_of}
 use Rattle.run_core.specs.declared.player.Player.{Player}
 use Rattle.run_core.specs.Leading.{AreBy, Leads}
@@ -43,6 +43,7 @@ safe_lasts number other apart (going line work) old events new leads by_it fine 
   subst (λ (z : State). IsSafeProcess IsStep Permits number work z) leads.ends (process_lasts IsStep Permits number work old events (others_of number other apart old events fine leads.lawful by_it) safe.1),
 )
 safe_lasts number other apart (asked line k) old events new leads by_it fine safe = absurd safe
+safe_lasts number other apart (handed line k) old events new leads by_it fine safe = absurd safe
 safe_lasts number other apart (told line kept) old events new leads by_it fine safe = tt
 
 -- a player may go on after another caller's calls

@@ -12,7 +12,7 @@ use Rattle.script_lang.specs.declared.line.Line.{Line}
 use Rattle.script_lang.specs.declared.script.Numbered.{Numbered}
 use Rattle.actor_core.specs.declared.kept.Kept.{Kept}
 use Rattle.actor_core.specs.Work.{Work}
-use Rattle.actor_core.specs.Progress.{Progress, idle, going, asked, told, next_ask, ask_of, given, begun, with_reply, waiting_line, line_taken, line_of, IsAsked, IsIdle, IsReady}
+use Rattle.actor_core.specs.Progress.{Progress, idle, going, asked, handed, told, next_ask, ask_of, given, begun, with_reply, waiting_line, line_taken, line_of, IsAsked, IsIdle, IsReady}
 use Rattle.actor_core.specs.Standings.{progress_of}
 use Rattle.actor_core.specs.Statements.{work_of}
 use Rattle.run_core.specs.Course.{Course}
@@ -59,12 +59,14 @@ pub asks_next : (old : Progress) (question : Ask) → IsPlainProgress old → So
 asks_next (idle kept) question plain is = absurd plain
 asks_next (going number work) question plain is = asks_work number work question plain is
 asks_next (asked number k) question plain is = absurd plain
+asks_next (handed number k) question plain is = absurd plain
 asks_next (told line kept) question plain is = absurd plain
 
 pub ready : (progress : Progress) → IsPlainProgress progress → IsReady progress
 ready (idle kept) plain = tt
 ready (going number work) plain = tt
 ready (asked number k) plain = absurd plain
+ready (handed number k) plain = absurd plain
 ready (told line kept) plain = tt
 
 pub is_out : (old : Progress) (question : Ask) → AsksNext old question → (new : Progress) → new ≡ given old → IsAsked new
@@ -121,6 +123,7 @@ pub tells_next : (old : Progress) → IsPlainProgress old → None ≡ ask_of ol
 tells_next (idle kept) plain is = absurd plain
 tells_next (going number work) plain is = tells_work number work plain is
 tells_next (asked number k) plain is = absurd plain
+tells_next (handed number k) plain is = absurd plain
 tells_next (told line kept) plain is = absurd plain
 
 -- without a further call its line waits
@@ -172,4 +175,5 @@ pub idle_kept : (progress : Progress) → IsIdle progress → (kept : Kept) × (
 idle_kept (idle kept) rests = (kept, refl)
 idle_kept (going number work) rests = absurd rests
 idle_kept (asked number k) rests = absurd rests
+idle_kept (handed number k) rests = absurd rests
 idle_kept (told line kept) rests = absurd rests

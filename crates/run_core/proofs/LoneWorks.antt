@@ -15,7 +15,7 @@ use Rattle.script_lang.specs.declared.script.Statement.{Statement}
 use Rattle.script_lang.specs.declared.script.Statement.TheVariants.{Ropen, Read}
 use Rattle.actor_core.specs.declared.actor.Actor.{Actor}
 use Rattle.actor_core.specs.declared.actor.State.{State}
-use Rattle.actor_core.specs.declared.actor.State.TheVariants.{Idle, Told, Ready, Asked, Greeting, Greeted}
+use Rattle.actor_core.specs.declared.actor.State.TheVariants.{Idle, Told, Ready, Asked, HandedOut, Greeting, Greeted}
 use Rattle.actor_core.specs.declared.kept.Kept.{Kept}
 use Rattle.actor_core.specs.declared.kept.Stop.{Stop}
 use Rattle.actor_core.specs.Endings.{gone, stopped, read_from}
@@ -113,6 +113,7 @@ keeps_so number own stop Idle kept is = cc
 keeps_so number own stop (Told line) kept is = cc
 keeps_so number own stop (Ready doing) kept is = absurd (not_busy number (doing_ready own stop doing) kept is)
 keeps_so number own stop (Asked doing) kept is = absurd (not_busy number (doing_asked own stop doing) kept is)
+keeps_so number own stop (HandedOut listed) kept is = cc
 keeps_so number own stop (Greeting doing) kept is = absurd (not_greeting number (doing_ready own stop doing) kept is)
 keeps_so number own stop (Greeted doing) kept is = absurd (not_out number (doing_ready own stop doing) kept is)
 

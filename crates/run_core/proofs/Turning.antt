@@ -12,7 +12,7 @@ use Rattle.story.specs.Turns.{TakesTurn}
 use Rattle.script_lang.specs.declared.line.Line.{Line}
 use Rattle.script_lang.specs.declared.script.Numbered.{Numbered}
 use Rattle.actor_core.specs.declared.kept.Kept.{Kept}
-use Rattle.actor_core.specs.Progress.{Progress, idle, going, asked, told, ask_of, given, with_reply, waiting_line, line_taken, IsIdle}
+use Rattle.actor_core.specs.Progress.{Progress, idle, going, asked, handed, told, ask_of, given, with_reply, waiting_line, line_taken, IsIdle}
 use Rattle.actor_core.specs.Standings.{progress_of}
 use Rattle.run_core.specs.declared.player.Player.{Player}
 use Rattle.run_core.specs.Course.{Course}
@@ -244,6 +244,7 @@ idle_turn n (idle kept) queue later idles none =
     subst P (sym none) (refl, refl, refl)
 idle_turn n (going number work) queue later idles none = absurd idles
 idle_turn n (asked number k) queue later idles none = absurd idles
+idle_turn n (handed number k) queue later idles none = absurd idles
 idle_turn n (told line kept) queue later idles none = absurd idles
 
 pub done_turn : (player : Player) (now : State) → IsFit player now → IsDone player → Advances Turns player now player now

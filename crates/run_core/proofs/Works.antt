@@ -15,7 +15,7 @@ use Rattle.script_lang.specs.declared.line.Line.{Line}
 use Rattle.script_lang.specs.declared.script.Numbered.{Numbered}
 use Rattle.actor_core.specs.declared.kept.Kept.{Kept}
 use Rattle.actor_core.specs.Work.{Work}
-use Rattle.actor_core.specs.Progress.{Progress, idle, going, asked, told, next_ask, ask_of, given, waiting_line, line_taken, line_of, IsIdle, IsReady, IsAsked}
+use Rattle.actor_core.specs.Progress.{Progress, idle, going, asked, handed, told, next_ask, ask_of, given, waiting_line, line_taken, line_of, IsIdle, IsReady, IsAsked}
 use Rattle.run_core.specs.Course.{Course, one_by_one}
 use Rattle.run_core.specs.Written.{is_greeting}
 use Rattle.statement_laws.specs.Coming.{ComesToLine}
@@ -59,13 +59,14 @@ asks_work me now number (asks q k) question comes safe is =
       finishes = λ n statements later e more line left own asked_it goes. (own, asked_it ∙ same, goes);
     }
 asks_work me now number (shares programs k alone) question comes safe is =
-    let a = asks_work me now number alone question comes safe.1 is in
+    let a = asks_work me now number alone question comes.1 safe.1 is in
     record { number = a.number; next = a.next; out = a.out; busy = refl; may = a.may; safe = a.safe; turn = a.turn; finishes = a.finishes }
 
 pub asks_next : (me : ℕ) (now : State) (old : Progress) (question : Ask) → IsSafeProgress me old now → Some question ≡ ask_of old → AsksNext me now old question
 asks_next me now (idle kept) question safe is = absurd (cc)
 asks_next me now (going number work) question safe is = asks_work me now number work question safe.0 safe.1 is
 asks_next me now (asked number k) question safe is = absurd safe
+asks_next me now (handed number k) question safe is = absurd safe
 asks_next me now (told line kept) question safe is = absurd (cc)
 
 -- How an actor goes on from its line.
@@ -92,19 +93,21 @@ no_call_work number (tells ending work) comes is = (
 )
 no_call_work number (asks q k) comes is = absurd (cc)
 no_call_work number (shares programs k alone) comes is =
-    let a = no_call_work number alone comes is in
+    let a = no_call_work number alone comes.1 is in
     (a.0, record { kept = a.1.kept; out = a.1.out; busy = refl; turn = a.1.turn; finishes = a.1.finishes })
 
 pub no_call : (me : ℕ) (now : State) (old : Progress) → IsSafeProgress me old now → None ≡ ask_of old → HasNoCall old
 no_call me now (idle kept) safe is = rests kept refl
 no_call me now (going number work) safe is = let a = no_call_work number work safe.0 is in says a.0 a.1
 no_call me now (asked number k) safe is = absurd safe
+no_call me now (handed number k) safe is = absurd safe
 no_call me now (told line kept) safe is = says line (record { kept = kept; out = refl; busy = refl; turn = λ n statements later more lines left goes. (lines, refl, goes); finishes = λ n statements later. (refl, refl, refl) })
 
 pub ready : (me : ℕ) (now : State) (progress : Progress) → IsSafeProgress me progress now → IsReady progress
 ready me now (idle kept) safe = tt
 ready me now (going number work) safe = tt
 ready me now (asked number k) safe = absurd safe
+ready me now (handed number k) safe = absurd safe
 ready me now (told line kept) safe = tt
 
 pub is_out : (me : ℕ) (now : State) (old : Progress) (question : Ask) → AsksNext me now old question → (new : Progress) → new ≡ given old → IsAsked new
@@ -117,6 +120,7 @@ pub idle_kept : (progress : Progress) → IsIdle progress → (kept : Kept) × (
 idle_kept (idle kept) rest = (kept, refl)
 idle_kept (going number work) rest = absurd rest
 idle_kept (asked number k) rest = absurd rest
+idle_kept (handed number k) rest = absurd rest
 idle_kept (told line kept) rest = absurd rest
 
 -- a statement without a further call has its line

@@ -16,7 +16,7 @@ use Rattle.script_lang.specs.declared.script.Numbered.{Numbered}
 use Rattle.script_lang.specs.declared.script.Phase.{Phase}
 use Rattle.script_lang.specs.Ranges.{FitsStatement}
 use Rattle.actor_core.specs.declared.kept.Kept.{Kept}
-use Rattle.actor_core.specs.Progress.{Progress, idle, going, asked, told}
+use Rattle.actor_core.specs.Progress.{Progress, idle, going, asked, handed, told}
 use Rattle.actor_core.specs.Standings.{progress_of}
 use Rattle.statement_laws.specs.Coming.{ComesToLine}
 use Rattle.run_core.specs.declared.player.Player.{Player}
@@ -27,6 +27,7 @@ abbrev pub course_at : Progress → List Numbered → (Kept → Course) → Cour
 course_at (idle kept) statements next = one_by_one statements next kept
 course_at (going number work) statements next = then_line number (λ kept. one_by_one statements next kept) work
 course_at (asked number k) statements next = ends
+course_at (handed number k) statements next = ends
 course_at (told line kept) statements next = tells line (one_by_one statements next kept)
 
 -- what the player has still to do in this phase, and this after the pause
@@ -46,6 +47,7 @@ abbrev pub IsSafeProgress : ℕ → Progress → State → Type 0
 IsSafeProgress number (idle kept) state = ⊤
 IsSafeProgress number (going line work) state = ComesToLine work × IsSafeProcess IsStep Permits number work state
 IsSafeProgress number (asked line k) state = ⊥
+IsSafeProgress number (handed line k) state = ⊥
 IsSafeProgress number (told line kept) state = ⊤
 
 -- a statement whose numbers and data are in their ranges
