@@ -52,7 +52,8 @@ use Rattle.actor_core.specs.Purposes.{if_listed_for, ended_for}
 use Rattle.actor_core.specs.Naming.{names_standing}
 use Rattle.actor_core.specs.Work.{Work, finishes}
 use Rattle.actor_core.specs.Progress.{Progress, going, handed}
-use Rattle.actor_core.specs.Handing.{Handing, handing_in, handing_of, AreMachinesOf, Hands, IsHandedOut, IsHanded, IsOutcomeOf}
+use Rattle.actor_core.specs.Handing.{Handing, handing_in, handing_of, Hands, IsHandedOut, IsHanded}
+use Rattle.gather_flow.specs.Workers.{AreMachinesOf, IsOutcomeOf}
 use Rattle.actor_core.specs.Standings.{Underway, goes, waits, ready_of, asked_of, busy, greeting, greeting_out, doing_ready, doing_asked, with_shares, state_progress}
 use Rattle.actor_core.proofs.Carrying.{ends_so}
 use Rattle.actor_core.proofs.Making.{made_behind}

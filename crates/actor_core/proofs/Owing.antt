@@ -39,7 +39,7 @@ use Rattle.actor_core.specs.Endings.{refused, stopped, gone, wrote_nothing, open
 use Rattle.outcomes.specs.Data.{bytes_of, length_of}
 use Rattle.actor_core.specs.Work.{Work, finishes}
 use Rattle.gather_flow.specs.Shares.{by_itself, programs_from, worker_program}
-use Rattle.actor_core.specs.Sharing.{all_of}
+use Rattle.gather_flow.specs.Workers.{all_of}
 use Rattle.actor_core.specs.Opened.{opens as opens_after, if_truncs, reader_opened}
 use Rattle.actor_core.specs.Writers.{opens, writes, writes_bytes, syncs, closes}
 use Rattle.actor_core.specs.Readers.{opens_reader, if_listed, reads, verifies, maps, closes_reader}

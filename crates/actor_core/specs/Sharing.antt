@@ -1,5 +1,5 @@
 -- The shares of a container's droppings, which workers read, or the actor itself.
-use Rattle.std.specs.Prelude.{List, [], ◌∷◌, map, Option, Some, None, Result, Ok, Err}
+use Rattle.std.specs.Prelude.{List, [], map, Option, Some, None, Result}
 use Rattle.story.specs.Process.{shares}
 use Rattle.flow.specs.declared.trouble.Stuck.{Stuck}
 use Rattle.flow.specs.Running.{asking}
@@ -7,19 +7,10 @@ use Rattle.index_reader.specs.declared.opened.OpenReader.{OpenReader}
 use Rattle.index_reader.specs.declared.sharing.Share.{Share}
 use Rattle.index_reader.specs.Replies.{Tries, on_ok}
 use Rattle.gather_flow.specs.Shares.{by_itself}
+use Rattle.gather_flow.specs.Workers.{all_of}
 use Rattle.actor_core.specs.declared.kept.Stop.{Stop}
 use Rattle.actor_core.specs.Stopping.{carried}
 use Rattle.actor_core.specs.Work.{Work}
-
-abbrev pub and_share : Share → Result (List Share) Stuck → Result (List Share) Stuck
-and_share share (Ok others) = Ok (share ∷ others)
-and_share share (Err because) = Err because
-
--- all shares, or the trouble of the first worker that has one
-abbrev pub all_of : List (Result Share Stuck) → Result (List Share) Stuck
-all_of [] = Ok []
-all_of (Ok share ∷ results) = and_share share (all_of results)
-all_of (Err because ∷ results) = Err because
 
 -- Workers read the shares, or the actor itself. Where a stop is armed the actor does, since the stop counts its own calls.
 abbrev pub shared : Option Stop → List (Tries Share) → (List Share → Tries OpenReader) → (Option Stop → Result OpenReader Stuck → Work) → Work → Work

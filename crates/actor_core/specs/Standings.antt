@@ -36,7 +36,7 @@ use Rattle.actor_core.specs.Naming.{names_standing, names_left}
 use Rattle.gather_flow.specs.Gathering.{gather_standing, gather_rest, gather_left, shares_bound}
 use Rattle.actor_core.specs.Work.{Work, finishes}
 use Rattle.actor_core.specs.Opened.{opens, reader_opened}
-use Rattle.actor_core.specs.Sharing.{all_of}
+use Rattle.gather_flow.specs.Workers.{all_of}
 use Rattle.actor_core.specs.Progress.{Progress, idle, going, asked, handed, told}
 
 -- The machine of the statement at work has a call out.

@@ -4,7 +4,8 @@ ghost use Rattle.flow.specs.declared.trouble.Stuck.{Stuck as AStuck};
 ghost use Rattle.index_reader.specs.declared.sharing.Share.{Share as AShare};
 ghost use Rattle.actor_core.specs.declared.actor.State.TheVariants.{Idle};
 ghost use Rattle.actor_core.specs.Progress.{IsReady, going};
-ghost use Rattle.actor_core.specs.Handing.{IsHandedOut, IsHanded, IsOutcomeOf, with_results};
+ghost use Rattle.actor_core.specs.Handing.{IsHandedOut, IsHanded, with_results};
+ghost use Rattle.gather_flow.specs.Workers.{IsOutcomeOf};
 ghost use Rattle.actor_core.specs.Standings.{progress_of, calls_left, busy, doing_ready, doing_left, with_shares};
 ghost use Rattle.gather_flow.specs.Gathering.{shares_bound};
 

@@ -14,7 +14,7 @@ use Rattle.index_reader.specs.Sharing.{share_program}
 use Rattle.reader_laws.specs.Opening.{droppings_of, shares_of, Work, portions_of}
 use Rattle.gather_flow.specs.Dealing.{dealt_to}
 use Rattle.gather_flow.specs.Shares.{worker_program}
-use Rattle.actor_core.specs.Sharing.{and_share, all_of}
+use Rattle.gather_flow.specs.Workers.{and_share, all_of}
 use Rattle.play_laws.proofs.Dealing.{dealt_all}
 
 -- ---- a caller's calls in a wider part

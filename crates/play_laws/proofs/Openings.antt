@@ -46,7 +46,8 @@ use Rattle.actor_core.specs.Opened.{opens, reader_opened}
 use Rattle.outcomes.specs.Outcomes.{stuck_outcome}
 use Rattle.gather_flow.specs.Shares.{programs_from, by_itself}
 use Rattle.actor_core.specs.Readers.{if_listed, opens_reader}
-use Rattle.actor_core.specs.Sharing.{all_of, shared}
+use Rattle.gather_flow.specs.Workers.{all_of}
+use Rattle.actor_core.specs.Sharing.{shared}
 use Rattle.actor_core.specs.Stopping.{carried}
 use Rattle.actor_core.specs.Work.{Work as Doing, finishes}
 use Rattle.run_core.specs.Course.{Course, then_line}

@@ -37,7 +37,7 @@ use Rattle.actor_core.specs.Telling.{if_asked, if_relisted, tells_by, tells_of_f
 use Rattle.actor_core.specs.Opened.{opens as opens_after, reader_opened}
 use Rattle.actor_core.specs.Readers.{opens_reader, if_listed, reads, verifies, maps, closes_reader}
 use Rattle.gather_flow.specs.Shares.{programs_from, by_itself}
-use Rattle.actor_core.specs.Sharing.{all_of}
+use Rattle.gather_flow.specs.Workers.{all_of}
 use Rattle.actor_core.specs.Statements.{does, greeted, greeted_work, disarmed, work_of}
 use Rattle.actor_core.specs.Stopping.{carried, is_due, one_nearer}
 use Rattle.actor_core.specs.Work.{Work, finishes}

@@ -4,7 +4,7 @@ use Rattle.index_reader.specs.declared.sharing.Share.{Share}
 use Rattle.actor_core.specs.declared.actor.State.TheVariants.{Ready}
 use Rattle.actor_core.specs.declared.doing.Doing.TheVariants.{Gathering}
 use Rattle.actor_core.specs.declared.purpose.Purpose.TheVariants.{Opens}
-use Rattle.actor_core.specs.Handing.{IsOutcomeOf}
+use Rattle.gather_flow.specs.Workers.{IsOutcomeOf}
 use Rattle.actor_core.proofs.Carrying.{placed}
 use Rattle.actor_core.proofs.Handings.{given_share}
 use Rattle.actor_core.proofs.actor.Actor.go_on_with.Goals as goal
