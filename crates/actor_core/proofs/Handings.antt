@@ -3,7 +3,7 @@ use Rattle.std.proofs.Common.{◌≡◌, ℕ, List, [], ◌∷◌, map, Option, 
 use Rattle.std.specs.Prelude.{◌≢◌, option_map, IfSome}
 use Rattle.std.proofs.lemmas.Option.{none-some, same_Some}
 use Rattle.story.specs.Program.{Program, done, ask, followed_by}
-use Rattle.flow.specs.declared.trouble.Stuck.{Stuck}
+use Rattle.flow.specs.declared.stuck.Stuck.{Stuck}
 use Rattle.flow.specs.Running.{asking}
 use Rattle.flow.specs.Standing.{Standing, ready, asked as out, Rest, over, awaits, next_of, rest_of, Awaits, IsOver}
 use Rattle.mount_model.specs.declared.call.Call.{Call}

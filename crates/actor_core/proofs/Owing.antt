@@ -5,7 +5,7 @@ use Rattle.std.proofs.lemmas.Bool.{false≢true}
 use Rattle.std.specs.List.{range_with_len}
 use Rattle.story.specs.Program.{Program, AsksOnly, done, ask}
 use Rattle.story.specs.Process.{asks}
-use Rattle.flow.specs.declared.trouble.Stuck.{Stuck}
+use Rattle.flow.specs.declared.stuck.Stuck.{Stuck}
 use Rattle.flow.specs.Running.{asking, unbroken}
 use Rattle.mount_model.specs.declared.call.Call.TheVariants.{Greet}
 use Rattle.script_lang.specs.declared.line.Why.TheVariants.{NotOpen}

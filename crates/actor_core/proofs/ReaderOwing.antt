@@ -2,7 +2,7 @@
 use Rattle.std.proofs.Common.{ℕ, true, false, List, [], ◌∷◌, ◌++◌, length, take, replicate, nat_lt, Option, Some, None, Result, Ok, Err}
 use Rattle.std.specs.Prelude.{if◌then◌else◌}
 use Rattle.plfs_types.specs.declared.entries.Cover.{Cover}
-use Rattle.flow.specs.declared.trouble.Stuck.{Stuck}
+use Rattle.flow.specs.declared.stuck.Stuck.{Stuck}
 use Rattle.story.specs.Program.{Program, done, ask}
 use Rattle.mount_model.specs.Paths.{log_path}
 use Rattle.mount_model.specs.declared.call.Call.{Call}

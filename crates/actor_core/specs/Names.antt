@@ -2,13 +2,13 @@
 use Rattle.std.specs.Prelude.{ℕ, ◌&&◌, ◌||◌, ◌==◌, nat_le, Bool, true, false, if◌then◌else◌, List, [], ◌∷◌, filter, length, Result, Ok, Err}
 use Rattle.std.specs.List.{list_all}
 use Rattle.plfs_types.specs.Names.{is_name_byte}
-use Rattle.flow.specs.declared.trouble.Stuck.{Stuck}
+use Rattle.flow.specs.declared.stuck.Stuck.{Stuck}
 use Rattle.story.specs.Program.{done, ask}
 use Rattle.mount_model.specs.declared.call.Call.TheVariants.{Rooms as AskRooms}
 use Rattle.mount_model.specs.declared.reply.Reply.{Reply}
 use Rattle.mount_model.specs.declared.reply.Reply.TheVariants.{Rooms}
 use Rattle.mount_model.specs.Paths.{Name}
-use Rattle.looks.specs.Replies.{Tries, failure}
+use Rattle.flow.specs.Replies.{Tries, failure}
 
 -- a file's name begins with neither '.' nor '-'
 abbrev pub may_begin : ℕ → Bool

@@ -2,7 +2,7 @@
 use Rattle.std.specs.Prelude.{List, Some, Result, Ok, Err}
 use Rattle.plfs_types.specs.declared.entries.Trunc.{Trunc}
 use Rattle.story.specs.Program.{done, followed_by}
-use Rattle.flow.specs.declared.trouble.Stuck.{Stuck}
+use Rattle.flow.specs.declared.stuck.Stuck.{Stuck}
 use Rattle.script_lang.specs.declared.line.Outcome.TheVariants.{Reader}
 use Rattle.index_reader.specs.declared.listing.Listing.{Listing}
 use Rattle.index_reader.specs.declared.sharing.Share.{Share}

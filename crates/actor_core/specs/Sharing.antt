@@ -1,7 +1,7 @@
 -- The shares of a container's droppings, which workers read, or the actor itself.
 use Rattle.std.specs.Prelude.{List, [], map, Option, Some, None, Result}
 use Rattle.story.specs.Process.{shares}
-use Rattle.flow.specs.declared.trouble.Stuck.{Stuck}
+use Rattle.flow.specs.declared.stuck.Stuck.{Stuck}
 use Rattle.flow.specs.Running.{asking}
 use Rattle.index_reader.specs.declared.opened.OpenReader.{OpenReader}
 use Rattle.index_reader.specs.declared.sharing.Share.{Share}

@@ -1,6 +1,6 @@
 //! The shares of a reader that workers read.
 ghost use Rattle.std.specs.Prelude.{◌≡◌, ◌≤◌, ◌+◌, List, None, Result as AResult, IfOk, OnOk};
-ghost use Rattle.flow.specs.declared.trouble.Stuck.{Stuck as AStuck};
+ghost use Rattle.flow.specs.declared.stuck.Stuck.{Stuck as AStuck};
 ghost use Rattle.index_reader.specs.declared.sharing.Share.{Share as AShare};
 ghost use Rattle.actor_core.specs.declared.actor.State.TheVariants.{Idle};
 ghost use Rattle.actor_core.specs.Progress.{IsReady, going};

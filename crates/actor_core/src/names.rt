@@ -4,8 +4,7 @@ ghost use Rattle.flow.specs.Standing.{next_of};
 ghost use Rattle.actor_core.specs.Names.{is_logical as logical_test, logical_among, names_told};
 ghost use Rattle.actor_core.specs.Naming.{names_standing, names_left};
 
-use flow::{Flow, Stuck};
-use looks::failure;
+use flow::{Flow, Stuck, failure};
 use mount_model::{Call, Reply};
 use plfs_types::{LogicalName, Name, NameList, NoMemory};
 

@@ -1,14 +1,14 @@
 -- What the names of the listings tell.
 use Rattle.std.specs.Prelude.{Bool, true, false, if◌then◌else◌, List, [], ◌∷◌, ◌++◌, Result, Ok}
 use Rattle.plfs_types.specs.declared.entries.Trunc.{Trunc}
-use Rattle.flow.specs.declared.trouble.Stuck.{Stuck}
+use Rattle.flow.specs.declared.stuck.Stuck.{Stuck}
 use Rattle.mount_model.specs.declared.reply.Reply.{Reply}
 use Rattle.mount_model.specs.Paths.{Name, openhosts, metadata, truncs}
-use Rattle.looks.specs.declared.names.Metadata.{Metadata}
-use Rattle.looks.specs.declared.names.OpenEntry.{OpenEntry}
-use Rattle.looks.specs.Names.{meta_in, trunc_in, open_in}
-use Rattle.looks.specs.Replies.{is_no_folder}
-use Rattle.looks.specs.Listed.{known, told_by}
+use Rattle.flow.specs.declared.names.Metadata.{Metadata}
+use Rattle.flow.specs.declared.names.OpenEntry.{OpenEntry}
+use Rattle.flow.specs.Names.{meta_in, trunc_in, open_in}
+use Rattle.flow.specs.Replies.{is_no_folder}
+use Rattle.flow.specs.Listed.{known, told_by}
 
 -- whether there is an entry of a writer, or was one before
 abbrev pub has_entry : List Name → Bool → Result Bool Stuck

@@ -7,8 +7,7 @@ ghost use Rattle.attr_flow.specs.Stages.{asking, calls_left, attr_standing, attr
 use crate::attr::{Attr, cached};
 use crate::listings::{is_open, listed_metadata, listed_truncs};
 use container_layout::{metadata, openhosts, truncs};
-use flow::{Flow, Stuck};
-use looks::{MetadataList, failure, room_in};
+use flow::{Flow, MetadataList, Stuck, failure, room_in};
 use mount_model::{Call, Look, Reply};
 use plfs_types::{LogicalName, NoMemory};
 use std::alloc::Global;

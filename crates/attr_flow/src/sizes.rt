@@ -3,7 +3,7 @@ ghost use Rattle.std.specs.Prelude.{◌≡◌, Some};
 ghost use Rattle.plain_file.specs.Size.{later, last_trunc, is_after};
 ghost use Rattle.attr_flow.specs.Sizes.{cached_size as size_of};
 
-use looks::Metadata;
+use flow::Metadata;
 use plfs_types::Trunc;
 
 /// The size that the last truncate gave, or the greatest end that was left after it, whichever is greater.

@@ -1,9 +1,9 @@
 -- The end of a flattening, and of the machine that does all of it.
 use Rattle.std.proofs.Common.{◌≡◌, true, refl}
-use Rattle.flow.specs.declared.trouble.Stuck.{Stuck}
+use Rattle.flow.specs.declared.stuck.Stuck.{Stuck}
 use Rattle.flow.specs.Standing.{IsOver, ready, rest_of}
 use Rattle.std.specs.Prelude.{ℕ, Result}
-use Rattle.looks.specs.Replies.{on_ok}
+use Rattle.flow.specs.Replies.{on_ok}
 use Rattle.index_reader.specs.OpenStages.{open_rest, open_standing}
 use Rattle.gather_flow.specs.Gathering.{gather_rest}
 use Rattle.flatten_core.specs.declared.flattening.Flattened.{Flattened}

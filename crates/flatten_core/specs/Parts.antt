@@ -1,12 +1,12 @@
 -- Where the parts of a whole flattening stand in its program.
 use Rattle.std.specs.Prelude.{◌≡◌, ℕ, ◌+◌, ◌*◌, ◌^◌, true, Option, Some, None, Result, IfSome}
-use Rattle.flow.specs.declared.trouble.Stuck.{Stuck}
+use Rattle.flow.specs.declared.stuck.Stuck.{Stuck}
 use Rattle.story.specs.Program.{Program, done, ask, followed_by}
 use Rattle.flow.specs.Standing.{Rest, Standing, asked, awaits, over, ready, rest_of}
 use Rattle.mount_model.specs.declared.call.Call.{Call}
 use Rattle.mount_model.specs.declared.reply.Reply.{Reply}
 use Rattle.mount_model.specs.Step.{OwedBy}
-use Rattle.looks.specs.Replies.{on_ok}
+use Rattle.flow.specs.Replies.{on_ok}
 use Rattle.index_reader.specs.OpenStages.{open_calls_left, open_standing}
 use Rattle.gather_flow.specs.Gathering.{gather_left, gather_rest, shares_bound, then_on}
 use Rattle.flatten_core.specs.declared.flattening.Flattened.{Flattened}

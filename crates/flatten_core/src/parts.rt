@@ -3,7 +3,7 @@ ghost use Rattle.std.specs.Prelude.{◌≡◌, ◌<◌, ◌≤◌, ◌+◌, ◌^
 ghost use Rattle.mount_model.specs.declared.call.Call.{Call as Asked};
 ghost use Rattle.story.specs.Program.{followed_by};
 ghost use Rattle.flow.specs.Standing.{ready, next_of, rest_of, replied, Awaits, IsFresh, IsOver};
-ghost use Rattle.looks.specs.Replies.{on_ok};
+ghost use Rattle.flow.specs.Replies.{on_ok};
 ghost use Rattle.mount_model.specs.Step.{OwedBy};
 ghost use Rattle.index_reader.specs.Covered.{AreByWriter as AreCoversByWriter};
 ghost use Rattle.index_reader.specs.Listing.{AreByWriter};

@@ -1,11 +1,11 @@
 //! The stages of the end of a flattening.
 ghost use Rattle.std.specs.Prelude.{◌≡◌, ◌<◌, ◌≤◌, ◌+◌, ◌*◌, ℕ, true, length, Result, Some, IfOk, IfSome};
 ghost use Rattle.flow.specs.Standing.{ready, next_of, rest_of, replied, Awaits};
-ghost use Rattle.looks.specs.Replies.{Tries, on_ok};
+ghost use Rattle.flow.specs.Replies.{Tries, on_ok};
 ghost use Rattle.index_reader.specs.Listing.{AreByWriter};
 ghost use Rattle.index_reader.specs.OpenStages.{open_calls_left, open_rest, open_standing};
 ghost use Rattle.index_reader.specs.declared.listing.Listing.{Listing as Listed};
-ghost use Rattle.flow.specs.declared.trouble.Stuck.{Stuck as Trouble};
+ghost use Rattle.flow.specs.declared.stuck.Stuck.{Stuck as Trouble};
 ghost use Rattle.mount_model.specs.declared.call.Call.TheVariants as calls;
 ghost use Rattle.mount_model.specs.Step.{OwedBy};
 ghost use Rattle.story.specs.Program.{followed_by};
@@ -14,9 +14,8 @@ ghost use Rattle.flatten_core.specs.Stages.{installing, installs_left, is_awaiti
 
 use crate::covered::covered;
 use container_layout::{Item, print};
-use flow::{Flow, Stuck};
+use flow::{Flow, Stuck, damage, failure};
 use index_reader::{AfterOpen, Dropping, Listing, OpenRead, Queue};
-use looks::{damage, failure};
 use mount_model::{Call, Reply};
 use plfs_types::{Bytes, CoverList, NoMemory};
 use std::alloc::Global;

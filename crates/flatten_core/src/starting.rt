@@ -5,8 +5,7 @@ ghost use Rattle.flow.specs.Standing.{ready, next_of, rest_of, replied, Awaits};
 ghost use Rattle.flatten_core.specs.Starting.{begun as begun_of, start_program};
 ghost use Rattle.flatten_core.specs.StartStages.{starting, starts_left, start_standing, start_left};
 
-use flow::{Flow, Stuck};
-use looks::{failure, room_in};
+use flow::{Flow, Stuck, failure, room_in};
 use mount_model::{Call, Reply};
 use plfs_types::{LogicalName, NoMemory};
 

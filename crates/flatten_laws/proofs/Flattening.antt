@@ -13,7 +13,7 @@ use Rattle.flat_format.specs.declared.flat.Flat.{Flat}
 use Rattle.flat_format.specs.declared.flat.TheConstants.{HEAD_SIZE}
 use Rattle.flat_format.specs.Spelling.{flat_spelling}
 use Rattle.turn_object.specs.Callers.{made_by}
-use Rattle.flow.specs.declared.trouble.Stuck.{Stuck}
+use Rattle.flow.specs.declared.stuck.Stuck.{Stuck}
 use Rattle.flow.specs.Running.{asking, unbroken, Runs}
 use Rattle.flow.proofs.Facts.{runs_in_two}
 use Rattle.story.specs.Calls.{AreCallsOf}
@@ -33,7 +33,7 @@ use Rattle.mount_sound.specs.Items.{HasItem}
 use Rattle.mount_sound.specs.Owed.{IsLawful, Permits, StandsInRoom}
 use Rattle.mount_sound.specs.Sound.{IsClean, IsFine, IsSoundFor}
 use Rattle.mount_sound.proofs.Facts.{was_clean}
-use Rattle.looks.specs.Replies.{failure, given, on_ok, room_in}
+use Rattle.flow.specs.Replies.{failure, given, on_ok, room_in}
 use Rattle.index_reader.specs.declared.listing.Dropping.{Dropping as Listed}
 use Rattle.index_reader.specs.declared.listing.Listing.{Listing}
 use Rattle.index_reader.specs.declared.sharing.Share.{Share}

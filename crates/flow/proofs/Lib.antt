@@ -1,2 +1,4 @@
 pub mod Facts
 mod Running
+pub mod NameLemmas
+pub mod OrderLemmas

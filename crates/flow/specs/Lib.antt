@@ -1,2 +1,7 @@
 pub mod Standing
 pub mod Running
+pub mod Replies
+pub mod Names
+pub mod Entries
+pub mod Order
+pub mod Listed

@@ -16,7 +16,7 @@ use Rattle.index_reader.specs.declared.sharing.Share.{Share}
 use Rattle.index_reader.specs.declared.sharing.ShareRead.{ShareRead}
 use Rattle.index_reader.specs.Stages.{share_standing}
 use Rattle.std.specs.Prelude.{Result}
-use Rattle.flow.specs.declared.trouble.Stuck.{Stuck}
+use Rattle.flow.specs.declared.stuck.Stuck.{Stuck}
 use Rattle.flow.specs.Standing.{Standing, ready}
 use Rattle.mount_model.specs.declared.call.Call.{Call}
 use Rattle.mount_model.specs.declared.reply.Reply.{Reply}

@@ -1,7 +1,7 @@
 -- What workers that read the shares of a container are given, and what comes of them.
 use Rattle.std.specs.Prelude.{◌≡◌, ⊤, List, [], ◌∷◌, Result, Ok, Err}
 use Rattle.story.specs.Program.{Program}
-use Rattle.flow.specs.declared.trouble.Stuck.{Stuck}
+use Rattle.flow.specs.declared.stuck.Stuck.{Stuck}
 use Rattle.flow.specs.Running.{asking}
 use Rattle.flow.specs.Standing.{ready}
 use Rattle.mount_model.specs.declared.call.Ask.{Ask}

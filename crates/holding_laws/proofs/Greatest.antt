@@ -14,8 +14,8 @@ use Rattle.store_laws.specs.Files.{file_at}
 use Rattle.store_laws.proofs.Facts.{name_eq, name_refl}
 use Rattle.mount_model.specs.Paths.{Name, truncs, trunc_path}
 use Rattle.mount_sound.specs.Items.{HasItem}
-use Rattle.looks.specs.Names.{trunc_in}
-use Rattle.looks.proofs.Facts.{trunc_in-found, trunc_in-is}
+use Rattle.flow.specs.Names.{trunc_in}
+use Rattle.flow.proofs.Facts.{trunc_in-found, trunc_in-is}
 use Rattle.holding_laws.proofs.Tops.{cases_Option}
 
 stamp_of : Option Trunc → ℕ

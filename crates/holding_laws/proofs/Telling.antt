@@ -1,7 +1,7 @@
 -- Each call that tells of a file may be made: nothing is owed for it.
 use Rattle.std.proofs.Common.{ℕ, Bool, true, false, List, [], Option, Some, None}
 use Rattle.std.specs.Prelude.{Result, Ok, Err}
-use Rattle.flow.specs.declared.trouble.Stuck.{Stuck}
+use Rattle.flow.specs.declared.stuck.Stuck.{Stuck}
 use Rattle.flow.specs.Running.{asking}
 use Rattle.story.specs.Program.{done}
 use Rattle.story.specs.Safe.{IsSafe}
@@ -11,9 +11,9 @@ use Rattle.mount_model.specs.Paths.{openhosts, metadata, truncs}
 use Rattle.mount_model.specs.State.{State}
 use Rattle.mount_model.specs.Step.{IsStep}
 use Rattle.mount_sound.specs.Sound.{IsFine}
-use Rattle.looks.specs.declared.names.Metadata.{Metadata}
-use Rattle.looks.specs.Listed.{told_by}
-use Rattle.looks.specs.Replies.{Tries, given, on_ok, room_in, failure}
+use Rattle.flow.specs.declared.names.Metadata.{Metadata}
+use Rattle.flow.specs.Listed.{told_by}
+use Rattle.flow.specs.Replies.{Tries, given, on_ok, room_in, failure}
 use Rattle.attr_flow.specs.declared.attr_flow.AttrOut.{AttrOut}
 use Rattle.attr_flow.specs.Asking.{attributes, lists_truncs, lists_metadata, if_open, lists_open, attr_program}
 use Rattle.attr_flow.specs.Listings.{is_open, metadata_named, truncs_named}

@@ -5,12 +5,12 @@ use Rattle.plfs_types.specs.declared.entries.Trunc.{Trunc}
 use Rattle.store_api.specs.Names.{same_name}
 use Rattle.store_laws.specs.Differ.{is_listed}
 use Rattle.store_laws.proofs.Facts.{name_eq}
-use Rattle.flow.specs.declared.trouble.Stuck.{Stuck}
+use Rattle.flow.specs.declared.stuck.Stuck.{Stuck}
 use Rattle.mount_model.specs.Paths.{Name, metadata, truncs}
-use Rattle.looks.specs.declared.names.Metadata.{Metadata}
-use Rattle.looks.specs.Names.{meta_in, trunc_in}
-use Rattle.looks.specs.Replies.{damage}
-use Rattle.looks.specs.Listed.{file_in, or_trouble}
+use Rattle.flow.specs.declared.names.Metadata.{Metadata}
+use Rattle.flow.specs.Names.{meta_in, trunc_in}
+use Rattle.flow.specs.Replies.{damage}
+use Rattle.flow.specs.Listed.{file_in, or_trouble}
 use Rattle.trunc_rename.specs.Tops.{metadata_top, truncs_top}
 
 pub cases_Option : {X : Type 0} (o : Option X) → (o ≡ None) ⊎ ((x : X) × (o ≡ Some x))

@@ -6,7 +6,7 @@ use Rattle.store_api.specs.declared.tree.Tree.{Tree}
 use Rattle.store_api.specs.declared.step.Answer.TheVariants.{Made, NoRoom, NoFolder, NotEmpty, Names}
 use Rattle.store_api.specs.declared.store.Trouble.TheVariants as trouble_of
 use Rattle.store_laws.specs.There.{ListsFolder, AreNamesOf}
-use Rattle.flow.specs.declared.trouble.Stuck.{Stuck}
+use Rattle.flow.specs.declared.stuck.Stuck.{Stuck}
 use Rattle.flow.specs.Running.{asking, unbroken}
 use Rattle.story.specs.Program.{done}
 use Rattle.story.specs.Safe.{IsSafe}
@@ -30,9 +30,9 @@ use Rattle.mount_sound.specs.Owed.{IsTop, Permits}
 use Rattle.mount_sound.specs.Sound.{IsFine, IsSound}
 use Rattle.mount_sound.specs.There.{landed_entries}
 use Rattle.mount_sound.proofs.Facts.{step_fine}
-use Rattle.looks.specs.Replies.{given, room_in, names_in, trouble, failure}
-use Rattle.looks.specs.Listed.{file_in, told_by}
-use Rattle.looks.proofs.Facts.{meta_in-is, trunc_in-is}
+use Rattle.flow.specs.Replies.{given, room_in, names_in, trouble, failure}
+use Rattle.flow.specs.Listed.{file_in, told_by}
+use Rattle.flow.proofs.Facts.{meta_in-is, trunc_in-is}
 use Rattle.trunc_rename.specs.Holding.{holder_in, released, lets_go, or_lets_go, holds}
 use Rattle.trunc_rename.specs.Tops.{metadata_top, truncs_top}
 use Rattle.trunc_rename.specs.Truncating.{marked, marks, lists_truncs, lists_metadata, truncate_program}

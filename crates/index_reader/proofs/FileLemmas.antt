@@ -25,7 +25,7 @@ use Rattle.index_reader.specs.PackRules.{pack_told}
 use Rattle.index_reader.specs.Packs.{pack_tail, pack_rest, if_headed, head_fault, head_then}
 use Rattle.index_reader.specs.declared.packed.Headed.{Headed}
 use Rattle.index_reader.specs.Packed.{headed_program}
-use Rattle.flow.specs.declared.trouble.Stuck.{Stuck}
+use Rattle.flow.specs.declared.stuck.Stuck.{Stuck}
 use Rattle.plfs_types.specs.declared.entries.Entry.{Entry}
 use Rattle.index_reader.specs.Stages.{pack_step}
 use Rattle.index_reader.specs.FileReads.{parts_of, next_part, parts, bytes_left, bytes_on}

@@ -5,7 +5,7 @@ use Rattle.plfs_types.specs.declared.entries.Cover.{Cover}
 use Rattle.plfs_types.specs.declared.names.Path.{Path}
 use Rattle.container_layout.specs.Paths.{hostdir_of}
 use Rattle.flat_format.specs.declared.flat.Flat.{Flat}
-use Rattle.flow.specs.declared.trouble.Stuck.{Stuck}
+use Rattle.flow.specs.declared.stuck.Stuck.{Stuck}
 use Rattle.story.specs.Program.{AsksOnly, Program, done, ask, followed_by}
 use Rattle.mount_model.specs.Paths.{flat_path, index_path, log_path}
 use Rattle.mount_model.specs.declared.call.Call.{Call}

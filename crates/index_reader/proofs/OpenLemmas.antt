@@ -2,7 +2,7 @@
 use Rattle.std.proofs.Common.{◌≡◌, ◌∙◌, ℕ, List, [], Some, ap, refl, sym, subst}
 use Rattle.std.specs.Prelude.{Result}
 use Rattle.flat_format.specs.declared.flat.Flat.{Flat}
-use Rattle.flow.specs.declared.trouble.Stuck.{Stuck}
+use Rattle.flow.specs.declared.stuck.Stuck.{Stuck}
 use Rattle.story.specs.Program.{followed_by}
 use Rattle.flow.specs.Standing.{ready, rest_of, replied}
 use Rattle.mount_model.specs.Paths.{Name}

@@ -19,7 +19,7 @@ use Rattle.index_reader.specs.declared.steps.Step.{Step}
 use Rattle.index_reader.specs.declared.steps.Step.TheVariants.{Index, Log, Entries}
 use Rattle.index_reader.specs.declared.sharing.Share.{Share}
 use Rattle.index_reader.specs.Stages.{step_program, pack_step, dropping_left}
-use Rattle.flow.specs.declared.trouble.Stuck.{Stuck}
+use Rattle.flow.specs.declared.stuck.Stuck.{Stuck}
 use Rattle.index_reader.specs.Replies.{Tries}
 use Rattle.index_reader.specs.Tails.{reads_of, next_read, reads, reads_left, reads_on}
 

@@ -4,8 +4,8 @@ use Rattle.std.specs.List.{AllByRecursion}
 use Rattle.std.proofs.lemmas.Bool.{cases_Bool, cases_eq, cases_lt, cond-true, cond-false}
 use Rattle.std.proofs.lemmas.Bool.Decides.{nat_tests}
 use Rattle.plfs_types.specs.declared.entries.Trunc.{Trunc}
-use Rattle.looks.specs.Order.{ordered_by, put_by, truncs_by_stamp}
-use Rattle.flow.specs.declared.trouble.Stuck.{Stuck}
+use Rattle.flow.specs.Order.{ordered_by, put_by, truncs_by_stamp}
+use Rattle.flow.specs.declared.stuck.Stuck.{Stuck}
 use Rattle.mount_model.specs.Paths.{Name}
 use Rattle.index_reader.specs.Truncs.{if_trunc, inserted, is_before, place_of, trunc_in, truncs_listed, truncs_of}
 

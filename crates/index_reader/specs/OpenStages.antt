@@ -1,7 +1,7 @@
 -- Where the listing of a container stands in its program.
 use Rattle.std.specs.Prelude.{◌≡◌, ℕ, ◌+◌, ◌^◌, List, ◌∷◌, length, Result, Ok, Err}
 use Rattle.flat_format.specs.declared.flat.Flat.{Flat}
-use Rattle.flow.specs.declared.trouble.Stuck.{Stuck}
+use Rattle.flow.specs.declared.stuck.Stuck.{Stuck}
 use Rattle.story.specs.Program.{done, followed_by}
 use Rattle.flow.specs.Standing.{Awaits, Standing, ready, rest_of}
 use Rattle.mount_model.specs.declared.call.Call.{Call}

@@ -5,7 +5,7 @@ use Rattle.plfs_types.specs.declared.entries.Cover.{Cover}
 use Rattle.container_layout.specs.Paths.{hostdir_of}
 use Rattle.flat_format.specs.declared.flat.Flat.{Flat}
 use Rattle.flat_format.specs.declared.flat.TheConstants.{HEAD_SIZE, COVER_SIZE}
-use Rattle.flow.specs.declared.trouble.Stuck.{Stuck}
+use Rattle.flow.specs.declared.stuck.Stuck.{Stuck}
 use Rattle.story.specs.Program.{done, ask, followed_by}
 use Rattle.mount_model.specs.declared.call.Call.TheVariants.{Find, Look}
 use Rattle.mount_model.specs.declared.call.Look.TheVariants.{List as ListFolder, Length, Top}

@@ -11,7 +11,7 @@ use Rattle.index_entry.specs.Spelling.{number_in}
 use Rattle.index_pack.specs.declared.runs.Run.{Run}
 use Rattle.index_pack.specs.declared.trouble.TheConstants.{HEAD_SIZE, RUN_SIZE}
 use Rattle.index_pack.specs.Reading.{runs_in}
-use Rattle.flow.specs.declared.trouble.Stuck.{Stuck}
+use Rattle.flow.specs.declared.stuck.Stuck.{Stuck}
 use Rattle.story.specs.Program.{done, ask, followed_by}
 use Rattle.mount_model.specs.declared.call.Call.TheVariants.{Look}
 use Rattle.mount_model.specs.declared.call.Look.TheVariants.{Length, Read}

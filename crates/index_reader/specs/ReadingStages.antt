@@ -1,6 +1,6 @@
 -- Where the stages of a read stand in its program.
 use Rattle.std.specs.Prelude.{ℕ, ◌+◌, List, ◌∷◌, length, Result}
-use Rattle.flow.specs.declared.trouble.Stuck.{Stuck}
+use Rattle.flow.specs.declared.stuck.Stuck.{Stuck}
 use Rattle.story.specs.Program.{done}
 use Rattle.flow.specs.Standing.{Standing, ready}
 use Rattle.mount_model.specs.declared.call.Call.{Call}

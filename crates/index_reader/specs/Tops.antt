@@ -3,7 +3,7 @@ use Rattle.std.specs.Prelude.{ℕ, if◌then◌else◌, List, [], ◌∷◌, map
 use Rattle.std.specs.List.{range_with_len}
 use Rattle.plfs_types.specs.declared.names.Path.{Path}
 use Rattle.container_layout.specs.Paths.{hostdir_of}
-use Rattle.flow.specs.declared.trouble.Stuck.{Stuck}
+use Rattle.flow.specs.declared.stuck.Stuck.{Stuck}
 use Rattle.mount_model.specs.Paths.{Name, openhosts, metadata, truncs, flats}
 use Rattle.index_reader.specs.Searching.{has_name}
 use Rattle.index_reader.specs.Replies.{damage}

@@ -1,7 +1,7 @@
 -- Where the listing of truncates stands in its program.
 use Rattle.std.specs.Prelude.{ℕ, List, Result}
 use Rattle.plfs_types.specs.declared.entries.Trunc.{Trunc}
-use Rattle.flow.specs.declared.trouble.Stuck.{Stuck}
+use Rattle.flow.specs.declared.stuck.Stuck.{Stuck}
 use Rattle.story.specs.Program.{done}
 use Rattle.flow.specs.Standing.{Standing, ready}
 use Rattle.mount_model.specs.declared.call.Call.{Call}

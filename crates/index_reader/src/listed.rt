@@ -1,6 +1,6 @@
 //! What comes of all listings of a container.
 ghost use Rattle.std.specs.Prelude.{◌≡◌, ℕ, Result, IfOk};
-ghost use Rattle.flow.specs.declared.trouble.Stuck.{Stuck as Trouble};
+ghost use Rattle.flow.specs.declared.stuck.Stuck.{Stuck as Trouble};
 ghost use Rattle.index_reader.specs.declared.listing.Listing.{Listing as Listed};
 ghost use Rattle.index_reader.specs.Replies.{on_trouble};
 ghost use Rattle.index_reader.specs.OpenStages.{as_listing};

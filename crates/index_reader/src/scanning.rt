@@ -1,6 +1,6 @@
 //! What the listings of a container's folders of droppings show.
 ghost use Rattle.std.specs.Prelude.{◌≡◌, ◌≤◌, [], length, Result, Ok, IfOk, IfSome};
-ghost use Rattle.flow.specs.declared.trouble.Stuck.{Stuck as Trouble};
+ghost use Rattle.flow.specs.declared.stuck.Stuck.{Stuck as Trouble};
 ghost use Rattle.index_reader.specs.declared.scanning.Scan.{Scan as Scanned};
 ghost use Rattle.index_reader.specs.Replies.{on_trouble};
 ghost use Rattle.index_reader.specs.Items.{hostdir_item as item_of_hostdir, is_of_hostdir as of_hostdir};

@@ -6,8 +6,7 @@ ghost use Rattle.index_reader.specs.TruncStages.{list_left, list_calls, trunc_st
 
 use crate::replies::{damage, names_in, trouble};
 use container_layout::{Item, read, truncs};
-use flow::{Flow, Stuck};
-use looks::truncs_by_stamp;
+use flow::{Flow, Stuck, truncs_by_stamp};
 use mount_model::{Call, Look, Reply};
 use plfs_types::{Name, NoMemory, Path, Trunc, TruncList};
 use std::alloc::Global;

@@ -6,8 +6,8 @@ use Rattle.plfs_types.specs.Counts.{HasRisen}
 use Rattle.plfs_types.specs.declared.names.Path.{Path}
 use Rattle.store_api.specs.declared.step.Answer.{Answer}
 use Rattle.store_api.specs.declared.step.Answer.TheVariants as answer
-use Rattle.flow.specs.declared.trouble.Stuck.{Stuck}
-use Rattle.flow.specs.declared.trouble.Stuck.TheVariants as stuck
+use Rattle.flow.specs.declared.stuck.Stuck.{Stuck}
+use Rattle.flow.specs.declared.stuck.Stuck.TheVariants as stuck
 use Rattle.flow.specs.Running.{Runs}
 use Rattle.flow.proofs.Facts.{runs_done, runs_next}
 use Rattle.story.specs.Program.{Program, done, ask, followed_by}
@@ -24,7 +24,7 @@ use Rattle.mount_model.specs.History.{Event, state_after}
 use Rattle.mount_model.specs.State.{State}
 use Rattle.mount_model.proofs.Facts.{step_causes, step_fits}
 use Rattle.mount_sound.specs.Owed.{IsLawful}
-use Rattle.looks.specs.Replies.{Tries, failure, given, on_ok, trouble}
+use Rattle.flow.specs.Replies.{Tries, failure, given, on_ok, trouble}
 use Rattle.lone_flow.specs.Driving.{HadMemory}
 use Rattle.lone_flow.specs.Faults.{IsFault}
 

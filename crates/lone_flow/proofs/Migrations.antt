@@ -8,7 +8,7 @@ use Rattle.container_layout.specs.declared.items.Item.{Item}
 use Rattle.container_layout.specs.declared.items.Item.TheVariants as item
 use Rattle.container_layout.specs.Paths.{hostdir_of}
 use Rattle.index_pack.specs.declared.trouble.TheConstants.{MAX_PACKED}
-use Rattle.flow.specs.declared.trouble.Stuck.{Stuck}
+use Rattle.flow.specs.declared.stuck.Stuck.{Stuck}
 use Rattle.story.specs.Program.{done, ask, followed_by}
 use Rattle.mount_model.specs.declared.call.Call.TheVariants.{Look}
 use Rattle.mount_model.specs.declared.call.Look.{Look as Looking}
@@ -18,10 +18,10 @@ use Rattle.mount_model.specs.declared.reply.Reply.{Reply}
 use Rattle.mount_model.specs.declared.reply.Reply.TheVariants.{Done, Fault, Looked, NoMemory, Room, Started}
 use Rattle.mount_model.specs.Paths.{Name, flats, index_path, metadata, truncs}
 use Rattle.mount_model.specs.Replies.{IsTrouble, refused, damaged, fault, no_memory}
-use Rattle.looks.specs.declared.names.Metadata.{Metadata}
-use Rattle.looks.specs.Listed.{file_in, or_trouble, told_by}
-use Rattle.looks.specs.Names.{meta_in}
-use Rattle.looks.specs.Replies.{Tries, bytes_in, damage, failure, given, on_ok, room_in, trouble}
+use Rattle.flow.specs.declared.names.Metadata.{Metadata}
+use Rattle.flow.specs.Listed.{file_in, or_trouble, told_by}
+use Rattle.flow.specs.Names.{meta_in}
+use Rattle.flow.specs.Replies.{Tries, bytes_in, damage, failure, given, on_ok, room_in, trouble}
 use Rattle.index_reader.specs.declared.listing.Listing.{Listing}
 use Rattle.index_reader.specs.declared.scanning.Scan.{Scan}
 use Rattle.index_reader.specs.Opening.{listed, listing_of, lone_pack, no_flat, scans, uncovered, unless_lone, unless_uncovered}

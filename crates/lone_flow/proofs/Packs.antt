@@ -2,7 +2,7 @@
 use Rattle.std.proofs.Common.{◌≡◌, inl, inr, ℕ, List, [], ◌∷◌, Result, Ok, Err, IfOk, refl, sym, subst}
 use Rattle.std.specs.List.{AllByRecursion}
 use Rattle.plfs_types.specs.Counts.{HasRisen}
-use Rattle.flow.specs.declared.trouble.Stuck.{Stuck}
+use Rattle.flow.specs.declared.stuck.Stuck.{Stuck}
 use Rattle.flow.specs.Running.{Runs, asking}
 use Rattle.flow.specs.Standing.{Standing, ready}
 use Rattle.flow.proofs.Facts.{runs_next}

@@ -16,7 +16,7 @@ use Rattle.mount_sound.specs.Items.{HasItem, HasMeta}
 use Rattle.mount_sound.specs.Ledger.{entries_in}
 use Rattle.mount_sound.specs.There.{entries_there, landed_entries}
 use Rattle.mount_sound.proofs.Facts.{writer_told}
-use Rattle.looks.specs.declared.names.Metadata.{Metadata}
+use Rattle.flow.specs.declared.names.Metadata.{Metadata}
 use Rattle.gathering.specs.Gathering.{Gathered, IsAdmissible, IsPrefixOf}
 use Rattle.gathering.specs.Moments.{Dropping, Grows, HadItem, IsNamed, IsSoundAt, Moment, Stood, index_then, issued_by, landed, landed_by, log_then}
 use Rattle.gathering.specs.View.{WritersRise, own_entries}

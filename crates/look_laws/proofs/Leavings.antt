@@ -32,9 +32,9 @@ use Rattle.mount_sound.specs.Items.{HasItem}
 use Rattle.mount_sound.specs.Ledger.{entries_in}
 use Rattle.mount_sound.specs.There.{landed_entries}
 use Rattle.mount_sound.proofs.Facts.{writer_told}
-use Rattle.looks.specs.declared.names.Metadata.{Metadata}
-use Rattle.looks.specs.Names.{meta_in}
-use Rattle.looks.proofs.Facts.{meta_in-found, meta_in-is}
+use Rattle.flow.specs.declared.names.Metadata.{Metadata}
+use Rattle.flow.specs.Names.{meta_in}
+use Rattle.flow.proofs.Facts.{meta_in-found, meta_in-is}
 use Rattle.gathering.specs.Moments.{Dropping, HadItem, IsSoundAt, Moment, file_in_room, file_told, landed_by}
 use Rattle.gathering.proofs.Facts.{file_named, folder_listed, in_a_room, in_tree, landed_at, named_file}
 use Rattle.look_laws.proofs.Named.{AreOf, differ_so, name_of, told_by_name}

@@ -4,10 +4,10 @@ use Rattle.std.specs.List.{AllByRecursion}
 use Rattle.std.proofs.lemmas.List.{append-nil}
 use Rattle.plain_file.proofs.Facts.{Among}
 use Rattle.store_laws.specs.Differ.{is_listed, NamesDiffer}
-use Rattle.flow.specs.declared.trouble.Stuck.{Stuck}
+use Rattle.flow.specs.declared.stuck.Stuck.{Stuck}
 use Rattle.mount_model.specs.Paths.{Name}
-use Rattle.looks.specs.Listed.{file_in, known}
-use Rattle.looks.specs.Replies.{damage}
+use Rattle.flow.specs.Listed.{file_in, known}
+use Rattle.flow.specs.Replies.{damage}
 use Rattle.gathering.proofs.Facts.{among_listed}
 use Rattle.look_laws.proofs.Orders.{Differ}
 

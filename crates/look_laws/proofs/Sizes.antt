@@ -25,7 +25,7 @@ use Rattle.mount_sound.specs.Items.{HasItem}
 use Rattle.mount_sound.specs.Ledger.{entries_in}
 use Rattle.mount_sound.specs.There.{landed_entries}
 use Rattle.mount_sound.proofs.Facts.{take_less, writer_told}
-use Rattle.looks.specs.declared.names.Metadata.{Metadata}
+use Rattle.flow.specs.declared.names.Metadata.{Metadata}
 use Rattle.attr_flow.specs.Sizes.{cached_size, end_left_after}
 use Rattle.index_reader.specs.Runs.{runs_of}
 use Rattle.gathering.specs.Gathering.{Gathered, IsAdmissible}

@@ -6,7 +6,7 @@ use Rattle.std.proofs.lemmas.Bool.{cases_Bool, cond-true, cond-false}
 use Rattle.plfs_types.specs.declared.entries.ShareBytes.{ShareBytes}
 use Rattle.index_entry.specs.Entries.{logged}
 use Rattle.plain_file.proofs.Facts.{All-Among, Among}
-use Rattle.looks.specs.declared.names.Metadata.{Metadata}
+use Rattle.flow.specs.declared.names.Metadata.{Metadata}
 use Rattle.attr_flow.specs.Shares.{shares_left, with_share}
 use Rattle.gathering.specs.Gathering.{Gathered}
 use Rattle.gathering.specs.Moments.{Moment}

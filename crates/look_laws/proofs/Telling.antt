@@ -15,14 +15,14 @@ use Rattle.mount_model.specs.Step.{IsStep}
 use Rattle.mount_sound.specs.Owed.{IsLawful}
 use Rattle.turn_object.specs.Callers.{made_by}
 use Rattle.story.specs.Program.{done}
-use Rattle.flow.specs.declared.trouble.Stuck.{Stuck}
+use Rattle.flow.specs.declared.stuck.Stuck.{Stuck}
 use Rattle.flow.specs.Running.{Runs, unbroken}
-use Rattle.looks.specs.declared.names.Metadata.{Metadata}
-use Rattle.looks.specs.declared.names.OpenEntry.{OpenEntry}
-use Rattle.looks.specs.Listed.{file_in, or_trouble, told_by}
-use Rattle.looks.specs.Names.{meta_in, open_in, trunc_in}
-use Rattle.looks.specs.Order.{metadata_by_writer, truncs_by_stamp}
-use Rattle.looks.specs.Replies.{Tries, damage, failure, given, names_in, on_ok, room_in, trouble}
+use Rattle.flow.specs.declared.names.Metadata.{Metadata}
+use Rattle.flow.specs.declared.names.OpenEntry.{OpenEntry}
+use Rattle.flow.specs.Listed.{file_in, or_trouble, told_by}
+use Rattle.flow.specs.Names.{meta_in, open_in, trunc_in}
+use Rattle.flow.specs.Order.{metadata_by_writer, truncs_by_stamp}
+use Rattle.flow.specs.Replies.{Tries, damage, failure, given, names_in, on_ok, room_in, trouble}
 use Rattle.attr_flow.specs.declared.attr.Attr.{Attr}
 use Rattle.attr_flow.specs.declared.attr_flow.AttrOut.{AttrOut}
 use Rattle.attr_flow.specs.declared.attr_flow.AttrOut.TheVariants.{Cached, MustMerge}

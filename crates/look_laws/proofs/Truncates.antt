@@ -17,9 +17,9 @@ use Rattle.plain_file.specs.Size.{is_later, last_trunc, later}
 use Rattle.plain_file.proofs.Facts.{Among}
 use Rattle.mount_model.specs.Paths.{Name, truncs}
 use Rattle.mount_sound.specs.Items.{HasItem}
-use Rattle.looks.specs.Names.{trunc_in}
-use Rattle.looks.specs.Order.{ordered_by, put_by, truncs_by_stamp}
-use Rattle.looks.proofs.Facts.{trunc_in-found, trunc_in-is}
+use Rattle.flow.specs.Names.{trunc_in}
+use Rattle.flow.specs.Order.{ordered_by, put_by, truncs_by_stamp}
+use Rattle.flow.proofs.Facts.{trunc_in-found, trunc_in-is}
 use Rattle.gathering.specs.Listing.{AreTruncsOf, IsTruncName, StampsRise}
 use Rattle.gathering.specs.Moments.{IsSoundAt, Moment}
 use Rattle.gathering.proofs.Facts.{any_found, found_any, is_among, named_file}

@@ -3,7 +3,7 @@ use Rattle.std.proofs.Common.{◌≡◌, ℕ, suc, ◌+◌, ◌-◌, ◌*◌, �
 use Rattle.std.proofs.lemmas.Bool.{cases_lt}
 use Rattle.std.proofs.Math.Nat.{add-mul-div_right}
 use Rattle.std.proofs.lemmas.Nat.{div-mul-add}
-use Rattle.looks.specs.declared.names.Metadata.{Metadata}
+use Rattle.flow.specs.declared.names.Metadata.{Metadata}
 use Rattle.migrate_core.specs.declared.entries.Tail.{Tail}
 use Rattle.migrate_core.specs.Writers.{reads_of, next_read, reads, reads_left, reads_on}
 

@@ -1,11 +1,11 @@
 -- Where the stages of a migration stand in its program.
 use Rattle.std.specs.Prelude.{◌≡◌, ℕ, ◌+◌, ◌*◌, ◌^◌, Bool, true, false, length, Result, Err}
-use Rattle.flow.specs.declared.trouble.Stuck.{Stuck}
+use Rattle.flow.specs.declared.stuck.Stuck.{Stuck}
 use Rattle.story.specs.Program.{done, followed_by}
 use Rattle.flow.specs.Standing.{Rest, Standing, awaits, over, ready, rest_of}
 use Rattle.mount_model.specs.declared.call.Call.{Call}
 use Rattle.mount_model.specs.declared.reply.Reply.{Reply}
-use Rattle.looks.specs.Replies.{Tries, on_ok}
+use Rattle.flow.specs.Replies.{Tries, on_ok}
 use Rattle.index_reader.specs.declared.opening.AfterOpen.{AfterOpen}
 use Rattle.index_reader.specs.declared.opening.AfterOpen.TheVariants as after
 use Rattle.index_reader.specs.OpenStages.{after_open, after_open_calls, open_calls_left, open_rest, open_standing}

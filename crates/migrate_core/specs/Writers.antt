@@ -11,8 +11,8 @@ use Rattle.mount_model.specs.declared.call.Look.TheVariants.{Length, Read}
 use Rattle.mount_model.specs.declared.reply.Reply.{Reply}
 use Rattle.mount_model.specs.declared.reply.Reply.TheVariants.{Done, Looked, Started}
 use Rattle.mount_model.specs.Paths.{index_path}
-use Rattle.looks.specs.declared.names.Metadata.{Metadata}
-use Rattle.looks.specs.Replies.{Tries, given, bytes_in, damage, trouble, failure}
+use Rattle.flow.specs.declared.names.Metadata.{Metadata}
+use Rattle.flow.specs.Replies.{Tries, given, bytes_in, damage, trouble, failure}
 use Rattle.migrate_core.specs.declared.entries.Tail.{Tail}
 use Rattle.migrate_core.specs.declared.migrated.Packed.{Packed}
 use Rattle.migrate_core.specs.declared.migrated.Fate.{Fate}

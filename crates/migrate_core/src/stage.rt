@@ -4,9 +4,8 @@ ghost use Rattle.std.specs.Prelude.{◌+◌, ◌<◌, ◌^◌, length};
 use crate::migrated::{Migrated, Tally};
 use crate::shown::Shown;
 use crate::steps::Step;
-use flow::Stuck;
+use flow::{Metadata, MetadataList, Stuck};
 use index_reader::{OpenRead, Queue};
-use looks::{Metadata, MetadataList};
 use plfs_types::LogicalName;
 
 #[derive(Drop)]

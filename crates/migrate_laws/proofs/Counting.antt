@@ -7,12 +7,12 @@ use Rattle.container_layout.specs.declared.items.Item.TheVariants.{Packed as Pac
 use Rattle.store_api.specs.declared.step.Answer.TheVariants.{Names}
 use Rattle.store_api.specs.declared.tree.Room.{Room}
 use Rattle.store_api.specs.declared.tree.Tree.{Tree}
-use Rattle.flow.specs.declared.trouble.Stuck.{Stuck}
+use Rattle.flow.specs.declared.stuck.Stuck.{Stuck}
 use Rattle.flow.specs.Running.{Runs, unbroken}
 use Rattle.story.specs.Program.{done}
-use Rattle.looks.specs.declared.names.Metadata.{Metadata}
-use Rattle.looks.specs.Listed.{file_in, told_by}
-use Rattle.looks.specs.Replies.{Tries, failure, given, names_in, on_ok, room_in, trouble}
+use Rattle.flow.specs.declared.names.Metadata.{Metadata}
+use Rattle.flow.specs.Listed.{file_in, told_by}
+use Rattle.flow.specs.Replies.{Tries, failure, given, names_in, on_ok, room_in, trouble}
 use Rattle.mount_model.specs.declared.call.Call.TheVariants.{Find, Look}
 use Rattle.mount_model.specs.declared.call.Look.TheVariants.{List as ListFolder, Top}
 use Rattle.mount_model.specs.declared.reply.Reply.{Reply}

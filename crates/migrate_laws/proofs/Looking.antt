@@ -34,8 +34,8 @@ use Rattle.mount_sound.specs.Ledger.{Ledger}
 use Rattle.mount_sound.specs.Sound.{IsSoundFor}
 use Rattle.mount_sound.proofs.Facts.{one_tree}
 use Rattle.holding_laws.proofs.Facts.{folder_listed}
-use Rattle.looks.specs.declared.names.Metadata.{Metadata}
-use Rattle.looks.specs.Replies.{bytes_in, names_in}
+use Rattle.flow.specs.declared.names.Metadata.{Metadata}
+use Rattle.flow.specs.Replies.{bytes_in, names_in}
 use Rattle.migrate_core.specs.Writers.{number_in}
 use Rattle.migrate_laws.proofs.Left.{IsLeft}
 

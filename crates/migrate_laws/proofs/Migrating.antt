@@ -8,16 +8,16 @@ use Rattle.store_api.specs.declared.step.Answer.TheVariants.{Names}
 use Rattle.store_api.specs.Names.{same_name}
 use Rattle.store_laws.specs.Differ.{is_listed}
 use Rattle.store_laws.proofs.Facts.{name_refl}
-use Rattle.flow.specs.declared.trouble.Stuck.{Stuck}
+use Rattle.flow.specs.declared.stuck.Stuck.{Stuck}
 use Rattle.flow.specs.Running.{asking, unbroken}
 use Rattle.story.specs.Program.{Program, done, ask, followed_by}
 use Rattle.story.specs.Safe.{IsSafe}
-use Rattle.looks.specs.declared.names.Metadata.{Metadata}
-use Rattle.looks.specs.Listed.{file_in, or_trouble, told_by}
-use Rattle.looks.specs.Names.{meta_in}
-use Rattle.looks.specs.Order.{metadata_by_writer, put_by}
-use Rattle.looks.specs.Replies.{Tries, damage, failure, given, names_in, on_ok, room_in, trouble}
-use Rattle.looks.proofs.Facts.{meta_in-found}
+use Rattle.flow.specs.declared.names.Metadata.{Metadata}
+use Rattle.flow.specs.Listed.{file_in, or_trouble, told_by}
+use Rattle.flow.specs.Names.{meta_in}
+use Rattle.flow.specs.Order.{metadata_by_writer, put_by}
+use Rattle.flow.specs.Replies.{Tries, damage, failure, given, names_in, on_ok, room_in, trouble}
+use Rattle.flow.proofs.Facts.{meta_in-found}
 use Rattle.mount_model.specs.declared.call.Call.{Call}
 use Rattle.mount_model.specs.declared.call.Call.TheVariants.{Find, Look}
 use Rattle.mount_model.specs.declared.call.Look.TheVariants.{List as ListFolder, Top}

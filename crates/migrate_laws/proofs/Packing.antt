@@ -12,11 +12,11 @@ use Rattle.store_laws.specs.Changes.{Replaced}
 use Rattle.store_laws.specs.Files.{file_at}
 use Rattle.store_laws.specs.Tells.{made}
 use Rattle.store_laws.proofs.Facts.{acts_told, changed_room, replace_told}
-use Rattle.flow.specs.declared.trouble.Stuck.{Stuck}
+use Rattle.flow.specs.declared.stuck.Stuck.{Stuck}
 use Rattle.flow.specs.Running.{unbroken}
 use Rattle.story.specs.Program.{done}
-use Rattle.looks.specs.declared.names.Metadata.{Metadata}
-use Rattle.looks.specs.Replies.{Tries, bytes_in, damage, failure, given, trouble}
+use Rattle.flow.specs.declared.names.Metadata.{Metadata}
+use Rattle.flow.specs.Replies.{Tries, bytes_in, damage, failure, given, trouble}
 use Rattle.mount_model.specs.declared.call.Call.{Call}
 use Rattle.mount_model.specs.declared.call.Call.TheVariants.{InstallFlat, Look, PutFlat, StartPack, SyncFlat}
 use Rattle.mount_model.specs.declared.call.Look.TheVariants.{Length, Read}

@@ -14,8 +14,8 @@ use Rattle.store_api.specs.declared.tree.Room.{Room}
 use Rattle.store_api.specs.declared.tree.Tree.{Tree}
 use Rattle.store_api.specs.declared.step.Answer.TheVariants.{Bytes, Number}
 use Rattle.flow.specs.Running.{unbroken}
-use Rattle.looks.specs.declared.names.Metadata.{Metadata}
-use Rattle.looks.specs.Entries.{is_next}
+use Rattle.flow.specs.declared.names.Metadata.{Metadata}
+use Rattle.flow.specs.Entries.{is_next}
 use Rattle.mount_model.specs.declared.call.Call.TheVariants.{Look}
 use Rattle.mount_model.specs.declared.call.Look.TheVariants.{Length, Read}
 use Rattle.mount_model.specs.declared.reply.Reply.TheVariants.{Looked}

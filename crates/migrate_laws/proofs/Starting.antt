@@ -14,7 +14,7 @@ use Rattle.store_laws.specs.Files.{file_at}
 use Rattle.store_laws.specs.Tells.{made}
 use Rattle.store_laws.proofs.Facts.{acts_told, changed_room, create_told}
 use Rattle.flow.specs.Running.{unbroken}
-use Rattle.looks.specs.declared.names.Metadata.{Metadata}
+use Rattle.flow.specs.declared.names.Metadata.{Metadata}
 use Rattle.mount_model.specs.declared.call.Ask.{Ask}
 use Rattle.mount_model.specs.declared.call.Call.TheVariants.{PutFlat, StartPack}
 use Rattle.mount_model.specs.declared.reply.Reply.{Reply}

@@ -5,12 +5,12 @@ use Rattle.plfs_types.specs.declared.entries.Entry.{Entry}
 use Rattle.index_entry.specs.Spelling.{spelling_all}
 use Rattle.index_pack.specs.declared.trouble.TheConstants.{MAX_PACKED}
 use Rattle.store_api.specs.declared.step.Answer.TheVariants.{Bytes, Number}
-use Rattle.flow.specs.declared.trouble.Stuck.{Stuck}
+use Rattle.flow.specs.declared.stuck.Stuck.{Stuck}
 use Rattle.flow.specs.Running.{asking, unbroken}
 use Rattle.story.specs.Program.{done, followed_by}
 use Rattle.story.specs.Safe.{IsSafe}
-use Rattle.looks.specs.declared.names.Metadata.{Metadata}
-use Rattle.looks.specs.Replies.{Tries, bytes_in, damage, failure, given, on_ok, trouble}
+use Rattle.flow.specs.declared.names.Metadata.{Metadata}
+use Rattle.flow.specs.Replies.{Tries, bytes_in, damage, failure, given, on_ok, trouble}
 use Rattle.mount_model.specs.declared.call.Call.{Call}
 use Rattle.mount_model.specs.declared.call.Call.TheVariants.{InstallFlat, Look, PutFlat, StartPack, SyncFlat}
 use Rattle.mount_model.specs.declared.call.Look.TheVariants.{Length, Read}

@@ -11,7 +11,7 @@ use Rattle.story.specs.Process.{ends, pauses}
 use Rattle.story.specs.Plays.{Plays, PlaysAll}
 use Rattle.story.proofs.Facts.{plays_after}
 use Rattle.mount_model.specs.History.{Event}
-use Rattle.flow.specs.declared.trouble.Stuck.{Stuck}
+use Rattle.flow.specs.declared.stuck.Stuck.{Stuck}
 use Rattle.index_reader.specs.declared.sharing.Share.{Share}
 use Rattle.script_lang.specs.declared.line.Line.{Line}
 use Rattle.script_lang.specs.declared.script.Numbered.{Numbered}

@@ -6,7 +6,7 @@ use Rattle.turn_object.specs.Front.{KeepsIn}
 use Rattle.story.specs.Calls.{AreCallsOf, AreCallsOfEach}
 use Rattle.story.proofs.Facts.{entries_both}
 use Rattle.mount_model.specs.History.{Event}
-use Rattle.flow.specs.declared.trouble.Stuck.{Stuck}
+use Rattle.flow.specs.declared.stuck.Stuck.{Stuck}
 use Rattle.flow.specs.Running.{asking, Runs}
 use Rattle.index_reader.specs.declared.listing.Listing.{Listing}
 use Rattle.index_reader.specs.declared.sharing.Share.{Share}

@@ -7,11 +7,11 @@ use Rattle.mount_model.specs.declared.reply.Refusal.{Refusal}
 use Rattle.mount_model.specs.declared.reply.Refusal.TheVariants as refusal
 use Rattle.mount_model.specs.Paths.{Name}
 use Rattle.mount_model.specs.History.{Event}
-use Rattle.flow.specs.declared.trouble.Stuck.{Stuck}
-use Rattle.flow.specs.declared.trouble.Stuck.TheVariants as stuck
+use Rattle.flow.specs.declared.stuck.Stuck.{Stuck}
+use Rattle.flow.specs.declared.stuck.Stuck.TheVariants as stuck
 use Rattle.flow.specs.Running.{Runs}
 use Rattle.story.specs.Program.{ask}
-use Rattle.looks.specs.Replies.{Tries, failure, given, room_in}
+use Rattle.flow.specs.Replies.{Tries, failure, given, room_in}
 use Rattle.flatten_core.specs.declared.flattening.Flattened.{Flattened as WasFlattened}
 use Rattle.flatten_core.specs.Flattening.{flatten_program}
 use Rattle.torn_tail.specs.declared.recovering.Recovered.{Recovered as WasRecovered}

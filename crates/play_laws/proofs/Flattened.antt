@@ -22,11 +22,11 @@ use Rattle.mount_sound.specs.Entries.{last_stamp, logged}
 use Rattle.mount_sound.specs.Flats.{IsCovered, IsRightFlat, covered_entries}
 use Rattle.mount_sound.specs.Owed.{IsLawful, May}
 use Rattle.mount_sound.specs.There.{landed_entries}
-use Rattle.flow.specs.declared.trouble.Stuck.{Stuck}
+use Rattle.flow.specs.declared.stuck.Stuck.{Stuck}
 use Rattle.flow.specs.Running.{Runs, unbroken}
 use Rattle.flow.proofs.Facts.{runs_in_two}
 use Rattle.story.specs.Program.{done}
-use Rattle.looks.specs.Replies.{Tries, failure, given, on_ok, room_in}
+use Rattle.flow.specs.Replies.{Tries, failure, given, on_ok, room_in}
 use Rattle.index_reader.specs.declared.listing.Dropping.{Dropping as Listed}
 use Rattle.index_reader.specs.declared.listing.Listing.{Listing}
 use Rattle.index_reader.specs.Found.{item_of}

@@ -23,10 +23,10 @@ use Rattle.mount_model.specs.Step.{Answers, IsStep}
 use Rattle.mount_model.specs.Table.{holder_at}
 use Rattle.mount_model.proofs.Facts.{IsHolding, held_before-push, match_cases, next_not_held, step_held}
 use Rattle.mount_sound.specs.Owed.{IsLawful}
-use Rattle.flow.specs.declared.trouble.Stuck.{Stuck}
+use Rattle.flow.specs.declared.stuck.Stuck.{Stuck}
 use Rattle.flow.specs.Running.{Runs, unbroken}
 use Rattle.story.specs.Program.{Program, ask, done}
-use Rattle.looks.specs.Replies.{Tries, failure, given, room_in}
+use Rattle.flow.specs.Replies.{Tries, failure, given, room_in}
 use Rattle.trunc_rename.specs.Holding.{holder_in, holds, lets_go, or_lets_go, released}
 use Rattle.gathering.specs.Moments.{Moment, IsSoundAt, moment_after, next_moment}
 use Rattle.gathering.proofs.Facts.{legal_first, legal_rest, moment-append, sound_after}

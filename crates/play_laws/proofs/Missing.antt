@@ -36,11 +36,11 @@ use Rattle.mount_model.specs.Step.{Answers}
 use Rattle.mount_model.specs.Table.{holder_of}
 use Rattle.mount_model.proofs.Facts.{is_holding, match_cases}
 use Rattle.mount_sound.specs.Owed.{IsLawful}
-use Rattle.flow.specs.declared.trouble.Stuck.{Stuck}
-use Rattle.flow.specs.declared.trouble.Stuck.TheVariants as stuck
+use Rattle.flow.specs.declared.stuck.Stuck.{Stuck}
+use Rattle.flow.specs.declared.stuck.Stuck.TheVariants as stuck
 use Rattle.flow.specs.Running.{Runs, unbroken}
 use Rattle.story.specs.Program.{ask}
-use Rattle.looks.specs.Replies.{Tries, failure, given, room_in}
+use Rattle.flow.specs.Replies.{Tries, failure, given, room_in}
 use Rattle.trunc_rename.specs.Holding.{holder_in, holds}
 use Rattle.trunc_rename.specs.Renaming.{moves}
 use Rattle.trunc_rename.specs.Truncating.{lists_metadata}

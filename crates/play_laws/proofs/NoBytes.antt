@@ -25,7 +25,7 @@ use Rattle.mount_shape.specs.Shape.{IsDrawnBy}
 use Rattle.mount_shape.proofs.Facts.{container_at, item_held, shape_of}
 use Rattle.mount_sound.specs.Dropping.{bytes_of}
 use Rattle.mount_sound.specs.There.{entries_there}
-use Rattle.looks.specs.Replies.{length_in}
+use Rattle.flow.specs.Replies.{length_in}
 use Rattle.gathering.specs.Moments.{Dropping, IsNamed, IsSoundAt, Moment, file_in_room, file_told, index_then, landed, log_then}
 use Rattle.gathering.proofs.Looking.{absence_told, length_told}
 

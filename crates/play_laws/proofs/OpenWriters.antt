@@ -14,10 +14,10 @@ use Rattle.store_laws.specs.There.{ListsFolder}
 use Rattle.store_laws.proofs.Facts.{ordered_differ}
 use Rattle.mount_model.specs.Paths.{Name, openhosts}
 use Rattle.mount_sound.specs.Items.{HasItem}
-use Rattle.looks.specs.declared.names.OpenEntry.{OpenEntry}
-use Rattle.looks.specs.Names.{open_in}
-use Rattle.looks.specs.Order.{entries_by_writer}
-use Rattle.looks.proofs.Facts.{open_in-found, open_in-is}
+use Rattle.flow.specs.declared.names.OpenEntry.{OpenEntry}
+use Rattle.flow.specs.Names.{open_in}
+use Rattle.flow.specs.Order.{entries_by_writer}
+use Rattle.flow.proofs.Facts.{open_in-found, open_in-is}
 use Rattle.torn_tail.specs.declared.recovering.Recovered.{Recovered}
 use Rattle.gathering.specs.Moments.{IsSoundAt, Moment}
 use Rattle.gathering.proofs.Facts.{any_found, found_any, is_among, named_file}

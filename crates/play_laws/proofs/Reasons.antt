@@ -13,15 +13,15 @@ use Rattle.mount_model.specs.Paths.{Name, metadata, truncs}
 use Rattle.mount_model.specs.State.{State}
 use Rattle.mount_model.specs.Step.{Answers}
 use Rattle.mount_sound.specs.Owed.{IsLawful}
-use Rattle.flow.specs.declared.trouble.Stuck.{Stuck}
-use Rattle.flow.specs.declared.trouble.Stuck.TheVariants as stuck
+use Rattle.flow.specs.declared.stuck.Stuck.{Stuck}
+use Rattle.flow.specs.declared.stuck.Stuck.TheVariants as stuck
 use Rattle.flow.specs.Running.{Runs, unbroken}
 use Rattle.flow.proofs.Facts.{runs_next}
 use Rattle.story.specs.Program.{ask, done}
-use Rattle.looks.specs.declared.names.Metadata.{Metadata}
-use Rattle.looks.specs.Listed.{known, told_by}
-use Rattle.looks.specs.Names.{meta_in, trunc_in}
-use Rattle.looks.specs.Replies.{Tries, failure, given}
+use Rattle.flow.specs.declared.names.Metadata.{Metadata}
+use Rattle.flow.specs.Listed.{known, told_by}
+use Rattle.flow.specs.Names.{meta_in, trunc_in}
+use Rattle.flow.specs.Replies.{Tries, failure, given}
 use Rattle.trunc_rename.specs.Holding.{lets_go, or_lets_go, released}
 use Rattle.trunc_rename.specs.Renaming.{moved, moves}
 use Rattle.trunc_rename.specs.Tops.{metadata_top, truncs_top}

@@ -22,12 +22,12 @@ use Rattle.mount_model.proofs.Facts.{match_cases}
 use Rattle.mount_sound.specs.Owed.{IsLawful, IsNotLive, May}
 use Rattle.mount_sound.specs.There.{landed_in}
 use Rattle.mount_sound.proofs.Facts.{has_recovered, only_dead}
-use Rattle.flow.specs.declared.trouble.Stuck.{Stuck}
+use Rattle.flow.specs.declared.stuck.Stuck.{Stuck}
 use Rattle.flow.specs.Running.{Runs, unbroken}
 use Rattle.story.specs.Program.{Program, ask}
-use Rattle.looks.specs.declared.names.OpenEntry.{OpenEntry}
-use Rattle.looks.specs.Entries.{is_next}
-use Rattle.looks.specs.Replies.{Tries, bytes_in, given, length_in}
+use Rattle.flow.specs.declared.names.OpenEntry.{OpenEntry}
+use Rattle.flow.specs.Entries.{is_next}
+use Rattle.flow.specs.Replies.{Tries, bytes_in, given, length_in}
 use Rattle.torn_tail.specs.declared.recovering.Recovered.{Recovered}
 use Rattle.torn_tail.specs.Recovering.{noted}
 use Rattle.torn_tail.specs.Entries.{checked, longer, looked, no_entries}

@@ -15,15 +15,15 @@ use Rattle.mount_model.specs.History.{Event}
 use Rattle.mount_model.specs.Paths.{Name, openhosts}
 use Rattle.mount_model.specs.Step.{IsStep}
 use Rattle.mount_sound.specs.Owed.{IsLawful, IsNotLive}
-use Rattle.flow.specs.declared.trouble.Stuck.{Stuck}
+use Rattle.flow.specs.declared.stuck.Stuck.{Stuck}
 use Rattle.flow.specs.Running.{Runs, unbroken}
 use Rattle.flow.proofs.Facts.{runs_in_two}
-use Rattle.looks.specs.declared.names.OpenEntry.{OpenEntry}
-use Rattle.looks.specs.Listed.{file_in, or_trouble, told_by}
-use Rattle.looks.specs.Names.{open_in}
-use Rattle.looks.specs.Order.{entries_by_writer}
+use Rattle.flow.specs.declared.names.OpenEntry.{OpenEntry}
+use Rattle.flow.specs.Listed.{file_in, or_trouble, told_by}
+use Rattle.flow.specs.Names.{open_in}
+use Rattle.flow.specs.Order.{entries_by_writer}
 use Rattle.story.specs.Program.{done}
-use Rattle.looks.specs.Replies.{Tries, failure, given, is_no_folder, names_in, on_ok, room_in, trouble}
+use Rattle.flow.specs.Replies.{Tries, failure, given, is_no_folder, names_in, on_ok, room_in, trouble}
 use Rattle.torn_tail.specs.declared.recovering.Recovered.{Recovered}
 use Rattle.torn_tail.specs.Recovering.{entries_named, hold_mended, lists_open, mends_hold, noted, nothing, recover_program, recovers, recovers_listed}
 use Rattle.torn_tail.specs.Writers.{writer_program}

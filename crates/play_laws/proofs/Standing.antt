@@ -10,8 +10,8 @@ use Rattle.mount_model.proofs.Facts.{step_causes}
 use Rattle.mount_sound.specs.Owed.{IsLawful}
 use Rattle.turn_object.specs.Front.{KeepsIn}
 use Rattle.turn_object.proofs.Facts.{state_append}
-use Rattle.flow.specs.declared.trouble.Stuck.{Stuck}
-use Rattle.flow.specs.declared.trouble.Stuck.TheVariants as stuck
+use Rattle.flow.specs.declared.stuck.Stuck.{Stuck}
+use Rattle.flow.specs.declared.stuck.Stuck.TheVariants as stuck
 use Rattle.gathering.specs.Moments.{Moment, IsSoundAt, moment_after}
 use Rattle.gathering.proofs.Facts.{any_found, follows, legal_first, legal_rest, moment-append, sound_after}
 use Rattle.reader_laws.specs.Failing.{FailsByStore, WantsMemory}

@@ -25,11 +25,11 @@ use Rattle.mount_model.specs.Step.{Answers}
 use Rattle.mount_model.specs.Table.{holder_of}
 use Rattle.mount_model.proofs.Facts.{is_holding, match_cases, step_fits}
 use Rattle.mount_sound.specs.Owed.{IsLawful}
-use Rattle.flow.specs.declared.trouble.Stuck.{Stuck}
-use Rattle.flow.specs.declared.trouble.Stuck.TheVariants as stuck
+use Rattle.flow.specs.declared.stuck.Stuck.{Stuck}
+use Rattle.flow.specs.declared.stuck.Stuck.TheVariants as stuck
 use Rattle.flow.specs.Running.{Runs, unbroken}
 use Rattle.story.specs.Program.{Program, done}
-use Rattle.looks.specs.Replies.{Tries, failure, room_in}
+use Rattle.flow.specs.Replies.{Tries, failure, room_in}
 use Rattle.trunc_rename.specs.Holding.{holder_in, holds, lets_go, released}
 use Rattle.trunc_rename.specs.Renaming.{moved, moves, rename_program}
 use Rattle.gathering.specs.Moments.{IsSoundAt, Moment, moment_after, next_moment}

@@ -18,11 +18,11 @@ use Rattle.mount_model.specs.declared.reply.Reply.TheVariants.{Room}
 use Rattle.mount_model.specs.Paths.{Name, openhosts}
 use Rattle.mount_model.specs.History.{Event}
 use Rattle.mount_sound.specs.Owed.{IsLawful}
-use Rattle.flow.specs.declared.trouble.Stuck.{Stuck}
-use Rattle.flow.specs.declared.trouble.Stuck.TheVariants as stuck
+use Rattle.flow.specs.declared.stuck.Stuck.{Stuck}
+use Rattle.flow.specs.declared.stuck.Stuck.TheVariants as stuck
 use Rattle.flow.specs.Running.{Runs, unbroken}
 use Rattle.script_lang.specs.declared.line.Line.{Line}
-use Rattle.looks.specs.Replies.{failure, given, on_ok, room_in}
+use Rattle.flow.specs.Replies.{failure, given, on_ok, room_in}
 use Rattle.attr_flow.specs.declared.attr.Attr.{Attr}
 use Rattle.attr_flow.specs.declared.attr_flow.AttrOut.{AttrOut}
 use Rattle.attr_flow.specs.declared.attr_flow.AttrOut.TheVariants.{Cached, MustMerge}

@@ -30,11 +30,11 @@ use Rattle.mount_model.specs.State.{State, Table}
 use Rattle.mount_model.specs.Step.{Answers}
 use Rattle.mount_model.proofs.Facts.{match_cases, step_fits}
 use Rattle.mount_sound.specs.Owed.{IsLawful}
-use Rattle.flow.specs.declared.trouble.Stuck.{Stuck}
-use Rattle.flow.specs.declared.trouble.Stuck.TheVariants as stuck
+use Rattle.flow.specs.declared.stuck.Stuck.{Stuck}
+use Rattle.flow.specs.declared.stuck.Stuck.TheVariants as stuck
 use Rattle.flow.specs.Running.{Runs, unbroken}
 use Rattle.story.specs.Program.{Program, ask}
-use Rattle.looks.specs.Replies.{Tries, failure, given, room_in}
+use Rattle.flow.specs.Replies.{Tries, failure, given, room_in}
 use Rattle.trunc_rename.specs.Holding.{holder_in, holds}
 use Rattle.gathering.specs.Moments.{IsSoundAt, Moment, file_in_room, file_told, moment_after, next_moment}
 use Rattle.gathering.proofs.Facts.{legal_first, legal_rest, moment-append, named_file, sound_after}

@@ -4,7 +4,7 @@ use Rattle.std.specs.Fmt.{decimal}
 use Rattle.plfs_types.specs.Counts.{HasRisen}
 use Rattle.edge_io.specs.Sink.{Taking}
 use Rattle.store_api.specs.Acts.{Stored}
-use Rattle.flow.specs.declared.trouble.Stuck.{Stuck}
+use Rattle.flow.specs.declared.stuck.Stuck.{Stuck}
 use Rattle.mount_model.specs.State.{State}
 use Rattle.mount_model.specs.Mounting.{IsMounted}
 use Rattle.mount_model.specs.Failing.{FailsToMount}

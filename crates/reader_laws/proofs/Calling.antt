@@ -14,7 +14,7 @@ use Rattle.mount_model.specs.Paths.{Name}
 use Rattle.mount_model.specs.History.{Event}
 use Rattle.story.specs.Program.{done}
 use Rattle.story.specs.Calls.{AreCallsOf}
-use Rattle.flow.specs.declared.trouble.Stuck.{Stuck}
+use Rattle.flow.specs.declared.stuck.Stuck.{Stuck}
 use Rattle.flow.specs.Running.{asking}
 use Rattle.index_reader.specs.Replies.{Tries, given, names_in, number_in, bytes_in}
 use Rattle.gathering.specs.Moments.{Moment}

@@ -8,8 +8,8 @@ use Rattle.mount_model.specs.declared.reply.Reply.TheVariants.{Fault, NoMemory}
 use Rattle.mount_model.specs.State.{State}
 use Rattle.mount_model.specs.History.{Event}
 use Rattle.mount_sound.specs.Owed.{IsLawful}
-use Rattle.flow.specs.declared.trouble.Stuck.{Stuck}
-use Rattle.flow.specs.declared.trouble.Stuck.TheVariants as stuck
+use Rattle.flow.specs.declared.stuck.Stuck.{Stuck}
+use Rattle.flow.specs.declared.stuck.Stuck.TheVariants as stuck
 use Rattle.flow.specs.Running.{Runs}
 use Rattle.index_reader.specs.Replies.{Tries, given, trouble}
 use Rattle.gathering.specs.Moments.{Moment, moment_after}

@@ -22,7 +22,7 @@ use Rattle.mount_sound.specs.Flats.{IsRightFlat}
 use Rattle.turn_object.specs.Callers.{made_by}
 use Rattle.story.specs.Program.{done}
 use Rattle.story.specs.Calls.{AreCallsOf}
-use Rattle.flow.specs.declared.trouble.Stuck.{Stuck}
+use Rattle.flow.specs.declared.stuck.Stuck.{Stuck}
 use Rattle.flow.specs.Running.{asking, Runs}
 use Rattle.flow.proofs.Facts.{runs_in_two}
 use Rattle.index_reader.specs.Replies.{Tries, on_ok, number_in}

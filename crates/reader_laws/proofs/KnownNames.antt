@@ -15,7 +15,7 @@ use Rattle.store_laws.specs.Files.{file_at}
 use Rattle.store_laws.specs.There.{AreNamesOf}
 use Rattle.mount_model.specs.Paths.{Name, flats, metadata, truncs}
 use Rattle.mount_shape.specs.Container.{IsContainer, IsContainerFolder, IsItemFile}
-use Rattle.flow.specs.declared.trouble.Stuck.{Stuck}
+use Rattle.flow.specs.declared.stuck.Stuck.{Stuck}
 use Rattle.index_reader.specs.Items.{flat_item, hostdir_item, is_flats, is_of_hostdir}
 use Rattle.index_reader.specs.Newest.{flats_path, greater_id, if_flat, newest_in}
 use Rattle.index_reader.specs.Replies.{damage}

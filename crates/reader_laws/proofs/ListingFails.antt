@@ -44,8 +44,8 @@ use Rattle.mount_shape.proofs.Facts.{container_at, shape_of}
 use Rattle.mount_sound.specs.Flats.{AreCovered, IsCovered}
 use Rattle.mount_sound.specs.Owed.{IsLawful}
 use Rattle.story.specs.Program.{done}
-use Rattle.flow.specs.declared.trouble.Stuck.{Stuck}
-use Rattle.flow.specs.declared.trouble.Stuck.TheVariants as stuck
+use Rattle.flow.specs.declared.stuck.Stuck.{Stuck}
+use Rattle.flow.specs.declared.stuck.Stuck.TheVariants as stuck
 use Rattle.flow.specs.Running.{Runs}
 use Rattle.flow.proofs.Facts.{runs_in_two}
 use Rattle.index_reader.specs.declared.listing.Listing.{Listing}

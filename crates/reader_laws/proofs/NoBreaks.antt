@@ -13,7 +13,7 @@ use Rattle.index_entry.specs.Valid.{IsValidEntry}
 use Rattle.index_entry.proofs.Facts.{entries_format, length-spelling, length-spelling_all, take-spelling_all, valid_fits_places}
 use Rattle.mount_model.specs.History.{Event}
 use Rattle.story.specs.Calls.{AreCallsOf}
-use Rattle.flow.specs.declared.trouble.Stuck.{Stuck}
+use Rattle.flow.specs.declared.stuck.Stuck.{Stuck}
 use Rattle.flow.specs.Running.{asking}
 use Rattle.story.specs.Program.{done}
 use Rattle.index_reader.specs.declared.listing.Dropping.{Dropping as Listed}

@@ -3,7 +3,7 @@ use Rattle.std.proofs.Common.{◌≡◌, ◌∙◌, ℕ, List, ◌++◌, sym, �
 use Rattle.std.specs.Prelude.{Err}
 use Rattle.mount_model.specs.History.{Event, state_after}
 use Rattle.mount_sound.specs.Owed.{IsLawful}
-use Rattle.flow.specs.declared.trouble.Stuck.{Stuck}
+use Rattle.flow.specs.declared.stuck.Stuck.{Stuck}
 use Rattle.flow.specs.Running.{Runs}
 use Rattle.index_reader.specs.Replies.{Tries}
 use Rattle.index_reader.specs.declared.listing.Listing.{Listing}

@@ -18,7 +18,7 @@ use Rattle.mount_model.specs.declared.row.Making.TheVariants as making
 use Rattle.mount_model.specs.History.{Event}
 use Rattle.story.specs.Program.{done}
 use Rattle.turn_object.specs.Callers.{made_by}
-use Rattle.flow.specs.declared.trouble.Stuck.{Stuck}
+use Rattle.flow.specs.declared.stuck.Stuck.{Stuck}
 use Rattle.flow.specs.Running.{Runs}
 use Rattle.flow.proofs.Facts.{runs_in_two}
 use Rattle.index_reader.specs.declared.listing.Dropping.{Dropping as Listed}

@@ -19,7 +19,7 @@ use Rattle.mount_model.specs.State.{last_id}
 use Rattle.mount_shape.specs.Container.{IsContainer}
 use Rattle.mount_shape.specs.Shape.{IsDrawnBy}
 use Rattle.mount_sound.specs.Owed.{IsLawful}
-use Rattle.flow.specs.declared.trouble.Stuck.{Stuck}
+use Rattle.flow.specs.declared.stuck.Stuck.{Stuck}
 use Rattle.flow.specs.Running.{Runs}
 use Rattle.index_reader.specs.declared.listing.Listing.{Listing}
 use Rattle.index_reader.specs.declared.scanning.Scan.{Scan}

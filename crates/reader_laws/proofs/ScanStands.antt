@@ -16,7 +16,7 @@ use Rattle.store_laws.specs.There.{ListsFolder}
 use Rattle.store_laws.proofs.Facts.{ordered_differ}
 use Rattle.mount_model.specs.Paths.{Name, index_path}
 use Rattle.flat_format.specs.declared.flat.Flat.{Flat}
-use Rattle.flow.specs.declared.trouble.Stuck.{Stuck}
+use Rattle.flow.specs.declared.stuck.Stuck.{Stuck}
 use Rattle.index_reader.specs.declared.listing.Listing.{Listing}
 use Rattle.index_reader.specs.declared.scanning.Scan.{Scan}
 use Rattle.index_reader.specs.Items.{hostdir_item}

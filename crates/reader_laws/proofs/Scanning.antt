@@ -14,7 +14,7 @@ use Rattle.container_layout.specs.declared.items.Item.TheVariants as item
 use Rattle.container_layout.specs.Paths.{IsAt, hostdir_of}
 use Rattle.container_layout.proofs.Facts.{one_item}
 use Rattle.mount_model.specs.Paths.{Name}
-use Rattle.flow.specs.declared.trouble.Stuck.{Stuck}
+use Rattle.flow.specs.declared.stuck.Stuck.{Stuck}
 use Rattle.index_reader.specs.declared.scanning.Scan.{Scan}
 use Rattle.index_reader.specs.Items.{hostdir_item}
 use Rattle.index_reader.specs.Replies.{damage}

@@ -16,7 +16,7 @@ use Rattle.mount_model.specs.declared.row.Making.TheVariants as making
 use Rattle.mount_model.specs.Paths.{Name, access_path, flats, marks_folder}
 use Rattle.mount_model.specs.History.{Event, state_after}
 use Rattle.mount_sound.specs.Owed.{IsLawful}
-use Rattle.flow.specs.declared.trouble.Stuck.{Stuck}
+use Rattle.flow.specs.declared.stuck.Stuck.{Stuck}
 use Rattle.flow.specs.Running.{Runs}
 use Rattle.flow.proofs.Facts.{runs_in_two}
 use Rattle.index_reader.specs.declared.listing.Dropping.{Dropping as Listed}

@@ -9,7 +9,7 @@ use Rattle.plain_file.specs.Runs.{ArePieces}
 use Rattle.interval_merge.specs.Writer.{HasPiece}
 use Rattle.turn_object.specs.Callers.{made_by}
 use Rattle.mount_model.specs.History.{Event}
-use Rattle.flow.specs.declared.trouble.Stuck.{Stuck}
+use Rattle.flow.specs.declared.stuck.Stuck.{Stuck}
 use Rattle.flow.specs.Running.{Runs}
 use Rattle.flow.proofs.Facts.{runs_in_two}
 use Rattle.index_reader.specs.declared.listing.Dropping.{Dropping as Listed}

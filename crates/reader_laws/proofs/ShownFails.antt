@@ -14,7 +14,7 @@ use Rattle.mount_shape.specs.Shape.{IsDrawnBy}
 use Rattle.mount_sound.specs.Ledger.{Ledger}
 use Rattle.mount_sound.specs.Owed.{IsLawful, May}
 use Rattle.mount_sound.specs.Sound.{IsSoundFor}
-use Rattle.flow.specs.declared.trouble.Stuck.{Stuck}
+use Rattle.flow.specs.declared.stuck.Stuck.{Stuck}
 use Rattle.flow.specs.Running.{Runs}
 use Rattle.index_reader.specs.Opening.{no_flat, scans}
 use Rattle.index_reader.specs.Scanning.{nothing_found}

@@ -22,7 +22,7 @@ use Rattle.mount_sound.specs.Landed.{whole}
 use Rattle.mount_sound.specs.Ledger.{entries_in}
 use Rattle.mount_sound.specs.Owed.{IsLawful}
 use Rattle.mount_sound.proofs.Facts.{in_order_take, logged_append, logged_take, order_append, order_drop, take_less}
-use Rattle.flow.specs.declared.trouble.Stuck.{Stuck}
+use Rattle.flow.specs.declared.stuck.Stuck.{Stuck}
 use Rattle.flow.specs.Running.{Runs}
 use Rattle.story.specs.Program.{done}
 use Rattle.turn_object.specs.Callers.{made_by}

@@ -15,7 +15,7 @@ use Rattle.mount_model.specs.History.{Event}
 use Rattle.mount_sound.specs.Landed.{whole}
 use Rattle.story.specs.Program.{done}
 use Rattle.story.specs.Calls.{AreCallsOf}
-use Rattle.flow.specs.declared.trouble.Stuck.{Stuck}
+use Rattle.flow.specs.declared.stuck.Stuck.{Stuck}
 use Rattle.flow.specs.Running.{asking}
 use Rattle.index_reader.specs.declared.listing.Dropping.{Dropping as Listed}
 use Rattle.index_reader.specs.declared.entries.Tail.{Tail}

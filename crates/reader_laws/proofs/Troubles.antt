@@ -11,8 +11,8 @@ use Rattle.mount_model.specs.Step.{Answers, IsStep}
 use Rattle.mount_model.specs.History.{Event, state_after}
 use Rattle.mount_model.proofs.Facts.{step_cases, step_causes}
 use Rattle.mount_sound.specs.Owed.{IsLawful}
-use Rattle.flow.specs.declared.trouble.Stuck.{Stuck}
-use Rattle.flow.specs.declared.trouble.Stuck.TheVariants as stuck
+use Rattle.flow.specs.declared.stuck.Stuck.{Stuck}
+use Rattle.flow.specs.declared.stuck.Stuck.TheVariants as stuck
 use Rattle.flow.specs.Running.{unbroken}
 use Rattle.turn_object.proofs.Facts.{state_append}
 use Rattle.gathering.proofs.Facts.{any_found, found_any}

@@ -19,7 +19,7 @@ use Rattle.mount_model.specs.State.{last_id}
 use Rattle.mount_model.specs.History.{Event}
 use Rattle.mount_sound.specs.Owed.{IsLawful}
 use Rattle.story.specs.Program.{done}
-use Rattle.flow.specs.declared.trouble.Stuck.{Stuck}
+use Rattle.flow.specs.declared.stuck.Stuck.{Stuck}
 use Rattle.flow.specs.Running.{Runs}
 use Rattle.index_reader.specs.Replies.{given, names_in, trouble}
 use Rattle.index_reader.specs.Truncs.{if_trunc, inserted, trunc_in, truncs_of, truncs_path, trunc_program}

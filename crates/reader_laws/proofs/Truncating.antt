@@ -22,7 +22,7 @@ use Rattle.mount_model.specs.Paths.{Name, truncs as truncs_folder}
 use Rattle.mount_model.specs.Step.{IsStep}
 use Rattle.mount_model.specs.History.{Event}
 use Rattle.mount_sound.specs.Items.{HasItem}
-use Rattle.flow.specs.declared.trouble.Stuck.{Stuck}
+use Rattle.flow.specs.declared.stuck.Stuck.{Stuck}
 use Rattle.flow.specs.Running.{unbroken}
 use Rattle.index_reader.specs.Replies.{damage, names_in}
 use Rattle.index_reader.specs.Truncs.{trunc_in, is_before, place_of, inserted, truncs_path, truncs_of, if_trunc}

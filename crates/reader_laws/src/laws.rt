@@ -8,7 +8,7 @@ ghost use Rattle.read_plan.specs.Plan.{plan_of};
 ghost use Rattle.mount_model.specs.State.{State};
 ghost use Rattle.mount_model.specs.History.{Event, state_after};
 ghost use Rattle.mount_sound.specs.Owed.{IsLawful};
-ghost use Rattle.flow.specs.declared.trouble.Stuck.{Stuck};
+ghost use Rattle.flow.specs.declared.stuck.Stuck.{Stuck};
 ghost use Rattle.flow.specs.Running.{Runs};
 ghost use Rattle.index_reader.specs.declared.gathered.Gathered.{Gathered as Parts};
 ghost use Rattle.index_reader.specs.declared.listing.Dropping.{Dropping as Listed};

@@ -1,7 +1,7 @@
 -- What holds of a clean state stays so, whoever makes a call, and how programs are shown to be safe by it.
 use Rattle.std.proofs.Common.{ℕ, Option, Some, None, ◌⊎◌, inl, inr}
 use Rattle.std.specs.Prelude.{Result, Ok, Err}
-use Rattle.flow.specs.declared.trouble.Stuck.{Stuck}
+use Rattle.flow.specs.declared.stuck.Stuck.{Stuck}
 use Rattle.flow.specs.Running.{asking, unbroken}
 use Rattle.story.specs.Program.{Program, ask}
 use Rattle.story.specs.Safe.{IsSafe}
@@ -15,7 +15,7 @@ use Rattle.mount_sound.specs.Owed.{May, Permits}
 use Rattle.mount_sound.specs.Sound.{IsClean, IsFine, IsSoundFor}
 use Rattle.mount_sound.proofs.Facts.{step_fine, was_clean}
 use Rattle.holding_laws.proofs.Facts.{LastsOne, safe_ask}
-use Rattle.looks.specs.Replies.{Tries, given, on_ok}
+use Rattle.flow.specs.Replies.{Tries, given, on_ok}
 
 -- the state is fine, and this holds of it where it is clean
 abbrev pub Cleanly : (State → Type 0) → State → Type 0

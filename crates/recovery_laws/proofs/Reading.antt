@@ -16,8 +16,8 @@ use Rattle.store_laws.specs.There.{LacksFolder}
 use Rattle.flow.specs.Running.{asking, unbroken}
 use Rattle.story.specs.Program.{followed_by}
 use Rattle.story.specs.Safe.{IsSafe}
-use Rattle.looks.specs.declared.names.OpenEntry.{OpenEntry}
-use Rattle.looks.specs.Replies.{bytes_in, given, length_in, on_ok, trouble}
+use Rattle.flow.specs.declared.names.OpenEntry.{OpenEntry}
+use Rattle.flow.specs.Replies.{bytes_in, given, length_in, on_ok, trouble}
 use Rattle.mount_model.specs.declared.call.Call.TheVariants.{Inspect, Look}
 use Rattle.mount_model.specs.declared.call.Look.TheVariants.{Length, Read}
 use Rattle.mount_model.specs.declared.call.Call.{Call}

@@ -11,16 +11,16 @@ use Rattle.store_laws.specs.Files.{file_at}
 use Rattle.store_laws.specs.There.{ListsFolder}
 use Rattle.store_api.specs.Names.{same_name}
 use Rattle.store_laws.proofs.Facts.{name_refl}
-use Rattle.flow.specs.declared.trouble.Stuck.{Stuck}
+use Rattle.flow.specs.declared.stuck.Stuck.{Stuck}
 use Rattle.flow.specs.Running.{asking, unbroken}
 use Rattle.story.specs.Program.{done}
 use Rattle.story.specs.Safe.{IsSafe}
-use Rattle.looks.specs.declared.names.OpenEntry.{OpenEntry}
-use Rattle.looks.specs.Listed.{file_in, or_trouble, told_by}
-use Rattle.looks.specs.Names.{open_in}
-use Rattle.looks.specs.Order.{entries_by_writer, put_by}
-use Rattle.looks.specs.Replies.{damage, failure, given, is_no_folder, names_in, room_in, trouble}
-use Rattle.looks.proofs.Facts.{open_in-found}
+use Rattle.flow.specs.declared.names.OpenEntry.{OpenEntry}
+use Rattle.flow.specs.Listed.{file_in, or_trouble, told_by}
+use Rattle.flow.specs.Names.{open_in}
+use Rattle.flow.specs.Order.{entries_by_writer, put_by}
+use Rattle.flow.specs.Replies.{damage, failure, given, is_no_folder, names_in, room_in, trouble}
+use Rattle.flow.proofs.Facts.{open_in-found}
 use Rattle.mount_model.specs.declared.call.Call.TheVariants.{Find, Look, MendHold}
 use Rattle.mount_model.specs.declared.call.Look.TheVariants.{List as ListFolder}
 use Rattle.mount_model.specs.declared.reply.Reply.{Reply}

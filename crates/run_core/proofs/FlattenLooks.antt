@@ -8,7 +8,7 @@ use Rattle.flat_format.specs.Spelling.{flat_spelling}
 use Rattle.story.specs.Program.{done, ask, followed_by}
 use Rattle.mount_model.specs.declared.reply.Reply.TheVariants.{Done, Started as BegunAs}
 use Rattle.mount_model.specs.Paths.{Name}
-use Rattle.looks.specs.Replies.{Tries, on_ok}
+use Rattle.flow.specs.Replies.{Tries, on_ok}
 use Rattle.index_reader.specs.declared.listing.Dropping.{Dropping}
 use Rattle.index_reader.specs.declared.listing.Listing.{Listing}
 use Rattle.index_reader.specs.declared.sharing.Share.{Share}

@@ -4,7 +4,7 @@ use Rattle.std.specs.Prelude.{⊤, MatchBool, set, slice_get, Result}
 use Rattle.mount_model.specs.declared.call.Ask.{Ask}
 use Rattle.mount_model.specs.declared.reply.Reply.{Reply}
 use Rattle.mount_model.specs.History.{Event}
-use Rattle.flow.specs.declared.trouble.Stuck.{Stuck}
+use Rattle.flow.specs.declared.stuck.Stuck.{Stuck}
 use Rattle.index_reader.specs.declared.sharing.Share.{Share}
 use Rattle.story.specs.Process.{ends, pauses, tells, asks, shares}
 use Rattle.story.specs.Turns.{TakesTurn, Finishes}

@@ -5,7 +5,7 @@ use Rattle.story.specs.Program.{Program, done, ask}
 use Rattle.story.specs.Process.{ends, pauses, tells, asks, shares}
 use Rattle.mount_model.specs.declared.call.Call.{Call}
 use Rattle.mount_model.specs.declared.reply.Reply.{Reply}
-use Rattle.flow.specs.declared.trouble.Stuck.{Stuck}
+use Rattle.flow.specs.declared.stuck.Stuck.{Stuck}
 use Rattle.read_plan.specs.Plan.{plan_of}
 use Rattle.index_reader.specs.Opening.{open_read_program}
 use Rattle.index_reader.specs.Reading.{read_program}

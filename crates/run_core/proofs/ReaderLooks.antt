@@ -12,7 +12,7 @@ use Rattle.index_entry.specs.Spelling.{entry_in, number_in as number_at}
 use Rattle.index_pack.specs.declared.trouble.TheConstants.{HEAD_SIZE}
 use Rattle.flat_format.specs.declared.flat.Flat.{Flat}
 use Rattle.read_plan.specs.declared.part.Part.{Part}
-use Rattle.flow.specs.declared.trouble.Stuck.{Stuck}
+use Rattle.flow.specs.declared.stuck.Stuck.{Stuck}
 use Rattle.story.specs.Program.{done, followed_by}
 use Rattle.mount_model.specs.declared.call.Look.TheVariants.{Top, Length, Read, List as ListFolder}
 use Rattle.mount_model.specs.Paths.{Name, flats, metadata, truncs, flat_path, index_path, log_path}

@@ -7,7 +7,7 @@ use Rattle.turn_object.specs.History.{state_after}
 use Rattle.story.specs.Program.{Program, AsksOnly, done, ask}
 use Rattle.story.specs.Process.{ends, pauses, tells, asks, shares}
 use Rattle.story.specs.Safe.{AreOthers, IsSafe, AreFree, IsSafeProcess}
-use Rattle.flow.specs.declared.trouble.Stuck.{Stuck}
+use Rattle.flow.specs.declared.stuck.Stuck.{Stuck}
 use Rattle.flow.specs.Running.{asking, unbroken}
 use Rattle.index_reader.specs.declared.sharing.Share.{Share}
 use Rattle.mount_model.specs.declared.call.Ask.{Ask}

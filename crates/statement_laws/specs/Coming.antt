@@ -1,6 +1,6 @@
 -- A statement comes to its end.
 use Rattle.std.specs.Prelude.{⊤, List, Result}
-use Rattle.flow.specs.declared.trouble.Stuck.{Stuck}
+use Rattle.flow.specs.declared.stuck.Stuck.{Stuck}
 use Rattle.mount_model.specs.declared.reply.Reply.{Reply}
 use Rattle.index_reader.specs.declared.sharing.Share.{Share}
 use Rattle.story.specs.Process.{ends, pauses, tells, asks, shares}

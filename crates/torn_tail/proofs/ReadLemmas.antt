@@ -3,12 +3,12 @@ use Rattle.std.proofs.Common.{◌≡◌, Bool, nat_le, List, length, Option, Som
 use Rattle.std.proofs.lemmas.Bool.{cases_lt}
 use Rattle.std.proofs.Math.Nat.{add-mul-div_right}
 use Rattle.std.proofs.lemmas.Nat.{div-mul-add}
-use Rattle.looks.specs.declared.names.OpenEntry.{OpenEntry}
+use Rattle.flow.specs.declared.names.OpenEntry.{OpenEntry}
 use Rattle.torn_tail.specs.declared.runs.Run.{Run}
 use Rattle.flow.specs.Standing.{ready, rest_of, replied}
 use Rattle.mount_model.specs.declared.reply.Reply.{Reply}
 use Rattle.mount_model.specs.Paths.{index_path}
-use Rattle.looks.specs.Replies.{Tries, given, bytes_in, trouble}
+use Rattle.flow.specs.Replies.{Tries, given, bytes_in, trouble}
 use Rattle.torn_tail.specs.declared.entries.Went.{Went}
 use Rattle.torn_tail.specs.declared.fates.Fate.{Fate}
 use Rattle.torn_tail.specs.Entries.{looked}

@@ -2,7 +2,7 @@
 -- of its log and Reads of the whole entries; Mend where the index dropping isn't just its landed entries; where there are
 -- some, SyncDropping of the log and of the index dropping, and MendMeta; then Bury.
 use Rattle.std.specs.Prelude.{ℕ, zero, suc, ◌+◌, ◌-◌, ◌*◌, ◌/◌, ◌==◌, nat_le, min, Bool, true, false, if◌then◌else◌, length, Result, Ok, Err}
-use Rattle.flow.specs.declared.trouble.Stuck.{Stuck}
+use Rattle.flow.specs.declared.stuck.Stuck.{Stuck}
 use Rattle.story.specs.Program.{done, ask}
 use Rattle.mount_model.specs.declared.call.Call.TheVariants.{Look, SyncDropping, Inspect, Mend, MendMeta, Bury}
 use Rattle.mount_model.specs.declared.call.Look.TheVariants.{Length, Read}
@@ -10,8 +10,8 @@ use Rattle.mount_model.specs.declared.reply.Reply.{Reply}
 use Rattle.mount_model.specs.declared.reply.Reply.TheVariants.{Done, Refused}
 use Rattle.mount_model.specs.declared.reply.Refusal.TheVariants.{Alive}
 use Rattle.mount_model.specs.Paths.{index_path, log_path}
-use Rattle.looks.specs.declared.names.OpenEntry.{OpenEntry}
-use Rattle.looks.specs.Replies.{Tries, given, length_in, bytes_in, damage, trouble, failure}
+use Rattle.flow.specs.declared.names.OpenEntry.{OpenEntry}
+use Rattle.flow.specs.Replies.{Tries, given, length_in, bytes_in, damage, trouble, failure}
 use Rattle.torn_tail.specs.declared.runs.Run.{Run}
 use Rattle.torn_tail.specs.declared.entries.Went.{Went}
 use Rattle.torn_tail.specs.declared.entries.Went.TheVariants.{On, Ends, Breaks}

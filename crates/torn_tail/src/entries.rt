@@ -1,10 +1,10 @@
 //! The entries of an index dropping, which are checked in order.
 ghost use Rattle.std.specs.Prelude.{◌≡◌, ◌*◌, ◌≤◌, length, drop, true};
-ghost use Rattle.looks.specs.Entries.{is_next as next_of};
+ghost use Rattle.flow.specs.Entries.{is_next as next_of};
 ghost use Rattle.torn_tail.specs.Entries.{no_entries, longer as longer_of, checked as checked_of, looked};
 
 use crate::runs::{Counted, Run};
-use looks::{first_entry, is_next};
+use flow::{first_entry, is_next};
 use plfs_types::{Cover, Entry};
 
 /// How far the checking of entries went.

@@ -1,13 +1,12 @@
 //! Who has a container open.
 ghost use Rattle.std.specs.Prelude.{◌≡◌, ◌<◌, ◌^◌, [], length, IfOk};
-ghost use Rattle.looks.specs.Listed.{told_by};
-ghost use Rattle.looks.specs.Order.{entries_by_writer as in_order};
+ghost use Rattle.flow.specs.Listed.{told_by};
+ghost use Rattle.flow.specs.Order.{entries_by_writer as in_order};
 ghost use Rattle.mount_model.specs.Paths as paths;
 ghost use Rattle.torn_tail.specs.Recovering.{entries_named};
 
 use container_layout::openhosts;
-use flow::Stuck;
-use looks::{OpenEntryList, damage, names_in, open_in, trouble};
+use flow::{OpenEntryList, Stuck, damage, names_in, open_in, trouble};
 use mount_model::Reply;
 use plfs_types::{Name, NoMemory, Path};
 use std::alloc::Global;

@@ -5,7 +5,7 @@ ghost use Rattle.mount_model.specs.Paths.{index_path as path_of_index, log_path 
 ghost use Rattle.mount_model.specs.Step.{OwedBy};
 ghost use Rattle.torn_tail.specs.Writers.{next_read as read_next, found as found_of, keeps as keeps_of, reads_left, if_checked, is_alive as is_alive_of, not_done as not_done_of, if_done as if_done_of, if_synced as if_synced_of};
 ghost use Rattle.torn_tail.specs.declared.fates.Fate.TheVariants.{Buried};
-ghost use Rattle.looks.specs.declared.names.OpenEntry.{OpenEntry as Entered};
+ghost use Rattle.flow.specs.declared.names.OpenEntry.{OpenEntry as Entered};
 ghost use Rattle.story.specs.Program.{done};
 ghost use Rattle.torn_tail.specs.Steps.{step_program, after_program, step_calls, after_calls};
 
@@ -14,8 +14,7 @@ use crate::fates::Fate;
 use crate::runs::{Counted, Landed, Reads};
 use crate::steps::Step;
 use container_layout::{Item, print};
-use flow::Stuck;
-use looks::{OpenEntry, bytes_in, damage, failure, length_in, trouble};
+use flow::{OpenEntry, Stuck, bytes_in, damage, failure, length_in, trouble};
 use mount_model::{Call, Look, Refusal, Reply};
 use plfs_types::Path;
 

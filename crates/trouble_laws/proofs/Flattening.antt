@@ -12,11 +12,11 @@ use Rattle.mount_model.specs.State.{State}
 use Rattle.mount_sound.specs.Owed.{IsLawful}
 use Rattle.mount_undamaged.specs.Damage.{ShowsNoDamage}
 use Rattle.story.specs.Program.{done, followed_by}
-use Rattle.flow.specs.declared.trouble.Stuck.{Stuck}
-use Rattle.flow.specs.declared.trouble.Stuck.TheVariants as stuck
+use Rattle.flow.specs.declared.stuck.Stuck.{Stuck}
+use Rattle.flow.specs.declared.stuck.Stuck.TheVariants as stuck
 use Rattle.flow.specs.Running.{Runs}
 use Rattle.flow.proofs.Facts.{runs_in_two}
-use Rattle.looks.specs.Replies.{Tries, failure, given, on_ok, room_in}
+use Rattle.flow.specs.Replies.{Tries, failure, given, on_ok, room_in}
 use Rattle.index_reader.specs.declared.listing.Dropping.{Dropping as Listed}
 use Rattle.index_reader.specs.declared.listing.Listing.{Listing}
 use Rattle.index_reader.specs.declared.sharing.Share.{Share}

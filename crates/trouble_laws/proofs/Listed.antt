@@ -35,14 +35,14 @@ use Rattle.mount_shape.proofs.Facts.{container_at, shape_of}
 use Rattle.mount_sound.specs.Items.{HasItem}
 use Rattle.mount_sound.specs.Ledger.{Ledger}
 use Rattle.mount_sound.specs.Sound.{IsSoundFor}
-use Rattle.flow.specs.declared.trouble.Stuck.{Stuck}
+use Rattle.flow.specs.declared.stuck.Stuck.{Stuck}
 use Rattle.flow.specs.Running.{unbroken}
-use Rattle.looks.specs.declared.names.Metadata.{Metadata}
-use Rattle.looks.specs.declared.names.OpenEntry.{OpenEntry}
-use Rattle.looks.specs.Listed.{file_in, known, or_trouble, told_by}
-use Rattle.looks.specs.Names.{meta_in, open_in, trunc_in}
-use Rattle.looks.specs.Replies.{damage, is_no_folder}
-use Rattle.looks.proofs.Facts.{meta_in-is, open_in-is, trunc_in-is}
+use Rattle.flow.specs.declared.names.Metadata.{Metadata}
+use Rattle.flow.specs.declared.names.OpenEntry.{OpenEntry}
+use Rattle.flow.specs.Listed.{file_in, known, or_trouble, told_by}
+use Rattle.flow.specs.Names.{meta_in, open_in, trunc_in}
+use Rattle.flow.specs.Replies.{damage, is_no_folder}
+use Rattle.flow.proofs.Facts.{meta_in-is, open_in-is, trunc_in-is}
 use Rattle.gathering.proofs.Facts.{named_file}
 use Rattle.trouble_laws.specs.Undamaged.{IsUndamaged}
 

@@ -38,14 +38,14 @@ use Rattle.mount_sound.specs.Owed.{May}
 use Rattle.mount_sound.specs.Sound.{IsSoundFor}
 use Rattle.mount_sound.proofs.Facts.{some_room}
 use Rattle.mount_undamaged.specs.Damage.{ShowsNoDamage}
-use Rattle.flow.specs.declared.trouble.Stuck.{Stuck}
+use Rattle.flow.specs.declared.stuck.Stuck.{Stuck}
 use Rattle.flow.specs.Running.{Runs, unbroken}
 use Rattle.story.specs.Program.{done}
-use Rattle.looks.specs.declared.names.Metadata.{Metadata}
-use Rattle.looks.specs.Listed.{file_in, or_trouble, told_by}
-use Rattle.looks.specs.Names.{meta_in}
-use Rattle.looks.specs.Order.{metadata_by_writer}
-use Rattle.looks.specs.Replies.{Tries, bytes_in, damage, failure, given, on_ok, trouble}
+use Rattle.flow.specs.declared.names.Metadata.{Metadata}
+use Rattle.flow.specs.Listed.{file_in, or_trouble, told_by}
+use Rattle.flow.specs.Names.{meta_in}
+use Rattle.flow.specs.Order.{metadata_by_writer}
+use Rattle.flow.specs.Replies.{Tries, bytes_in, damage, failure, given, on_ok, trouble}
 use Rattle.index_reader.specs.declared.listing.Dropping.{Dropping as Listed}
 use Rattle.index_reader.specs.declared.listing.Listing.{Listing}
 use Rattle.index_reader.specs.Opening.{no_flat, scans}

@@ -9,7 +9,7 @@ use Rattle.plfs_types.specs.declared.entries.Entry.{Entry}
 use Rattle.index_entry.specs.Entries.{AreEntriesOf, logged}
 use Rattle.index_entry.specs.Spelling.{entry_in, spelling, spelling_all}
 use Rattle.index_entry.proofs.Facts.{drop-spelling_all, entries_format, length-spelling, take-spelling_all}
-use Rattle.looks.specs.Entries.{is_next}
+use Rattle.flow.specs.Entries.{is_next}
 use Rattle.migrate_core.specs.Entries.{checked, longer}
 use Rattle.migrate_core.specs.Words.{Tail}
 use Rattle.migrate_core.specs.Writers.{next_read}

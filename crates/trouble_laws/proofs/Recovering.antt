@@ -34,14 +34,14 @@ use Rattle.mount_sound.specs.Sound.{IsSoundFor}
 use Rattle.mount_sound.proofs.Facts.{gone_anywhere, gone_later, in_later, index_now, is_index, later, not_live_later, only_dead, some_room}
 use Rattle.mount_undamaged.specs.Damage.{ShowsNoDamage}
 use Rattle.mount_undamaged.proofs.Facts.{step_shows}
-use Rattle.flow.specs.declared.trouble.Stuck.{Stuck}
+use Rattle.flow.specs.declared.stuck.Stuck.{Stuck}
 use Rattle.flow.specs.Running.{unbroken}
 use Rattle.story.specs.Program.{ask, done}
-use Rattle.looks.specs.declared.names.OpenEntry.{OpenEntry}
-use Rattle.looks.specs.Listed.{file_in, or_trouble, told_by}
-use Rattle.looks.specs.Names.{open_in}
-use Rattle.looks.specs.Order.{entries_by_writer, put_by}
-use Rattle.looks.specs.Replies.{Tries, bytes_in, damage, failure, given, is_no_folder, length_in, on_ok, trouble}
+use Rattle.flow.specs.declared.names.OpenEntry.{OpenEntry}
+use Rattle.flow.specs.Listed.{file_in, or_trouble, told_by}
+use Rattle.flow.specs.Names.{open_in}
+use Rattle.flow.specs.Order.{entries_by_writer, put_by}
+use Rattle.flow.specs.Replies.{Tries, bytes_in, damage, failure, given, is_no_folder, length_in, on_ok, trouble}
 use Rattle.torn_tail.specs.declared.recovering.Recovered.{Recovered}
 use Rattle.torn_tail.specs.Entries.{looked, no_entries}
 use Rattle.torn_tail.specs.Recovering.{entries_named, hold_mended, lists_open, mends_hold, noted, nothing, recover_program, recovers, recovers_listed}

@@ -14,10 +14,10 @@ use Rattle.mount_sound.specs.Sound.{IsSoundFor}
 use Rattle.mount_sound.proofs.Facts.{later}
 use Rattle.mount_undamaged.specs.Damage.{ShowsNoDamage}
 use Rattle.mount_undamaged.proofs.Facts.{step_shows}
-use Rattle.flow.specs.declared.trouble.Stuck.{Stuck}
+use Rattle.flow.specs.declared.stuck.Stuck.{Stuck}
 use Rattle.flow.specs.Running.{Runs, unbroken}
 use Rattle.flow.proofs.Facts.{runs_in_two, runs_next}
-use Rattle.looks.specs.Replies.{given, on_ok}
+use Rattle.flow.specs.Replies.{given, on_ok}
 use Rattle.story.specs.Program.{Program, ask, done, followed_by}
 use Rattle.trouble_laws.specs.Undamaged.{IsNoDamage, IsUndamaged}
 

@@ -2,8 +2,7 @@
 ghost use Rattle.std.specs.Prelude.{◌≡◌};
 ghost use Rattle.trunc_rename.specs.Holding.{holder_in as holder_of, released as released_of};
 
-use flow::Stuck;
-use looks::failure;
+use flow::{Stuck, failure};
 use mount_model::Reply;
 
 /// The number of the hold.

@@ -5,8 +5,7 @@ ghost use Rattle.trunc_rename.specs.Renaming.{rename_program, moved as moved_of}
 ghost use Rattle.trunc_rename.specs.RenameStages.{renaming, renames_left, rename_standing, rename_left};
 
 use crate::holding::{holder_in, released};
-use flow::{Flow, Stuck};
-use looks::{failure, room_in};
+use flow::{Flow, Stuck, failure, room_in};
 use mount_model::{Call, Reply};
 use plfs_types::{LogicalName, NoMemory};
 

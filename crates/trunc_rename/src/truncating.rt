@@ -7,8 +7,7 @@ ghost use Rattle.trunc_rename.specs.TruncateStages.{truncating, calls_left, trun
 use crate::holding::{holder_in, released};
 use crate::tops::{top_of_metadata, top_of_truncs};
 use container_layout::{metadata, truncs};
-use flow::{Flow, Stuck};
-use looks::{failure, room_in};
+use flow::{Flow, Stuck, failure, room_in};
 use mount_model::{Call, Look, Reply};
 use plfs_types::{LogicalName, NoMemory};
 

@@ -5,7 +5,7 @@ ghost use Rattle.mount_model.specs.State.{State};
 ghost use Rattle.mount_model.specs.History.{Event, state_after, told_tree_after};
 ghost use Rattle.writer_flow.specs.declared.handle.WriterHandle.{WriterHandle};
 ghost use Rattle.writer_flow.specs.declared.handle.WriterOut.{WriterOut};
-ghost use Rattle.flow.specs.declared.trouble.Stuck.{Stuck};
+ghost use Rattle.flow.specs.declared.stuck.Stuck.{Stuck};
 ghost use Rattle.writer_flow.specs.Opening.{open_program};
 ghost use Rattle.writer_flow.specs.Closing.{close_program};
 ghost use Rattle.writer_flow.specs.Writing.{write_program};

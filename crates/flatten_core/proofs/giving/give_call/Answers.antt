@@ -1,7 +1,7 @@
 use Rattle.std.proofs.Common.{◌≡◌, Some}
 use Rattle.mount_model.specs.declared.call.Call.{Call}
 use Rattle.flow.specs.Standing.{next_of}
-use Rattle.looks.specs.Replies.{on_ok}
+use Rattle.flow.specs.Replies.{on_ok}
 use Rattle.gather_flow.specs.Gathering.{gather_rest}
 use Rattle.flatten_core.specs.Flattening.{installs_gathered}
 use Rattle.flatten_core.specs.Parts.{calling}

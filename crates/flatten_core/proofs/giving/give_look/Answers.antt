@@ -1,5 +1,5 @@
 use Rattle.std.proofs.Common.{ap, sym, ◌∙◌}
-use Rattle.looks.specs.Replies.{on_ok}
+use Rattle.flow.specs.Replies.{on_ok}
 use Rattle.index_reader.specs.OpenStages.{open_standing}
 use Rattle.flatten_core.specs.Flattening.{gathers}
 use Rattle.flatten_core.specs.Stages.{is_awaiting}

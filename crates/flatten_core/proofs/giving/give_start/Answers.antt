@@ -1,6 +1,6 @@
 use Rattle.std.proofs.Common.{sym, ◌∙◌}
 use Rattle.flow.specs.Standing.{ready}
-use Rattle.looks.specs.Replies.{on_ok}
+use Rattle.flow.specs.Replies.{on_ok}
 use Rattle.flatten_core.specs.Flattening.{lists}
 use Rattle.flatten_core.specs.StartStages.{starting}
 use Rattle.flatten_core.proofs.PartLemmas.{next_then}

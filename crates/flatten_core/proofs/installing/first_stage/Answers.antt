@@ -2,7 +2,7 @@ use Rattle.std.proofs.Common.{ℕ, List, ap, ◌∙◌}
 use Rattle.plfs_types.specs.declared.entries.Cover.{Cover}
 use Rattle.flow.specs.Standing.{ready}
 use Rattle.story.specs.Program.{followed_by}
-use Rattle.looks.specs.Replies.{on_ok}
+use Rattle.flow.specs.Replies.{on_ok}
 use Rattle.index_reader.specs.Opening.{scan_program}
 use Rattle.index_reader.specs.OpenStages.{open_rest}
 use Rattle.flatten_core.specs.Installing.{install_program, syncs_listed}

@@ -1,7 +1,7 @@
 use Rattle.std.proofs.Common.{ap, ◌∙◌}
 use Rattle.story.specs.Program.{followed_by}
 use Rattle.flow.specs.Standing.{ready}
-use Rattle.looks.specs.Replies.{Tries, on_ok}
+use Rattle.flow.specs.Replies.{Tries, on_ok}
 use Rattle.flatten_core.specs.declared.starting.Started.{Started}
 use Rattle.flatten_core.specs.Flattening.{lists}
 use Rattle.flatten_core.specs.StartStages.{starting}

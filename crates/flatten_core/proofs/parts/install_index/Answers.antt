@@ -1,6 +1,6 @@
 use Rattle.std.proofs.Common.{ap, ◌∙◌}
 use Rattle.std.specs.Prelude.{Result}
-use Rattle.flow.specs.declared.trouble.Stuck.{Stuck}
+use Rattle.flow.specs.declared.stuck.Stuck.{Stuck}
 use Rattle.story.specs.Program.{followed_by}
 use Rattle.flow.specs.Standing.{Standing, ready, rest_of}
 use Rattle.mount_model.specs.declared.call.Call.{Call}

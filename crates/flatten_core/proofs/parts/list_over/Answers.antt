@@ -1,6 +1,6 @@
 use Rattle.std.proofs.Common.{◌≡◌, sym, ◌∙◌}
 use Rattle.flow.specs.Standing.{ready}
-use Rattle.looks.specs.Replies.{on_ok}
+use Rattle.flow.specs.Replies.{on_ok}
 use Rattle.index_reader.specs.OpenStages.{open_standing}
 use Rattle.gather_flow.specs.Gathering.{then_on}
 use Rattle.gather_flow.proofs.Throughs.{leads_then}

@@ -1,7 +1,7 @@
 use Rattle.std.proofs.Common.{◌≡◌, ap, ◌∙◌}
 use Rattle.story.specs.Program.{followed_by}
 use Rattle.flow.specs.Standing.{ready, replied, rest_of}
-use Rattle.looks.specs.Replies.{on_ok}
+use Rattle.flow.specs.Replies.{on_ok}
 use Rattle.index_reader.specs.OpenStages.{open_rest, open_standing}
 use Rattle.flatten_core.specs.Installing.{syncs_listed}
 use Rattle.flatten_core.specs.Stages.{installing}

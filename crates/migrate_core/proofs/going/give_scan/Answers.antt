@@ -1,5 +1,5 @@
 use Rattle.std.proofs.Common.{ap, ◌∙◌}
-use Rattle.looks.specs.Replies.{on_ok}
+use Rattle.flow.specs.Replies.{on_ok}
 use Rattle.index_reader.specs.OpenStages.{open_rest}
 use Rattle.migrate_core.specs.Migrating.{migrates_listed}
 use Rattle.migrate_core.specs.Stages.{is_awaiting}

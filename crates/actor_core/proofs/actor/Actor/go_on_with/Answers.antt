@@ -1,5 +1,5 @@
 use Rattle.std.proofs.Common.{Result, ◌∙◌, subst}
-use Rattle.flow.specs.declared.trouble.Stuck.{Stuck}
+use Rattle.flow.specs.declared.stuck.Stuck.{Stuck}
 use Rattle.index_reader.specs.declared.sharing.Share.{Share}
 use Rattle.actor_core.specs.declared.actor.State.TheVariants.{Ready}
 use Rattle.actor_core.specs.declared.doing.Doing.TheVariants.{Gathering}

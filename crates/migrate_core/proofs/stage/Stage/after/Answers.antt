@@ -2,8 +2,8 @@ use Rattle.std.proofs.Common.{◌≡◌, true, ap, subst, sym, ◌∙◌}
 use Rattle.std.specs.Prelude.{IfOk, Result}
 use Rattle.story.specs.Program.{followed_by}
 use Rattle.flow.specs.Standing.{ready, replied, rest_of}
-use Rattle.flow.specs.declared.trouble.Stuck.{Stuck}
-use Rattle.looks.specs.Replies.{Tries, on_ok}
+use Rattle.flow.specs.declared.stuck.Stuck.{Stuck}
+use Rattle.flow.specs.Replies.{Tries, on_ok}
 use Rattle.index_reader.specs.declared.listing.Listing.{Listing}
 use Rattle.index_reader.specs.OpenStages.{open_rest, open_standing}
 use Rattle.migrate_core.specs.declared.migrated.Migrated.{Migrated}

@@ -1,8 +1,8 @@
 use Rattle.std.proofs.Common.{◌≡◌, subst, sym}
 use Rattle.std.specs.Prelude.{Result}
 use Rattle.flow.specs.Standing.{ready, rest_of, replied}
-use Rattle.flow.specs.declared.trouble.Stuck.{Stuck}
-use Rattle.looks.specs.Replies.{Tries, on_ok}
+use Rattle.flow.specs.declared.stuck.Stuck.{Stuck}
+use Rattle.flow.specs.Replies.{Tries, on_ok}
 use Rattle.torn_tail.specs.declared.fates.Fate.{Fate}
 use Rattle.torn_tail.specs.declared.recovering.Recovered.{Recovered}
 use Rattle.torn_tail.specs.declared.recovering.Stage.{Stage}

@@ -1,6 +1,6 @@
 //! Which items the names of a listing are.
 ghost use Rattle.std.specs.Prelude.{◌≡◌};
-ghost use Rattle.looks.specs.Names.{named, meta_in as meta_of, trunc_in as trunc_of, open_in as open_of};
+ghost use Rattle.flow.specs.Names.{named, meta_in as meta_of, trunc_in as trunc_of, open_in as open_of};
 ghost use Rattle.mount_model.specs.Paths as paths;
 
 use container_layout::{Item, metadata, openhosts, read, truncs};

@@ -2,8 +2,8 @@ use Rattle.std.proofs.Common.{◌≡◌, ◌∙◌, rules, sym, subst, List, ℕ
 use Rattle.container_layout.specs.declared.items.Item.{Item}
 use Rattle.container_layout.specs.declared.items.Item.TheVariants as item
 use Rattle.container_layout.specs.Paths.{IsIn}
-use Rattle.looks.proofs.NameLemmas.{open_in-is, open_in-not}
-use Rattle.looks.proofs.names.open_in.Goals as goal
+use Rattle.flow.proofs.NameLemmas.{open_in-is, open_in-not}
+use Rattle.flow.proofs.names.open_in.Goals as goal
 
 pub returns-in_err-host : goal.returns-in_err-host
 returns-in_err-host c = c.from_residual.ensures ∙ sym (open_in-not c.args.name (λ host writer is.

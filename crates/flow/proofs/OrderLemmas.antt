@@ -5,7 +5,7 @@ use Rattle.std.proofs.lemmas.Bool.Decides.{nat_tests}
 use Rattle.std.specs.Ordering.{is_lt, nat_cmp}
 use Rattle.std.specs.List.{filter}
 use Rattle.std.specs.List.Sorted.{IsStableByKey, IsNonDecreasingBy}
-use Rattle.looks.specs.Order.{put_by, ordered_by}
+use Rattle.flow.specs.Order.{put_by, ordered_by}
 
 less : ℕ → ℕ → Bool
 less a b = is_lt (nat_cmp a b)

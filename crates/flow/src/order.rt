@@ -1,6 +1,6 @@
 //! Lists in the order of a number.
 ghost use Rattle.std.specs.Prelude.{◌≡◌, IfOk, OnOk};
-ghost use Rattle.looks.specs.Order.{ordered_by, metadata_by_writer as metadata_in_order, entries_by_writer as entries_in_order, truncs_by_stamp as truncs_in_order};
+ghost use Rattle.flow.specs.Order.{ordered_by, metadata_by_writer as metadata_in_order, entries_by_writer as entries_in_order, truncs_by_stamp as truncs_in_order};
 ghost use Rattle.plfs_types.specs.declared.entries.Trunc.{Trunc as Truncate};
 
 use crate::names::{Metadata, MetadataList, OpenEntry, OpenEntryList};

@@ -1,7 +1,7 @@
 //! The entries of an index dropping.
 ghost use Rattle.std.specs.Prelude.{◌≡◌, ◌≤◌, length};
 ghost use Rattle.index_entry.specs.Spelling.{entry_in as entry_of};
-ghost use Rattle.looks.specs.Entries.{is_next as next_of};
+ghost use Rattle.flow.specs.Entries.{is_next as next_of};
 
 use index_entry::number_at;
 use plfs_types::{Cover, Entry, MAX_LOG, MAX_SIZE, MAX_STAMP};

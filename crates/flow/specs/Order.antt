@@ -1,8 +1,8 @@
 -- Lists in the order of a number.
 use Rattle.std.specs.Prelude.{ℕ, nat_le, if◌then◌else◌, List, [], ◌∷◌}
 use Rattle.plfs_types.specs.declared.entries.Trunc.{Trunc}
-use Rattle.looks.specs.declared.names.Metadata.{Metadata}
-use Rattle.looks.specs.declared.names.OpenEntry.{OpenEntry}
+use Rattle.flow.specs.declared.names.Metadata.{Metadata}
+use Rattle.flow.specs.declared.names.OpenEntry.{OpenEntry}
 
 -- the item before the first one whose number is not less
 abbrev pub put_by : {A : Type 0} → (A → ℕ) → A → List A → List A

@@ -5,8 +5,8 @@ use Rattle.container_layout.specs.declared.items.Item.{Item}
 use Rattle.container_layout.specs.declared.items.Item.TheVariants as item
 use Rattle.container_layout.specs.Paths.{path_of}
 use Rattle.mount_model.specs.Paths.{Name}
-use Rattle.looks.specs.declared.names.Metadata.{Metadata}
-use Rattle.looks.specs.declared.names.OpenEntry.{OpenEntry}
+use Rattle.flow.specs.declared.names.Metadata.{Metadata}
+use Rattle.flow.specs.declared.names.OpenEntry.{OpenEntry}
 
 abbrev pub or_else : {X : Type 0} → Option X → Option X → Option X
 or_else None other = other

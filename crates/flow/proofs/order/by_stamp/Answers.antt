@@ -1,8 +1,8 @@
 use Rattle.std.proofs.Common.{rules}
 use Rattle.std.proofs.lemmas.List.Sorted.{IsNonDecreasingBy-from_sort_by_key, answers_always}
 use Rattle.plfs_types.specs.declared.entries.Trunc.{Trunc}
-use Rattle.looks.proofs.OrderLemmas.{ordered_by-is}
-use Rattle.looks.proofs.order.by_stamp.Goals as goal
+use Rattle.flow.proofs.OrderLemmas.{ordered_by-is}
+use Rattle.flow.proofs.order.by_stamp.Goals as goal
 
 pub returns : goal.returns
 returns c =

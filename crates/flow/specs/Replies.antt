@@ -2,8 +2,8 @@
 use Rattle.std.specs.Prelude.{ℕ, Bool, true, false, List, [], Option, Some, None, Result, Ok, Err}
 use Rattle.plfs_types.specs.declared.names.Path.{Path}
 use Rattle.store_api.specs.declared.step.Answer.TheVariants.{Names, Number, Bytes, Absent, NoFolder}
-use Rattle.flow.specs.declared.trouble.Stuck.{Stuck}
-use Rattle.flow.specs.declared.trouble.Stuck.TheVariants as stuck
+use Rattle.flow.specs.declared.stuck.Stuck.{Stuck}
+use Rattle.flow.specs.declared.stuck.Stuck.TheVariants as stuck
 use Rattle.story.specs.Program.{Program, done}
 use Rattle.mount_model.specs.declared.call.Call.{Call}
 use Rattle.mount_model.specs.declared.reply.Reply.{Reply}

@@ -1,8 +1,8 @@
 //! What a reply gives, and which trouble it is where it gives nothing.
 ghost use Rattle.std.specs.Prelude.{◌≡◌};
-ghost use Rattle.looks.specs.Replies.{room_in as room_of, length_in as length_of, bytes_in as bytes_of, names_in as names_of, is_no_folder as is_no_folder_of, damage as damage_of, trouble as trouble_of, failure as failure_of};
+ghost use Rattle.flow.specs.Replies.{room_in as room_of, length_in as length_of, bytes_in as bytes_of, names_in as names_of, is_no_folder as is_no_folder_of, damage as damage_of, trouble as trouble_of, failure as failure_of};
 
-use flow::Stuck;
+use crate::stuck::Stuck;
 use mount_model::Reply;
 use plfs_types::{Bytes, Name, NameList, Path};
 use store_api::Answer;

@@ -1,10 +1,10 @@
 -- What the names of a listing tell, of which a foreign one is damage.
 use Rattle.std.specs.Prelude.{List, [], Option, Some, None, Result, Err}
 use Rattle.plfs_types.specs.declared.names.Path.{Path}
-use Rattle.flow.specs.declared.trouble.Stuck.{Stuck}
+use Rattle.flow.specs.declared.stuck.Stuck.{Stuck}
 use Rattle.mount_model.specs.declared.reply.Reply.{Reply}
 use Rattle.mount_model.specs.Paths.{Name}
-use Rattle.looks.specs.Replies.{names_in, damage, trouble}
+use Rattle.flow.specs.Replies.{names_in, damage, trouble}
 
 abbrev pub file_in : Name → Name → Path
 file_in folder name = record { folder = folder; file = name }

@@ -2,8 +2,8 @@ use Rattle.std.proofs.Common.{◌≡◌, ◌∙◌, rules, sym, subst, List, ℕ
 use Rattle.container_layout.specs.declared.items.Item.{Item}
 use Rattle.container_layout.specs.declared.items.Item.TheVariants as item
 use Rattle.container_layout.specs.Paths.{IsIn}
-use Rattle.looks.proofs.NameLemmas.{trunc_in-is, trunc_in-not}
-use Rattle.looks.proofs.names.trunc_in.Goals as goal
+use Rattle.flow.proofs.NameLemmas.{trunc_in-is, trunc_in-not}
+use Rattle.flow.proofs.names.trunc_in.Goals as goal
 
 pub returns-in_err-stamp : goal.returns-in_err-stamp
 returns-in_err-stamp c = c.from_residual.ensures ∙ sym (trunc_in-not c.args.name (λ stamp size is.

@@ -2,8 +2,8 @@ use Rattle.std.proofs.Common.{◌≡◌, ◌∙◌, rules, sym, subst, List, ℕ
 use Rattle.container_layout.specs.declared.items.Item.{Item}
 use Rattle.container_layout.specs.declared.items.Item.TheVariants as item
 use Rattle.container_layout.specs.Paths.{IsIn}
-use Rattle.looks.proofs.NameLemmas.{meta_in-is, meta_in-not}
-use Rattle.looks.proofs.names.meta_in.Goals as goal
+use Rattle.flow.proofs.NameLemmas.{meta_in-is, meta_in-not}
+use Rattle.flow.proofs.names.meta_in.Goals as goal
 
 pub returns-in_err-last : goal.returns-in_err-last
 returns-in_err-last c = c.from_residual.ensures ∙ sym (meta_in-not c.args.name (λ last bytes stamp host writer is.

@@ -1,9 +1,9 @@
 use Rattle.std.proofs.Common.{rules, ◌∙◌, ap}
 use Rattle.std.proofs.lemmas.List.Sorted.{IsNonDecreasingBy-from_sort_by_key, answers_always}
-use Rattle.looks.specs.declared.names.Metadata.{Metadata}
-use Rattle.looks.specs.Order.{ordered_by}
-use Rattle.looks.proofs.OrderLemmas.{ordered_by-is}
-use Rattle.looks.proofs.order.metadata_by_writer.Goals as goal
+use Rattle.flow.specs.declared.names.Metadata.{Metadata}
+use Rattle.flow.specs.Order.{ordered_by}
+use Rattle.flow.proofs.OrderLemmas.{ordered_by-is}
+use Rattle.flow.proofs.order.metadata_by_writer.Goals as goal
 
 pub returns : goal.returns
 returns c =

@@ -1,5 +1,0 @@
-pub mod Replies
-pub mod Names
-pub mod Entries
-pub mod Order
-pub mod Listed
