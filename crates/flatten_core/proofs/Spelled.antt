@@ -1,17 +1,13 @@
--- Numbers that are pushed one after the other lie one after the other.
-use Rattle.std.proofs.Common.{◌≡◌, ℕ, List, ◌++◌, ap, ◌∙◌, append_assoc}
+-- Numbers that are written one after the other.
+use Rattle.std.proofs.Common.{◌≡◌, ℕ, List, [], ◌∷◌, ◌++◌, ap, ◌∙◌, append-nil}
+use Rattle.std.specs.List.{flat_map}
 
-pub four_pushed : (first one two three four a b c d : List ℕ) → one ≡ first ++ a → two ≡ one ++ b → three ≡ two ++ c → four ≡ three ++ d → four ≡ first ++ (a ++ (b ++ (c ++ d)))
-four_pushed first one two three four a b c d is_one is_two is_three is_four =
-    is_four ∙ ap (λ l. l ++ d) (is_three ∙ ap (λ l. l ++ c) (is_two ∙ ap (λ l. l ++ b) is_one))
-    ∙ append_assoc ((first ++ a) ++ b) c d
-    ∙ append_assoc (first ++ a) b (c ++ d)
-    ∙ append_assoc first a (b ++ (c ++ d))
+pub four_joined : (first all flat a b c d p q r s : List ℕ) → all ≡ first ++ flat → flat ≡ flat_map (λ x. x) (a ∷ b ∷ c ∷ d ∷ [])
+    → a ≡ p → b ≡ q → c ≡ r → d ≡ s → all ≡ first ++ (p ++ (q ++ (r ++ s)))
+four_joined first all flat a b c d p q r s all_is flat_is a_is b_is c_is d_is =
+    all_is ∙ ap (λ l. first ++ l) (flat_is ∙ (λ i. a_is i ++ (b_is i ++ (c_is i ++ append-nil (d_is i) i))))
 
-pub five_pushed : (first one two three four five a b c d e : List ℕ) → one ≡ first ++ a → two ≡ one ++ b → three ≡ two ++ c → four ≡ three ++ d → five ≡ four ++ e → five ≡ first ++ (a ++ (b ++ (c ++ (d ++ e))))
-five_pushed first one two three four five a b c d e is_one is_two is_three is_four is_five =
-    is_five ∙ ap (λ l. l ++ e) (is_four ∙ ap (λ l. l ++ d) (is_three ∙ ap (λ l. l ++ c) (is_two ∙ ap (λ l. l ++ b) is_one)))
-    ∙ append_assoc (((first ++ a) ++ b) ++ c) d e
-    ∙ append_assoc ((first ++ a) ++ b) c (d ++ e)
-    ∙ append_assoc (first ++ a) b (c ++ (d ++ e))
-    ∙ append_assoc first a (b ++ (c ++ (d ++ e)))
+pub five_joined : (first all flat a b c d e p q r s t : List ℕ) → all ≡ first ++ flat → flat ≡ flat_map (λ x. x) (a ∷ b ∷ c ∷ d ∷ e ∷ [])
+    → a ≡ p → b ≡ q → c ≡ r → d ≡ s → e ≡ t → all ≡ first ++ (p ++ (q ++ (r ++ (s ++ t))))
+five_joined first all flat a b c d e p q r s t all_is flat_is a_is b_is c_is d_is e_is =
+    all_is ∙ ap (λ l. first ++ l) (flat_is ∙ (λ i. a_is i ++ (b_is i ++ (c_is i ++ (d_is i ++ append-nil (e_is i) i)))))

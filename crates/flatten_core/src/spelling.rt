@@ -16,13 +16,24 @@ const LETTERS: [u8; 8] = *b"PLFSFLT1";
 pub(crate) fn spelled(alloc: Global, index: &Flat) -> Result<Bytes, NoMemory>
     ensures { IfOk result (λ bytes. bytes ≡ flat_spelling index.now) }
 {
-    let mut bytes = Vec::new(alloc);
+    let covers = index.covers.as_slice();
+    let pieces = index.pieces.as_slice();
+    let mut bytes = Vec::with_capacity(alloc, size_of(covers.len(), pieces.len()))?;
     bytes.extend_from_slice(&LETTERS)?;
-    push_number(&mut bytes, index.covers.as_slice().len() as u64)?;
-    push_number(&mut bytes, index.pieces.as_slice().len() as u64)?;
-    push_covers(&mut bytes, index.covers.as_slice())?;
-    push_pieces(&mut bytes, index.pieces.as_slice())?;
+    push_number(&mut bytes, covers.len() as u64)?;
+    push_number(&mut bytes, pieces.len() as u64)?;
+    push_covers(&mut bytes, covers)?;
+    push_pieces(&mut bytes, pieces)?;
     Ok(Bytes::from_vec(bytes))
+}
+
+/// How many bytes a flattened index of so many covers and pieces has, or more than there can be.
+fn size_of(covers: usize, pieces: usize) -> usize {
+    let pieces = pieces.saturating_mul(40);
+    covers
+        .saturating_mul(32)
+        .saturating_add(pieces)
+        .saturating_add(24)
 }
 
 fn push_covers(bytes: &mut Vec<u8>, covers: &[Cover]) -> Result<(), NoMemory>
@@ -37,10 +48,13 @@ fn push_covers(bytes: &mut Vec<u8>, covers: &[Cover]) -> Result<(), NoMemory>
 fn push_cover(bytes: &mut Vec<u8>, cover: &Cover) -> Result<(), NoMemory>
     ensures { OnOk result (bytes.new.items ≡ bytes.old.items ++ cover_spelling cover.now) }
 {
-    push_number(bytes, cover.writer)?;
-    push_number(bytes, cover.count)?;
-    push_number(bytes, cover.bytes)?;
-    push_number(bytes, cover.stamp)?;
+    let numbers = [
+        cover.writer.to_le_bytes(),
+        cover.count.to_le_bytes(),
+        cover.bytes.to_le_bytes(),
+        cover.stamp.to_le_bytes(),
+    ];
+    bytes.extend_from_slice(numbers.as_flattened())?;
     Ok(())
 }
 
@@ -56,10 +70,13 @@ fn push_pieces(bytes: &mut Vec<u8>, pieces: &[Piece]) -> Result<(), NoMemory>
 fn push_piece(bytes: &mut Vec<u8>, piece: &Piece) -> Result<(), NoMemory>
     ensures { OnOk result (bytes.new.items ≡ bytes.old.items ++ piece_spelling piece.now) }
 {
-    push_number(bytes, piece.at)?;
-    push_number(bytes, piece.len)?;
-    push_number(bytes, piece.physical)?;
-    push_number(bytes, piece.stamp)?;
-    push_number(bytes, piece.writer)?;
+    let numbers = [
+        piece.at.to_le_bytes(),
+        piece.len.to_le_bytes(),
+        piece.physical.to_le_bytes(),
+        piece.stamp.to_le_bytes(),
+        piece.writer.to_le_bytes(),
+    ];
+    bytes.extend_from_slice(numbers.as_flattened())?;
     Ok(())
 }
