@@ -1,54 +1,41 @@
--- A migration that is at its end left the packed indices that it counts.
-use Rattle.std.proofs.Common.{◌≡◌, ◌≢◌, ◌<◌, ℕ, List, [], ◌∷◌, length, Option, Some, None, refl, ap, sym, inl, inr, subst, arith}
-use Rattle.std.specs.Prelude.{Result, Ok, Err, slice_get}
-use Rattle.std.specs.List.{AllByRecursion}
+-- What a migration shows that is at its end.
+use Rattle.std.proofs.Common.{◌≡◌, ◌≢◌, ◌<◌, ◌⊎◌, ℕ, suc, List, [], ◌∷◌, ◌++◌, length, Some, refl, ap, sym, ◌∙◌, inl, inr, subst, arith, append_assoc}
+use Rattle.std.specs.Prelude.{Result, Ok, Err, slice_get, map}
+use Rattle.std.specs.List.{AllByRecursion, Contains}
+use Rattle.std.proofs.lemmas.List.{append-nil}
+use Rattle.std.proofs.lemmas.List.Elements.{Contains-append_right}
 use Rattle.plfs_types.specs.declared.entries.Entry.{Entry}
 use Rattle.container_layout.specs.declared.items.Item.TheVariants.{Packed as PackedItem}
-use Rattle.store_api.specs.declared.step.Answer.TheVariants.{Names}
 use Rattle.store_api.specs.declared.tree.Room.{Room}
 use Rattle.store_api.specs.declared.tree.Tree.{Tree}
-use Rattle.flow.specs.declared.stuck.Stuck.{Stuck}
-use Rattle.flow.specs.Running.{Runs, unbroken}
-use Rattle.story.specs.Program.{done}
 use Rattle.flow.specs.declared.names.Metadata.{Metadata}
-use Rattle.flow.specs.Listed.{file_in, told_by}
-use Rattle.flow.specs.Replies.{Tries, failure, given, names_in, on_ok, room_in, trouble}
-use Rattle.mount_model.specs.declared.call.Call.TheVariants.{Find, Look}
-use Rattle.mount_model.specs.declared.call.Look.TheVariants.{List as ListFolder, Top}
-use Rattle.mount_model.specs.declared.reply.Reply.{Reply}
-use Rattle.mount_model.specs.declared.reply.Reply.TheVariants.{Looked}
+use Rattle.flow.specs.declared.stuck.Stuck.{Stuck}
+use Rattle.flow.specs.Replies.{Tries, on_ok}
+use Rattle.story.specs.Program.{done}
 use Rattle.mount_model.specs.declared.row.Making.TheVariants as making
-use Rattle.mount_model.specs.History.{Event, state_after}
-use Rattle.mount_model.specs.Paths.{Name, metadata}
 use Rattle.mount_model.specs.State.{State}
-use Rattle.mount_model.specs.Step.{IsStep}
 use Rattle.mount_sound.specs.Flats.{IsRightPack}
-use Rattle.mount_sound.specs.Issued.{issued_after}
 use Rattle.mount_sound.specs.Items.{HasItem}
 use Rattle.mount_sound.specs.Ledger.{Ledger}
-use Rattle.mount_sound.specs.Owed.{IsLawful, May, StandsInRoom}
+use Rattle.mount_sound.specs.Owed.{StandsInRoom}
 use Rattle.mount_sound.specs.Sound.{IsSoundFor}
-use Rattle.mount_sound.proofs.Facts.{later, one_tree, some_room}
+use Rattle.mount_sound.proofs.Facts.{one_tree, some_room}
 use Rattle.recovery_laws.proofs.Facts.{Stays, stays_both}
-use Rattle.index_reader.specs.declared.listing.Listing.{Listing}
-use Rattle.index_reader.specs.Opening.{no_flat, scans}
-use Rattle.index_reader.specs.Replies as replies
-use Rattle.index_reader.specs.Scanning as scanning
-use Rattle.index_reader.specs.Tops.{top_shows}
 use Rattle.migrate_core.specs.declared.migrated.Migrated.{Migrated}
-use Rattle.migrate_core.specs.Chosen.{chosen, metas_named}
 use Rattle.migrate_core.specs.Counting.{noted, nothing}
 use Rattle.migrate_core.specs.Longest.{run_count}
-use Rattle.migrate_core.specs.Migrating.{lists_metadata, migrate_at_program, migrate_program, migrates, migrates_listed, migrates_shown, scans_then}
+use Rattle.migrate_core.specs.Migrating.{migrates}
 use Rattle.migrate_core.specs.Words.{Fate, is_packed, passed_over}
 use Rattle.migrate_core.specs.Writers.{counts_of, writer_program}
-use Rattle.migrate_laws.specs.Packed.{AreApart, Counts, HasMigrated, HasPack, HavePacks, PackOf}
-use Rattle.migrate_laws.proofs.Ends.{Ends, ends_ask, ends_both, ends_done}
-use Rattle.migrate_laws.proofs.Left.{AreLeft, IsLeft, IsWholeIn, all_left_stay}
-use Rattle.migrate_laws.proofs.Looking.{left_at, of_names}
-use Rattle.migrate_laws.proofs.Migrating.{all_chosen, named_all, went_on}
+use Rattle.migrate_laws.specs.Closed.{AreOnce, IsPacked, WriterOf}
+use Rattle.migrate_laws.specs.Packed.{AreApart, Counts, HasPack, HavePacks, PackOf, writer_of}
+use Rattle.migrate_laws.proofs.Closing.{of_meta}
+use Rattle.migrate_laws.proofs.Ends.{Ends, ends_both, ends_done}
+use Rattle.migrate_laws.proofs.Left.{AreLeft, IsWholeIn, all_left_stay}
+use Rattle.migrate_laws.proofs.Migrating.{all_push}
 use Rattle.migrate_laws.proofs.Packing.{IsFate, IsPackedOf, packed_stays, writer_ends}
-use Rattle.migrate_laws.proofs.Rising.{Rises, chosen_rises}
+use Rattle.migrate_laws.proofs.Reading.{IsLong, long_stays}
+use Rattle.migrate_laws.proofs.Rising.{Rises, all_so}
 
 -- ---- writers that were packed
 
@@ -107,118 +94,222 @@ none_yet : (metas : List Metadata) → AreUnderAll metas []
 none_yet [] = tt
 none_yet (m ∷ metas) = (tt, none_yet metas)
 
--- so far, and of those that are left
-record IsSoFar (metas : List Metadata) (ps : List Packed) (sofar : Migrated) : Type 0 where
+-- ---- writers that were passed over
+
+abbrev AreLong : ℕ → List Metadata → State → Type 0
+AreLong number ls state = AllByRecursion (λ (m : Metadata). IsLong number m state) ls
+
+are_long_stay : (number : ℕ) (ls : List Metadata) → Stays (AreLong number ls)
+are_long_stay number [] l old new other asked reply may step s f = tt
+are_long_stay number (m ∷ ls) l old new other asked reply may step s f = (long_stays number m l old new other asked reply may step s f.0, are_long_stay number ls l old new other asked reply may step s f.1)
+
+abbrev pub writers_of : List Metadata → List WriterOf
+writers_of [] = []
+writers_of (m ∷ ls) = of_meta m ∷ writers_of ls
+
+pub as_many : (ls : List Metadata) → length (writers_of ls) ≡ length ls
+as_many [] = refl
+as_many (m ∷ ls) = ap (λ n. suc n) (as_many ls)
+
+abbrev AreBelow : ℕ → List Metadata → Type 0
+AreBelow writer ls = AllByRecursion (λ (m : Metadata). m.writer < writer) ls
+
+abbrev AreBelowAll : List Metadata → List Metadata → Type 0
+AreBelowAll metas ls = AllByRecursion (λ (m : Metadata). AreBelow m.writer ls) metas
+
+below_one_more : (m : Metadata) (metas ls : List Metadata) → AllByRecursion (λ (x : Metadata). m.writer < x.writer) metas → AreBelowAll metas ls → AreBelowAll metas (m ∷ ls)
+below_one_more m [] ls above below = tt
+below_one_more m (x ∷ metas) ls above below = ((above.0, below.0), below_one_more m metas ls above.1 below.1)
+
+no_such : (writer : ℕ) (ls : List Metadata) → AreBelow writer ls → AllByRecursion (λ (v : WriterOf). v.writer ≢ writer) (writers_of ls)
+no_such writer [] below = tt
+no_such writer (m ∷ ls) below = ((λ same. omega (arith, same, below.0)), no_such writer ls below.1)
+
+none_below : (metas : List Metadata) → AreBelowAll metas []
+none_below [] = tt
+none_below (m ∷ metas) = (tt, none_below metas)
+
+-- ---- what became of each
+
+abbrev AmongPacked : Metadata → List Packed → Type 0
+AmongPacked m [] = ⊥
+AmongPacked m (p ∷ ps) = (p.m ≡ m) ⊎ AmongPacked m ps
+
+abbrev pub AmongLeft : Metadata → List Metadata → Type 0
+AmongLeft m [] = ⊥
+AmongLeft m (x ∷ ls) = (x ≡ m) ⊎ AmongLeft m ls
+
+abbrev HasCome : List Packed → List Metadata → Metadata → Type 0
+HasCome ps ls m = AmongPacked m ps ⊎ AmongLeft m ls
+
+more_packed : (p : Packed) (ps : List Packed) (ls : List Metadata) (m : Metadata) → HasCome ps ls m → HasCome (p ∷ ps) ls m
+more_packed p ps ls m (inl is) = inl (inr is)
+more_packed p ps ls m (inr is) = inr is
+
+more_left : (x : Metadata) (ps : List Packed) (ls : List Metadata) (m : Metadata) → HasCome ps ls m → HasCome ps (x ∷ ls) m
+more_left x ps ls m (inl is) = inl is
+more_left x ps ls m (inr is) = inr (inr is)
+
+pub left_there : (m : Metadata) (ls : List Metadata) → AmongLeft m ls → Contains (writers_of ls) (of_meta m)
+left_there m [] is = absurd is
+left_there m (x ∷ ls) (inl same) = (0, omega arith, ap of_meta same)
+left_there m (x ∷ ls) (inr is) = Contains-append_right (of_meta x ∷ []) (writers_of ls) (of_meta m) (left_there m ls is)
+
+counted_there : (m : Metadata) (ps : List Packed) → AmongPacked m ps → Contains (map writer_of (packs_of ps)) (of_meta m)
+counted_there m [] is = absurd is
+counted_there m (p ∷ ps) (inl same) = (0, omega arith, ap of_meta same)
+counted_there m (p ∷ ps) (inr is) = Contains-append_right (of_meta p.m ∷ []) (map writer_of (packs_of ps)) (of_meta m) (counted_there m ps is)
+
+its_pack : (number : ℕ) (m : Metadata) (ps : List Packed) (state : State) → ArePacked number ps state → AmongPacked m ps → StandsInRoom state number (IsPacked (of_meta m))
+its_pack number m [] state are is = absurd is
+its_pack number m (p ∷ ps) state are (inl same) = subst (λ (x : Metadata). StandsInRoom state number (IsPacked (of_meta x))) same are.0.1
+its_pack number m (p ∷ ps) state are (inr is) = its_pack number m ps state are.1 is
+
+-- each is packed and counted so, or passed over
+abbrev pub IsDealt : ℕ → List PackOf → List Metadata → State → Metadata → Type 0
+IsDealt number packs ls state m = (StandsInRoom state number (IsPacked (of_meta m)) × Contains (map writer_of packs) (of_meta m)) ⊎ AmongLeft m ls
+
+dealt : (number : ℕ) (ps : List Packed) (ls : List Metadata) (state : State) → ArePacked number ps state → (m : Metadata) → HasCome ps ls m → IsDealt number (packs_of ps) ls state m
+dealt number ps ls state are m (inl is) = inl (its_pack number m ps state are is, counted_there m ps is)
+dealt number ps ls state are m (inr is) = inr is
+
+-- so far, of these that are done and those that are to come
+record IsSoFar (such : Metadata → Type 0) (fresh : WriterOf → Type 0) (past metas : List Metadata) (ps : List Packed) (ls : List Metadata) (sofar : Migrated) : Type 0 where
   pub counts : Counts sofar (packs_of ps)
+  pub left : sofar.left ≡ length ls
   pub apart : AreApart (packs_of ps)
+  pub once : AreOnce (writers_of ls)
   pub rises : Rises metas
   pub under : AreUnderAll metas ps
+  pub below : AreBelowAll metas ls
+  pub those : AllByRecursion such metas
+  pub these : AllByRecursion such ls
+  pub come : AllByRecursion (HasCome ps ls) past
+  pub new : AllByRecursion (λ (p : PackOf). fresh (writer_of p)) (packs_of ps)
 
 -- ---- how it ends
 
-abbrev Told : Result Migrated Stuck → State → Type 0
-Told (Ok out) state = HasMigrated out state
-Told (Err why) state = Unit {0}
+-- of all these, each was packed or passed over, and they are counted
+pub record IsDone (number : ℕ) (such : Metadata → Type 0) (fresh : WriterOf → Type 0) (all : List Metadata) (out : Migrated) (state : State) : Type 0 where
+  pub packs : List PackOf
+  pub have : HavePacks number packs state
+  pub apart : AreApart packs
+  pub counts : Counts out packs
+  pub new : AllByRecursion (λ (p : PackOf). fresh (writer_of p)) packs
+  pub ls : List Metadata
+  pub left : out.left ≡ length ls
+  pub once : AreOnce (writers_of ls)
+  pub these : AllByRecursion such ls
+  pub long : AllByRecursion (λ (m : Metadata). IsLong number m state) ls
+  pub dealt : AllByRecursion (IsDealt number packs ls state) all
 
--- what stays holds at the end of each program
-along : (fact : State → Type 0) → Stays fact → (l : Ledger) (start : State) (events : List Event) → IsLawful start events → IsSoundFor l start → fact start → fact (state_after start events)
-along fact stays l start [] lawful s f = f
-along fact stays l start (e ∷ events) lawful s f =
-    along fact stays (issued_after l start e.ask.call e.reply) e.after events lawful.2 (later l start e.after e.caller e.ask e.reply lawful.0 lawful.1 s) (stays l start e.after e.caller e.ask e.reply lawful.0 lawful.1 s f)
+module _ (caller number : ℕ) (such : Metadata → Type 0) (fresh : WriterOf → Type 0) (is_fresh : (m : Metadata) → such m → fresh (of_meta m)) (all : List Metadata) where
+  abbrev Told : Result Migrated Stuck → State → Type 0
+  Told (Ok out) state = IsDone number such fresh all out state
+  Told (Err why) state = Unit {0}
 
-module _ (caller : ℕ) where
   abbrev EndsTold : Tries Migrated → State → Type 0
   EndsTold program state = Ends caller Told program state
 
   failed : (why : Stuck) (state : State) → EndsTold (done (Err why)) state
   failed why state = ends_done caller Told (Err why) (λ now. Unit {0}) (λ l old new other asked reply may step s f. tt) (λ l now s f. tt) state tt
 
-  module _ (number : ℕ) where
-    -- ---- writer after writer
+  -- ---- writer after writer
 
-    abbrev Carried : List Metadata → List Packed → State → Type 0
-    Carried metas ps state = AreLeft number metas state × ArePacked number ps state
+  -- what stays of those that were dealt with
+  abbrev Came : List Packed → List Metadata → State → Type 0
+  Came ps ls state = ArePacked number ps state × AreLong number ls state
 
-    carried_stays : (metas : List Metadata) (ps : List Packed) → Stays (Carried metas ps)
-    carried_stays metas ps = stays_both (AreLeft number metas) (ArePacked number ps) (all_left_stay number metas) (are_packed_stay number ps)
+  came_stays : (ps : List Packed) (ls : List Metadata) → Stays (Came ps ls)
+  came_stays ps ls = stays_both (ArePacked number ps) (AreLong number ls) (are_packed_stay number ps) (are_long_stay number ls)
 
-    abbrev MigratesEnd : List Metadata → Type 0
-    MigratesEnd metas = (ps : List Packed) (sofar : Migrated) → IsSoFar metas ps sofar → (state : State) → Carried metas ps state → EndsTold (migrates number metas sofar) state
+  abbrev Carried : List Metadata → List Packed → List Metadata → State → Type 0
+  Carried metas ps ls state = AreLeft number metas state × Came ps ls state
 
-    fate_ends : (m : Metadata) (metas : List Metadata) → MigratesEnd metas → (ps : List Packed) (sofar : Migrated) → IsSoFar (m ∷ metas) ps sofar → (result : Result Fate Stuck) (now : State) → IsFate caller number m (Carried metas ps) (carried_stays metas ps) result now
-        → EndsTold (on_ok (λ fate. migrates number metas (noted fate sofar)) result) now
-    fate_ends m metas again ps sofar far (Err why) now such = failed why now
-    fate_ends m metas again ps sofar far (Ok fate) now such = elim such.1 as (λ _. EndsTold (migrates number metas (noted fate sofar)) now) [
-      | inl is ↦ subst (λ x. EndsTold (migrates number metas (noted x sofar)) now) (sym is)
-          (again ps (noted passed_over sofar) (record { counts = record { writers = far.counts.writers; entries = far.counts.entries; runs = far.counts.runs }; apart = far.apart; rises = far.rises.1; under = far.under.1 }) now such.0)
-      | inr (es, is, packed) ↦
-          let p : Packed = record { m = m; es = es } in
-          let more : IsSoFar metas (p ∷ ps) (noted (is_packed (counts_of es)) sofar) = record {
-            counts = record { writers = omega (arith, far.counts.writers); entries = omega (arith, far.counts.entries); runs = omega (arith, far.counts.runs) };
-            apart = (none_of m.writer ps far.under.0, far.apart);
-            rises = far.rises.1;
-            under = under_one_more m es metas ps far.rises.0 far.under.1;
-          } in
-          subst (λ x. EndsTold (migrates number metas (noted x sofar)) now) (sym is)
-          (again (p ∷ ps) (noted (is_packed (counts_of es)) sofar) more now (such.0.0, (packed, such.0.1)))
+  carried_stays : (metas : List Metadata) (ps : List Packed) (ls : List Metadata) → Stays (Carried metas ps ls)
+  carried_stays metas ps ls = stays_both (AreLeft number metas) (Came ps ls) (all_left_stay number metas) (came_stays ps ls)
+
+  abbrev MigratesEnd : List Metadata → Type 0
+  MigratesEnd metas = (past : List Metadata) → past ++ metas ≡ all → (ps : List Packed) (ls : List Metadata) (sofar : Migrated) → IsSoFar such fresh past metas ps ls sofar → (state : State) → Carried metas ps ls state → EndsTold (migrates number metas sofar) state
+
+  module _ (m : Metadata) (metas : List Metadata) (again : MigratesEnd metas) (past : List Metadata) (is_all : past ++ m ∷ metas ≡ all) (ps : List Packed) (ls : List Metadata) (sofar : Migrated) (far : IsSoFar such fresh past (m ∷ metas) ps ls sofar) where
+    one_more : (past ++ m ∷ []) ++ metas ≡ all
+    one_more = append_assoc past (m ∷ []) metas ∙ is_all
+
+    passed_far : IsSoFar such fresh (past ++ m ∷ []) metas ps (m ∷ ls) (noted passed_over sofar)
+    passed_far = record {
+      counts = record { writers = far.counts.writers; entries = far.counts.entries; runs = far.counts.runs };
+      left = omega (arith, far.left);
+      apart = far.apart;
+      once = (no_such m.writer ls far.below.0, far.once);
+      rises = far.rises.1;
+      under = far.under.1;
+      below = below_one_more m metas ls far.rises.0 far.below.1;
+      those = far.those.1;
+      these = (far.those.0, far.these);
+      come = all_push (HasCome ps (m ∷ ls)) past m (all_so (HasCome ps ls) (HasCome ps (m ∷ ls)) past (more_left m ps ls) far.come) (inr (inl refl));
+      new = far.new;
+    }
+
+    packed_far : (es : List Entry) → IsSoFar such fresh (past ++ m ∷ []) metas (record { m = m; es = es } ∷ ps) ls (noted (is_packed (counts_of es)) sofar)
+    packed_far es =
+        let p : Packed = record { m = m; es = es } in
+        record {
+          counts = record { writers = omega (arith, far.counts.writers); entries = omega (arith, far.counts.entries); runs = omega (arith, far.counts.runs) };
+          left = far.left;
+          apart = (none_of m.writer ps far.under.0, far.apart);
+          once = far.once;
+          rises = far.rises.1;
+          under = under_one_more m es metas ps far.rises.0 far.under.1;
+          below = far.below.1;
+          those = far.those.1;
+          these = far.these;
+          come = all_push (HasCome (p ∷ ps) ls) past m (all_so (HasCome ps ls) (HasCome (p ∷ ps) ls) past (more_packed p ps ls) far.come) (inl (inl refl));
+          new = (is_fresh m far.those.0, far.new);
+        }
+
+    fate_ends : (result : Result Fate Stuck) (now : State) → IsFate caller number m (Carried metas ps ls) (carried_stays metas ps ls) result now → EndsTold (on_ok (λ fate. migrates number metas (noted fate sofar)) result) now
+    fate_ends (Err why) now come = failed why now
+    fate_ends (Ok fate) now come = elim come.1 as (λ _. EndsTold (migrates number metas (noted fate sofar)) now) [
+      | inl (is, long) ↦ subst (λ x. EndsTold (migrates number metas (noted x sofar)) now) (sym is)
+          (again (past ++ m ∷ []) one_more ps (m ∷ ls) (noted passed_over sofar) passed_far now (come.0.0, (come.0.1.0, (long, come.0.1.1))))
+      | inr (es, is, packed) ↦ subst (λ x. EndsTold (migrates number metas (noted x sofar)) now) (sym is)
+          (again (past ++ m ∷ []) one_more (record { m = m; es = es } ∷ ps) ls (noted (is_packed (counts_of es)) sofar) (packed_far es) now (come.0.0, ((packed, come.0.1.0), come.0.1.1)))
     ]
 
-    migrates_end : (metas : List Metadata) → MigratesEnd metas
-    migrates_end [] ps sofar far state f = ends_done caller Told (Ok sofar) (ArePacked number ps) (are_packed_stay number ps)
-        (λ l now s packed. record { number = number; packs = packs_of ps; have = have_packs l now s number ps packed; apart = far.apart; counts = far.counts }) state f.1
-    migrates_end (m ∷ metas) ps sofar far state f =
-        ends_both caller Told (IsFate caller number m (Carried metas ps) (carried_stays metas ps)) (writer_program number m) (on_ok (λ fate. migrates number metas (noted fate sofar))) state
-        (writer_ends caller number m (Carried metas ps) (carried_stays metas ps) state (f.0.1, f.1) f.0.0)
-        (fate_ends m metas (migrates_end metas) ps sofar far)
+  migrates_end : (metas : List Metadata) → MigratesEnd metas
+  migrates_end [] past is_all ps ls sofar far state f = ends_done caller Told (Ok sofar) (Came ps ls) (came_stays ps ls)
+      (λ l now s came. record {
+        packs = packs_of ps;
+        have = have_packs l now s number ps came.0;
+        apart = far.apart;
+        counts = far.counts;
+        new = far.new;
+        ls = ls;
+        left = far.left;
+        once = far.once;
+        these = far.these;
+        long = came.1;
+        dealt = subst (AllByRecursion (IsDealt number (packs_of ps) ls now)) (sym (append-nil past) ∙ is_all) (all_so (HasCome ps ls) (IsDealt number (packs_of ps) ls now) past (dealt number ps ls now came.0) far.come);
+      }) state f.1
+  migrates_end (m ∷ metas) past is_all ps ls sofar far state f =
+      ends_both caller Told (IsFate caller number m (Carried metas ps ls) (carried_stays metas ps ls)) (writer_program number m) (on_ok (λ fate. migrates number metas (noted fate sofar))) state
+      (writer_ends caller number m (Carried metas ps ls) (carried_stays metas ps ls) state (f.0.1, f.1) f.0.0)
+      (fate_ends m metas (migrates_end metas) past is_all ps ls sofar far)
 
-    -- ---- those that were chosen
-
-    found_ends : (metas : List Metadata) (result : Result Listing Stuck) (now : State) → AreLeft number metas now → EndsTold (on_ok (migrates_listed number metas) result) now
-    found_ends metas (Err why) now left = failed why now
-    found_ends metas (Ok listing) now left =
-        migrates_end (chosen listing.droppings metas) [] nothing
-        (record { counts = record { writers = refl; entries = refl; runs = refl }; apart = tt; rises = chosen_rises listing.droppings metas; under = none_yet (chosen listing.droppings metas) }) now (all_chosen (λ (m : Metadata). IsLeft number m now) listing.droppings metas left, tt)
-
-    module _ (scan : Tries Listing) where
-      listed_ends : (l : Ledger) (state : State) (reply : Reply) (after : State) → May state caller (unbroken (Look number (ListFolder metadata))) → IsStep state caller (unbroken (Look number (ListFolder metadata))) reply after → IsSoundFor l state
-          → (r : Result (List Metadata) Stuck) → told_by metadata (λ names. metas_named names []) reply ≡ r → EndsTold (scans_then number scan r) after
-      listed_ends l state reply after may step s (Err why) is = failed why after
-      listed_ends l state reply after may step s (Ok metas) is =
-          let w = went_on (names_in reply) (trouble (file_in metadata []) reply) (λ names. metas_named names []) metas is in
-          let listed : IsStep state caller (unbroken (Look number (ListFolder metadata))) (Looked (Names w.0)) after = subst (λ r. IsStep state caller (unbroken (Look number (ListFolder metadata))) r after) (of_names reply w.0 w.1) step in
-          let now : AreLeft number metas state = named_all (λ (m : Metadata). IsLeft number m state) w.0 w.0 [] metas (λ name h. h) (λ name m h i. left_at l state s caller number w.0 after listed name m h i) w.2 tt in
-          ends_both caller Told (λ r last. AreLeft number metas last) scan (on_ok (migrates_listed number metas)) after
-          (λ k events r lawful t runs. along (AreLeft number metas) (all_left_stay number metas) k after events lawful t (all_left_stay number metas l state after caller (unbroken (Look number (ListFolder metadata))) reply may step s now))
-          (found_ends metas)
-
-      lists_end : (state : State) → EndsTold (lists_metadata number scan) state
-      lists_end state = ends_ask caller Told (λ now. Unit {0}) (λ l old new other asked reply differ may step s f. tt) (Look number (ListFolder metadata))
-          (λ reply. scans_then number scan (told_by metadata (λ names. metas_named names []) reply))
-          (λ l now reply after may step s f. listed_ends l now reply after may step s (told_by metadata (λ names. metas_named names []) reply) refl) state tt
-
-    -- ---- all of its calls
-
-    shown_ends : (r : Result (List ℕ) Stuck) (state : State) → EndsTold (replies.on_ok (migrates_shown number) r) state
-    shown_ends (Ok ks) state = lists_end (scans number 0 no_flat ks scanning.nothing_found) state
-    shown_ends (Err why) state = failed why state
-
-    top_ends : (o : Option (List Name)) (why : Stuck) (state : State) → EndsTold (replies.given o why (λ names. replies.on_ok (migrates_shown number) (top_shows names))) state
-    top_ends None why state = failed why state
-    top_ends (Some names) why state = shown_ends (top_shows names) state
-
-    at_ends : (state : State) → EndsTold (migrate_at_program number) state
-    at_ends state = ends_ask caller Told (λ now. Unit {0}) (λ l old new other asked reply differ may step s f. tt) (Look number Top)
-        (λ reply. replies.given (replies.names_in reply) (replies.trouble (scanning.file_in [] []) reply) (λ names. replies.on_ok (migrates_shown number) (top_shows names)))
-        (λ l now reply after may step s f. top_ends (replies.names_in reply) (replies.trouble (scanning.file_in [] []) reply) after) state tt
-
-  room_ends : (o : Option ℕ) (why : Stuck) (state : State) → EndsTold (given o why migrate_at_program) state
-  room_ends None why state = failed why state
-  room_ends (Some number) why state = at_ends number state
-
-  migration_ends : (name : List ℕ) (state : State) → EndsTold (migrate_program name) state
-  migration_ends name state = ends_ask caller Told (λ now. Unit {0}) (λ l old new other asked reply differ may step s f. tt) (Find name) (λ reply. given (room_in reply) (failure reply) migrate_at_program)
-      (λ l now reply after may step s f. room_ends (room_in reply) (failure reply) after) state tt
-
--- What a migration counts is packed.
-pub what_it_counts : (caller : ℕ) (name : List ℕ) (l : Ledger) (start : State) (events : List Event) (out : Migrated) → IsLawful start events → IsSoundFor l start → Runs caller (migrate_program name) events (Ok out) → HasMigrated out (state_after start events)
-what_it_counts caller name l start events out lawful s runs = migration_ends caller name start l events (Ok out) lawful s runs
+  -- All of them are dealt with.
+  pub all_end : Rises all → AllByRecursion such all → (state : State) → AreLeft number all state → EndsTold (migrates number all nothing) state
+  all_end rises those state left = migrates_end all [] refl [] [] nothing
+      (record {
+        counts = record { writers = refl; entries = refl; runs = refl };
+        left = refl;
+        apart = tt;
+        once = tt;
+        rises = rises;
+        under = none_yet all;
+        below = none_below all;
+        those = those;
+        these = tt;
+        come = tt;
+        new = tt;
+      }) state (left, (tt, tt))

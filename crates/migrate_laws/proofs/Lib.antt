@@ -8,4 +8,10 @@ mod Writers
 mod Ends
 mod Packing
 mod Rising
+mod Finding
+mod Choosing
+mod Listed
+mod Earlier
+mod Closing
+mod Showing
 mod Counting

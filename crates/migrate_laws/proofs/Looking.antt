@@ -16,7 +16,7 @@ use Rattle.store_laws.specs.There.{ListsFolder}
 use Rattle.store_laws.specs.Tells.{Tells}
 use Rattle.store_laws.proofs.Facts.{acts_told, length_tells, look_answered, read_tells}
 use Rattle.container_layout.specs.declared.items.Item.TheVariants.{Meta}
-use Rattle.container_layout.specs.Paths.{IsIn}
+use Rattle.container_layout.specs.Paths.{IsIn, path_of}
 use Rattle.flow.specs.Running.{unbroken}
 use Rattle.mount_model.specs.declared.call.Call.TheVariants.{Look}
 use Rattle.mount_model.specs.declared.call.Look.{Look as Sight}
@@ -29,14 +29,18 @@ use Rattle.mount_model.specs.Paths.{Name, metadata}
 use Rattle.mount_model.specs.State.{State}
 use Rattle.mount_model.specs.Step.{IsStep}
 use Rattle.mount_model.proofs.Facts.{match_cases}
-use Rattle.mount_sound.specs.Items.{HasItem, HasMeta}
+use Rattle.mount_sound.specs.Items.{HasItem}
 use Rattle.mount_sound.specs.Ledger.{Ledger}
+use Rattle.mount_sound.specs.Owed.{StandsInRoom}
 use Rattle.mount_sound.specs.Sound.{IsSoundFor}
-use Rattle.mount_sound.proofs.Facts.{one_tree}
-use Rattle.holding_laws.proofs.Facts.{folder_listed}
+use Rattle.mount_sound.proofs.Facts.{one_tree, some_room}
+use Rattle.holding_laws.proofs.Facts.{file_named, folder_listed}
 use Rattle.flow.specs.declared.names.Metadata.{Metadata}
+use Rattle.flow.specs.Names.{meta_in}
 use Rattle.flow.specs.Replies.{bytes_in, names_in}
+use Rattle.flow.proofs.Facts.{meta_in-is}
 use Rattle.migrate_core.specs.Writers.{number_in}
+use Rattle.migrate_laws.specs.Closed.{HasClosed, WriterOf}
 use Rattle.migrate_laws.proofs.Left.{IsLeft}
 
 -- ---- replies
@@ -109,12 +113,36 @@ some_file : (o : Option (List ℕ)) (b : Bool) → (is_some o || (false && b)) �
 some_file (Some bytes) b e = (bytes, refl)
 some_file None b e = absurd (let clash : false ≡ true = e in cc)
 
--- a writer whose metadata dropping was listed has one
-pub left_at : (l : Ledger) (state : State) (s : IsSoundFor l state) (caller number : ℕ) (names : List Name) (after : State) → IsStep state caller (unbroken (Look number (ListFolder metadata))) (Looked (Names names)) after
-    → (name : Name) (m : Metadata) → is_listed name names ≡ true → IsIn metadata name (Meta m.last m.bytes m.stamp m.host m.writer) → IsLeft number m state
-left_at l state s caller number names after step name m listed is =
-    let lists : ListsFolder s.shape.tree number metadata names = folder_listed state s.shape.tree caller number metadata names after s.shape.told step in
-    let file = some_file (file_at lists.room (record { folder = metadata; file = name })) (is_listed name lists.room.folders) (sym (lists.entries.exactly name) ∙ listed) in
-    let has : HasItem lists.room (Meta m.last m.bytes m.stamp m.host m.writer) file.0 = record { is_item = is.is_item; there = ap (λ p. file_at lists.room p) (sym is.printed) ∙ file.1 } in
-    let left : HasMeta lists.room m.host m.writer = record { last = m.last; bytes = m.bytes; stamp = m.stamp; content = file.0; has = has } in
-    λ tree told. subst (λ (t : Tree). (room : Room) × (slice_get t.rooms number ≡ Some room) × HasMeta room m.host m.writer) (one_tree s.shape.tree tree state.store.tree s.shape.told told) (lists.room, lists.has_room, left)
+-- its metadata dropping of these numbers stands
+abbrev pub IsStanding : ℕ → Metadata → State → Type 0
+IsStanding number m state = StandsInRoom state number (λ room. (content : List ℕ) × HasItem room (Meta m.last m.bytes m.stamp m.host m.writer) content)
+
+pub standing_left : (number : ℕ) (m : Metadata) (state : State) → IsStanding number m state → IsLeft number m state
+standing_left number m state f = λ tree told. let x = f tree told in (x.0, x.1, record { last = m.last; bytes = m.bytes; stamp = m.stamp; content = x.2.0; has = x.2.1 })
+
+module _ (l : Ledger) (state : State) (s : IsSoundFor l state) (caller number : ℕ) (names : List Name) (after : State) (step : IsStep state caller (unbroken (Look number (ListFolder metadata))) (Looked (Names names)) after) where
+  lists : ListsFolder s.shape.tree number metadata names
+  lists = folder_listed state s.shape.tree caller number metadata names after s.shape.told step
+
+  -- a metadata dropping that was listed stands
+  pub standing_at : (name : Name) (m : Metadata) → is_listed name names ≡ true → IsIn metadata name (Meta m.last m.bytes m.stamp m.host m.writer) → IsStanding number m state
+  standing_at name m listed is =
+      let file = some_file (file_at lists.room (record { folder = metadata; file = name })) (is_listed name lists.room.folders) (sym (lists.entries.exactly name) ∙ listed) in
+      let has : HasItem lists.room (Meta m.last m.bytes m.stamp m.host m.writer) file.0 = record { is_item = is.is_item; there = ap (λ p. file_at lists.room p) (sym is.printed) ∙ file.1 } in
+      λ tree told. subst (λ (t : Tree). (room : Room) × (slice_get t.rooms number ≡ Some room) × ((content : List ℕ) × HasItem room (Meta m.last m.bytes m.stamp m.host m.writer) content)) (one_tree s.shape.tree tree state.store.tree s.shape.told told) (lists.room, lists.has_room, (file.0, has))
+
+  pub left_at : (name : Name) (m : Metadata) → is_listed name names ≡ true → IsIn metadata name (Meta m.last m.bytes m.stamp m.host m.writer) → IsLeft number m state
+  left_at name m listed is = standing_left number m state (standing_at name m listed is)
+
+  -- one that stands is listed
+  pub closed_listed : (w : WriterOf) → StandsInRoom state number (HasClosed w) → (m : Metadata) × (m.writer ≡ w.writer) × ((name : Name) × (is_listed name names ≡ true) × (meta_in name ≡ Some m))
+  closed_listed w closed =
+      let x = closed s.shape.tree s.shape.told in
+      let h : HasClosed w x.0 = x.2 in
+      let same : x.0 ≡ lists.room = some_room x.0 lists.room (slice_get s.shape.tree.rooms number) x.1 lists.has_room in
+      let has : HasItem lists.room (Meta h.last h.bytes h.stamp w.host w.writer) h.content = subst (λ r. HasItem r (Meta h.last h.bytes h.stamp w.host w.writer) h.content) same h.stands in
+      let name : Name = (path_of (Meta h.last h.bytes h.stamp w.host w.writer)).file in (
+        record { last = h.last; bytes = h.bytes; stamp = h.stamp; host = w.host; writer = w.writer },
+        refl,
+        (name, file_named lists.room metadata name names h.content lists.entries has.there, meta_in-is name h.last h.bytes h.stamp w.host w.writer (record { is_item = has.is_item; printed = refl })),
+      )

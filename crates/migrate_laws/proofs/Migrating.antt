@@ -137,7 +137,7 @@ on_ok_looks : {A R : Type 0} (next : A → Tries R) → ((a : A) → OnlyLooks (
 on_ok_looks next goes (Ok a) = goes a
 on_ok_looks next goes (Err because) = tt
 
-scans_look : (room : ℕ) (ks : List ℕ) (scan : Scan) → OnlyLooks (scans room 0 no_flat ks scan)
+pub scans_look : (room : ℕ) (ks : List ℕ) (scan : Scan) → OnlyLooks (scans room 0 no_flat ks scan)
 scans_look room [] scan = tt
 scans_look room (k ∷ ks) scan = (
   tt,

@@ -49,7 +49,7 @@ use Rattle.migrate_core.specs.Writers.{counts_of, flat_in, if_done, installs, ne
 use Rattle.migrate_laws.proofs.Ends.{Ends, ends_ask, ends_done}
 use Rattle.migrate_laws.proofs.Left.{IsLeft, IsWhole, left_stays, whole_stays}
 use Rattle.migrate_laws.proofs.Looking.{of_bytes, of_number}
-use Rattle.migrate_laws.proofs.Reading.{Measured, Reading, Ready, begins, measured_at, measured_stays, read_at, reading_stays, ready_now}
+use Rattle.migrate_laws.proofs.Reading.{IsLong, Measured, Reading, Ready, begins, long_now, long_stays, measured_at, measured_stays, read_at, reading_stays, ready_now}
 use Rattle.migrate_laws.proofs.Starting.{LastsBeside, no_flattening, start_made}
 use Rattle.migrate_laws.proofs.Writers.{of_flat}
 
@@ -175,9 +175,9 @@ module _ (caller number : ℕ) (m : Metadata) where
   -- ---- the calls for the writer, while something else stays
 
   module _ (carry : State → Type 0) (carry_stays : Stays carry) where
-    -- it was passed over, or it has its packed index
+    -- it was passed over, since it is too long, or it has its packed index
     abbrev pub IsFate : Result Fate Stuck → State → Type 0
-    IsFate (Ok fate) state = carry state × ((fate ≡ passed_over) ⊎ ((es : List Entry) × (fate ≡ is_packed (counts_of es)) × IsPackedOf number m es state))
+    IsFate (Ok fate) state = carry state × (((fate ≡ passed_over) × IsLong number m state) ⊎ ((es : List Entry) × (fate ≡ is_packed (counts_of es)) × IsPackedOf number m es state))
     IsFate (Err why) state = Unit {0}
 
     abbrev FateEnds : Tries Fate → State → Type 0
@@ -291,7 +291,8 @@ module _ (caller number : ℕ) (m : Metadata) where
       where
         by_size : (many none : Bool) → nat_lt MAX_PACKED (told / 40) ≡ many → ((told / 40) == 0) ≡ none
             → FateEnds (if many then done (Ok passed_over) else (if none then done (Err (damage (index_path m.host m.writer) told)) else reads_left number m (told / 40) (no_entries m.writer))) state
-        by_size true none is_many is_none = ends_done caller IsFate (Ok passed_over) carry carry_stays (λ l now s c. (c, inl refl)) state f.0
+        by_size true none is_many is_none =
+            ends_done caller IsFate (Ok passed_over) (With (IsLong number m)) (with_stays (IsLong number m) (long_stays number m)) (λ l now s c. (c.0, inl (refl, c.1))) state (f.0, long_now number m told state is_many f.1)
         by_size false true is_many is_none = failed (damage (index_path m.host m.writer) told) state
         by_size false false is_many is_none =
             reads_end (reads_of (told / 40)) (told / 40) (no_entries m.writer) (reads_enough (told / 40)) state

@@ -1,5 +1,5 @@
 -- What was read of an index dropping is its entries.
-use Rattle.std.proofs.Common.{◌≡◌, ◌≤◌, ◌+◌, ◌-◌, ◌*◌, ◌/◌, ◌==◌, ℕ, zero, suc, nat_le, nat_lt, Bool, true, false, List, [], ◌∷◌, ◌++◌, length, take, drop, Some, refl, ap, sym, ◌∙◌, subst, arith, append_assoc, length-drop}
+use Rattle.std.proofs.Common.{◌≡◌, ◌≤◌, ◌<◌, ◌+◌, ◌-◌, ◌*◌, ◌/◌, ◌==◌, ℕ, zero, suc, nat_le, nat_lt, Bool, true, false, List, [], ◌∷◌, ◌++◌, length, take, drop, Some, refl, ap, sym, ◌∙◌, subst, arith, append_assoc, length-drop}
 use Rattle.std.specs.Prelude.{slice_get, ◌&&◌, if◌then◌else◌, Result, Ok, Err}
 use Rattle.std.specs.List.{AllByRecursion}
 use Rattle.std.proofs.lemmas.Bool.Decides.{nat_tests}
@@ -133,6 +133,21 @@ Measured number m told state = (es : List Entry) × IsWhole number m es state ×
 
 pub measured_stays : (number : ℕ) (m : Metadata) (told : ℕ) → Stays (Measured number m told)
 measured_stays number m told l old new other asked reply may step s f = (f.0, whole_stays number m f.0 l old new other asked reply may step s f.1, f.2)
+
+-- these are all entries of the writer, and more than a packed index can hold
+abbrev pub IsLong : ℕ → Metadata → State → Type 0
+IsLong number m state = (es : List Entry) × IsWhole number m es state × (MAX_PACKED < length es)
+
+pub long_stays : (number : ℕ) (m : Metadata) → Stays (IsLong number m)
+long_stays number m l old new other asked reply may step s f = (f.0, whole_stays number m f.0 l old new other asked reply may step s f.1, f.2)
+
+more_than : (n : ℕ) → nat_lt MAX_PACKED n ≡ true → MAX_PACKED < n
+more_than n h = grind (arith, nat_tests, h)
+
+pub long_now : (number : ℕ) (m : Metadata) (told : ℕ) (state : State) → nat_lt MAX_PACKED (told / 40) ≡ true → Measured number m told state → IsLong number m state
+long_now number m told state many f =
+    let count : told / 40 ≡ length f.0 = omega (arith, f.2) in
+    (f.0, f.1, more_than (length f.0) (ap (λ n. nat_lt MAX_PACKED n) (sym count) ∙ many))
 
 -- these are all entries of the writer, and a packed index can hold them
 abbrev pub Ready : ℕ → Metadata → List Entry → State → Type 0

@@ -9,7 +9,7 @@ use Rattle.index_reader.specs.declared.listing.Dropping.{Dropping}
 use Rattle.migrate_core.specs.Chosen.{chosen, chosen_behind, is_again, is_open_to}
 use Rattle.migrate_laws.proofs.Migrating.{all_push, all_put}
 
-all_so : (P Q : Metadata → Type 0) (ms : List Metadata) → ((m : Metadata) → P m → Q m) → AllByRecursion P ms → AllByRecursion Q ms
+pub all_so : (P Q : Metadata → Type 0) (ms : List Metadata) → ((m : Metadata) → P m → Q m) → AllByRecursion P ms → AllByRecursion Q ms
 all_so P Q [] so a = tt
 all_so P Q (m ∷ ms) so a = (so m a.0, all_so P Q ms so a.1)
 

@@ -1,1 +1,4 @@
+pub mod Closed
 pub mod Packed
+pub mod Moments
+pub mod Migrated

@@ -10,6 +10,7 @@ use Rattle.mount_sound.specs.Owed.{StandsInRoom}
 use Rattle.mount_sound.specs.There.{landed_entries}
 use Rattle.migrate_core.specs.declared.migrated.Migrated.{Migrated}
 use Rattle.migrate_core.specs.Longest.{run_count}
+use Rattle.migrate_laws.specs.Closed.{WriterOf}
 
 -- a writer, and how many entries and runs its packed index has
 pub record PackOf : Type 0 where
@@ -17,6 +18,9 @@ pub record PackOf : Type 0 where
   pub writer : ℕ
   pub entries : ℕ
   pub runs : ℕ
+
+abbrev pub writer_of : PackOf → WriterOf
+writer_of p = record { host = p.host; writer = p.writer }
 
 -- The room has the packed index, which is right for it: that of all entries of the writer that have landed, so many in so
 -- many runs.
@@ -48,11 +52,3 @@ pub record Counts (out : Migrated) (packs : List PackOf) : Type 0 where
 abbrev pub AreApart : List PackOf → Type 0
 AreApart [] = Unit {0}
 AreApart (p ∷ packs) = AllByRecursion (λ (q : PackOf). q.writer ≢ p.writer) packs × AreApart packs
-
--- The room has the packed indices that are counted.
-pub record HasMigrated (out : Migrated) (state : State) : Type 0 where
-  pub number : ℕ
-  pub packs : List PackOf
-  pub have : HavePacks number packs state
-  pub apart : AreApart packs
-  pub counts : Counts out packs
