@@ -1,0 +1,6 @@
+pub mod Facts
+mod Items
+mod Memory
+mod WorkerLemmas
+mod WorkersTogether
+mod JoinedOutcome
