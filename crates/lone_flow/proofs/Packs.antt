@@ -6,6 +6,7 @@ use Rattle.flow.specs.declared.stuck.Stuck.{Stuck}
 use Rattle.flow.specs.Running.{Runs, asking}
 use Rattle.flow.specs.Standing.{Standing, ready}
 use Rattle.flow.proofs.Facts.{runs_next}
+use Rattle.mount_model.specs.declared.call.Ask.{Ask}
 use Rattle.mount_model.specs.declared.call.Call.{Call}
 use Rattle.mount_model.specs.declared.call.Call.TheVariants.{Greet}
 use Rattle.mount_model.specs.declared.reply.Reply.{Reply}
@@ -21,11 +22,14 @@ use Rattle.story.specs.Program.{Program}
 use Rattle.story.specs.Safe.{IsSafe}
 use Rattle.migrate_core.specs.declared.migrated.Migrated.{Migrated}
 use Rattle.migrate_core.specs.Migrating.{migrate_program}
-use Rattle.migrate_laws.specs.Packed.{HasMigrated}
+use Rattle.migrate_laws.specs.Migrated.{HasMigrated}
+use Rattle.migrate_laws.specs.Moments.{IsLooking}
+use Rattle.migrate_laws.proofs.Facts.{migrated_later}
 use Rattle.trouble_laws.specs.Ends.{AlwaysEnds}
 use Rattle.trouble_laws.specs.Undamaged.{IsUndamaged}
 use Rattle.lone_flow.specs.Driving.{Drives, Makes, MayDrive, greets_first}
 use Rattle.lone_flow.specs.Faults.{IsFault}
+use Rattle.lone_flow.specs.Migrating.{Migrates}
 use Rattle.lone_flow.proofs.Causes.{run_caused}
 use Rattle.lone_flow.proofs.Migrations.{migration_well}
 
@@ -61,15 +65,22 @@ behind program start result end m fine clean =
 
 -- ---- of a migration
 
--- what the laws of a migration say
-abbrev pub PacksWhatItCounts : Type 0
-PacksWhatItCounts = (caller : ℕ) (name : List ℕ) (issued : Ledger) (start : State) (events : List Event) (out : Migrated) → IsLawful start events → IsSoundFor issued start → Runs caller (migrate_program name) events (Ok out) → HasMigrated out (state_after start events)
+-- what the law of a migration says
+abbrev pub LeavesNoWriterOut : Type 0
+LeavesNoWriterOut = (caller : ℕ) (name : List ℕ) (issued : Ledger) (start : State) (events : List Event) (out : Migrated) → IsLawful start events → IsSoundFor issued start → Runs caller (migrate_program name) events (Ok out) → HasMigrated caller name start events out
 
-packs : (name : List ℕ) (start : State) (result : Result Migrated Stuck) (end : State) → PacksWhatItCounts → Makes (migrate_program name) start result end → IsFine start → IsClean start → IfOk result (λ out. HasMigrated out end)
-packs name start (Err why) end law made fine clean = tt
-packs name start (Ok out) end law made fine clean =
-    let b = behind (migrate_program name) start (Ok out) end made fine clean in
-    subst (λ (z : State). HasMigrated out z) b.ends (law 0 name b.issued b.start b.events out b.lawful b.sound b.runs)
+-- it holds from the greeting on
+shown : (name : List ℕ) (start : State) (events : List Event) (out : Migrated) (issued : Ledger) → LeavesNoWriterOut → IsLawful start events → IsSoundFor issued start → AllByRecursion (λ (e : Event). e.caller ≡ 0) events → Runs 0 (greets_first (migrate_program name)) events (Ok out) → HasMigrated 0 name start events out
+shown name start [] out issued law lawful sound own runs = absurd runs
+shown name start (e ∷ es) out issued law lawful sound own runs = elim (runs_next 0 Greet (λ reply. migrate_program name) e es (Ok out) runs) as (λ _. HasMigrated 0 name start (e ∷ es) out) [
+  | inl (other, on) ↦ absurd (other own.0)
+  | inr (mine, asked, on) ↦ migrated_later start [] e es 0 out tt (subst (λ (a : Ask). IsLooking a.call) (sym asked) tt) name
+      (law 0 name (issued_after issued start e.ask.call e.reply) e.after es out lawful.2 (later issued start e.after e.caller e.ask e.reply lawful.0 lawful.1 sound) on)
+]
+
+shows : (name : List ℕ) (start : State) (result : Result Migrated Stuck) (end : State) → LeavesNoWriterOut → (m : Makes (migrate_program name) start result end) → IsFine start → IsClean start → IfOk result (λ out. HasMigrated 0 name start m.events out)
+shows name start (Err why) end law m fine clean = tt
+shows name start (Ok out) end law m fine clean = let s = fine.sound clean in shown name start m.events out s.0 law m.made.lawful s.1 m.made.own m.runs
 
 undamaged : (name : List ℕ) (start : State) (result : Result Migrated Stuck) (end : State) → AlwaysEnds IsUndamaged (migrate_program name) → Makes (migrate_program name) start result end → IsFine start → IsClean start → IsUndamaged result
 undamaged name start result end law made fine clean =
@@ -87,9 +98,9 @@ module _ (name : List ℕ) (start end : State) (standing : Standing Call Reply (
   made_so : (ended : Result Migrated Stuck) → Drives standing start ended end → Makes (migrate_program name) start ended end
   made_so ended d = subst (λ (s : Standing Call Reply (Result Migrated Stuck)). Drives s start ended end) is d
 
-  pub all_made : {E : Type 0} (result : Result (Result Migrated Stuck) E) → IfOk result (λ ended. Drives standing start ended end) → IfOk result (λ ended. Makes (migrate_program name) start ended end)
-  all_made (Ok ended) d = made_so ended d
-  all_made (Err none) d = tt
+  pub all_made : {E : Type 0} (result : Result (Result Migrated Stuck) E) → LeavesNoWriterOut → IsFine start → IfOk result (λ ended. Drives standing start ended end) → IfOk result (λ ended. Migrates name start ended end)
+  all_made (Ok ended) law fine d = record { made = made_so ended d; shows = shows name start ended end law (made_so ended d) fine }
+  all_made (Err none) law fine d = tt
 
   pub all_caused : {E : Type 0} (result : Result (Result Migrated Stuck) E) → IfOk result (λ ended. Drives standing start ended end) → IfOk result (λ ended. IsFault ended → HasRisen start.store.faults end.store.faults)
   all_caused (Ok ended) d = caused name start ended end (made_so ended d)
@@ -98,10 +109,6 @@ module _ (name : List ℕ) (start end : State) (standing : Standing Call Reply (
   pub all_undamaged : {E : Type 0} (result : Result (Result Migrated Stuck) E) → AlwaysEnds IsUndamaged (migrate_program name) → IsFine start → IfOk result (λ ended. Drives standing start ended end) → IfOk result (λ ended. IsClean start → IsUndamaged ended)
   all_undamaged (Ok ended) law fine d = undamaged name start ended end law (made_so ended d) fine
   all_undamaged (Err none) law fine d = tt
-
-  pub all_packed : {E : Type 0} (result : Result (Result Migrated Stuck) E) → PacksWhatItCounts → IsFine start → IfOk result (λ ended. Drives standing start ended end) → IfOk result (λ ended. IsClean start → IfOk ended (λ out. HasMigrated out end))
-  all_packed (Ok ended) law fine d = packs name start ended end law (made_so ended d) fine
-  all_packed (Err none) law fine d = tt
 
 -- the law that a migration is always allowed
 abbrev pub IsAlwaysAllowed : Type 0

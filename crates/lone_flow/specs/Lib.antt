@@ -1,2 +1,3 @@
 pub mod Driving
 pub mod Faults
+pub mod Migrating

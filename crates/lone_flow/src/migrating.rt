@@ -2,17 +2,16 @@
 ghost use Rattle.std.specs.Prelude.{IfOk, OnOk};
 ghost use Rattle.plfs_types.specs.Counts.{HasRisen};
 ghost use Rattle.mount_sound.specs.Sound.{IsClean, IsFine};
-ghost use Rattle.migrate_core.specs.Migrating.{migrate_program};
-ghost use Rattle.migrate_laws.specs.Packed.{HasMigrated};
 ghost use Rattle.trouble_laws.specs.Undamaged.{IsUndamaged};
-ghost use Rattle.lone_flow.specs.Driving.{CallsOn, Makes};
+ghost use Rattle.lone_flow.specs.Driving.{CallsOn};
 ghost use Rattle.lone_flow.specs.Faults.{IsFault};
+ghost use Rattle.lone_flow.specs.Migrating.{Migrates};
 
 use crate::driving::drive;
 use edge_io::Clock;
 use flow::Stuck;
 use migrate_core::{MigrateFlow, Migrated};
-use migrate_laws::{a_migration_is_always_allowed, a_migration_packs_what_it_counts};
+use migrate_laws::{a_migration_is_always_allowed, a_migration_leaves_no_writer_out};
 use mount_core::Mount;
 use plfs_types::{LogicalName, NoMemory};
 use std::alloc::Global;
@@ -22,22 +21,22 @@ use trouble_laws::a_statement_shows_no_damage;
 /// Packs the closed writers of the file of this name, as caller 0 by itself: a greeting, and then the calls of a migration.
 ///
 /// It ends with a fault only where the store's count of faults has risen. Where the store told a sound tree as it was
-/// mounted, it doesn't end with damage, and the packed indices that it counts stand then, each right for the container.
-/// After `NoMemory` what was packed until then stands.
+/// mounted, it doesn't end with damage; and where it ends well, each writer of the container of this name that had closed
+/// the file with entries, as the metadata were listed, has its packed index, or more entries than one holds. It counts what
+/// it packed, and the writers that are too long. After `NoMemory` what was packed until then stands.
 pub fn migrate<S: Store + Drop, C: Clock + Drop>(
     alloc: Global,
     mount: &mut Mount<S, C>,
     name: LogicalName,
 ) -> Result<Result<Migrated, Stuck>, NoMemory>
     requires fine { IsFine mount.old }
-    ensures made { IfOk result (λ ended. Makes (migrate_program name) mount.old ended mount.new) }
+    ensures made { IfOk result (λ ended. Migrates name mount.old ended mount.new) }
     ensures calls_on { CallsOn mount.old mount.new }
     ensures cause { IfOk result (λ ended. IsFault ended → HasRisen mount.old.store.faults mount.new.store.faults) }
     ensures undamaged { IfOk result (λ ended. IsClean mount.old → IsUndamaged ended) }
-    ensures packed { IfOk result (λ ended. IsClean mount.old → IfOk ended (λ out. HasMigrated out mount.new)) }
 {
     a_migration_is_always_allowed();
-    a_migration_packs_what_it_counts();
+    a_migration_leaves_no_writer_out();
     a_statement_shows_no_damage();
     drive(mount, MigrateFlow::new(alloc, name))
 }
