@@ -12,21 +12,21 @@ const OVERLAPS: &[Row] = &[
     ),
     // At one stamp the greater id wins.
     (
-        "actor w1\nactor w2\nw1 open f\nw2 open f\nw1 write 0 text:AAAA\nw2 write 1 text:BB\nw1 close\nw2 close\nw1 ropen f\nw1 read 0 4\n",
+        "actor w1\nactor w2\nw1 open f\nw2 open f\nw1 write 0 text:AAAA\nw2 write 1 text:BB\nw1 close\nw2 close\nw1 ropen f 2\nw1 read 0 4\nw1 map\n",
         &[10],
         0,
-        "3 open 4294967297\n4 open 4294967298\n5 wrote 0 4 10\n6 wrote 1 2 10\n7 closed 1\n8 closed 1\n9 reader 4 cut 4294967297:1,4294967298:1 trunc -\n10 read 0 41424241\n",
+        "3 open 4294967297\n4 open 4294967298\n5 wrote 0 4 10\n6 wrote 1 2 10\n7 closed 1\n8 closed 1\n9 reader 4 cut 4294967297:1,4294967298:1 trunc -\n10 read 0 41424241\n11 map 0+1=10.4294967297@0 1+2=10.4294967298@0 3+1=10.4294967297@3\n",
     ),
     // The same, where the other actor entered first.
     (
-        "actor w1\nactor w2\nw2 open f\nw1 open f\nw1 write 0 text:AAAA\nw2 write 1 text:BB\nw1 close\nw2 close\nw1 ropen f\nw1 read 0 4\n",
+        "actor w1\nactor w2\nw2 open f\nw1 open f\nw1 write 0 text:AAAA\nw2 write 1 text:BB\nw1 close\nw2 close\nw1 ropen f 2\nw1 read 0 4\nw1 map\n",
         &[10],
         0,
-        "3 open 4294967297\n4 open 4294967298\n5 wrote 0 4 10\n6 wrote 1 2 10\n7 closed 1\n8 closed 1\n9 reader 4 cut 4294967297:1,4294967298:1 trunc -\n10 read 0 41414141\n",
+        "3 open 4294967297\n4 open 4294967298\n5 wrote 0 4 10\n6 wrote 1 2 10\n7 closed 1\n8 closed 1\n9 reader 4 cut 4294967297:1,4294967298:1 trunc -\n10 read 0 41414141\n11 map 0+4=10.4294967298@0\n",
     ),
     // The smaller id wins by its stamp.
     (
-        "actor w1\nactor w2\nw1 open f\nw2 open f\nw1 write 0 text:AAAA\nw2 write 1 text:BB\nw1 close\nw2 close\nw1 ropen f\nw1 read 0 4\nw1 map\n",
+        "actor w1\nactor w2\nw1 open f\nw2 open f\nw1 write 0 text:AAAA\nw2 write 1 text:BB\nw1 close\nw2 close\nw1 ropen f 2\nw1 read 0 4\nw1 map\n",
         &[20, 10],
         0,
         "3 open 4294967297\n4 open 4294967298\n5 wrote 0 4 20\n6 wrote 1 2 10\n7 closed 1\n8 closed 1\n9 reader 4 cut 4294967297:1,4294967298:1 trunc -\n10 read 0 41414141\n11 map 0+4=20.4294967297@0\n",
@@ -66,6 +66,13 @@ const TURNS: &[Row] = &[
         &[10],
         0,
         "3 open 4294967297\n4 wrote 0 1 10\n5 wrote 1 1 11\n6 wrote 2 1 12\n7 reader 2 cut 4294967297:2 trunc -\n8 read 0 4142\n",
+    ),
+    // A file ends at 2^40, and a write that is refused takes no stamp.
+    (
+        "actor a\na open f\na write 1099511627772 text:ABCD\na write 1099511627773 text:ABCD\na write 0 text:Z\n",
+        &[10],
+        1,
+        "2 open 4294967297\n3 wrote 1099511627772 4 10\n4 refused too-far\n5 wrote 0 1 11\n",
     ),
     // Data that is told by its length, and comparisons with it.
     (

@@ -1,7 +1,9 @@
 //! Scripts of which each act of the store faults in turn, or whose actor stops in each of its calls, and what a recovery
 //! makes of what they left.
 use crate::runs::{Setup, playing, run_on};
+use plfs_types::NoMemory;
 use std::alloc::Global;
+use std::str;
 use std::test::Fail;
 use store_memory::{Fail as Planned, FailList, MemoryStore};
 
@@ -53,20 +55,66 @@ fn no_fault_leaves_damage(rt: HostRuntime) -> Result<(), Fail> {
     Ok(())
 }
 
+// A script in three parts, and in each part the number of calls of its first statement: an open, a sync of three entries,
+// and a close.
+const PARTS: [(&str, u64); 3] = [
+    (
+        "a open f\na write 0 text:A\na write 1 text:B\na write 2 text:C\n",
+        6,
+    ),
+    ("a sync\n", 3),
+    ("a close\n", 4),
+];
+
+const LOOKS: &str = "b ropen f\nb read 0 9\nb recover f\nb read 0 9\nb trunc f 0\n";
+
+// The script whose actor a stops in this call of the first statement of that part, after so many bytes.
+fn stopping(alloc: Global, part: usize, call: u64, bytes: u64) -> Result<String, NoMemory> {
+    let mut script = String::new(alloc);
+    script.push_str("actor a\nactor b\n")?;
+    for (number, (statements, _)) in PARTS.iter().enumerate() {
+        if number == part {
+            script.push_str(format!(in alloc; "a stop {call} {bytes}\n")?.as_str())?;
+        }
+        script.push_str(statements)?;
+    }
+    script.push_str(LOOKS)?;
+    Ok(script)
+}
+
+// What stands between these two.
+fn between<'a>(text: &'a str, before: &str, behind: &str) -> Option<&'a str> {
+    let Some((_, rest)) = text.split_once(before) else {
+        return None;
+    };
+    let Some((found, _)) = rest.split_once(behind) else {
+        return None;
+    };
+    Some(found)
+}
+
+// The actor has stopped; nothing is busy once it was recovered; and a reader that was opened before that reads the same
+// bytes before and after it, or there was no file to open.
+fn is_recovered(lines: &str) -> bool {
+    let before = between(lines, "\n11 ", "\n12 ");
+    let after = between(lines, "\n13 ", "\n14 ");
+    before.is_some()
+        && before == after
+        && lines.split_once(" stopped\n").is_some()
+        && lines.split_once("busy").is_none()
+}
+
 #[test]
 fn whoever_stopped_is_buried_by_a_recovery(rt: HostRuntime) -> Result<(), Fail> {
-    for call in 1..24 {
-        for part in [0, 1, 41, 120] {
-            let script = format!(in rt.alloc();
-                "actor a\nactor b\na stop {call} {part}\na open f\na write 0 text:A\na write 1 text:B\na sync\na write 2 text:C\na close\nb recover f\nb trunc f 0\n"
-            )?;
-            let store = MemoryStore::new(rt.alloc(), FailList::new(rt.alloc()))?;
-            let run = run_on(rt.alloc(), store, playing(script.as_bytes()))?;
-            // Nothing is busy after it: the truncate is made, or there is no file yet.
-            let output = run.output.as_slice();
-            assert!(rt;
-                run.status <= 1 && !output.windows(4).any(|word| word == b"busy".as_slice())
-            );
+    for (part, (_, calls)) in PARTS.iter().enumerate() {
+        for call in 1..=*calls {
+            for bytes in [0, 1, 41, 120] {
+                let script = stopping(rt.alloc(), part, call, bytes)?;
+                let store = MemoryStore::new(rt.alloc(), FailList::new(rt.alloc()))?;
+                let run = run_on(rt.alloc(), store, playing(script.as_bytes()))?;
+                let lines = str::from_utf8(run.output.as_slice()).ok().ok_or("no text")?;
+                assert!(rt; run.status <= 1 && is_recovered(lines), "{script}: {lines}");
+            }
         }
     }
     Ok(())

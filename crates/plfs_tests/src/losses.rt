@@ -40,7 +40,7 @@ fn a_loss_leaves_what_was_synced(rt: HostRuntime) -> Result<(), Fail> {
     Ok(())
 }
 
-// Three acts of the mounting, six to open, one to write, three to sync, three to close, and those of the reader.
+// Three acts of the mounting, six to open, one to write, three to sync, four to close, and nine of the reader.
 const ACTS: u64 = 26;
 
 #[test]

@@ -1,9 +1,7 @@
 //! Containers whose closed writers are packed.
-use crate::runs::{Setup, ends, playing, run_fresh, run_on};
-use crate::sessions::{Session, play_sessions};
-use plfs_types::Name;
+use crate::deeds::Deed::{Has, Put, Run};
+use crate::deeds::{Session, play_sessions};
 use std::test::Fail;
-use store_api::{Answer, Step, Store};
 
 const SUMMARY: &str =
     "lines 134\nrefused 0\nfaults 0\ndamaged 0\nsame 64\ndiffers 0\nsize 3008512\n";
@@ -24,64 +22,83 @@ const ONE: &str = "actor a\na open f\na write 0 text:hello\na close\n";
 
 const ONE_LINES: &str = "2 open 4294967297\n3 wrote 0 5 10\n4 closed 1\n";
 
+// The packed index of the first writer of `gen 2`: its 32 entries are one run.
+const PACKED: &[u8] =
+    b"PLFSIDX2\x20\0\0\0\0\0\0\0\x01\0\0\0\0\0\0\0\0\0\0\0\0\0\0\0\x40\x6f\x01\0\0\0\0\0\xa0\xb7\0\0\0\0\0\0\x20\0\0\0\0\0\0\0\0\0\0\0\0\0\0\0\x0a\0\0\0\0\0\0\0\x01\0\0\0\0\0\0\0\x01\0\0\0\x01\0\0\0";
+
 const MIGRATED: &[Session] = &[
     // A checkpoint is told and read as before, also beside writers that are not packed.
     (
         &[],
         &[
-            (&["gen", "2"], "", 0, SUMMARY),
-            (&["stat", "gen2"], "", 0, TOLD),
-            (&["migrate", "gen2"], "", 0, "migrated 2 64 2 left 0\n"),
-            (&["migrate", "gen2"], "", 0, "migrated 0 0 0 left 0\n"),
-            (&["stat", "gen2"], "", 0, TOLD),
-            (&["gen", "2"], "", 0, SUMMARY),
+            Run(&["gen", "2"], "", 0, SUMMARY),
+            Run(&["stat", "gen2"], "", 0, TOLD),
+            Run(&["migrate", "gen2"], "", 0, "migrated 2 64 2 left 0\n"),
+            Has(1, "hostdir.0", "index2.0.4294967297", PACKED),
+            Run(&["migrate", "gen2"], "", 0, "migrated 0 0 0 left 0\n"),
+            Run(&["stat", "gen2"], "", 0, TOLD),
+            Run(&["gen", "2"], "", 0, SUMMARY),
         ],
     ),
     // A writer that is open, or was left open, is packed once a recovery has closed it.
     (
         &[],
         &[
-            (&["play"], THREE, 0, THREE_LINES),
-            (&["map", "f"], "", 0, MAP),
-            (&["migrate", "f"], "", 0, "migrated 2 6 3 left 0\n"),
-            (&["map", "f"], "", 0, MAP),
-            (&["cat", "f"], "", 0, "AADGBBFECC"),
-            (
+            Run(&["play"], THREE, 0, THREE_LINES),
+            Run(&["map", "f"], "", 0, MAP),
+            Run(&["migrate", "f"], "", 0, "migrated 2 6 3 left 0\n"),
+            Run(&["map", "f"], "", 0, MAP),
+            Run(&["cat", "f"], "", 0, "AADGBBFECC"),
+            Run(
                 &["recover", "f"],
                 "",
                 0,
                 "0 recovered 4294967299:1 alive - hold no\n",
             ),
-            (&["migrate", "f"], "", 0, "migrated 1 1 1 left 0\n"),
-            (&["migrate", "f"], "", 0, "migrated 0 0 0 left 0\n"),
-            (&["map", "f"], "", 0, MAP),
-            (&["cat", "f"], "", 0, "AADGBBFECC"),
+            Run(&["migrate", "f"], "", 0, "migrated 1 1 1 left 0\n"),
+            Run(&["migrate", "f"], "", 0, "migrated 0 0 0 left 0\n"),
+            Run(&["map", "f"], "", 0, MAP),
+            Run(&["cat", "f"], "", 0, "AADGBBFECC"),
         ],
     ),
     // There is no such file, and one of no writers.
     (
         &[],
         &[
-            (&["migrate", "f"], "", 1, "0 refused no-file\n"),
-            (
+            Run(&["migrate", "f"], "", 1, "0 refused no-file\n"),
+            Run(
                 &["play"],
                 "actor a\na open f\na close\n",
                 0,
                 "2 open 8589934593\n3 closed 0\n",
             ),
-            (&["migrate", "f"], "", 0, "migrated 0 0 0 left 0\n"),
+            Run(&["migrate", "f"], "", 0, "migrated 0 0 0 left 0\n"),
         ],
     ),
     // The mounting broke off.
-    (&[(1, 0)], &[(&["migrate", "f"], "", 4, "0 fault\n")]),
+    (&[(1, 0)], &[Run(&["migrate", "f"], "", 4, "0 fault\n")]),
     // The packed index is put, of which 10 bytes are left, and a later run makes another one.
     (
         &[(25, 10)],
         &[
-            (&["play"], ONE, 0, ONE_LINES),
-            (&["migrate", "f"], "", 4, "0 fault\n"),
-            (&["migrate", "f"], "", 0, "migrated 1 1 1 left 0\n"),
-            (&["cat", "f"], "", 0, "hello"),
+            Run(&["play"], ONE, 0, ONE_LINES),
+            Run(&["migrate", "f"], "", 4, "0 fault\n"),
+            Run(&["migrate", "f"], "", 0, "migrated 1 1 1 left 0\n"),
+            Run(&["cat", "f"], "", 0, "hello"),
+        ],
+    ),
+    // A damaged entry ends it.
+    (
+        &[],
+        &[
+            Run(&["play"], ONE, 0, ONE_LINES),
+            Put(1, "hostdir.0", "index.0.4294967297", 0, &[0; 40]),
+            Run(
+                &["migrate", "f"],
+                "",
+                7,
+                "0 damaged hostdir.0/index.0.4294967297 0\n",
+            ),
         ],
     ),
 ];
@@ -89,57 +106,4 @@ const MIGRATED: &[Session] = &[
 #[test]
 fn migrated_containers_are_read_as_before(rt: HostRuntime) -> Result<(), Fail> {
     play_sessions(&rt, rt.alloc(), MIGRATED)
-}
-
-// The packed index of the first writer of `gen 2`: its 32 entries are one run.
-const PACKED: &[u8] =
-    b"PLFSIDX2\x20\0\0\0\0\0\0\0\x01\0\0\0\0\0\0\0\0\0\0\0\0\0\0\0\x40\x6f\x01\0\0\0\0\0\xa0\xb7\0\0\0\0\0\0\x20\0\0\0\0\0\0\0\0\0\0\0\0\0\0\0\x0a\0\0\0\0\0\0\0\x01\0\0\0\0\0\0\0\x01\0\0\0\x01\0\0\0";
-
-fn name(text: &str) -> Name {
-    Name::from_bytes(text.as_bytes()).unwrap_or(Name::empty())
-}
-
-#[test]
-fn strided_entries_are_packed_as_one_run(rt: HostRuntime) -> Result<(), Fail> {
-    let setup = Setup {
-        words: &["gen", "2"],
-        ..playing(b"")
-    };
-    let run = run_fresh(rt.alloc(), setup)?;
-    let setup = Setup {
-        words: &["migrate", "gen2"],
-        ..setup
-    };
-    let run = run_on(rt.alloc(), run.store.ok_or("no store")?, setup)?;
-    ends(&rt, &run, 0, "migrated 2 64 2 left 0\n");
-    let mut store = run.store.ok_or("no store")?;
-    let told = store.act(&Step::ReadAt {
-        room: 1,
-        folder: name("hostdir.0"),
-        file: name("index2.0.4294967297"),
-        at: 0,
-        len: 4096,
-    });
-    assert!(rt; matches!(&told, Ok(Answer::Bytes(bytes)) if bytes.as_slice() == PACKED));
-    Ok(())
-}
-
-#[test]
-fn a_damaged_entry_ends_a_migration(rt: HostRuntime) -> Result<(), Fail> {
-    let run = run_fresh(rt.alloc(), playing(ONE.as_bytes()))?;
-    let mut store = run.store.ok_or("no store")?;
-    let _ = store.act(&Step::WriteAt {
-        room: 1,
-        folder: name("hostdir.0"),
-        file: name("index.0.4294967297"),
-        at: 0,
-        bytes: &[0; 40],
-    });
-    let setup = Setup {
-        words: &["migrate", "f"],
-        ..playing(b"")
-    };
-    let run = run_on(rt.alloc(), store, setup)?;
-    ends(&rt, &run, 7, "0 damaged hostdir.0/index.0.4294967297 0\n");
-    Ok(())
 }
