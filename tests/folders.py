@@ -1,10 +1,68 @@
-"""Folders that can't be used, limits of the system, and names of ROOT."""
+"""What lies in ROOT, folders that can't be used, limits of the system, and names of ROOT."""
 
 import os
+import re
 import resource
 import signal
+import struct
 
 from trial import READ, WORK, WORKED, check, ignore, listed, same, size_limit, true
+
+# One actor writes, closes and reads back.
+BACK = WORK + "a ropen f\na read 0 5\n"
+
+
+@check
+def a_container_has_its_files_and_no_others(trial):
+    trial.ends(0, BACK, lines=WORKED + "6 reader 5 cut 4294967297:1 trunc -\n7 read 0 68656c6c6f\n")
+    found = listed(trial.root)
+    names = [re.fullmatch(r"f/metadata/5\.5\.(\d+)\.0\.4294967297", path) for path in found]
+    stamps = [int(it[1]) for it in names if it]
+    same("how many metadata droppings there are", len(stamps), 1)
+    folders = [".plfs", ".plfs/mounts", *("f" + it for it in ("", "/flats", "/hostdir.0", "/metadata", "/openhosts", "/truncs"))]
+    files = {
+        ".plfs/mounts/1": b"",
+        "f/access": b"",
+        "f/hostdir.0/index.0.4294967297": struct.pack("<5Q", 0, 5, 0, stamps[0], 4294967297),
+        "f/hostdir.0/log.0.4294967297": b"hello",
+        f"f/metadata/5.5.{stamps[0]}.0.4294967297": b"",
+    }
+    same("what lies in ROOT", found, {**dict.fromkeys(folders), **files})
+
+
+@check
+def a_second_run_on_a_folder_sees_the_first(trial):
+    trial.ends(0, BACK)
+    lines = WORKED.replace("4294967297", "8589934593")
+    trial.ends(0, BACK, lines=lines + "6 reader 5 cut 4294967297:1,8589934593:1 trunc -\n7 read 0 68656c6c6f\n")
+
+
+@check
+def writers_of_three_hosts_in_two_runs_are_one_file(trial):
+    first = "actor a 9\nactor b 41\na open f\nb open f\na write 0 text:AAAA\nb write 2 text:BBBB\na close\nb close\n"
+    trial.ends(0, first)
+    second = "actor c 10\nactor r\nc open f\nc write 5 text:CC\nc sync\nr ropen f 3\nr read 0 9\n"
+    told = "3 open 8589934593\n4 wrote 5 2 STAMP\n5 synced 1\n"
+    cut = "4294967297:1,4294967298:1,8589934593:1"
+    trial.ends(0, second, lines=told + f"6 reader 7 cut {cut} trunc -\n7 read 0 41414242424343\n")
+    logs = sorted(path.removeprefix("f/") for path in listed(trial.root) if "/log." in path)
+    same("the logs", logs, ["hostdir.10/log.10.8589934593", "hostdir.9/log.41.4294967298", "hostdir.9/log.9.4294967297"])
+
+
+@check
+def a_file_in_the_place_of_a_container_is_a_fault_and_stays(trial):
+    (trial.root / "f").write_text("mine")
+    refused = "".join(f"{number} refused not-open\n" for number in (3, 4, 5))
+    trial.ends(4, BACK, lines=f"2 fault\n{refused}6 refused no-file\n7 refused not-open\n")
+    same("the file", (trial.root / "f").read_text(), "mine")
+    same("the names in ROOT", sorted(it.name for it in trial.root.iterdir()), [".plfs", "f"])
+
+
+@check
+def a_root_under_a_file_is_a_fault(trial):
+    (trial.folder / "file").write_text("mine")
+    trial.ends(4, WORK, trial.folder / "file" / "store", lines="0 fault\n")
+    same("the file", (trial.folder / "file").read_text(), "mine")
 
 
 @check

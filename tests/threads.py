@@ -52,6 +52,17 @@ def where_no_thread_can_be_started_a_run_has_the_same_lines(trial):
 
 
 @check
+def a_file_is_opened_alike_by_one_worker_and_by_many(trial):
+    trial.ends(0, "", words=("gen", "2"))
+    opened = {(word, workers): trial.ends(0, f"actor r\nr ropen gen2 {workers}\nr map\n", words=(word,)).out
+              for word in ("play", "run") for workers in (1, 3, 16)}
+    lines = opened["play", 1].splitlines()
+    same("the reader's line", lines[0], "2 reader 3008512 cut 4294967297:32,4294967298:32 trunc -")
+    same("how many pieces are listed", len(lines[1].split()), 2 + 64)
+    same("the openings that have other lines", [it for it, out in opened.items() if out != opened["play", 1]], [])
+
+
+@check
 def who_is_stopped_on_a_thread_stops_alone(trial):
     stopped = "actor a\nactor b\na open f\nb open f\nphase\na stop 1 2\na write 0 text:lost\nb write 0 text:hello\na close\nb close\n"
     ended = trial.ends(0, stopped, words=("run",))
