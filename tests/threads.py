@@ -51,6 +51,33 @@ def where_no_thread_can_be_started_a_run_has_the_same_lines(trial):
     same("what is read back", ended.out.splitlines()[-1], f"3 read 0 {written(4).hex()}")
 
 
+def overlapping(name):
+    """A script of two writers that overlap and a reader with two workers: two calls in each phase, of which either may come first."""
+    phases = (
+        (f"w1 open {name}", f"w2 open {name}"),
+        ("w1 write 0 text:AAAA", "w2 write 1 text:BB"),
+        ("w1 close", "w2 close"),
+        (f"w1 ropen {name} 2", "w1 read 0 4", "w1 map"),
+    )
+    return "actor w1\nactor w2\n" + "".join("phase\n" + "".join(f"{line}\n" for line in phase) for phase in phases)
+
+
+@check
+def a_reader_with_two_workers_reads_what_the_printed_stamps_and_writers_say(trial):
+    for turn in range(8):
+        out, err = trial.start(overlapping(f"f{turn}"), words=("run",)).communicate(timeout=SECONDS)
+        same("standard error", err, b"")
+        told = [line.split()[1:] for line in out.decode().splitlines()]
+        first, second = ((int(wrote[3]), int(opened[1])) for opened, wrote in zip(told[:2], told[2:4]))
+        ids = sorted(writer for _, writer in (first, second))
+        same("the line of the reader", told[6], f"reader 4 cut {ids[0]}:1,{ids[1]}:1 trunc -".split())
+        (stamp, writer), (other, beside) = first, second
+        over = [f"0+1={stamp}.{writer}@0", f"1+2={other}.{beside}@0", f"3+1={stamp}.{writer}@3"]
+        is_over = second > first
+        same("what is read", told[7], ["read", "0", "41424241" if is_over else "41414141"])
+        same("what is mapped", told[8], ["map", *(over if is_over else [f"0+4={stamp}.{writer}@0"])])
+
+
 @check
 def a_file_is_opened_alike_by_one_worker_and_by_many(trial):
     trial.ends(0, "", words=("gen", "2"))
