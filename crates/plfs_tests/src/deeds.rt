@@ -1,11 +1,11 @@
 //! What is done to one store after the other: runs, and changes from outside.
 use crate::runs::{Setup, ends, playing, run_on};
-use plfs_types::Name;
+use plfs_types::{Name, NoMemory, Path};
 use std::alloc::Global;
 use std::process::Abort;
 use std::test::Fail;
 use store_api::{Answer, Step, Store};
-use store_memory::{Fail as Planned, FailList, MemoryStore};
+use store_memory::{Fail as Planned, FailList, Keep, KeepList, MemoryStore};
 
 /// What is done to a store. Rooms have their numbers, folders and files their names.
 #[derive(Clone, Copy)]
@@ -21,6 +21,8 @@ pub(crate) enum Deed {
     Put(u64, &'static str, &'static str, u64, &'static [u8]),
     /// The file has its first bytes alone.
     Cut(u64, &'static str, &'static str, u64),
+    /// The power is lost. Of this file so many bytes more are left than are kept.
+    Loss(u64, &'static str, &'static str, u64),
     /// The file has these bytes, as is seen.
     Has(u64, &'static str, &'static str, &'static [u8]),
 }
@@ -32,10 +34,10 @@ fn name(text: &str) -> Name {
     Name::from_bytes(text.as_bytes()).unwrap_or(Name::empty())
 }
 
-// The step of a deed. A run has none of its own.
+// The step of a deed. A run and a loss have none of their own.
 fn step_of(deed: Deed) -> Step<'static> {
     match deed {
-        Deed::Run(..) => Step::Rooms,
+        Deed::Run(..) | Deed::Loss(..) => Step::Rooms,
         Deed::Room(room) => Step::MakeRoom {
             name: name(room),
             folders: &[],
@@ -125,6 +127,23 @@ fn act(rt: &impl Abort, store: &mut MemoryStore, deed: Deed) -> Result<(), Fail>
     Ok(())
 }
 
+fn lost(
+    alloc: Global,
+    store: MemoryStore,
+    room: u64,
+    folder: &str,
+    file: &str,
+    extra: u64,
+) -> Result<MemoryStore, NoMemory> {
+    let path = Path {
+        folder: name(folder),
+        file: name(file),
+    };
+    let mut keeps = KeepList::new(alloc);
+    keeps.push(Keep { room, path, extra })?;
+    Ok(store.lose(keeps))
+}
+
 fn planned(alloc: Global, fails: &[(u64, u64)]) -> Result<MemoryStore, Fail> {
     let mut planned = FailList::new(alloc);
     for (act, part) in fails {
@@ -148,6 +167,9 @@ pub(crate) fn play_sessions(
             store = match *deed {
                 Deed::Run(words, script, status, output) => {
                     run(rt, alloc, store, words, script, status, output)?
+                }
+                Deed::Loss(room, folder, file, extra) => {
+                    lost(alloc, store, room, folder, file, extra)?
                 }
                 other => {
                     act(rt, &mut store, other)?;

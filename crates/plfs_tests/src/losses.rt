@@ -1,43 +1,34 @@
 //! Runs after a loss of power.
-use crate::runs::{Setup, ends, playing, run_fresh, run_on};
-use container_layout::hostdir;
-use plfs_types::{Name, Path};
+use crate::deeds::Deed::{Loss, Run};
+use crate::deeds::{Session, play_sessions};
+use crate::runs::{Setup, playing, run_on};
 use std::test::Fail;
-use store_memory::{Keep, KeepList, MemoryStore};
+use store_memory::{KeepList, MemoryStore};
 
-// One entry is synced, a second one is flushed, and the third waits.
-const WRITES: &[u8] =
-    b"actor a 0 1\na open f\na write 0 text:A\na sync\na write 1 text:B\na write 2 text:C\n";
+const LOST: &[Session] = &[(
+    &[],
+    &[
+        // One entry is synced, a second one is flushed, and the third waits.
+        Run(
+            &["play"],
+            "actor a 0 1\na open f\na write 0 text:A\na sync\na write 1 text:B\na write 2 text:C\n",
+            0,
+            "2 open 4294967297\n3 wrote 0 1 10\n4 synced 1\n5 wrote 1 1 11\n6 wrote 2 1 12\n",
+        ),
+        // The second entry stays, and of its log no byte that wasn't synced.
+        Loss(1, "hostdir.0", "index.0.4294967297", 40),
+        Run(
+            &["play"],
+            "actor b\nb ropen f\nb read 0 9\nb recover f\nb stat f\n",
+            0,
+            "2 reader 1 cut 4294967297:1 trunc -\n3 read 0 41\n4 recovered 4294967297:1 alive - hold no\n5 stat 1 1 by 4294967297:1 trunc -\n",
+        ),
+    ],
+)];
 
 #[test]
 fn a_loss_leaves_what_was_synced(rt: HostRuntime) -> Result<(), Fail> {
-    let first = run_fresh(rt.alloc(), playing(WRITES))?;
-    ends(
-        &rt,
-        &first,
-        0,
-        "2 open 4294967297\n3 wrote 0 1 10\n4 synced 1\n5 wrote 1 1 11\n6 wrote 2 1 12\n",
-    );
-    // The second entry stays, and of its log no byte that wasn't synced.
-    let mut keeps = KeepList::new(rt.alloc());
-    keeps.push(Keep {
-        room: 1,
-        path: Path {
-            folder: hostdir(0),
-            file: Name::from_bytes(b"index.0.4294967297").ok_or("a long name")?,
-        },
-        extra: 40,
-    })?;
-    let store = first.store.ok_or("no store")?.lose(keeps);
-    let script = b"actor b\nb ropen f\nb read 0 9\nb recover f\nb stat f\n";
-    let second = run_on(rt.alloc(), store, playing(script))?;
-    ends(
-        &rt,
-        &second,
-        0,
-        "2 reader 1 cut 4294967297:1 trunc -\n3 read 0 41\n4 recovered 4294967297:1 alive - hold no\n5 stat 1 1 by 4294967297:1 trunc -\n",
-    );
-    Ok(())
+    play_sessions(&rt, rt.alloc(), LOST)
 }
 
 // Three acts of the mounting, six to open, one to write, three to sync, four to close, and nine of the reader.

@@ -5,7 +5,6 @@ use plfs_types::{Bytes, NoMemory, Word};
 use std::alloc::Global;
 use std::process::Abort;
 use std::sync::Wait;
-use std::test::Fail;
 use std::thread::Threads;
 use store_api::Store;
 use store_memory::{FailList, MemoryStore};
@@ -123,17 +122,4 @@ pub(crate) fn run_with_threads<R: Threads + Wait + Sync>(
 pub(crate) fn ends<S: Drop>(rt: &impl Abort, run: &Run<S>, status: u8, output: &str) {
     assert_eq!(rt; run.status, status);
     assert_eq!(rt; run.output.as_slice(), output.as_bytes());
-}
-
-/// A script of the one actor, after its declaration, ends so at the time 10.
-pub(crate) fn plays(
-    rt: &impl Abort,
-    alloc: Global,
-    script: &str,
-    status: u8,
-    output: &str,
-) -> Result<(), Fail> {
-    let run = run_fresh(alloc, playing(script.as_bytes()))?;
-    ends(rt, &run, status, output);
-    Ok(())
 }
