@@ -1,4 +1,4 @@
-//! What is done to one store after the other: runs, and changes from outside.
+//! What is done to one store, one thing after the other: runs, and changes from outside.
 use crate::runs::{Setup, ends, playing, run_on};
 use plfs_types::{Name, NoMemory, Path};
 use std::alloc::Global;
