@@ -67,7 +67,7 @@ migrated_as : (name : List ℕ) (e : Ends) (start end : State) (after : Stored) 
 migrated_as name e start end after ended is made left m = record {
   after = after;
   left = is;
-  came = mounted ended (record { start = start; end = end; mounted = made; made = m.made; left = sym left; packed = λ told. m.packed (mounted_clean e.times e.stored start made told) }) refl;
+  came = mounted ended (record { start = start; end = end; mounted = made; made = m.made.made; left = sym left; packed = λ told. m.made.shows (mounted_clean e.times e.stored start made told) }) refl;
   cause = λ bad.
       let R : Stored → Type 0 = λ s. HasRisen e.stored.faults s.faults in
       subst R (sym left) (risen_since e.stored.faults start.store.faults end.store.faults (mounting_keeps e.times e.stored start made) (m.cause (ended_in_fault ended bad)));

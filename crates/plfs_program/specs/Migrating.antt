@@ -12,10 +12,11 @@ use Rattle.mount_model.specs.declared.trouble.MountTrouble.{MountTrouble}
 use Rattle.mount_sound.specs.Sound.{IsClean}
 use Rattle.migrate_core.specs.declared.migrated.Migrated.{Migrated}
 use Rattle.migrate_core.specs.Migrating.{migrate_program}
-use Rattle.migrate_laws.specs.Packed.{HasMigrated}
+use Rattle.migrate_laws.specs.Migrated.{HasMigrated}
 use Rattle.trouble_laws.specs.Undamaged.{IsUndamaged}
 use Rattle.lone_flow.specs.Driving.{CallsOn, Makes}
 use Rattle.lone_flow.specs.Faults.{IsFault}
+use Rattle.lone_flow.specs.Migrating.{Migrates}
 use Rattle.outcomes.specs.Outcomes.{stuck_outcome}
 use Rattle.script_lang.specs.declared.line.Line.{Line}
 use Rattle.script_lang.specs.declared.line.Outcome.{Outcome}
@@ -62,14 +63,14 @@ is_broken_by test (Err outcome) = test outcome
 -- ---- what was done
 
 -- A mount was made of the store as it was. On it caller 0 by itself greeted and made the calls of a migration of this file, which ended so and led to what is left
--- of the store. Where that told a sound tree, the packed indices that are counted stand, and each is right for the container.
+-- of the store. Where that told a sound tree, these calls packed the container of the name and left no writer out, and what is counted is right.
 pub record IsMigratedOn (times : Option (List ℕ)) (before : Stored) (name : List ℕ) (ended : Result Migrated Stuck) (after : Stored) : Type 0 where
   pub start : State
   pub end : State
   pub mounted : IsMounted 0 times before start
   pub made : Makes (migrate_program name) start ended end
   pub left : end.store ≡ after
-  pub packed : TellsSoundTree before → IfOk ended (λ out. HasMigrated out end)
+  pub packed : TellsSoundTree before → IfOk ended (λ out. HasMigrated 0 name start made.events out)
 
 -- The mounting broke off, of which that is said; or it was migrated, and that is said of how it ended.
 pub data IsSaidOf (times : Option (List ℕ)) (before after : Stored) (name : List ℕ) (said : Said) : Type 0 where
@@ -94,10 +95,9 @@ pub data MigrateCourse (name : List ℕ) (e : Ends) (status : ℕ) : Type 0 wher
 
 -- a migration from one state to the other ended so
 pub record IsMigration (name : List ℕ) (start : State) (ended : Result Migrated Stuck) (end : State) : Type 0 where
-  pub made : Makes (migrate_program name) start ended end
+  pub made : Migrates name start ended end
   pub cause : IsFault ended → HasRisen start.store.faults end.store.faults
   pub undamaged : IsClean start → IsUndamaged ended
-  pub packed : IsClean start → IfOk ended (λ out. HasMigrated out end)
 
 -- the text was printed, with this status; or it was cut off; or memory was refused before
 abbrev pub IsReported : List ℕ → ℕ → Taking → Taking → ℕ → Type 0

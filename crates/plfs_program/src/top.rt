@@ -291,8 +291,8 @@ fn follow<S: Store + Drop, C: Clock + Drop, I: Source, O: Sink>(
 /// with it, and `marks_decide` that its answers exclude each other.
 ///
 /// Where the store told a sound tree, the lines of each reader of the play are those of one plain file, which `cat` writes,
-/// or a front of it; no line tells of damage, and the status is not 7; the packed indices that `migrate` counts stand and are
-/// right; and a sound tree is left.
+/// or a front of it; no line tells of damage, and the status is not 7; `migrate` leaves no closed writer out, but those whose
+/// entries are too many, and its counts are right; and a sound tree is left.
 /// Where moreover the words are a command's, the script has no fault, no count of the source, the sink or the store has
 /// risen and the sink took something of each piece, the status is 0, 1 or 3.
 pub fn single<S: Store + Drop, C: Clock + Drop, I: Source, O: Sink>(
