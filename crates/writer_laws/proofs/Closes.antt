@@ -27,11 +27,11 @@ use Rattle.writer_laws.proofs.Own.{put_meta_own, exit_own}
 use Rattle.writer_laws.proofs.Machines.{reached, finished, sync_ends}
 
 -- what is lawful in two parts, one after the other
-lawful_first : (start : State) (first rest : List Event) → IsLawful start (first ++ rest) → IsLawful start first
+pub lawful_first : (start : State) (first rest : List Event) → IsLawful start (first ++ rest) → IsLawful start first
 lawful_first start [] rest l = tt
 lawful_first start (event ∷ first) rest l = (l.0, l.1, lawful_first event.after first rest l.2)
 
-lawful_rest : (start : State) (first rest : List Event) → IsLawful start (first ++ rest) → IsLawful (state_after start first) rest
+pub lawful_rest : (start : State) (first rest : List Event) → IsLawful start (first ++ rest) → IsLawful (state_after start first) rest
 lawful_rest start [] rest l = l
 lawful_rest start (event ∷ first) rest l = lawful_rest event.after first rest l.2
 

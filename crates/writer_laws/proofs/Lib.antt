@@ -1,3 +1,4 @@
+pub mod Facts
 mod Rows
 mod Steps
 mod Own
@@ -10,3 +11,6 @@ mod Counts
 mod Regulars
 mod Waits
 mod Surviving
+mod Telling
+mod Leavings
+mod Enterings

@@ -55,18 +55,19 @@ not_refused : (why : Refusal) (w : ℕ) (rep : Reply) → rep ≡ reply.Refused 
 not_refused why w rep e f = cc
 
 -- a caller has entered: the writer is its own, and has no entries
-pub record EnteredOwn (me w : ℕ) (new : State) : Type 0 where
+pub record EnteredOwn (me w room host : ℕ) (new : State) : Type 0 where
   pub row : Row
   pub has : HasRow me w row new
   pub none : entry_count row ≡ 0
+  pub placed : (row.room ≡ room) × (row.host ≡ host)
 
-pub enter_own : (me room host most w : ℕ) (old : State) (rep : Reply) (new : State) → IsRegular old → Answers old me (call.Enter room host most) rep new → rep ≡ reply.Entered w → EnteredOwn me w new
-enter_own me room host most w old rep new regular a said = elim (unless_refused (draw_check old room) old rep new (EntersAs me room host most old rep new) a) as (λ _. EnteredOwn me w new) [
+pub enter_own : (me room host most w : ℕ) (old : State) (rep : Reply) (new : State) → IsRegular old → Answers old me (call.Enter room host most) rep new → rep ≡ reply.Entered w → EnteredOwn me w room host new
+enter_own me room host most w old rep new regular a said = elim (unless_refused (draw_check old room) old rep new (EntersAs me room host most old rep new) a) as (λ _. EnteredOwn me w room host new) [
   | inl (why, refused) ↦ let f = refused.0 in absurd (not_refused why w rep f said)
   | inr f ↦
       let mine : Row = entered old me room host most in
       let t : new.table ≡ (enter_outcome mine old.table f.makes.told).table = ap (λ (s : State). s.table) f.makes.after in
-      elim (enter_table mine old.table f.makes.told) as (λ _. EnteredOwn me w new) [
+      elim (enter_table mine old.table f.makes.told) as (λ _. EnteredOwn me w room host new) [
         | inl (told, is) ↦
             let rows : new.table.writers ≡ old.table.writers ++ mine ∷ [] = ap (λ (s : Table). s.writers) t ∙ is in
             let number : next_id old ≡ w = entered_number (next_id old) w rep (f.makes.answered ∙ told) said in
@@ -75,6 +76,7 @@ enter_own me room host most w old rep new regular a said = elim (unless_refused 
               row = mine;
               has = record { there = subst (λ rs. row_of w rs ≡ Some mine) (sym rows) (subst (λ i. row_of i (old.table.writers ++ mine ∷ []) ≡ Some mine) number at); owned = refl };
               none = refl;
+              placed = (refl, refl);
             }
         | inr (never, is) ↦ absurd (never w (sym f.makes.answered ∙ said))
       ]

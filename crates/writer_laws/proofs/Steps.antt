@@ -34,12 +34,21 @@ use Rattle.writer_laws.specs.Knowing.{HasRow}
 use Rattle.writer_laws.specs.Waiting.{IsOn}
 use Rattle.writer_laws.proofs.Rows.{row_of_id, row_of_other-with_row, row_of-put, row_of_other-without_row, row_of-added, held_row, match_cases, some_eq}
 
+-- whose row it is, and where its entries go
+abbrev place_of : Row → ℕ × (ℕ × ℕ)
+place_of row = (row.owner, (row.room, row.host))
+
+-- their entries go to one place
+abbrev pub AtOnePlace : Row → Row → Type 0
+AtOnePlace row other = (row.room ≡ other.room) × (row.host ≡ other.host)
+
 -- the writer's row after a call, which is on the writer where `on` holds: so many entries more, and the very row where it
 -- isn't its caller's call on it
 pub record Kept (me w : ℕ) (row : Row) (caller told : ℕ) (on : Type 0) (new : State) : Type 0 where
   pub after : Row
   pub has : HasRow me w after new
   pub total : entry_count after ≡ entry_count row + told
+  pub placed : AtOnePlace after row
   pub spared : (caller ≡ me → on → ⊥) → after ≡ row
 
 -- the table's writers are as they were
@@ -48,6 +57,7 @@ kept_writers me w row caller told old new h e t = record {
   after = row;
   has = record { there = subst (λ rows. row_of w rows ≡ Some row) (sym e) h.there; owned = h.owned };
   total = omega arith;
+  placed = (refl, refl);
   spared = λ apart. refl;
 }
 
@@ -56,9 +66,9 @@ pub kept_same : {on : Type 0} (me w : ℕ) (row : Row) (caller told : ℕ) (old 
 kept_same me w row caller told old new h e t = kept_writers me w row caller told old new h (ap (λ (s : Table). s.writers) e) t
 
 -- a row was put in place of the caller's writer's
-pub kept_put : (me w : ℕ) (row : Row) (caller told : ℕ) (old new : State) (stages : Stage → Bool) (id : ℕ) (r x : Row) → HasRow me w row old → writer_of caller stages id old.table.writers ≡ Some r → x.id ≡ r.id → x.owner ≡ r.owner → new.table ≡ put x old.table
+pub kept_put : (me w : ℕ) (row : Row) (caller told : ℕ) (old new : State) (stages : Stage → Bool) (id : ℕ) (r x : Row) → HasRow me w row old → writer_of caller stages id old.table.writers ≡ Some r → x.id ≡ r.id → place_of x ≡ place_of r → new.table ≡ put x old.table
     → (id ≡ w → entry_count x ≡ entry_count r + told) → (id ≢ w → told ≡ 0) → Kept me w row caller told (id ≡ w) new
-kept_put me w row caller told old new stages id r x h e same_id same_owner t own other =
+kept_put me w row caller told old new stages id r x h e same_id same_place t own other =
     let f = held_row caller stages (row_of id old.table.writers) r e in
     let x_id : x.id ≡ id = same_id ∙ row_of_id id old.table.writers r f.0 in
     let rows : new.table.writers ≡ with_row x old.table.writers = ap (λ (s : Table). s.writers) t in
@@ -70,14 +80,16 @@ kept_put me w row caller told old new stages id r x h e same_id same_owner t own
           let mine : r.owner ≡ me = subst (λ (y : Row). y.owner ≡ me) (sym same) h.owned in
           record {
             after = x;
-            has = record { there = stands; owned = same_owner ∙ mine };
+            has = record { there = stands; owned = ap (λ (p : ℕ × (ℕ × ℕ)). p.0) same_place ∙ mine };
             total = own is ∙ ap (λ (y : Row). entry_count y + told) same;
+            placed = (ap (λ (p : ℕ × (ℕ × ℕ)). p.1.0) same_place ∙ ap (λ (y : Row). y.room) same, ap (λ (p : ℕ × (ℕ × ℕ)). p.1.1) same_place ∙ ap (λ (y : Row). y.host) same);
             spared = λ apart. absurd (apart (sym f.1 ∙ mine) is);
           }
       | inr away ↦ record {
         after = row;
         has = record { there = subst (λ rs. row_of w rs ≡ Some row) (sym rows) (row_of_other-with_row x old.table.writers w (λ s. away (sym (s ∙ x_id))) ∙ h.there); owned = h.owned };
         total = let none : told ≡ 0 = other away in omega arith;
+        placed = (refl, refl);
         spared = λ apart. refl;
       }
     ]
@@ -150,9 +162,9 @@ exit_table row table told = inr (inr refl)
 
 -- ---- calls
 
-kept_plain : (me w : ℕ) (row : Row) (caller : ℕ) (old new : State) (stages : Stage → Bool) (id : ℕ) (r x : Row) → HasRow me w row old → writer_of caller stages id old.table.writers ≡ Some r → x.id ≡ r.id → x.owner ≡ r.owner → entry_count x ≡ entry_count r → (new.table ≡ put x old.table) ⊎ (new.table ≡ old.table) → Kept me w row caller 0 (id ≡ w) new
-kept_plain me w row caller old new stages id r x h e same_id same_owner same_entries turned = elim turned as (λ _. Kept me w row caller 0 (id ≡ w) new) [
-  | inl t ↦ kept_put me w row caller 0 old new stages id r x h e same_id same_owner t (λ is. omega arith) (λ away. refl)
+kept_plain : (me w : ℕ) (row : Row) (caller : ℕ) (old new : State) (stages : Stage → Bool) (id : ℕ) (r x : Row) → HasRow me w row old → writer_of caller stages id old.table.writers ≡ Some r → x.id ≡ r.id → place_of x ≡ place_of r → entry_count x ≡ entry_count r → (new.table ≡ put x old.table) ⊎ (new.table ≡ old.table) → Kept me w row caller 0 (id ≡ w) new
+kept_plain me w row caller old new stages id r x h e same_id same_place same_entries turned = elim turned as (λ _. Kept me w row caller 0 (id ≡ w) new) [
+  | inl t ↦ kept_put me w row caller 0 old new stages id r x h e same_id same_place t (λ is. omega arith) (λ away. refl)
   | inr t ↦ kept_same me w row caller 0 old new h t refl
 ]
 
@@ -243,6 +255,7 @@ exits_row_kept me w row caller id old rep new r step h e m stays =
             after = row;
             has = record { there = subst (λ rs. row_of w rs ≡ Some row) (sym rows) (row_of_other-without_row r.id old.table.writers w (λ s. away (sym (s ∙ r_id))) ∙ h.there); owned = h.owned };
             total = omega arith;
+            placed = (refl, refl);
             spared = λ apart. refl;
           }
       | inr rest ↦ elim rest as (λ _. Kept me w row caller 0 (id ≡ w) new) [
@@ -262,6 +275,7 @@ enters_kept me w row caller room host most old rep new h f =
             after = row;
             has = record { there = subst (λ rs. row_of w rs ≡ Some row) (sym rows) (row_of-added w old.table.writers mine row h.there); owned = h.owned };
             total = omega arith;
+            placed = (refl, refl);
             spared = λ apart. refl;
           }
       | inr (said, is) ↦ kept_same me w row caller 0 old new h (t ∙ is) refl

@@ -1,12 +1,14 @@
 -- A call that is broken off takes no writer out of the table, and issues nothing.
 use Rattle.std.proofs.Common.{◌≡◌, ℕ, ◌+◌, List, [], ◌∷◌, map, true, false, nat_eq, Some, None, refl, sym, ap, ◌∙◌, ◌⊎◌, inl, inr, subst, arith, Ok, Err, if◌then◌else◌}
 use Rattle.std.proofs.lemmas.Bool.Decides.{nat_tests}
+use mathlib.Core.Logic.{dite}
+use native.Mathlib.Decide.{ℕ_discrete}
 use Rattle.store_api.specs.declared.store.Trouble.TheVariants as trouble
 use Rattle.mount_model.specs.declared.call.Ask.{Ask}
 use Rattle.mount_model.specs.declared.call.Call.{Call}
 use Rattle.mount_model.specs.declared.call.Call.TheVariants as call
 use Rattle.mount_model.specs.declared.reply.Reply.{Reply}
-use Rattle.mount_model.specs.declared.reply.Reply.TheVariants.{Stopped, NoMemory}
+use Rattle.mount_model.specs.declared.reply.Reply.TheVariants.{Done, Stopped, NoMemory}
 use Rattle.mount_model.specs.declared.row.Row.{Row}
 use Rattle.mount_model.specs.declared.row.Stage.TheVariants as stage
 use Rattle.mount_model.specs.Table.{row_of, at_stage}
@@ -17,8 +19,8 @@ use Rattle.mount_model.specs.Step.{Answers, IsStep}
 use Rattle.mount_model.proofs.Facts.{begun_table, step_cases, stop_replies}
 use Rattle.writer_laws.specs.Counting.{wrote_count, wrote_by, entry_count, StaysInAt}
 use Rattle.writer_laws.specs.Knowing.{HasRow}
-use Rattle.writer_laws.specs.Waiting.{LeavesAlone}
-use Rattle.writer_laws.proofs.Steps.{step_kept}
+use Rattle.writer_laws.specs.Waiting.{IsOn, LeavesAlone}
+use Rattle.writer_laws.proofs.Steps.{AtOnePlace, step_kept}
 use Rattle.writer_laws.proofs.Own.{stays_spared}
 
 -- ---- a call that is not broken off
@@ -59,6 +61,9 @@ ended_owner caller row = elim (nat_eq row.owner caller) as (λ b. (if b then at_
 ended_entries : (caller : ℕ) (row : Row) → entry_count (row_ended caller row) ≡ entry_count row
 ended_entries caller row = elim (nat_eq row.owner caller) as (λ b. entry_count (if b then at_stage stage.Dead row else row) ≡ entry_count row) [ true ↦ refl | false ↦ refl ]
 
+ended_place : (caller : ℕ) (row : Row) → AtOnePlace (row_ended caller row) row
+ended_place caller row = elim (nat_eq row.owner caller) as (λ b. AtOnePlace (if b then at_stage stage.Dead row else row) row) [ true ↦ (refl, refl) | false ↦ (refl, refl) ]
+
 others_stay : (caller me : ℕ) (row : Row) → row.owner ≡ me → (caller ≡ me → ⊥) → row_ended caller row ≡ row
 others_stay caller me row owned other =
     let differ : row.owner ≡ caller → ⊥ = λ e. other (sym e ∙ owned) in
@@ -79,6 +84,7 @@ pub record StepKept (me w : ℕ) (row : Row) (caller : ℕ) (ask : Ask) (reply :
   pub after : Row
   pub has : HasRow me w after new
   pub total : entry_count after ≡ entry_count row + wrote_by w ask.call reply
+  pub placed : AtOnePlace after row
   pub spared : (caller ≡ me → LeavesAlone w ask) → after ≡ row
 
 stop_kept : (me w : ℕ) (row : Row) (old : State) (caller k : ℕ) (ask : Ask) (reply : Reply) (new : State) → HasRow me w row old → ask.stop ≡ Some k → Stops caller k ask.call old reply new → StepKept me w row caller ask reply new
@@ -89,6 +95,7 @@ stop_kept me w row old caller k ask reply new h some x =
         after = row;
         has = record { there = subst (λ (t : Table). row_of w t.writers ≡ Some row) (sym same) h.there; owned = h.owned };
         total = omega (arith, nothing);
+        placed = (refl, refl);
         spared = λ spares. refl;
       }
       | inr without ↦ record {
@@ -98,6 +105,7 @@ stop_kept me w row old caller k ask reply new h some x =
           owned = ended_owner caller row ∙ h.owned;
         };
         total = omega (arith, nothing, ended_entries caller row);
+        placed = ended_place caller row;
         spared = λ spares. others_stay caller me row h.owned (λ mine. let both : None ≡ Some k = sym (spares mine).0 ∙ some in cc);
       }
     ]
@@ -105,7 +113,7 @@ stop_kept me w row old caller k ask reply new h some x =
 whole_kept : (me w : ℕ) (row : Row) (old : State) (caller : ℕ) (ask : Ask) (reply : Reply) (new : State) → HasRow me w row old → Answers old caller ask.call reply new → StaysInAt w ask.call reply → StepKept me w row caller ask reply new
 whole_kept me w row old caller ask reply new h a s =
     let k = step_kept me w row old caller ask.call reply new h a s in
-    record { after = k.after; has = k.has; total = k.total; spared = λ spares. k.spared (λ mine. (spares mine).1) }
+    record { after = k.after; has = k.has; total = k.total; placed = k.placed; spared = λ spares. k.spared (λ mine. (spares mine).1) }
 
 -- Whoever calls what, broken off or not, where it takes not this writer out.
 pub any_kept : (me w : ℕ) (row : Row) (old : State) (caller : ℕ) (ask : Ask) (reply : Reply) (new : State) → HasRow me w row old → IsStep old caller ask reply new → StaysInAt w ask.call reply → StepKept me w row caller ask reply new
@@ -113,10 +121,23 @@ any_kept me w row old caller ask reply new h step s = step_cases old caller ask 
     (λ none a. whole_kept me w row old caller ask reply new h a s)
     (λ k some x. stop_kept me w row old caller k ask reply new h some x)
 
--- The caller's writer is as before after each step in which its caller lets it be.
+-- Where its caller doesn't take it out, nobody does.
+pub own_kept : (me w : ℕ) (row : Row) (old : State) (caller : ℕ) (ask : Ask) (reply : Reply) (new : State) → (caller ≡ me → StaysInAt w ask.call reply) → HasRow me w row old → IsStep old caller ask reply new → StepKept me w row caller ask reply new
+own_kept me w row old caller ask reply new stays h step = step_cases old caller ask reply new (StepKept me w row caller ask reply new) step
+    (λ none a. whole_kept me w row old caller ask reply new h a (dite (ℕ_discrete caller me) stays (λ other. stays_spared me w row old caller ask.call reply new (λ mine. absurd (other mine)) h a)))
+    (λ n some x. stop_kept me w row old caller n ask reply new h some x)
+
+not_on_stays : (w : ℕ) (c : Call) (reply : Reply) → (IsOn w c → ⊥) → StaysInAt w c reply
+not_on_stays w (call.Exit id) Done apart = apart
+not_on_stays w (call.Exit id) rep apart = tt
+not_on_stays w c rep apart = tt
+
+-- The caller's writer is as before after each step in which its caller lets it be, and no write of it was answered.
+pub spared_kept : (me w : ℕ) (row : Row) (old : State) (caller : ℕ) (ask : Ask) (reply : Reply) (new : State) → (caller ≡ me → LeavesAlone w ask) → HasRow me w row old → IsStep old caller ask reply new → HasRow me w row new × (wrote_by w ask.call reply ≡ 0)
+spared_kept me w row old caller ask reply new spares h step =
+    let k = own_kept me w row old caller ask reply new (λ mine. not_on_stays w ask.call reply (spares mine).1) h step in
+    let same : k.after ≡ row = k.spared spares in
+    (subst (λ (r : Row). HasRow me w r new) same k.has, omega (arith, k.total, ap (λ (r : Row). entry_count r) same))
+
 pub spared_row : (me w : ℕ) (row : Row) (old : State) (caller : ℕ) (ask : Ask) (reply : Reply) (new : State) → (caller ≡ me → LeavesAlone w ask) → HasRow me w row old → IsStep old caller ask reply new → HasRow me w row new
-spared_row me w row old caller ask reply new spares h step =
-    let k : StepKept me w row caller ask reply new = step_cases old caller ask reply new (StepKept me w row caller ask reply new) step
-    (λ none a. whole_kept me w row old caller ask reply new h a (stays_spared me w row old caller ask.call reply new (λ mine. (spares mine).1) h a))
-    (λ n some x. stop_kept me w row old caller n ask reply new h some x) in
-    subst (λ (r : Row). HasRow me w r new) (k.spared spares) k.has
+spared_row me w row old caller ask reply new spares h step = (spared_kept me w row old caller ask reply new spares h step).0
