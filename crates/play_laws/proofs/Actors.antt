@@ -20,12 +20,15 @@ use Rattle.script_lang.specs.Ranges.{FitsStatement}
 use Rattle.gathering.specs.Moments.{Moment, IsSoundAt, moment_after}
 use Rattle.actor_core.specs.declared.kept.Kept.{Kept}
 use Rattle.actor_core.specs.Progress.{line_of}
+use Rattle.actor_core.specs.Statements.{work_of}
 use Rattle.run_core.specs.Cast.{statements_in}
 use Rattle.run_core.specs.Course.{Course, one_by_one, own, through}
 use Rattle.play_laws.specs.OneFile.{OneFile}
 use Rattle.play_laws.specs.Opening.{Stretch}
 use Rattle.play_laws.specs.Readers.{ShowsEach}
-use Rattle.play_laws.proofs.Carrying.{behind}
+use Rattle.play_laws.specs.Writing.{OneWriter}
+use Rattle.play_laws.proofs.Carrying.{behind, same_course}
+use Rattle.play_laws.proofs.OneWriters.{KeepsWriter}
 use Rattle.play_laws.proofs.Opened.{Keeps}
 use Rattle.play_laws.proofs.Standing.{AllOf, Next, all_of_later, keeps_first, next_first, next_is, next_rest}
 use Rattle.play_laws.proofs.Statements.{Showed, statement_ends}
@@ -40,7 +43,7 @@ module _ (start : Moment) (sound : IsSoundAt start) (n : ℕ) where
   From before events = record { before = before; events = events }
 
   -- The caller made these statements in the first events of a part, with these lines, and goes on behind them.
-  record MadeSome (before : List Event) (old : Option OneFile) (statements : List Numbered) (next : Kept → Course) (part : List Event) (ws : List (List Event)) (lines : List Line) (left : Course) : Type 0 where
+  record MadeSome (before : List Event) (old : Option OneFile) (writer : Option OneWriter) (statements : List Numbered) (next : Kept → Course) (part : List Event) (ws : List (List Event)) (lines : List Line) (left : Course) : Type 0 where
     pub mine : List Event
     pub rest : List Event
     pub spent : List (List Event)
@@ -49,16 +52,18 @@ module _ (start : Moment) (sound : IsSoundAt start) (n : ℕ) where
     pub more : List Line
     pub kept : Kept
     pub new : Option OneFile
+    pub new_writer : Option OneWriter
     pub all : part ≡ mine ++ rest
     pub are : ws ≡ spent ++ others
     pub lines_are : lines ≡ told ++ more
     pub keeps : Keeps (moment_after start (before ++ mine)) kept.reader new
+    pub keeps_writer : KeepsWriter n (before ++ mine) (moment_after start (before ++ mine)).state kept new_writer
     pub goes_on : Plays n (next kept) rest others more left
-    pub shows : (later : List Event) (ss : List Numbered) (ls : List Line) → ShowsEach start n (From (before ++ mine) later) new ss ls → ShowsEach start n (From before (mine ++ later)) old (statements ++ ss) (told ++ ls)
+    pub shows : (later : List Event) (ss : List Numbered) (ls : List Line) → ShowsEach start n (From (before ++ mine) later) new new_writer ss ls → ShowsEach start n (From before (mine ++ later)) old writer (statements ++ ss) (told ++ ls)
 
-  made_some : (statements : List Numbered) (next : Kept → Course) (kept : Kept) (before part : List Event) (old : Option OneFile) (ws : List (List Event)) (lines : List Line) (left : Course) → AllFit statements → Keeps (moment_after start before) kept.reader old → Next start before part → AllOf before part ws
-      → Plays n (one_by_one statements next kept) part ws lines left → MadeSome before old statements next part ws lines left
-  made_some [] next kept before part old ws lines left fits keeps whole all plays = record {
+  made_some : (statements : List Numbered) (next : Kept → Course) (kept : Kept) (before part : List Event) (old : Option OneFile) (writer : Option OneWriter) (ws : List (List Event)) (lines : List Line) (left : Course) → AllFit statements → Keeps (moment_after start before) kept.reader old → KeepsWriter n before (moment_after start before).state kept writer → Next start before part → AllOf before part ws
+      → Plays n (one_by_one statements next kept) part ws lines left → MadeSome before old writer statements next part ws lines left
+  made_some [] next kept before part old writer ws lines left fits keeps known whole all plays = record {
     mine = [];
     rest = part;
     spent = [];
@@ -67,18 +72,21 @@ module _ (start : Moment) (sound : IsSoundAt start) (n : ℕ) where
     more = lines;
     kept = kept;
     new = old;
+    new_writer = writer;
     all = refl;
     are = refl;
     lines_are = refl;
     keeps = subst (λ es. Keeps (moment_after start es) kept.reader old) (sym (append-nil before)) keeps;
+    keeps_writer = subst (λ es. KeepsWriter n es (moment_after start es).state kept writer) (sym (append-nil before)) known;
     goes_on = plays;
-    shows = λ later ss ls shown. subst (λ es. ShowsEach start n (From es later) old ss ls) (append-nil before) shown;
+    shows = λ later ss ls shown. subst (λ es. ShowsEach start n (From es later) old writer ss ls) (append-nil before) shown;
   }
-  made_some (s ∷ statements) next kept before part old ws lines left fits keeps whole all plays =
-      let e = statement_ends start sound n s.line (λ later. one_by_one statements next later) before kept s.statement old part ws lines left fits.0 keeps whole all plays in
-      let g : Showed start n before old s.statement e.mine e.ending = e.good in
+  made_some (s ∷ statements) next kept before part old writer ws lines left fits keeps known whole all plays =
+      let later : Kept → Course = λ left_kept. one_by_one statements next left_kept in
+      let e = statement_ends start sound n (λ ending. line_of s.line ending) later before kept s.statement old writer part ws lines left fits.0 keeps known whole all (subst (λ q. Plays n q part ws lines left) (same_course s.line later (work_of kept s.statement)) plays) in
+      let g : Showed start n before old writer s.statement e.mine e.ending = e.good in
       let next_ones : Next start (before ++ e.mine) e.rest = next_rest start before e.mine e.rest (next_is start before part (e.mine ++ e.rest) e.all whole) in
-      let r = made_some statements next e.ending.kept (before ++ e.mine) e.rest g.0 e.others e.more left fits.1 g.2 next_ones (all_of_later before part e.mine e.rest ws e.spent e.others e.all e.are all) e.goes_on in
+      let r = made_some statements next e.ending.kept (before ++ e.mine) e.rest g.new g.new_writer e.others e.more left fits.1 g.keeps g.keeps_writer next_ones (all_of_later before part e.mine e.rest ws e.spent e.others e.all e.are all) e.goes_on in
       let one : Line = line_of s.line e.ending in
       record {
         mine = e.mine ++ r.mine;
@@ -89,19 +97,23 @@ module _ (start : Moment) (sound : IsSoundAt start) (n : ℕ) where
         more = r.more;
         kept = r.kept;
         new = r.new;
+        new_writer = r.new_writer;
         all = e.all ∙ ap (λ z. e.mine ++ z) r.all ∙ sym (append_assoc e.mine r.mine r.rest);
         are = e.are ∙ ap (λ z. e.spent ++ z) r.are ∙ sym (append_assoc e.spent r.spent r.others);
         lines_are = e.told ∙ ap (λ z. one ∷ z) r.lines_are;
         keeps = subst (λ es. Keeps (moment_after start es) r.kept.reader r.new) (append_assoc before e.mine r.mine) r.keeps;
+        keeps_writer = subst (λ es. KeepsWriter n es (moment_after start es).state r.kept r.new_writer) (append_assoc before e.mine r.mine) r.keeps_writer;
         goes_on = r.goes_on;
-        shows = λ later ss ls shown. (
+        shows = λ later_events ss ls shown. (
           e.mine,
-          r.mine ++ later,
-          g.0,
-          append_assoc e.mine r.mine later,
+          r.mine ++ later_events,
+          g.new,
+          g.new_writer,
+          append_assoc e.mine r.mine later_events,
           refl,
-          g.1,
-          r.shows later ss ls (subst (λ es. ShowsEach start n (From es later) r.new ss ls) (sym (append_assoc before e.mine r.mine)) shown),
+          g.shows,
+          g.writes,
+          r.shows later_events ss ls (subst (λ es. ShowsEach start n (From es later_events) r.new r.new_writer ss ls) (sym (append_assoc before e.mine r.mine)) shown),
         );
       }
 
@@ -130,40 +142,40 @@ module _ (start : Moment) (sound : IsSoundAt start) (n : ℕ) where
 
   -- what the later phases show, wherever they begin
   abbrev Later : ℕ → List Phase → List (List Event) → Type 0
-  Later actor phases blocks = (kept : Kept) (before idle : List Event) (old : Option OneFile) (ws : List (List Event)) (lines : List Line) → made_by n idle ≡ [] → Keeps (moment_after start before) kept.reader old
+  Later actor phases blocks = (kept : Kept) (before idle : List Event) (old : Option OneFile) (writer : Option OneWriter) (ws : List (List Event)) (lines : List Line) → made_by n idle ≡ [] → Keeps (moment_after start before) kept.reader old → KeepsWriter n before (moment_after start before).state kept writer
       → Next start before (idle ++ one_history blocks) → AllOf before (idle ++ one_history blocks) ws → PlaysAll n (through actor phases kept) blocks ws lines ends
-      → ShowsEach start n (From before (idle ++ one_history blocks)) old (own actor (statements_in phases)) lines
+      → ShowsEach start n (From before (idle ++ one_history blocks)) old writer (own actor (statements_in phases)) lines
 
   -- a phase in its block, and those behind it
-  phase_shows : (actor : ℕ) (phase : Phase) (phases : List Phase) (kept : Kept) (before idle block : List Event) (old : Option OneFile) (blocks these ws later : List (List Event)) (told lines more : List Line) (left : Course) → AllFit (own actor phase.statements) → Later actor phases blocks
-      → Keeps (moment_after start before) kept.reader old → Next start before (idle ++ (block ++ one_history blocks)) → AllOf before (idle ++ (block ++ one_history blocks)) ws → ws ≡ these ++ later → lines ≡ told ++ more
+  phase_shows : (actor : ℕ) (phase : Phase) (phases : List Phase) (kept : Kept) (before idle block : List Event) (old : Option OneFile) (writer : Option OneWriter) (blocks these ws later : List (List Event)) (told lines more : List Line) (left : Course) → AllFit (own actor phase.statements) → Later actor phases blocks
+      → Keeps (moment_after start before) kept.reader old → KeepsWriter n before (moment_after start before).state kept writer → Next start before (idle ++ (block ++ one_history blocks)) → AllOf before (idle ++ (block ++ one_history blocks)) ws → ws ≡ these ++ later → lines ≡ told ++ more
       → Plays n (through actor (phase ∷ phases) kept) (idle ++ block) these told left → PlaysAll n left blocks later more ends
-      → ShowsEach start n (From before (idle ++ (block ++ one_history blocks))) old (own actor (statements_in (phase ∷ phases))) lines
-  phase_shows actor phase phases kept before idle block old blocks these ws later told lines more left fits shows_later keeps whole all are lines_are plays goes_on =
+      → ShowsEach start n (From before (idle ++ (block ++ one_history blocks))) old writer (own actor (statements_in (phase ∷ phases))) lines
+  phase_shows actor phase phases kept before idle block old writer blocks these ws later told lines more left fits shows_later keeps known whole all are lines_are plays goes_on =
       let rest : List Event = one_history blocks in
       let together : idle ++ (block ++ rest) ≡ (idle ++ block) ++ rest = sym (append_assoc idle block rest) in
       let here : Next start before (idle ++ block) = next_first start before (idle ++ block) rest (next_is start before (idle ++ (block ++ rest)) ((idle ++ block) ++ rest) together whole) in
-      let r = made_some (own actor phase.statements) (λ later_kept. pauses (through actor phases later_kept)) kept before (idle ++ block) old these told left fits keeps here (first_of_all before idle block rest ws these later are all) plays in
+      let r = made_some (own actor phase.statements) (λ later_kept. pauses (through actor phases later_kept)) kept before (idle ++ block) old writer these told left fits keeps known here (first_of_all before idle block rest ws these later are all) plays in
       let rests = r.goes_on.0 in
       let split : idle ++ (block ++ rest) ≡ r.mine ++ (r.rest ++ rest) = together ∙ ap (λ z. z ++ rest) r.all ∙ append_assoc r.mine r.rest rest in
       let spent : ws ≡ these ++ later = are in
       let on : PlaysAll n (through actor phases r.kept) blocks later more ends = subst (λ q. PlaysAll n q blocks later more ends) r.goes_on.1 goes_on in
-      let shown = shows_later r.kept (before ++ r.mine) r.rest r.new later more rests.calls r.keeps (next_rest start before r.mine (r.rest ++ rest) (next_is start before (idle ++ (block ++ rest)) (r.mine ++ (r.rest ++ rest)) split whole))
+      let shown = shows_later r.kept (before ++ r.mine) r.rest r.new r.new_writer later more rests.calls r.keeps r.keeps_writer (next_rest start before r.mine (r.rest ++ rest) (next_is start before (idle ++ (block ++ rest)) (r.mine ++ (r.rest ++ rest)) split whole))
       (all_of_later before (idle ++ (block ++ rest)) r.mine (r.rest ++ rest) ws these later split spent all) on in
       let told_all : told ≡ r.told = r.lines_are ∙ ap (λ z. r.told ++ z) rests.no_lines ∙ append-nil r.told in
-      let out : ShowsEach start n (From before (r.mine ++ (r.rest ++ rest))) old (own actor phase.statements ++ own actor (statements_in phases)) (r.told ++ more) = r.shows (r.rest ++ rest) (own actor (statements_in phases)) more shown in
-      subst (λ es. ShowsEach start n (From before es) old (own actor (statements_in (phase ∷ phases))) lines) (sym split)
-      (subst (λ ss. ShowsEach start n (From before (r.mine ++ (r.rest ++ rest))) old ss lines) (sym (own_first actor phase phases))
-      (subst (ShowsEach start n (From before (r.mine ++ (r.rest ++ rest))) old (own actor phase.statements ++ own actor (statements_in phases))) (sym (lines_are ∙ ap (λ z. z ++ more) told_all)) out))
+      let out : ShowsEach start n (From before (r.mine ++ (r.rest ++ rest))) old writer (own actor phase.statements ++ own actor (statements_in phases)) (r.told ++ more) = r.shows (r.rest ++ rest) (own actor (statements_in phases)) more shown in
+      subst (λ es. ShowsEach start n (From before es) old writer (own actor (statements_in (phase ∷ phases))) lines) (sym split)
+      (subst (λ ss. ShowsEach start n (From before (r.mine ++ (r.rest ++ rest))) old writer ss lines) (sym (own_first actor phase phases))
+      (subst (ShowsEach start n (From before (r.mine ++ (r.rest ++ rest))) old writer (own actor phase.statements ++ own actor (statements_in phases))) (sym (lines_are ∙ ap (λ z. z ++ more) told_all)) out))
 
   -- In events of others the actor waits for a phase; it goes through its phases in these blocks.
-  pub phases_show : (actor : ℕ) (phases : List Phase) (blocks : List (List Event)) → AllPhasesFit actor phases → (kept : Kept) (before idle : List Event) (old : Option OneFile) (ws : List (List Event)) (lines : List Line) → made_by n idle ≡ [] → Keeps (moment_after start before) kept.reader old
+  pub phases_show : (actor : ℕ) (phases : List Phase) (blocks : List (List Event)) → AllPhasesFit actor phases → (kept : Kept) (before idle : List Event) (old : Option OneFile) (writer : Option OneWriter) (ws : List (List Event)) (lines : List Line) → made_by n idle ≡ [] → Keeps (moment_after start before) kept.reader old → KeepsWriter n before (moment_after start before).state kept writer
       → Next start before (idle ++ one_history blocks) → AllOf before (idle ++ one_history blocks) ws → PlaysAll n (through actor phases kept) blocks ws lines ends
-      → ShowsEach start n (From before (idle ++ one_history blocks)) old (own actor (statements_in phases)) lines
-  phases_show actor [] blocks fits kept before idle old ws lines none keeps whole all plays = tells_none blocks ws lines plays
-  phases_show actor (phase ∷ phases) [] fits kept before idle old ws lines none keeps whole all plays =
+      → ShowsEach start n (From before (idle ++ one_history blocks)) old writer (own actor (statements_in phases)) lines
+  phases_show actor [] blocks fits kept before idle old writer ws lines none keeps known whole all plays = tells_none blocks ws lines plays
+  phases_show actor (phase ∷ phases) [] fits kept before idle old writer ws lines none keeps known whole all plays =
       let at_end : Plays n ends (idle ++ []) [] [] ends = (record { calls = behind n idle [] none; no_workers = refl; no_lines = refl }, refl) in
-      phase_shows actor phase phases kept before idle [] old [] [] ws [] [] lines [] ends fits.0 (phases_show actor phases [] fits.1) keeps whole all plays.0 plays.1 (subst (λ q. Plays n q (idle ++ []) [] [] ends) plays.2 at_end) (refl, refl, refl)
-  phases_show actor (phase ∷ phases) (block ∷ blocks) fits kept before idle old ws lines none keeps whole all p =
-      phase_shows actor phase phases kept before idle block old blocks p.these ws p.later p.told lines p.more p.left fits.0 (phases_show actor phases blocks fits.1) keeps whole all p.are p.lines_are
+      phase_shows actor phase phases kept before idle [] old writer [] [] ws [] [] lines [] ends fits.0 (phases_show actor phases [] fits.1) keeps known whole all plays.0 plays.1 (subst (λ q. Plays n q (idle ++ []) [] [] ends) plays.2 at_end) (refl, refl, refl)
+  phases_show actor (phase ∷ phases) (block ∷ blocks) fits kept before idle old writer ws lines none keeps known whole all p =
+      phase_shows actor phase phases kept before idle block old writer blocks p.these ws p.later p.told lines p.more p.left fits.0 (phases_show actor phases blocks fits.1) keeps known whole all p.are p.lines_are
       (plays_after n (through actor (phase ∷ phases) kept) idle block p.these p.told p.left none p.plays) p.goes_on

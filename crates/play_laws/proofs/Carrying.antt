@@ -1,17 +1,19 @@
 -- How an actor goes through the calls of a statement.
 use Rattle.std.proofs.Common.{◌≡◌, ◌⊎◌, inl, inr, ℕ, true, false, List, [], ◌∷◌, ◌++◌, Option, Some, None, refl, sym, ap, ◌∙◌, subst, append_assoc}
-use Rattle.std.specs.Prelude.{if◌then◌else◌}
+use Rattle.std.specs.Prelude.{Result, if◌then◌else◌}
 use Rattle.turn_object.specs.Callers.{made_by}
 use Rattle.story.specs.Program.{Program, done, ask}
-use Rattle.story.specs.Process.{tells}
+use Rattle.story.specs.Process.{Process, asks, ends, pauses, shares, tells}
 use Rattle.story.specs.Calls.{AreCallsOf}
 use Rattle.story.specs.Plays.{Plays}
 use Rattle.story.proofs.Facts.{after_own, entries_both}
+use Rattle.mount_model.specs.declared.call.Ask.{Ask}
 use Rattle.mount_model.specs.declared.call.Call.{Call}
 use Rattle.mount_model.specs.declared.reply.Reply.{Reply}
 use Rattle.mount_model.specs.History.{Event}
+use Rattle.flow.specs.declared.stuck.Stuck.{Stuck}
 use Rattle.flow.specs.Running.{unbroken, asking, Runs}
-use Rattle.script_lang.specs.declared.line.Line.{Line}
+use Rattle.index_reader.specs.declared.sharing.Share.{Share}
 use Rattle.actor_core.specs.declared.kept.Kept.{Kept}
 use Rattle.actor_core.specs.declared.kept.Stop.{Stop}
 use Rattle.actor_core.specs.Endings.{Ending}
@@ -20,6 +22,28 @@ use Rattle.actor_core.specs.Stopping.{carried, is_due, due_bytes, stoppable, one
 use Rattle.actor_core.specs.Work.{Work}
 use Rattle.run_core.specs.Course.{Course, then_line}
 
+-- ---- what follows a statement
+
+-- calls of the mount, and such lines
+abbrev pub CourseOf : Type 0 → Type 0
+CourseOf L = Process Ask Reply (Result Share Stuck) L
+
+-- a statement's calls and its end, told as a line, and then what follows with what the actor keeps
+abbrev pub then_told : {L : Type 0} → (Ending → L) → (Kept → CourseOf L) → Work → CourseOf L
+then_told as_line next ends = ends
+then_told as_line next (pauses work) = pauses (then_told as_line next work)
+then_told as_line next (tells ending work) = tells (as_line ending) (next ending.kept)
+then_told as_line next (asks question k) = asks question (λ reply. then_told as_line next (k reply))
+then_told as_line next (shares programs k alone) = shares programs (λ results. then_told as_line next (k results)) (then_told as_line next alone)
+
+-- a line with a number is one such
+pub same_course : (number : ℕ) (next : Kept → Course) (work : Work) → then_line number next work ≡ then_told (line_of number) next work
+same_course number next ends = refl
+same_course number next (pauses work) = ap pauses (same_course number next work)
+same_course number next (tells ending work) = refl
+same_course number next (asks question k) = λ i. asks question (λ reply. same_course number next (k reply) i)
+same_course number next (shares programs k alone) = λ i. shares programs (λ results. same_course number next (k results) i) (same_course number next alone i)
+
 -- the caller's calls behind those of others
 pub behind : (n : ℕ) (none more : List Event) → made_by n none ≡ [] → made_by n (none ++ more) ≡ made_by n more
 behind n none more is = entries_both n none more ∙ ap (λ z. z ++ made_by n more) is
@@ -27,23 +51,23 @@ behind n none more is = entries_both n none more ∙ ap (λ z. z ++ made_by n mo
 -- ---- a statement came to its end
 
 -- In the first events of this part the caller comes to the end of a statement, with its line, and these workers' calls. It goes on behind it.
-pub record EndsSo (n number : ℕ) (next : Kept → Course) (part : List Event) (workers : List (List Event)) (lines : List Line) (left : Course) (Good : List Event → Ending → Type 0) : Type 0 where
+pub record EndsSo {L : Type 0} (n : ℕ) (as_line : Ending → L) (next : Kept → CourseOf L) (part : List Event) (workers : List (List Event)) (lines : List L) (left : CourseOf L) (Good : List Event → Ending → Type 0) : Type 0 where
   pub mine : List Event
   pub rest : List Event
   pub spent : List (List Event)
   pub others : List (List Event)
   pub ending : Ending
-  pub more : List Line
+  pub more : List L
   pub all : part ≡ mine ++ rest
   pub are : workers ≡ spent ++ others
-  pub told : lines ≡ line_of number ending ∷ more
+  pub told : lines ≡ as_line ending ∷ more
   pub goes_on : Plays n (next ending.kept) rest others more left
   pub good : Good mine ending
 
 -- the same behind earlier events
-pub ends_later : (n number : ℕ) (next : Kept → Course) (part first behind : List Event) (workers : List (List Event)) (lines : List Line) (left : Course) (Good Better : List Event → Ending → Type 0) → part ≡ first ++ behind
-    → ((mine rest : List Event) (ending : Ending) → behind ≡ mine ++ rest → Good mine ending → Better (first ++ mine) ending) → EndsSo n number next behind workers lines left Good → EndsSo n number next part workers lines left Better
-ends_later n number next part first behind workers lines left Good Better is better e = record {
+pub ends_later : {L : Type 0} (n : ℕ) (as_line : Ending → L) (next : Kept → CourseOf L) (part first behind : List Event) (workers : List (List Event)) (lines : List L) (left : CourseOf L) (Good Better : List Event → Ending → Type 0) → part ≡ first ++ behind
+    → ((mine rest : List Event) (ending : Ending) → behind ≡ mine ++ rest → Good mine ending → Better (first ++ mine) ending) → EndsSo n as_line next behind workers lines left Good → EndsSo n as_line next part workers lines left Better
+ends_later n as_line next part first behind workers lines left Good Better is better e = record {
   mine = first ++ e.mine;
   rest = e.rest;
   spent = e.spent;
@@ -58,8 +82,8 @@ ends_later n number next part first behind workers lines left Good Better is bet
 }
 
 -- it is at its end
-pub ended : (n number : ℕ) (next : Kept → Course) (ending : Ending) (work : Work) (part : List Event) (workers : List (List Event)) (lines : List Line) (left : Course) (Good : List Event → Ending → Type 0) → Plays n (then_line number next (tells ending work)) part workers lines left → Good [] ending → EndsSo n number next part workers lines left Good
-ended n number next ending work part workers lines left Good plays good = record {
+pub ended : {L : Type 0} (n : ℕ) (as_line : Ending → L) (next : Kept → CourseOf L) (ending : Ending) (work : Work) (part : List Event) (workers : List (List Event)) (lines : List L) (left : CourseOf L) (Good : List Event → Ending → Type 0) → Plays n (then_told as_line next (tells ending work)) part workers lines left → Good [] ending → EndsSo n as_line next part workers lines left Good
+ended n as_line next ending work part workers lines left Good plays good = record {
   mine = [];
   rest = part;
   spent = [];
@@ -74,9 +98,9 @@ ended n number next ending work part workers lines left Good plays good = record
 }
 
 -- it is at its end behind these events
-pub ended_behind : (n number : ℕ) (next : Kept → Course) (ending : Ending) (work : Work) (part first rest : List Event) (workers : List (List Event)) (lines : List Line) (left : Course) (Good : List Event → Ending → Type 0) → part ≡ first ++ rest
-    → Plays n (then_line number next (tells ending work)) rest workers lines left → Good first ending → EndsSo n number next part workers lines left Good
-ended_behind n number next ending work part first rest workers lines left Good is plays good = record {
+pub ended_behind : {L : Type 0} (n : ℕ) (as_line : Ending → L) (next : Kept → CourseOf L) (ending : Ending) (work : Work) (part first rest : List Event) (workers : List (List Event)) (lines : List L) (left : CourseOf L) (Good : List Event → Ending → Type 0) → part ≡ first ++ rest
+    → Plays n (then_told as_line next (tells ending work)) rest workers lines left → Good first ending → EndsSo n as_line next part workers lines left Good
+ended_behind n as_line next ending work part first rest workers lines left Good is plays good = record {
   mine = first;
   rest = rest;
   spent = [];
@@ -93,7 +117,7 @@ ended_behind n number next ending work part first rest workers lines left Good i
 -- ---- the calls of a program
 
 -- the caller made the calls of a program, and goes on with its result
-pub record RanTo {R : Type 0} (n : ℕ) (p : Program Call Reply R) (next : Option Stop → R → Course) (part : List Event) (workers : List (List Event)) (lines : List Line) (left : Course) : Type 0 where
+pub record RanTo {R L : Type 0} (n : ℕ) (p : Program Call Reply R) (next : Option Stop → R → CourseOf L) (part : List Event) (workers : List (List Event)) (lines : List L) (left : CourseOf L) : Type 0 where
   pub mine : List Event
   pub rest : List Event
   pub stop : Option Stop
@@ -103,7 +127,7 @@ pub record RanTo {R : Type 0} (n : ℕ) (p : Program Call Reply R) (next : Optio
   pub goes_on : Plays n (next stop result) rest workers lines left
 
 -- it was stopped within one of them
-pub record WasStopped (n : ℕ) (halted : Course) (part : List Event) (workers : List (List Event)) (lines : List Line) (left : Course) : Type 0 where
+pub record WasStopped {L : Type 0} (n : ℕ) (halted : CourseOf L) (part : List Event) (workers : List (List Event)) (lines : List L) (left : CourseOf L) : Type 0 where
   pub mine : List Event
   pub rest : List Event
   pub all : part ≡ mine ++ rest
@@ -121,16 +145,16 @@ one_more : {R : Type 0} (n : ℕ) (call : Call) (k : Reply → Program Call Repl
 one_more {R} n call k before event mine result none own asked runs =
     subst (λ (z : List Event). AreCallsOf (asking (ask call k)) z result) (sym (behind n before (event ∷ mine) none)) (after_own n (unbroken call) (λ reply. asking (k reply)) event mine result own asked runs)
 
-pub carried_on : {R : Type 0} (n number : ℕ) (next : Kept → Course) (p : Program Call Reply R) (stop : Option Stop) (goes : Option Stop → R → Work) (halted : Work) (part : List Event) (workers : List (List Event)) (lines : List Line) (left : Course)
-    → Plays n (then_line number next (carried p stop goes halted)) part workers lines left
-    → RanTo n p (λ later r. then_line number next (goes later r)) part workers lines left ⊎ WasStopped n (then_line number next halted) part workers lines left
-carried_on n number next (done r) stop goes halted part workers lines left plays = inl (record { mine = []; rest = part; stop = stop; result = r; all = refl; runs = (refl, refl); goes_on = plays })
-carried_on {R} n number next (ask call k) stop goes halted part workers lines left m =
-    elim (is_due stop) as (λ b. is_due stop ≡ b → Plays n (then_line number next (if b then halted else carried (k m.call.reply) (one_nearer stop) goes halted)) m.after workers lines left
-    → RanTo n (ask call k) (λ later r. then_line number next (goes later r)) part workers lines left ⊎ WasStopped n (then_line number next halted) part workers lines left) [
+pub carried_on : {R L : Type 0} (n : ℕ) (as_line : Ending → L) (next : Kept → CourseOf L) (p : Program Call Reply R) (stop : Option Stop) (goes : Option Stop → R → Work) (halted : Work) (part : List Event) (workers : List (List Event)) (lines : List L) (left : CourseOf L)
+    → Plays n (then_told as_line next (carried p stop goes halted)) part workers lines left
+    → RanTo n p (λ later r. then_told as_line next (goes later r)) part workers lines left ⊎ WasStopped n (then_told as_line next halted) part workers lines left
+carried_on n as_line next (done r) stop goes halted part workers lines left plays = inl (record { mine = []; rest = part; stop = stop; result = r; all = refl; runs = (refl, refl); goes_on = plays })
+carried_on {R} {L} n as_line next (ask call k) stop goes halted part workers lines left m =
+    elim (is_due stop) as (λ b. is_due stop ≡ b → Plays n (then_told as_line next (if b then halted else carried (k m.call.reply) (one_nearer stop) goes halted)) m.after workers lines left
+    → RanTo n (ask call k) (λ later r. then_told as_line next (goes later r)) part workers lines left ⊎ WasStopped n (then_told as_line next halted) part workers lines left) [
       | true ↦ λ due on. inr (record { mine = m.before ++ m.call ∷ []; rest = m.after; all = m.all ∙ sym (append_assoc m.before (m.call ∷ []) m.after); goes_on = on })
-      | false ↦ λ later on. elim (carried_on n number next (k m.call.reply) (one_nearer stop) goes halted m.after workers lines left on)
-          as (λ _. RanTo n (ask call k) (λ later r. then_line number next (goes later r)) part workers lines left ⊎ WasStopped n (then_line number next halted) part workers lines left) [
+      | false ↦ λ later on. elim (carried_on n as_line next (k m.call.reply) (one_nearer stop) goes halted m.after workers lines left on)
+          as (λ _. RanTo n (ask call k) (λ later r. then_told as_line next (goes later r)) part workers lines left ⊎ WasStopped n (then_told as_line next halted) part workers lines left) [
             | inl r ↦ inl (record {
               mine = m.before ++ m.call ∷ r.mine;
               rest = r.rest;

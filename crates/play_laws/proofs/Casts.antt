@@ -100,8 +100,8 @@ readers_show script start lines end fits sound right place declared here =
     let workers = its_workers right.history right.calls.roles place r.role r.there (recursion_from_All (KeepsIn right.history) (callers right.history right.calls.roles) right.calls.whole) in
     let next : Next start [] history = record { was_lawful = tt; lawful = subst (IsLawful start.state) is right.leads.lawful; sound = sound; had = subst HadMemory is right.had_memory } in
     let all : AllOf [] history r.role.workers = record { tail = []; keeps = subst (λ es. AllByRecursion (KeepsIn es) r.role.workers) (is ∙ sym (append-nil history)) workers } in
-    let shown = phases_show start sound r.role.number place script.phases blocks (phases_fit _ place script.phases (recursion_from_All (FitsPhase _) script.phases fits.phased)) (fresh declared.host declared.cap) [] [] None r.role.workers (told_at place told lines) refl tt next all plays in
-    (r.role, r.there, subst (λ es. ShowsEach start r.role.number (record { before = []; events = es }) None (own place (statements_in script.phases)) (told_at place told lines)) (sym is) shown)
+    let shown = phases_show start sound r.role.number place script.phases blocks (phases_fit _ place script.phases (recursion_from_All (FitsPhase _) script.phases fits.phased)) (fresh declared.host declared.cap) [] [] None None r.role.workers (told_at place told lines) refl tt (λ alive. tt) next all plays in
+    (r.role, r.there, subst (λ es. ShowsEach start r.role.number (record { before = []; events = es }) None None (own place (statements_in script.phases)) (told_at place told lines)) (sym is) shown)
 
 pub play_shows : (script : Script) (start : State) (lines : List Line) (end : State) → FitsScript script → IsFine start → IsClean start → (play : IsPlay script start lines end) → PlayShows script start lines end play
 play_shows script start lines end fits fine clean play =

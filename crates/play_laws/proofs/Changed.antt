@@ -19,7 +19,6 @@ use Rattle.torn_tail.specs.Recovering.{recover_program}
 use Rattle.trunc_rename.specs.Holding.{holds}
 use Rattle.trunc_rename.specs.Renaming.{moves, rename_program}
 use Rattle.trunc_rename.specs.Truncating.{lists_metadata, truncate_program}
-use Rattle.script_lang.specs.declared.line.Line.{Line}
 use Rattle.script_lang.specs.declared.line.Outcome.{Outcome}
 use Rattle.script_lang.specs.declared.line.Outcome.TheVariants.{Flattened, Recovered, Renamed, Stopped, Truncated}
 use Rattle.gathering.specs.Moments.{Moment, moment_after}
@@ -32,10 +31,9 @@ use Rattle.actor_core.specs.declared.kept.Stop.{Stop}
 use Rattle.actor_core.specs.Endings.{Ending, ending, stopped}
 use Rattle.actor_core.specs.Stopping.{carried}
 use Rattle.actor_core.specs.Work.{finishes}
-use Rattle.run_core.specs.Course.{Course, then_line}
 use Rattle.play_laws.specs.Opening.{Stretch}
 use Rattle.play_laws.specs.Showing.{ShowsFlattening, ShowsRecovery, ShowsRename, ShowsTruncate, ShowsUnheld, ShowsUnnamed}
-use Rattle.play_laws.proofs.Carrying.{EndsSo, carried_on, ended_behind}
+use Rattle.play_laws.proofs.Carrying.{CourseOf, EndsSo, carried_on, ended_behind, then_told}
 use Rattle.play_laws.proofs.Changes.{held_there, none_there, open_there, renames_there, taken_there, truncates_there}
 use Rattle.play_laws.proofs.Flattened.{flattens}
 use Rattle.play_laws.proofs.Missing.{IsThere, Stands, finds_none, metadata_there, moves_there}
@@ -48,7 +46,7 @@ use Rattle.play_laws.proofs.Taken.{finds_taken}
 use Rattle.play_laws.proofs.Truncated.{truncated}
 use Rattle.play_laws.proofs.Unheld.{finds_held, finds_open, has_tried}
 
-module _ (start : Moment) (n : ℕ) (before greeting : List Event) (number : ℕ) (next : Kept → Course) (kept : Kept) (stop : Option Stop) where
+module _ (start : Moment) (n : ℕ) (before greeting : List Event) {L : Type 0} (as_line : Ending → L) (next : Kept → CourseOf L) (kept : Kept) (stop : Option Stop) where
   abbrev Now : Moment
   Now = moment_after start (before ++ greeting)
 
@@ -56,17 +54,17 @@ module _ (start : Moment) (n : ℕ) (before greeting : List Event) (number : ℕ
   At mine = record { before = before; events = greeting ++ mine }
 
   -- the actor keeps its reader, and the line shows so much
-  abbrev Comes : (List Event → Outcome → Type 0) → List Event → List (List Event) → List Line → Course → Type 0
-  Comes shows part ws lines left = EndsSo n number next part ws lines left (λ mine e. (e.kept.reader ≡ kept.reader) × shows mine e.outcome)
+  abbrev Comes : (List Event → Outcome → Type 0) → List Event → List (List Event) → List L → CourseOf L → Type 0
+  Comes shows part ws lines left = EndsSo n as_line next part ws lines left (λ mine e. (e.kept.reader ≡ kept.reader) × shows mine e.outcome)
 
-  behind : (shows : List Event → Outcome → Type 0) (e : Ending) (part first rest : List Event) (ws : List (List Event)) (lines : List Line) (left : Course) → part ≡ first ++ rest → Plays n (then_line number next (finishes e)) rest ws lines left → (e.kept.reader ≡ kept.reader) × shows first e.outcome → Comes shows part ws lines left
-  behind shows e part first rest ws lines left is plays good = ended_behind n number next e ends part first rest ws lines left (λ mine x. (x.kept.reader ≡ kept.reader) × shows mine x.outcome) is plays good
+  behind : (shows : List Event → Outcome → Type 0) (e : Ending) (part first rest : List Event) (ws : List (List Event)) (lines : List L) (left : CourseOf L) → part ≡ first ++ rest → Plays n (then_told as_line next (finishes e)) rest ws lines left → (e.kept.reader ≡ kept.reader) × shows first e.outcome → Comes shows part ws lines left
+  behind shows e part first rest ws lines left is plays good = ended_behind n as_line next e ends part first rest ws lines left (λ mine x. (x.kept.reader ≡ kept.reader) × shows mine x.outcome) is plays good
 
   -- one program, whose result is one line
   program_ends : {R : Type 0} (shows : List Event → Outcome → Type 0) (p : Tries R) (says : R → Outcome) → ((mine : List Event) → shows mine Stopped) → ((mine : List Event) (result : Result R Stuck) → Next start (before ++ greeting) mine → Runs n p mine result → shows mine (or_stuck says result))
-      → (part : List Event) (ws : List (List Event)) (lines : List Line) (left : Course) → Next start before (greeting ++ part) → Plays n (then_line number next (carried p stop (λ left result. finishes (ending (or_stuck says result) kept)) (finishes (stopped kept)))) part ws lines left → Comes shows part ws lines left
+      → (part : List Event) (ws : List (List Event)) (lines : List L) (left : CourseOf L) → Next start before (greeting ++ part) → Plays n (then_told as_line next (carried p stop (λ left result. finishes (ending (or_stuck says result) kept)) (finishes (stopped kept)))) part ws lines left → Comes shows part ws lines left
   program_ends {R} shows p says halted each part ws lines left whole plays =
-      elim (carried_on n number next p stop (λ later result. finishes (ending (or_stuck says result) kept)) (finishes (stopped kept)) part ws lines left plays) as (λ _. Comes shows part ws lines left) [
+      elim (carried_on n as_line next p stop (λ later result. finishes (ending (or_stuck says result) kept)) (finishes (stopped kept)) part ws lines left plays) as (λ _. Comes shows part ws lines left) [
         | inl r ↦
             let b : Both start before greeting r.mine = up_to start before greeting part r.mine r.rest whole r.all in
             behind shows (ending (or_stuck says r.result) kept) part r.mine r.rest ws lines left r.all r.goes_on (refl, each r.mine r.result b.next r.runs)
@@ -93,8 +91,8 @@ module _ (start : Moment) (n : ℕ) (before greeting : List Event) (number : ℕ
   truncate_shows name size mine (Err (stuck.Damaged folder file place)) whole runs = absurd (truncate_ends n name size Now.state Now.issued mine (Err (stuck.Damaged folder file place)) whole.lawful whole.sound runs)
   truncate_shows name size mine (Err (stuck.Refused because)) whole runs = unheld (lists_metadata size) (metadata_plainly n size) (λ room. metadata_there n room size) name because mine whole runs
 
-  pub trunc_ends : (name : Name) (size : ℕ) (part : List Event) (ws : List (List Event)) (lines : List Line) (left : Course) → Next start before (greeting ++ part) → Plays n (then_line number next (carried (truncate_program name size) stop (λ left result. finishes (ending (truncate_outcome result) kept)) (finishes (stopped kept)))) part ws lines left
-      → EndsSo n number next part ws lines left (λ mine e. (e.kept.reader ≡ kept.reader) × ShowsTruncate start n (record { before = before; events = greeting ++ mine }) name size e.outcome)
+  pub trunc_ends : (name : Name) (size : ℕ) (part : List Event) (ws : List (List Event)) (lines : List L) (left : CourseOf L) → Next start before (greeting ++ part) → Plays n (then_told as_line next (carried (truncate_program name size) stop (λ left result. finishes (ending (truncate_outcome result) kept)) (finishes (stopped kept)))) part ws lines left
+      → EndsSo n as_line next part ws lines left (λ mine e. (e.kept.reader ≡ kept.reader) × ShowsTruncate start n (record { before = before; events = greeting ++ mine }) name size e.outcome)
   trunc_ends name size = program_ends (Truncates name size) (truncate_program name size) (λ stamp. Truncated stamp) (λ mine. tt) (truncate_shows name size)
 
   -- ---- another name
@@ -115,8 +113,8 @@ module _ (start : Moment) (n : ℕ) (before greeting : List Event) (number : ℕ
   rename_shows name to mine (Err (stuck.Damaged folder file place)) whole runs = absurd (rename_ends n name to Now.state Now.issued mine (Err (stuck.Damaged folder file place)) whole.lawful whole.sound runs)
   rename_shows name to mine (Err (stuck.Refused because)) whole runs = rename_refused name to because mine whole runs
 
-  pub renaming_ends : (name to : Name) (part : List Event) (ws : List (List Event)) (lines : List Line) (left : Course) → Next start before (greeting ++ part) → Plays n (then_line number next (carried (rename_program name to) stop (λ left result. finishes (ending (rename_outcome result) kept)) (finishes (stopped kept)))) part ws lines left
-      → EndsSo n number next part ws lines left (λ mine e. (e.kept.reader ≡ kept.reader) × ShowsRename start n (record { before = before; events = greeting ++ mine }) name to e.outcome)
+  pub renaming_ends : (name to : Name) (part : List Event) (ws : List (List Event)) (lines : List L) (left : CourseOf L) → Next start before (greeting ++ part) → Plays n (then_told as_line next (carried (rename_program name to) stop (λ left result. finishes (ending (rename_outcome result) kept)) (finishes (stopped kept)))) part ws lines left
+      → EndsSo n as_line next part ws lines left (λ mine e. (e.kept.reader ≡ kept.reader) × ShowsRename start n (record { before = before; events = greeting ++ mine }) name to e.outcome)
   renaming_ends name to = program_ends (Renames name to) (rename_program name to) (λ done. Renamed) (λ mine. tt) (rename_shows name to)
 
   -- ---- a recovery
@@ -133,8 +131,8 @@ module _ (start : Moment) (n : ℕ) (before greeting : List Event) (number : ℕ
   recover_shows name mine (Ok r) whole runs = recovered start n before greeting mine name r whole.lawful whole.sound runs
   recover_shows name mine (Err why) whole runs = recover_trouble name mine why (recover_ends n name Now.state Now.issued mine (Err why) whole.lawful whole.sound runs)
 
-  pub recovery_ends : (name : Name) (part : List Event) (ws : List (List Event)) (lines : List Line) (left : Course) → Next start before (greeting ++ part) → Plays n (then_line number next (carried (recover_program name) stop (λ left result. finishes (ending (recover_outcome result) kept)) (finishes (stopped kept)))) part ws lines left
-      → EndsSo n number next part ws lines left (λ mine e. (e.kept.reader ≡ kept.reader) × ShowsRecovery start n (record { before = before; events = greeting ++ mine }) name e.outcome)
+  pub recovery_ends : (name : Name) (part : List Event) (ws : List (List Event)) (lines : List L) (left : CourseOf L) → Next start before (greeting ++ part) → Plays n (then_told as_line next (carried (recover_program name) stop (λ left result. finishes (ending (recover_outcome result) kept)) (finishes (stopped kept)))) part ws lines left
+      → EndsSo n as_line next part ws lines left (λ mine e. (e.kept.reader ≡ kept.reader) × ShowsRecovery start n (record { before = before; events = greeting ++ mine }) name e.outcome)
   recovery_ends name = program_ends (Recovers name) (recover_program name) (λ (r : WasRecovered). Recovered r.buried r.alive r.hold) (λ mine. tt) (recover_shows name)
 
   -- ---- a flattening
@@ -151,6 +149,6 @@ module _ (start : Moment) (n : ℕ) (before greeting : List Event) (number : ℕ
   flatten_shows name mine (Ok f) whole runs = flattens start n before greeting mine name f whole.lawful whole.sound runs
   flatten_shows name mine (Err why) whole runs = flatten_trouble name mine why (flatten_ends n name Now.state Now.issued mine (Err why) whole.lawful whole.sound runs)
 
-  pub flattening_ends : (name : Name) (part : List Event) (ws : List (List Event)) (lines : List Line) (left : Course) → Next start before (greeting ++ part) → Plays n (then_line number next (carried (flatten_program name) stop (λ left result. finishes (ending (flatten_outcome result) kept)) (finishes (stopped kept)))) part ws lines left
-      → EndsSo n number next part ws lines left (λ mine e. (e.kept.reader ≡ kept.reader) × ShowsFlattening start n (record { before = before; events = greeting ++ mine }) name e.outcome)
+  pub flattening_ends : (name : Name) (part : List Event) (ws : List (List Event)) (lines : List L) (left : CourseOf L) → Next start before (greeting ++ part) → Plays n (then_told as_line next (carried (flatten_program name) stop (λ left result. finishes (ending (flatten_outcome result) kept)) (finishes (stopped kept)))) part ws lines left
+      → EndsSo n as_line next part ws lines left (λ mine e. (e.kept.reader ≡ kept.reader) × ShowsFlattening start n (record { before = before; events = greeting ++ mine }) name e.outcome)
   flattening_ends name = program_ends (FlattensSo name) (flatten_program name) (λ (f : WasFlattened). Flattened f.flat f.pieces (counts_of f.covers)) (λ mine. tt) (flatten_shows name)

@@ -1,5 +1,9 @@
 pub mod Facts
 mod Carrying
+mod Coming
+mod Sparing
+mod Spared
+mod OneWriters
 mod Others
 mod Standing
 mod Finding
@@ -32,6 +36,7 @@ mod Recoveries
 mod Makings
 mod Flattened
 mod Changed
+mod WriterLines
 mod Statements
 mod Actors
 mod Casts

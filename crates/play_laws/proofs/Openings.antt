@@ -18,7 +18,6 @@ use Rattle.mount_model.specs.History.{Event, state_after}
 use Rattle.mount_sound.specs.Owed.{IsLawful}
 use Rattle.flow.specs.declared.stuck.Stuck.{Stuck}
 use Rattle.flow.specs.Running.{asking, Runs}
-use Rattle.script_lang.specs.declared.line.Line.{Line}
 use Rattle.script_lang.specs.declared.script.Statement.TheVariants.{Ropen}
 use Rattle.index_reader.specs.declared.listing.Dropping.{Dropping as Listed}
 use Rattle.index_reader.specs.declared.listing.Listing.{Listing}
@@ -40,7 +39,7 @@ use Rattle.reader_laws.proofs.Facts.{first_of, listing_fails, opens_alone, opens
 use Rattle.gather_flow.specs.Dealing.{dealt_to}
 use Rattle.actor_core.specs.declared.kept.Kept.{Kept}
 use Rattle.actor_core.specs.declared.kept.Stop.{Stop}
-use Rattle.actor_core.specs.Endings.{ending, stopped}
+use Rattle.actor_core.specs.Endings.{Ending, ending, stopped}
 use Rattle.gather_flow.specs.OneIndex.{reader_of}
 use Rattle.actor_core.specs.Opened.{opens, reader_opened}
 use Rattle.outcomes.specs.Outcomes.{stuck_outcome}
@@ -50,13 +49,12 @@ use Rattle.gather_flow.specs.Workers.{all_of}
 use Rattle.actor_core.specs.Sharing.{shared}
 use Rattle.actor_core.specs.Stopping.{carried}
 use Rattle.actor_core.specs.Work.{Work as Doing, finishes}
-use Rattle.run_core.specs.Course.{Course, then_line}
 use Rattle.play_laws.specs.Opening.{Stretch}
 use Rattle.play_laws.specs.Showing.{ShowsOpening}
 use Rattle.play_laws.proofs.Alone.{OpensSo, err_is, opens_so, ReadAll, read_alone}
 use Rattle.play_laws.proofs.Behind.{all_named, pieces_run, runs_by_workers, runs_in_turn, was_listed}
 use Rattle.play_laws.proofs.ByWorkers.{CallsIn, WorkerFailed, none_both, read_by_workers, calls_wider}
-use Rattle.play_laws.proofs.Carrying.{EndsSo, carried_on, ended_behind}
+use Rattle.play_laws.proofs.Carrying.{CourseOf, EndsSo, carried_on, ended_behind, then_told}
 use Rattle.play_laws.proofs.Dealing.{dealt, dealt_listed, all_among}
 use Rattle.play_laws.proofs.Listings.{finds_first}
 use Rattle.play_laws.proofs.Opened.{Good, Keeps, HasOpenedFile, parts_of, parts_gathered, reader_made, file_opened}
@@ -230,25 +228,25 @@ module _ (start : Moment) (sound : IsSoundAt start) (n : ℕ) (before greeting :
 
     -- ---- the statement
 
-    module _ (number : ℕ) (next : Kept → Course) (kept : Kept) (none : kept.reader ≡ None) where
-      abbrev Ends : List Event → List (List Event) → List Line → Course → Type 0
-      Ends part ws lines left = EndsSo n number next part ws lines left (Good start n before greeting None (Ropen name workers))
+    module _ {L : Type 0} (as_line : Ending → L) (next : Kept → CourseOf L) (kept : Kept) (none : kept.reader ≡ None) where
+      abbrev Ends : List Event → List (List Event) → List L → CourseOf L → Type 0
+      Ends part ws lines left = EndsSo n as_line next part ws lines left (Good start n before greeting None (Ropen name workers))
 
       goes : Option Stop → Result OpenReader Stuck → Doing
       goes later result = finishes (reader_opened kept result)
 
       -- it is stopped
-      halted : (part first rest : List Event) (ws : List (List Event)) (lines : List Line) (left : Course) → part ≡ first ++ rest → Plays n (then_line number next (finishes (stopped kept))) rest ws lines left → Ends part ws lines left
-      halted part first rest ws lines left split plays = ended_behind n number next (stopped kept) ends part first rest ws lines left (Good start n before greeting None (Ropen name workers)) split plays (stopped_good kept first none)
+      halted : (part first rest : List Event) (ws : List (List Event)) (lines : List L) (left : CourseOf L) → part ≡ first ++ rest → Plays n (then_told as_line next (finishes (stopped kept))) rest ws lines left → Ends part ws lines left
+      halted part first rest ws lines left split plays = ended_behind n as_line next (stopped kept) ends part first rest ws lines left (Good start n before greeting None (Ropen name workers)) split plays (stopped_good kept first none)
 
       -- the reader is opened, or a trouble was met
-      came : (part mine rest : List Event) (result : Result OpenReader Stuck) (ws : List (List Event)) (lines : List Line) (left : Course) → part ≡ mine ++ rest → Came mine result → Plays n (then_line number next (finishes (reader_opened kept result))) rest ws lines left → Ends part ws lines left
-      came part mine rest result ws lines left split c plays = ended_behind n number next (reader_opened kept result) ends part mine rest ws lines left (Good start n before greeting None (Ropen name workers)) split plays (came_good kept mine result none c)
+      came : (part mine rest : List Event) (result : Result OpenReader Stuck) (ws : List (List Event)) (lines : List L) (left : CourseOf L) → part ≡ mine ++ rest → Came mine result → Plays n (then_told as_line next (finishes (reader_opened kept result))) rest ws lines left → Ends part ws lines left
+      came part mine rest result ws lines left split c plays = ended_behind n as_line next (reader_opened kept result) ends part mine rest ws lines left (Good start n before greeting None (Ropen name workers)) split plays (came_good kept mine result none c)
 
-      alone_ends : (listing : Listing) (scanning : List Event) (scans : Runs n (open_read_program name) scanning (Ok listing)) (stop : Option Stop) (part rest : List Event) (ws : List (List Event)) (lines : List Line) (left : Course) → Next start before (greeting ++ part) → part ≡ scanning ++ rest
-          → Plays n (then_line number next (carried (by_itself (programs_from workers listing 0) [] (opens listing)) stop (λ later result. finishes (reader_opened kept result)) (finishes (stopped kept)))) rest ws lines left → Ends part ws lines left
+      alone_ends : (listing : Listing) (scanning : List Event) (scans : Runs n (open_read_program name) scanning (Ok listing)) (stop : Option Stop) (part rest : List Event) (ws : List (List Event)) (lines : List L) (left : CourseOf L) → Next start before (greeting ++ part) → part ≡ scanning ++ rest
+          → Plays n (then_told as_line next (carried (by_itself (programs_from workers listing 0) [] (opens listing)) stop (λ later result. finishes (reader_opened kept result)) (finishes (stopped kept)))) rest ws lines left → Ends part ws lines left
       alone_ends listing scanning scans stop part rest ws lines left whole split plays =
-          elim (carried_on n number next (by_itself (programs_from workers listing 0) [] (opens listing)) stop (λ later result. finishes (reader_opened kept result)) (finishes (stopped kept)) rest ws lines left plays) as (λ _. Ends part ws lines left) [
+          elim (carried_on n as_line next (by_itself (programs_from workers listing 0) [] (opens listing)) stop (λ later result. finishes (reader_opened kept result)) (finishes (stopped kept)) rest ws lines left plays) as (λ _. Ends part ws lines left) [
             | inl r ↦
                 let is : part ≡ (scanning ++ r.mine) ++ r.rest = split ∙ ap (λ z. scanning ++ z) r.all ∙ sym (append_assoc scanning r.mine r.rest) in
                 came part (scanning ++ r.mine) r.rest r.result ws lines left is (alone_came listing scanning scans r.mine r.result (up_to start before greeting part (scanning ++ r.mine) r.rest whole is) r.runs) r.goes_on
@@ -256,7 +254,7 @@ module _ (start : Moment) (sound : IsSoundAt start) (n : ℕ) (before greeting :
           ]
 
       -- the same where workers were spent
-      spend : (part : List Event) (ws these later : List (List Event)) (lines : List Line) (left : Course) → ws ≡ these ++ later → Ends part later lines left → Ends part ws lines left
+      spend : (part : List Event) (ws these later : List (List Event)) (lines : List L) (left : CourseOf L) → ws ≡ these ++ later → Ends part later lines left → Ends part ws lines left
       spend part ws these later lines left are e = record {
         mine = e.mine;
         rest = e.rest;
@@ -271,12 +269,12 @@ module _ (start : Moment) (sound : IsSoundAt start) (n : ℕ) (before greeting :
         good = e.good;
       }
 
-      workers_end : (listing : Listing) (scanning : List Event) (scans : Runs n (open_read_program name) scanning (Ok listing)) (part rest : List Event) (ws : List (List Event)) (lines : List Line) (left : Course) → Next start before (greeting ++ part) → AllOf (before ++ greeting) part ws → part ≡ scanning ++ rest
-          → WorkersCall n (map asking (programs_from workers listing 0)) rest ws (λ results after later. Plays n (then_line number next (carried (on_ok (opens listing) (all_of results)) None (λ later result. finishes (reader_opened kept result)) (finishes (stopped kept)))) after later lines left) → Ends part ws lines left
+      workers_end : (listing : Listing) (scanning : List Event) (scans : Runs n (open_read_program name) scanning (Ok listing)) (part rest : List Event) (ws : List (List Event)) (lines : List L) (left : CourseOf L) → Next start before (greeting ++ part) → AllOf (before ++ greeting) part ws → part ≡ scanning ++ rest
+          → WorkersCall n (map asking (programs_from workers listing 0)) rest ws (λ results after later. Plays n (then_told as_line next (carried (on_ok (opens listing) (all_of results)) None (λ later result. finishes (reader_opened kept result)) (finishes (stopped kept)))) after later lines left) → Ends part ws lines left
       workers_end listing scanning scans part rest ws lines left whole keeps split w =
           let to_after : part ≡ (scanning ++ (w.before ++ w.during)) ++ w.after = split ∙ ap (λ z. scanning ++ z) (w.all ∙ sym (append_assoc w.before w.during w.after)) ∙ sym (append_assoc scanning (w.before ++ w.during) w.after) in
           spend part ws w.these w.later lines left w.are
-          (elim (carried_on n number next (on_ok (opens listing) (all_of w.results)) None (λ later result. finishes (reader_opened kept result)) (finishes (stopped kept)) w.after w.later lines left w.goes_on) as (λ _. Ends part w.later lines left) [
+          (elim (carried_on n as_line next (on_ok (opens listing) (all_of w.results)) None (λ later result. finishes (reader_opened kept result)) (finishes (stopped kept)) w.after w.later lines left w.goes_on) as (λ _. Ends part w.later lines left) [
             | inl r ↦
                 let mine : List Event = scanning ++ (w.before ++ (w.during ++ r.mine)) in
                 let is : part ≡ mine ++ r.rest =
@@ -294,15 +292,15 @@ module _ (start : Moment) (sound : IsSoundAt start) (n : ℕ) (before greeting :
             | inr h ↦ halted part ((scanning ++ (w.before ++ w.during)) ++ h.mine) h.rest w.later lines left (to_after ∙ ap (λ z. (scanning ++ (w.before ++ w.during)) ++ z) h.all ∙ sym (append_assoc (scanning ++ (w.before ++ w.during)) h.mine h.rest)) h.goes_on
           ])
 
-      shared_ends : (listing : Listing) (scanning : List Event) (scans : Runs n (open_read_program name) scanning (Ok listing)) (stop : Option Stop) (part rest : List Event) (ws : List (List Event)) (lines : List Line) (left : Course) → Next start before (greeting ++ part) → AllOf (before ++ greeting) part ws → part ≡ scanning ++ rest
-          → Plays n (then_line number next (shared stop (programs_from workers listing 0) (opens listing) (λ later result. finishes (reader_opened kept result)) (finishes (stopped kept)))) rest ws lines left → Ends part ws lines left
+      shared_ends : (listing : Listing) (scanning : List Event) (scans : Runs n (open_read_program name) scanning (Ok listing)) (stop : Option Stop) (part rest : List Event) (ws : List (List Event)) (lines : List L) (left : CourseOf L) → Next start before (greeting ++ part) → AllOf (before ++ greeting) part ws → part ≡ scanning ++ rest
+          → Plays n (then_told as_line next (shared stop (programs_from workers listing 0) (opens listing) (λ later result. finishes (reader_opened kept result)) (finishes (stopped kept)))) rest ws lines left → Ends part ws lines left
       shared_ends listing scanning scans None part rest ws lines left whole keeps split (inl w) = workers_end listing scanning scans part rest ws lines left whole keeps split w
       shared_ends listing scanning scans None part rest ws lines left whole keeps split (inr plays) = alone_ends listing scanning scans None part rest ws lines left whole split plays
       shared_ends listing scanning scans (Some stop) part rest ws lines left whole keeps split plays = alone_ends listing scanning scans (Some stop) part rest ws lines left whole split plays
 
       -- where the listing came to its end
-      listed_ends : (result : Result Listing Stuck) (mine rest : List Event) (stop : Option Stop) (part : List Event) (ws : List (List Event)) (lines : List Line) (left : Course) → Next start before (greeting ++ part) → AllOf (before ++ greeting) part ws → part ≡ mine ++ rest → Runs n (open_read_program name) mine result
-          → Plays n (then_line number next (if_listed kept workers stop result)) rest ws lines left → Ends part ws lines left
+      listed_ends : (result : Result Listing Stuck) (mine rest : List Event) (stop : Option Stop) (part : List Event) (ws : List (List Event)) (lines : List L) (left : CourseOf L) → Next start before (greeting ++ part) → AllOf (before ++ greeting) part ws → part ≡ mine ++ rest → Runs n (open_read_program name) mine result
+          → Plays n (then_told as_line next (if_listed kept workers stop result)) rest ws lines left → Ends part ws lines left
       listed_ends (Ok listing) mine rest stop part ws lines left whole keeps split runs plays = shared_ends listing mine runs stop part rest ws lines left whole keeps split plays
       listed_ends (Err why) mine rest stop part ws lines left whole keeps split runs plays =
           let b : Both start before greeting mine = up_to start before greeting part mine rest whole split in
@@ -313,12 +311,12 @@ module _ (start : Moment) (sound : IsSoundAt start) (n : ℕ) (before greeting :
                 subst (λ w. ShowsOpening start n (At mine) name (stuck_outcome w) None) (sym f.fault) (refl, f.rose)
             | inr lacks ↦ subst (λ w. ShowsOpening start n (At mine) name (stuck_outcome w) None) (sym lacks) (refl, refl)
           ] in
-          ended_behind n number next (ending (stuck_outcome why) kept) ends part mine rest ws lines left (Good start n before greeting None (Ropen name workers)) split plays (None, shows, still)
+          ended_behind n as_line next (ending (stuck_outcome why) kept) ends part mine rest ws lines left (Good start n before greeting None (Ropen name workers)) split plays (None, shows, still)
 
-      pub opening_ends : (stop : Option Stop) (part : List Event) (ws : List (List Event)) (lines : List Line) (left : Course) → Next start before (greeting ++ part) → AllOf (before ++ greeting) part ws
-          → Plays n (then_line number next (opens_reader kept stop name workers None)) part ws lines left → EndsSo n number next part ws lines left (Good start n before greeting None (Ropen name workers))
+      pub opening_ends : (stop : Option Stop) (part : List Event) (ws : List (List Event)) (lines : List L) (left : CourseOf L) → Next start before (greeting ++ part) → AllOf (before ++ greeting) part ws
+          → Plays n (then_told as_line next (opens_reader kept stop name workers None)) part ws lines left → EndsSo n as_line next part ws lines left (Good start n before greeting None (Ropen name workers))
       opening_ends stop part ws lines left whole keeps plays =
-          elim (carried_on n number next (open_read_program name) stop (if_listed kept workers) (finishes (stopped kept)) part ws lines left plays) as (λ _. Ends part ws lines left) [
+          elim (carried_on n as_line next (open_read_program name) stop (if_listed kept workers) (finishes (stopped kept)) part ws lines left plays) as (λ _. Ends part ws lines left) [
             | inl r ↦ listed_ends r.result r.mine r.rest r.stop part ws lines left whole keeps r.all r.runs r.goes_on
             | inr h ↦ halted part h.mine h.rest ws lines left h.all h.goes_on
           ]

@@ -1,6 +1,6 @@
 -- Statements that leave the actor's reader as it is, and tell of no damage.
-use Rattle.std.proofs.Common.{◌≡◌, inl, inr, ℕ, Bool, true, false, List, ◌++◌, length, Option, Some, None, Result, Ok, Err, refl}
-use Rattle.std.specs.Prelude.{if◌then◌else◌, ◌==◌}
+use Rattle.std.proofs.Common.{◌≡◌, inl, inr, ℕ, Bool, true, false, List, ◌++◌, Option, Result, Ok, Err, refl}
+use Rattle.std.specs.Prelude.{if◌then◌else◌}
 use Rattle.story.specs.Program.{Program, done}
 use Rattle.story.specs.Process.{ends}
 use Rattle.story.specs.Plays.{Plays}
@@ -13,30 +13,20 @@ use Rattle.mount_model.specs.State.{State}
 use Rattle.mount_undamaged.specs.Damage.{ShowsNoDamage}
 use Rattle.flow.specs.declared.stuck.Stuck.{Stuck}
 use Rattle.flow.specs.declared.stuck.Stuck.TheVariants as stuck
-use Rattle.writer_flow.specs.declared.handle.WriterHandle.{WriterHandle}
-use Rattle.writer_flow.specs.declared.handle.WriterOut.{WriterOut}
-use Rattle.writer_flow.specs.Opening.{open_program}
-use Rattle.writer_flow.specs.Writing.{write_program}
-use Rattle.writer_flow.specs.Syncing.{sync_program}
-use Rattle.writer_flow.specs.Closing.{close_program}
-use Rattle.script_lang.specs.declared.line.Line.{Line}
 use Rattle.script_lang.specs.declared.line.Outcome.{Outcome}
-use Rattle.script_lang.specs.declared.line.Why.TheVariants.{AlreadyOpen, NotOpen}
 use Rattle.index_reader.specs.declared.opened.OpenReader.{OpenReader}
 use Rattle.gathering.specs.Moments.{Moment, moment_after}
 use Rattle.trouble_laws.specs.Undamaged.{IsNoDamage, IsUndamaged}
-use Rattle.trouble_laws.proofs.Facts.{Ends, close_ends, ends_call, ends_done, failure_plain, open_ends, sync_ends, write_ends}
+use Rattle.trouble_laws.proofs.Facts.{Ends, ends_call, ends_done, failure_plain}
 use Rattle.actor_core.specs.Names.{names_program, names_told}
 use Rattle.actor_core.specs.declared.kept.Kept.{Kept}
 use Rattle.actor_core.specs.declared.kept.Stop.{Stop}
-use Rattle.actor_core.specs.Endings.{ending, Ending, refused, stopped, opened, wrote_nothing, wrote, synced, closed}
+use Rattle.actor_core.specs.Endings.{ending, Ending, stopped}
 use Rattle.outcomes.specs.Outcomes.{stuck_outcome, or_stuck}
 use Rattle.actor_core.specs.Stopping.{carried}
 use Rattle.actor_core.specs.Work.{Work, finishes}
-use Rattle.actor_core.specs.Writers.{opens, writes, writes_bytes, syncs, closes}
-use Rattle.run_core.specs.Course.{Course, then_line}
 use Rattle.play_laws.specs.Showing.{ShowsNone}
-use Rattle.play_laws.proofs.Carrying.{EndsSo, carried_on, ended, ended_behind}
+use Rattle.play_laws.proofs.Carrying.{CourseOf, EndsSo, carried_on, ended, ended_behind, then_told}
 use Rattle.play_laws.proofs.Standing.{Both, Next, up_to}
 
 -- the actor's reader is this one still, and the line is no reader's and tells of no damage
@@ -66,19 +56,19 @@ names_end caller = ends_call caller IsUndamaged AskRooms (λ reply. done (names_
 
 -- ---- the statements
 
-module _ (start : Moment) (n : ℕ) (before greeting : List Event) (number : ℕ) (next : Kept → Course) (kept : Kept) (stop : Option Stop) where
+module _ (start : Moment) (n : ℕ) (before greeting : List Event) {L : Type 0} (as_line : Ending → L) (next : Kept → CourseOf L) (kept : Kept) (stop : Option Stop) where
   abbrev Now : Moment
   Now = moment_after start (before ++ greeting)
 
-  abbrev Comes : List Event → List (List Event) → List Line → Course → Type 0
-  Comes part ws lines left = EndsSo n number next part ws lines left (λ mine e. LeavesReader kept.reader e)
+  abbrev Comes : List Event → List (List Event) → List L → CourseOf L → Type 0
+  Comes part ws lines left = EndsSo n as_line next part ws lines left (λ mine e. LeavesReader kept.reader e)
 
   -- wherever it begins behind the greeting, it comes to such an end
   abbrev pub Leaves : Work → Type 0
-  Leaves work = (part : List Event) (ws : List (List Event)) (lines : List Line) (left : Course) → Next start before (greeting ++ part) → Plays n (then_line number next work) part ws lines left → Comes part ws lines left
+  Leaves work = (part : List Event) (ws : List (List Event)) (lines : List L) (left : CourseOf L) → Next start before (greeting ++ part) → Plays n (then_told as_line next work) part ws lines left → Comes part ws lines left
 
   pub at_once : (e : Ending) → LeavesReader kept.reader e → Leaves (finishes e)
-  at_once e leaves part ws lines left whole plays = ended n number next e ends part ws lines left (λ mine x. LeavesReader kept.reader x) plays leaves
+  at_once e leaves part ws lines left whole plays = ended n as_line next e ends part ws lines left (λ mine x. LeavesReader kept.reader x) plays leaves
 
   either : (b : Bool) (p q : Work) → Leaves p → Leaves q → Leaves (if b then p else q)
   either true p q one other = one
@@ -88,43 +78,18 @@ module _ (start : Moment) (n : ℕ) (before greeting : List Event) (number : ℕ
   stopped_leaves = record { same = refl; none = tt }
 
   -- it ends behind these events
-  behind : (e : Ending) (part first rest : List Event) (ws : List (List Event)) (lines : List Line) (left : Course) → part ≡ first ++ rest → Plays n (then_line number next (finishes e)) rest ws lines left → LeavesReader kept.reader e → Comes part ws lines left
-  behind e part first rest ws lines left is plays leaves = ended_behind n number next e ends part first rest ws lines left (λ mine x. LeavesReader kept.reader x) is plays leaves
+  behind : (e : Ending) (part first rest : List Event) (ws : List (List Event)) (lines : List L) (left : CourseOf L) → part ≡ first ++ rest → Plays n (then_told as_line next (finishes e)) rest ws lines left → LeavesReader kept.reader e → Comes part ws lines left
+  behind e part first rest ws lines left is plays leaves = ended_behind n as_line next e ends part first rest ws lines left (λ mine x. LeavesReader kept.reader x) is plays leaves
 
   -- the calls of a machine that ends so
   pub machine_leaves : {R : Type 0} (good : R → Type 0) (p : Program Call Reply R) (of : R → Ending) → ((state : State) → Ends n good p state) → ((r : R) → good r → LeavesReader kept.reader (of r)) → Leaves (carried p stop (λ later r. finishes (of r)) (finishes (stopped kept)))
   machine_leaves good p of always leaves part ws lines left whole plays =
-      elim (carried_on n number next p stop (λ later r. finishes (of r)) (finishes (stopped kept)) part ws lines left plays) as (λ _. Comes part ws lines left) [
+      elim (carried_on n as_line next p stop (λ later r. finishes (of r)) (finishes (stopped kept)) part ws lines left plays) as (λ _. Comes part ws lines left) [
         | inl r ↦
             let b : Both start before greeting r.mine = up_to start before greeting part r.mine r.rest whole r.all in
             behind (of r.result) part r.mine r.rest ws lines left r.all r.goes_on (leaves r.result (always Now.state Now.issued r.mine r.result b.next.lawful b.next.sound r.runs))
         | inr h ↦ behind (stopped kept) part h.mine h.rest ws lines left h.all h.goes_on stopped_leaves
       ]
-
-  pub open_leaves : (name : List ℕ) (writer : Option WriterHandle) → Leaves (opens kept stop name writer)
-  open_leaves name (Some handle) = at_once (refused kept AlreadyOpen) (record { same = refl; none = tt })
-  open_leaves name None = machine_leaves IsUndamaged (open_program name kept.host kept.cap) (λ result. opened kept result) (open_ends n name kept.host kept.cap) (λ result plain. record { same = refl; none = or_shows_none _ result plain (λ h. tt) })
-
-  not_open : Leaves (finishes (refused kept NotOpen))
-  not_open = at_once (refused kept NotOpen) (record { same = refl; none = tt })
-
-  abbrev IsPlainOut : WriterOut → Type 0
-  IsPlainOut out = IsUndamaged out.result
-
-  pub write_leaves : (at : ℕ) (bytes : List ℕ) (writer : Option WriterHandle) → Leaves (writes kept stop at bytes writer)
-  write_leaves at bytes None = not_open
-  write_leaves at bytes (Some handle) = either handle.closing _ (writes_bytes kept stop at bytes handle) not_open
-      (either (length bytes == 0) (finishes (wrote_nothing kept at)) _ (at_once (wrote_nothing kept at) (record { same = refl; none = tt }))
-      (machine_leaves IsPlainOut (write_program handle at bytes) (λ out. wrote kept at (length bytes) out) (write_ends n handle at bytes) (λ out plain. record { same = refl; none = or_shows_none _ out.result plain (λ stamp. tt) })))
-
-  pub sync_leaves : (writer : Option WriterHandle) → Leaves (syncs kept stop writer)
-  sync_leaves None = not_open
-  sync_leaves (Some handle) = either handle.closing _ _ not_open
-      (machine_leaves IsPlainOut (sync_program handle) (λ out. synced kept out) (sync_ends n handle) (λ out plain. record { same = refl; none = or_shows_none _ out.result plain (λ landed. tt) }))
-
-  pub close_leaves : (writer : Option WriterHandle) → Leaves (closes kept stop writer)
-  close_leaves None = not_open
-  close_leaves (Some handle) = machine_leaves IsPlainOut (close_program handle) (λ out. closed kept out) (close_ends n handle) (λ out plain. record { same = refl; none = or_shows_none _ out.result plain (λ landed. tt) })
 
   -- one program, whose result is one line, and the actor keeps what it kept
   pub named_leaves : {R : Type 0} (p : Program Call Reply (Result R Stuck)) (says : R → Outcome) → ((state : State) → Ends n IsUndamaged p state) → ((r : R) → ShowsNone (says r)) → Leaves (carried p stop (λ left result. finishes (ending (or_stuck says result) kept)) (finishes (stopped kept)))

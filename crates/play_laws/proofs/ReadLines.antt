@@ -15,7 +15,6 @@ use Rattle.mount_sound.specs.Ledger.{entries_in}
 use Rattle.mount_sound.specs.Owed.{IsLawful}
 use Rattle.flow.specs.declared.stuck.Stuck.{Stuck}
 use Rattle.flow.specs.Running.{Runs}
-use Rattle.script_lang.specs.declared.line.Line.{Line}
 use Rattle.script_lang.specs.declared.line.Why.TheVariants.{NotOpen}
 use Rattle.script_lang.specs.declared.script.Statement.TheVariants.{Read, Verify, Map, Rclose}
 use Rattle.script_lang.specs.declared.script.Data.{Data}
@@ -30,17 +29,16 @@ use Rattle.reader_laws.proofs.Facts.{reads_bytes, reads_trouble}
 use Rattle.outcomes.specs.Data.{ramp_byte, bytes_of, length_of, first_difference, place_past}
 use Rattle.actor_core.specs.declared.kept.Kept.{Kept}
 use Rattle.actor_core.specs.declared.kept.Stop.{Stop}
-use Rattle.actor_core.specs.Endings.{refused, stopped, read_from, verified, mapped, reader_closed}
+use Rattle.actor_core.specs.Endings.{Ending, refused, stopped, read_from, verified, mapped, reader_closed}
 use Rattle.outcomes.specs.Outcomes.{stuck_outcome, read_outcome, verify_outcome, difference}
 use Rattle.actor_core.specs.Readers.{reads, verifies, maps, closes_reader}
 use Rattle.actor_core.specs.Work.{finishes}
-use Rattle.run_core.specs.Course.{Course, then_line}
 use Rattle.play_laws.specs.OneFile.{OneFile, seen_bytes, ArePiecesSeen}
 use Rattle.play_laws.specs.Opening.{Stretch}
 use Rattle.play_laws.specs.Comparing.{BeginsOtherwise}
 use Rattle.play_laws.specs.Ending.{EndsEarly}
 use Rattle.play_laws.specs.Showing.{ShowsRead, ShowsVerified}
-use Rattle.play_laws.proofs.Carrying.{EndsSo, carried_on, ended, ended_behind}
+use Rattle.play_laws.proofs.Carrying.{CourseOf, EndsSo, carried_on, ended, ended_behind, then_told}
 use Rattle.play_laws.proofs.Opened.{Good, HasFile, Keeps, keeps_later}
 use Rattle.play_laws.proofs.Standing.{Both, Next, FailedHere, failed, lawful_together, up_to}
 
@@ -161,7 +159,7 @@ module _ (start : Moment) (n : ℕ) (before greeting : List Event) (kept : Kept)
 
 -- ---- the statements
 
-module _ (start : Moment) (n : ℕ) (before greeting : List Event) (number : ℕ) (next : Kept → Course) (kept : Kept) (stop : Option Stop) where
+module _ (start : Moment) (n : ℕ) (before greeting : List Event) {L : Type 0} (as_line : Ending → L) (next : Kept → CourseOf L) (kept : Kept) (stop : Option Stop) where
   abbrev Now : Moment
   Now = moment_after start (before ++ greeting)
 
@@ -172,52 +170,52 @@ module _ (start : Moment) (n : ℕ) (before greeting : List Event) (number : ℕ
   nothing_lawful : IsLawful Now.state []
   nothing_lawful = tt
 
-  pub read_ends : (at len : ℕ) (r : Option OpenReader) (old : Option OneFile) (part : List Event) (ws : List (List Event)) (lines : List Line) (left : Course) → kept.reader ≡ r → Keeps Now r old → Next start before (greeting ++ part)
-      → Plays n (then_line number next (reads kept stop at len r)) part ws lines left → EndsSo n number next part ws lines left (Good start n before greeting old (Read at len))
-  read_ends at len None None part ws lines left is keeps whole plays = ended n number next (refused kept NotOpen) ends part ws lines left (Good start n before greeting None (Read at len)) plays (None, (refl, refl), kept_still None None [] is keeps tt)
+  pub read_ends : (at len : ℕ) (r : Option OpenReader) (old : Option OneFile) (part : List Event) (ws : List (List Event)) (lines : List L) (left : CourseOf L) → kept.reader ≡ r → Keeps Now r old → Next start before (greeting ++ part)
+      → Plays n (then_told as_line next (reads kept stop at len r)) part ws lines left → EndsSo n as_line next part ws lines left (Good start n before greeting old (Read at len))
+  read_ends at len None None part ws lines left is keeps whole plays = ended n as_line next (refused kept NotOpen) ends part ws lines left (Good start n before greeting None (Read at len)) plays (None, (refl, refl), kept_still None None [] is keeps tt)
   read_ends at len None (Some file) part ws lines left is keeps whole plays = absurd keeps
   read_ends at len (Some reader) None part ws lines left is keeps whole plays = absurd keeps
   read_ends at len (Some reader) (Some file) part ws lines left is keeps whole plays =
       let G = Good start n before greeting (Some file) (Read at len) in
-      elim (carried_on n number next (read_program reader.room reader.droppings (plan_of reader.pieces reader.size at len)) stop (λ later result. finishes (read_from kept at result)) (finishes (stopped kept)) part ws lines left plays) as (λ _. EndsSo n number next part ws lines left G) [
+      elim (carried_on n as_line next (read_program reader.room reader.droppings (plan_of reader.pieces reader.size at len)) stop (λ later result. finishes (read_from kept at result)) (finishes (stopped kept)) part ws lines left plays) as (λ _. EndsSo n as_line next part ws lines left G) [
         | inl r ↦
             let b : Both start before greeting r.mine = up_to start before greeting part r.mine r.rest whole r.all in
-            ended_behind n number next (read_from kept at r.result) ends part r.mine r.rest ws lines left G r.all r.goes_on
+            ended_behind n as_line next (read_from kept at r.result) ends part r.mine r.rest ws lines left G r.all r.goes_on
             (Some file, (refl, shows_read start n before greeting kept reader file keeps at len r.mine r.result b.whole b.next r.runs), kept_still (Some reader) (Some file) r.mine is keeps b.next.lawful)
         | inr h ↦
             let b : Both start before greeting h.mine = up_to start before greeting part h.mine h.rest whole h.all in
-            ended_behind n number next (stopped kept) ends part h.mine h.rest ws lines left G h.all h.goes_on (Some file, (refl, tt), kept_still (Some reader) (Some file) h.mine is keeps b.next.lawful)
+            ended_behind n as_line next (stopped kept) ends part h.mine h.rest ws lines left G h.all h.goes_on (Some file, (refl, tt), kept_still (Some reader) (Some file) h.mine is keeps b.next.lawful)
       ]
 
-  pub verify_ends : (at : ℕ) (content : Data) (r : Option OpenReader) (old : Option OneFile) (part : List Event) (ws : List (List Event)) (lines : List Line) (left : Course) → kept.reader ≡ r → Keeps Now r old → Next start before (greeting ++ part)
-      → Plays n (then_line number next (verifies kept stop at content r)) part ws lines left → EndsSo n number next part ws lines left (Good start n before greeting old (Verify at content))
-  verify_ends at content None None part ws lines left is keeps whole plays = ended n number next (refused kept NotOpen) ends part ws lines left (Good start n before greeting None (Verify at content)) plays (None, (refl, refl), kept_still None None [] is keeps tt)
+  pub verify_ends : (at : ℕ) (content : Data) (r : Option OpenReader) (old : Option OneFile) (part : List Event) (ws : List (List Event)) (lines : List L) (left : CourseOf L) → kept.reader ≡ r → Keeps Now r old → Next start before (greeting ++ part)
+      → Plays n (then_told as_line next (verifies kept stop at content r)) part ws lines left → EndsSo n as_line next part ws lines left (Good start n before greeting old (Verify at content))
+  verify_ends at content None None part ws lines left is keeps whole plays = ended n as_line next (refused kept NotOpen) ends part ws lines left (Good start n before greeting None (Verify at content)) plays (None, (refl, refl), kept_still None None [] is keeps tt)
   verify_ends at content None (Some file) part ws lines left is keeps whole plays = absurd keeps
   verify_ends at content (Some reader) None part ws lines left is keeps whole plays = absurd keeps
   verify_ends at content (Some reader) (Some file) part ws lines left is keeps whole plays =
       let G = Good start n before greeting (Some file) (Verify at content) in
-      elim (carried_on n number next (read_program reader.room reader.droppings (plan_of reader.pieces reader.size at (length_of content))) stop (λ later result. finishes (verified kept at content result)) (finishes (stopped kept)) part ws lines left plays) as (λ _. EndsSo n number next part ws lines left G) [
+      elim (carried_on n as_line next (read_program reader.room reader.droppings (plan_of reader.pieces reader.size at (length_of content))) stop (λ later result. finishes (verified kept at content result)) (finishes (stopped kept)) part ws lines left plays) as (λ _. EndsSo n as_line next part ws lines left G) [
         | inl r ↦
             let b : Both start before greeting r.mine = up_to start before greeting part r.mine r.rest whole r.all in
-            ended_behind n number next (verified kept at content r.result) ends part r.mine r.rest ws lines left G r.all r.goes_on
+            ended_behind n as_line next (verified kept at content r.result) ends part r.mine r.rest ws lines left G r.all r.goes_on
             (Some file, (refl, shows_verified start n before greeting kept reader file keeps at content r.mine r.result b.whole b.next r.runs), kept_still (Some reader) (Some file) r.mine is keeps b.next.lawful)
         | inr h ↦
             let b : Both start before greeting h.mine = up_to start before greeting part h.mine h.rest whole h.all in
-            ended_behind n number next (stopped kept) ends part h.mine h.rest ws lines left G h.all h.goes_on (Some file, (refl, tt), kept_still (Some reader) (Some file) h.mine is keeps b.next.lawful)
+            ended_behind n as_line next (stopped kept) ends part h.mine h.rest ws lines left G h.all h.goes_on (Some file, (refl, tt), kept_still (Some reader) (Some file) h.mine is keeps b.next.lawful)
       ]
 
-  pub map_ends : (r : Option OpenReader) (old : Option OneFile) (part : List Event) (ws : List (List Event)) (lines : List Line) (left : Course) → kept.reader ≡ r → Keeps Now r old
-      → Plays n (then_line number next (maps kept r)) part ws lines left → EndsSo n number next part ws lines left (Good start n before greeting old Map)
-  map_ends None None part ws lines left is keeps plays = ended n number next (refused kept NotOpen) ends part ws lines left (Good start n before greeting None Map) plays (None, (refl, refl), kept_still None None [] is keeps tt)
+  pub map_ends : (r : Option OpenReader) (old : Option OneFile) (part : List Event) (ws : List (List Event)) (lines : List L) (left : CourseOf L) → kept.reader ≡ r → Keeps Now r old
+      → Plays n (then_told as_line next (maps kept r)) part ws lines left → EndsSo n as_line next part ws lines left (Good start n before greeting old Map)
+  map_ends None None part ws lines left is keeps plays = ended n as_line next (refused kept NotOpen) ends part ws lines left (Good start n before greeting None Map) plays (None, (refl, refl), kept_still None None [] is keeps tt)
   map_ends None (Some file) part ws lines left is keeps plays = absurd keeps
   map_ends (Some reader) None part ws lines left is keeps plays = absurd keeps
   map_ends (Some reader) (Some file) part ws lines left is keeps plays =
       let pieces : ArePiecesSeen file reader.pieces = subst (λ ts. ArePieces (entries_in (writes_in file.moment file.cut)) ts reader.pieces) (sym keeps.truncates) keeps.has.pieces in
-      ended n number next (mapped kept reader.pieces) ends part ws lines left (Good start n before greeting (Some file) Map) plays (Some file, (refl, (reader.pieces, pieces, refl)), kept_still (Some reader) (Some file) [] is keeps tt)
+      ended n as_line next (mapped kept reader.pieces) ends part ws lines left (Good start n before greeting (Some file) Map) plays (Some file, (refl, (reader.pieces, pieces, refl)), kept_still (Some reader) (Some file) [] is keeps tt)
 
-  pub close_ends : (r : Option OpenReader) (old : Option OneFile) (part : List Event) (ws : List (List Event)) (lines : List Line) (left : Course) → kept.reader ≡ r → Keeps Now r old
-      → Plays n (then_line number next (closes_reader kept r)) part ws lines left → EndsSo n number next part ws lines left (Good start n before greeting old Rclose)
-  close_ends None None part ws lines left is keeps plays = ended n number next (refused kept NotOpen) ends part ws lines left (Good start n before greeting None Rclose) plays (None, (refl, refl), kept_still None None [] is keeps tt)
+  pub close_ends : (r : Option OpenReader) (old : Option OneFile) (part : List Event) (ws : List (List Event)) (lines : List L) (left : CourseOf L) → kept.reader ≡ r → Keeps Now r old
+      → Plays n (then_told as_line next (closes_reader kept r)) part ws lines left → EndsSo n as_line next part ws lines left (Good start n before greeting old Rclose)
+  close_ends None None part ws lines left is keeps plays = ended n as_line next (refused kept NotOpen) ends part ws lines left (Good start n before greeting None Rclose) plays (None, (refl, refl), kept_still None None [] is keeps tt)
   close_ends None (Some file) part ws lines left is keeps plays = absurd keeps
   close_ends (Some reader) None part ws lines left is keeps plays = absurd keeps
-  close_ends (Some reader) (Some file) part ws lines left is keeps plays = ended n number next (reader_closed kept) ends part ws lines left (Good start n before greeting (Some file) Rclose) plays (None, ((λ e. cc), refl), tt)
+  close_ends (Some reader) (Some file) part ws lines left is keeps plays = ended n as_line next (reader_closed kept) ends part ws lines left (Good start n before greeting (Some file) Rclose) plays (None, ((λ e. cc), refl), tt)

@@ -21,7 +21,6 @@ use Rattle.mount_sound.specs.Owed.{IsLawful}
 use Rattle.flow.specs.declared.stuck.Stuck.{Stuck}
 use Rattle.flow.specs.declared.stuck.Stuck.TheVariants as stuck
 use Rattle.flow.specs.Running.{Runs, unbroken}
-use Rattle.script_lang.specs.declared.line.Line.{Line}
 use Rattle.flow.specs.Replies.{failure, given, on_ok, room_in}
 use Rattle.attr_flow.specs.declared.attr.Attr.{Attr}
 use Rattle.attr_flow.specs.declared.attr_flow.AttrOut.{AttrOut}
@@ -54,7 +53,6 @@ use Rattle.actor_core.specs.declared.kept.Stop.{Stop}
 use Rattle.actor_core.specs.Endings.{Ending, stopped, told_of}
 use Rattle.actor_core.specs.Telling.{if_asked, if_relisted, tells_by, tells_of_file}
 use Rattle.actor_core.specs.Work.{finishes}
-use Rattle.run_core.specs.Course.{Course, then_line}
 use Rattle.play_laws.specs.Opening.{Stretch}
 use Rattle.play_laws.specs.Showing.{ShowsLook}
 use Rattle.look_laws.specs.Shares.{shares_seen}
@@ -62,7 +60,7 @@ use Rattle.play_laws.specs.Telling.{ShowsTold}
 use Rattle.play_laws.proofs.Alone.{read_alone, then_made}
 use Rattle.play_laws.proofs.Behind.{alone_opened}
 use Rattle.play_laws.proofs.Cached.{cached_told}
-use Rattle.play_laws.proofs.Carrying.{EndsSo, carried_on, ended_behind}
+use Rattle.play_laws.proofs.Carrying.{CourseOf, EndsSo, carried_on, ended_behind, then_told}
 use Rattle.play_laws.proofs.Dealing.{dealt_listed}
 use Rattle.play_laws.proofs.Earlier.{opened_earlier}
 use Rattle.play_laws.proofs.Listings.{FindsFirst, Gives, IsOf, IsSuch, made_such, open_at_of}
@@ -223,16 +221,16 @@ module _ (start : Moment) (sound : IsSoundAt start) (n : ℕ) (before greeting :
 
   -- ---- the statement
 
-  module _ (number : ℕ) (next : Kept → Course) (kept : Kept) (stop : Option Stop) where
+  module _ {L : Type 0} (as_line : Ending → L) (next : Kept → CourseOf L) (kept : Kept) (stop : Option Stop) where
     -- the actor keeps its reader, and the line shows so much
     abbrev pub Tells : List Event → Ending → Type 0
     Tells mine e = (e.kept.reader ≡ kept.reader) × ShowsLook start n (At mine) name e.outcome
 
-    abbrev Comes : List Event → List (List Event) → List Line → Course → Type 0
-    Comes part ws lines left = EndsSo n number next part ws lines left Tells
+    abbrev Comes : List Event → List (List Event) → List L → CourseOf L → Type 0
+    Comes part ws lines left = EndsSo n as_line next part ws lines left Tells
 
-    behind : (e : Ending) (part first rest : List Event) (ws : List (List Event)) (lines : List Line) (left : Course) → part ≡ first ++ rest → Plays n (then_line number next (finishes e)) rest ws lines left → Tells first e → Comes part ws lines left
-    behind e part first rest ws lines left is plays tells = ended_behind n number next e ends part first rest ws lines left Tells is plays tells
+    behind : (e : Ending) (part first rest : List Event) (ws : List (List Event)) (lines : List L) (left : CourseOf L) → part ≡ first ++ rest → Plays n (then_told as_line next (finishes e)) rest ws lines left → Tells first e → Comes part ws lines left
+    behind e part first rest ws lines left is plays tells = ended_behind n as_line next e ends part first rest ws lines left Tells is plays tells
 
     stopped_tells : (mine : List Event) → Tells mine (stopped kept)
     stopped_tells mine = (refl, tt)
@@ -254,8 +252,8 @@ module _ (start : Moment) (sound : IsSoundAt start) (n : ℕ) (before greeting :
         (alone_plain attr_of n 1 (moment_after Now first) (open_at_program room) listing scanning mine why (legal_rest Now first (scanning ++ mine) whole.lawful) (sound_after Now first (legal_first Now first (scanning ++ mine) whole.lawful) whole.sound) (inr (room, refl)) scans reads)
 
     -- behind the listing of the container, by whose number it was listed
-    relisted : (room : ℕ) (later : Option Stop) (part first : List Event) (result : Result Listing Stuck) (scanning rest : List Event) (ws : List (List Event)) (lines : List Line) (left : Course) → Next start before (greeting ++ part) → part ≡ first ++ (scanning ++ rest)
-        → Runs n (attr_program name) first (Ok (MustMerge room)) → Runs n (open_at_program room) scanning result → Plays n (then_line number next (if_relisted kept later result)) rest ws lines left → Comes part ws lines left
+    relisted : (room : ℕ) (later : Option Stop) (part first : List Event) (result : Result Listing Stuck) (scanning rest : List Event) (ws : List (List Event)) (lines : List L) (left : CourseOf L) → Next start before (greeting ++ part) → part ≡ first ++ (scanning ++ rest)
+        → Runs n (attr_program name) first (Ok (MustMerge room)) → Runs n (open_at_program room) scanning result → Plays n (then_told as_line next (if_relisted kept later result)) rest ws lines left → Comes part ws lines left
     relisted room later part first (Err why) scanning rest ws lines left whole is asks runs plays =
         let split : part ≡ (first ++ scanning) ++ rest = is ∙ sym (append_assoc first scanning rest) in
         let b : Both start before greeting (first ++ scanning) = up_to start before greeting part (first ++ scanning) rest whole split in
@@ -263,7 +261,7 @@ module _ (start : Moment) (sound : IsSoundAt start) (n : ℕ) (before greeting :
         behind (told_of kept (Err why)) part (first ++ scanning) rest ws lines left split plays
         (trouble_tells (first ++ scanning) why (elim fails as (λ _. IsNoDamage why) [ inl fault ↦ plain_fault why fault.0 | inr lacks ↦ subst IsNoDamage (sym lacks) tt ]))
     relisted room later part first (Ok listing) scanning rest ws lines left whole is asks runs plays =
-        elim (carried_on n number next (by_itself (programs_from 1 listing 0) [] (tells_by listing)) later (λ again result. finishes (told_of kept result)) (finishes (stopped kept)) rest ws lines left plays) as (λ _. Comes part ws lines left) [
+        elim (carried_on n as_line next (by_itself (programs_from 1 listing 0) [] (tells_by listing)) later (λ again result. finishes (told_of kept result)) (finishes (stopped kept)) rest ws lines left plays) as (λ _. Comes part ws lines left) [
           | inl r ↦
               let inner : part ≡ (first ++ (scanning ++ r.mine)) ++ r.rest = is ∙ ap (λ z. first ++ (scanning ++ z)) r.all ∙ ap (λ z. first ++ z) (sym (append_assoc scanning r.mine r.rest)) ∙ sym (append_assoc first (scanning ++ r.mine) r.rest) in
               let b : Both start before greeting (first ++ (scanning ++ r.mine)) = up_to start before greeting part (first ++ (scanning ++ r.mine)) r.rest whole inner in
@@ -273,8 +271,8 @@ module _ (start : Moment) (sound : IsSoundAt start) (n : ℕ) (before greeting :
               (is ∙ ap (λ z. first ++ (scanning ++ z)) h.all ∙ ap (λ z. first ++ z) (sym (append_assoc scanning h.mine h.rest)) ∙ sym (append_assoc first (scanning ++ h.mine) h.rest)) h.goes_on (stopped_tells (first ++ (scanning ++ h.mine)))
         ]
 
-    asked : (later : Option Stop) (part first : List Event) (result : Result AttrOut Stuck) (rest : List Event) (ws : List (List Event)) (lines : List Line) (left : Course) → Next start before (greeting ++ part) → part ≡ first ++ rest → Runs n (attr_program name) first result
-        → Plays n (then_line number next (if_asked kept later result)) rest ws lines left → Comes part ws lines left
+    asked : (later : Option Stop) (part first : List Event) (result : Result AttrOut Stuck) (rest : List Event) (ws : List (List Event)) (lines : List L) (left : CourseOf L) → Next start before (greeting ++ part) → part ≡ first ++ rest → Runs n (attr_program name) first result
+        → Plays n (then_told as_line next (if_asked kept later result)) rest ws lines left → Comes part ws lines left
     asked later part first (Err why) rest ws lines left whole is runs plays =
         let b : Both start before greeting first = up_to start before greeting part first rest whole is in
         behind (told_of kept (Err why)) part first rest ws lines left is plays (trouble_tells first why (tell_ends n name Now.state Now.issued first (Err why) b.next.lawful b.next.sound runs))
@@ -283,14 +281,14 @@ module _ (start : Moment) (sound : IsSoundAt start) (n : ℕ) (before greeting :
         behind (told_of kept (Ok attr)) part first rest ws lines left is plays
         (refl, cached_told start n before greeting first name attr sound b.next greets runs)
     asked later part first (Ok (MustMerge room)) rest ws lines left whole is runs plays =
-        elim (carried_on n number next (open_at_program room) later (if_relisted kept) (finishes (stopped kept)) rest ws lines left plays) as (λ _. Comes part ws lines left) [
+        elim (carried_on n as_line next (open_at_program room) later (if_relisted kept) (finishes (stopped kept)) rest ws lines left plays) as (λ _. Comes part ws lines left) [
           | inl r ↦ relisted room r.stop part first r.result r.mine r.rest ws lines left whole (is ∙ ap (λ z. first ++ z) r.all) runs r.runs r.goes_on
           | inr h ↦ behind (stopped kept) part (first ++ h.mine) h.rest ws lines left (is ∙ ap (λ z. first ++ z) h.all ∙ sym (append_assoc first h.mine h.rest)) h.goes_on (stopped_tells (first ++ h.mine))
         ]
 
-    pub look_ends : (part : List Event) (ws : List (List Event)) (lines : List Line) (left : Course) → Next start before (greeting ++ part) → Plays n (then_line number next (tells_of_file kept stop name)) part ws lines left → Comes part ws lines left
+    pub look_ends : (part : List Event) (ws : List (List Event)) (lines : List L) (left : CourseOf L) → Next start before (greeting ++ part) → Plays n (then_told as_line next (tells_of_file kept stop name)) part ws lines left → Comes part ws lines left
     look_ends part ws lines left whole plays =
-        elim (carried_on n number next (attr_program name) stop (if_asked kept) (finishes (stopped kept)) part ws lines left plays) as (λ _. Comes part ws lines left) [
+        elim (carried_on n as_line next (attr_program name) stop (if_asked kept) (finishes (stopped kept)) part ws lines left plays) as (λ _. Comes part ws lines left) [
           | inl r ↦ asked r.stop part r.mine r.result r.rest ws lines left whole r.all r.runs r.goes_on
           | inr h ↦ behind (stopped kept) part h.mine h.rest ws lines left h.all h.goes_on (stopped_tells h.mine)
         ]

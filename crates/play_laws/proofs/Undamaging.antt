@@ -29,6 +29,7 @@ use Rattle.play_laws.specs.OneFile.{OneFile}
 use Rattle.play_laws.specs.Opening.{Stretch}
 use Rattle.play_laws.specs.Readers.{ReadersShow, ShowsEach}
 use Rattle.play_laws.specs.Showing.{Shows, ShowsClosing, ShowsFlattening, ShowsLook, ShowsMap, ShowsNone, ShowsOpening, ShowsRead, ShowsRecovery, ShowsRename, ShowsTruncate, ShowsVerified}
+use Rattle.play_laws.specs.Writing.{OneWriter}
 use Rattle.play_laws.proofs.Casts.{readers_show}
 use Rattle.play_laws.specs.Undamaged.{AreUndamaged, IsUndamaged}
 
@@ -109,12 +110,12 @@ IsGood line = IsUndamaged line.outcome
 abbrev AreGood : List Line → Type 0
 AreGood lines = AllByRecursion IsGood lines
 
-each_undamaged : (start : Moment) (caller : ℕ) (stretch : Stretch) (old : Option OneFile) (statements : List Numbered) (lines : List Line) → ShowsEach start caller stretch old statements lines → AreGood lines
-each_undamaged start caller stretch old [] lines shows = subst AreGood (sym shows) tt
-each_undamaged start caller stretch old (s ∷ statements) [] shows = absurd shows
-each_undamaged start caller stretch old (s ∷ statements) (line ∷ lines) (mine, rest, new, split, number, shows, more) = (
-  shown_undamaged start caller (record { before = stretch.before; events = mine }) old s.statement line.outcome new shows,
-  each_undamaged start caller (record { before = stretch.before ++ mine; events = rest }) new statements lines more,
+each_undamaged : (start : Moment) (caller : ℕ) (stretch : Stretch) (file : Option OneFile) (writer : Option OneWriter) (statements : List Numbered) (lines : List Line) → ShowsEach start caller stretch file writer statements lines → AreGood lines
+each_undamaged start caller stretch file writer [] lines shows = subst AreGood (sym shows) tt
+each_undamaged start caller stretch file writer (s ∷ statements) [] shows = absurd shows
+each_undamaged start caller stretch file writer (s ∷ statements) (line ∷ lines) (mine, rest, new, new_writer, split, number, shows, writes, more) = (
+  shown_undamaged start caller (record { before = stretch.before; events = mine }) file s.statement line.outcome new shows,
+  each_undamaged start caller (record { before = stretch.before ++ mine; events = rest }) new new_writer statements lines more,
 )
 
 -- ---- all lines
@@ -172,7 +173,7 @@ right_undamaged script start lines end fits fine clean right =
     (λ place small.
     let d = declared_at script.actors place small in
     let told = show place d.0 d.1 in
-    each_undamaged m told.0.number (record { before = []; events = right.history }) None (own place (statements_in script.phases)) (told_at place places lines) told.2))
+    each_undamaged m told.0.number (record { before = []; events = right.history }) None None (own place (statements_in script.phases)) (told_at place places lines) told.2))
 
 pub play_undamaged : (script : Script) (start : State) (lines : List Line) (end : State) → FitsScript script → IsFine start → IsClean start → IsPlay script start lines end → AreUndamaged lines
 play_undamaged script start lines end fits fine clean play = right_undamaged script start lines end fits fine clean (play_right script start lines end play)

@@ -8,5 +8,6 @@ pub mod Flattening
 pub mod Recovering
 pub mod Refusing
 pub mod Showing
+pub mod Writing
 pub mod Readers
 pub mod Undamaged

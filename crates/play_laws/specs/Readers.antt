@@ -1,4 +1,4 @@
--- What the lines of a play show of the files that its readers have.
+-- What the lines of a play show of the files that its readers have, and of its writers.
 use Rattle.std.specs.Prelude.{◌≡◌, ℕ, List, [], ◌∷◌, ◌++◌, Option, Some, None, slice_get}
 use Rattle.mount_model.specs.declared.call.Ask.{Ask}
 use Rattle.mount_model.specs.declared.reply.Reply.{Reply}
@@ -20,23 +20,25 @@ use Rattle.gathering.specs.Moments.{Moment}
 use Rattle.play_laws.specs.OneFile.{OneFile}
 use Rattle.play_laws.specs.Opening.{Stretch}
 use Rattle.play_laws.specs.Showing.{Shows}
+use Rattle.play_laws.specs.Writing.{OneWriter, ShowsWriting}
 
--- One statement after the other has its part of the stretch, and its line shows so much of the file that the caller has open.
-abbrev pub ShowsEach : Moment → ℕ → Stretch → Option OneFile → List Numbered → List Line → Type 0
-ShowsEach start caller stretch old [] lines = lines ≡ []
-ShowsEach start caller stretch old (s ∷ ss) [] = ⊥
-ShowsEach start caller stretch old (s ∷ ss) (line ∷ lines) =
-    (mine rest : List Event) × (new : Option OneFile) × (stretch.events ≡ mine ++ rest) × (line.number ≡ s.line)
-    × Shows start caller (record { before = stretch.before; events = mine }) old s.statement line.outcome new
-    × ShowsEach start caller (record { before = stretch.before ++ mine; events = rest }) new ss lines
+-- One statement after the other has its part of the stretch, and its line shows so much of the file that the caller has open, and of its writer.
+abbrev pub ShowsEach : Moment → ℕ → Stretch → Option OneFile → Option OneWriter → List Numbered → List Line → Type 0
+ShowsEach start caller stretch file writer [] lines = lines ≡ []
+ShowsEach start caller stretch file writer (s ∷ ss) [] = ⊥
+ShowsEach start caller stretch file writer (s ∷ ss) (line ∷ lines) =
+    (mine rest : List Event) × (new_file : Option OneFile) × (new_writer : Option OneWriter) × (stretch.events ≡ mine ++ rest) × (line.number ≡ s.line)
+    × Shows start caller (record { before = stretch.before; events = mine }) file s.statement line.outcome new_file
+    × ShowsWriting start caller (record { before = stretch.before; events = mine }) writer s.statement line.outcome new_writer
+    × ShowsEach start caller (record { before = stretch.before ++ mine; events = rest }) new_file new_writer ss lines
 
--- The lines of each declared actor show so, in the history in which all make their calls. It has no file open at first.
+-- The lines of each declared actor show so, in the history in which all make their calls. It has no file open at first, and no writer.
 abbrev pub ReadersShow : (script : Script) (start : Moment) (lines : List Line) (end : State) → IsRight script start.state lines end → Type 0
 ReadersShow script start lines end right = (place : ℕ) (declared : ActorDecl) → slice_get script.actors place ≡ Some declared →
     (role : Role Ask Reply State) × (slice_get right.calls.roles place ≡ Some role)
-    × ShowsEach start role.number (record { before = []; events = right.history }) None (own place (statements_in script.phases)) (told_at place (whose (statements_in script.phases)) lines)
+    × ShowsEach start role.number (record { before = []; events = right.history }) None None (own place (statements_in script.phases)) (told_at place (whose (statements_in script.phases)) lines)
 
--- The lines of a play are right by the play's own calls, and those of its readers show so, for what had been issued before the play.
+-- The lines of a play are right by the play's own calls, and show so, for what had been issued before the play.
 pub record PlayShows (script : Script) (start : State) (lines : List Line) (end : State) (play : IsPlay script start lines end) : Type 0 where
   pub issued : Ledger
   pub sound : IsSoundFor issued start
