@@ -1,3 +1,4 @@
 -- What other crates may cite of this crate's proofs.
 pub use Rattle.play_laws.proofs.Casts.{play_shows, readers_show}
+pub use Rattle.play_laws.proofs.Counted.{play_counts, right_counts}
 pub use Rattle.play_laws.proofs.Undamaging.{play_undamaged, right_undamaged}

@@ -41,3 +41,4 @@ mod Statements
 mod Actors
 mod Casts
 mod Undamaging
+mod Counted

@@ -11,3 +11,4 @@ pub mod Showing
 pub mod Writing
 pub mod Readers
 pub mod Undamaged
+pub mod Counting
