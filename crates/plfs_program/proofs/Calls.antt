@@ -18,7 +18,7 @@ use Rattle.plfs_program.specs.Calling.{IsRun, IsPlayedOn, Leaves, broke_off, ran
 use Rattle.plfs_program.specs.Catting.{WentOn}
 use Rattle.plfs_program.specs.SoundTrees.{TellsSoundTree}
 use Rattle.plfs_program.specs.Ways.{Way, HasLines, by_turns, on_threads}
-use Rattle.plfs_program.proofs.Plain.{plain_on}
+use Rattle.plfs_program.proofs.Plain.{counted_on, plain_on}
 
 -- a mount was made, and its calls led to what is left
 pub was_run : (times : Option (List ℕ)) (before after : Stored) (start end : State) → IsMounted 0 times before start → GoesOn start end → after ≡ end.store → IsRun times before after
@@ -34,6 +34,7 @@ was_played way times before after script lines start end fits mounted play left 
   play = play;
   left = sym left;
   plain = plain_on way times before script lines start end fits mounted play;
+  counted = counted_on way times before script lines start end fits mounted play;
 }
 
 -- the tree that a mount's calls left of a sound one

@@ -26,6 +26,7 @@ use Rattle.run_core.specs.Written.{whose}
 use Rattle.play_laws.specs.OneFile.{OneFile, seen_bytes}
 use Rattle.play_laws.specs.Opening.{Stretch, OpensOneFile}
 use Rattle.play_laws.specs.Readers.{ShowsEach, PlayShows}
+use Rattle.play_laws.specs.Writing.{OneWriter}
 use Rattle.play_laws.specs.Showing.{ShowsOpening, ShowsRead}
 use Rattle.plfs_program.specs.Cat.{IsRead, is_read, content_of, contents, cat_script, cat_statements, opening, piece_length, pieces_of, reader_size, reading}
 use Rattle.plfs_program.specs.Commands.{actor}
@@ -106,14 +107,14 @@ module _ (start : Moment) (caller : ℕ) (file : OneFile) where
       ap content_of told.2 ∙ (subst S told.2 shows).1
 
   -- pieces from this one on are the bytes of the file from its place on
-  pieces_front : (k count : ℕ) (stretch : Stretch) (reads more : List Line) → All IsRead reads → ShowsEach start caller stretch (Some file) (map reading (range_with_len k count)) (reads ++ more)
+  pieces_front : (k count : ℕ) (stretch : Stretch) (writer : Option OneWriter) (reads more : List Line) → All IsRead reads → ShowsEach start caller stretch (Some file) writer (map reading (range_with_len k count)) (reads ++ more)
       → contents reads ≡ take (length reads * piece_length) (drop (k * piece_length) (seen_bytes file))
-  pieces_front k count stretch [] more all shows = refl
-  pieces_front k zero stretch (line ∷ reads) more all shows = cc
-  pieces_front k (suc count) stretch (line ∷ reads) more all (mine, rest, new, split, number, (same, shown), later) =
+  pieces_front k count stretch writer [] more all shows = refl
+  pieces_front k zero stretch writer (line ∷ reads) more all shows = cc
+  pieces_front k (suc count) stretch writer (line ∷ reads) more all (mine, rest, new, new_writer, split, number, (same, shown), writes, later) =
       let first : content_of line.outcome ≡ slice (seen_bytes file) (k * piece_length) piece_length = piece (record { before = stretch.before; events = mine }) (k * piece_length) piece_length line.outcome (All-head IsRead line reads all) shown in
-      let P : Option OneFile → Type 0 = λ o. ShowsEach start caller (record { before = stretch.before ++ mine; events = rest }) o (map reading (range_with_len (k + 1) count)) (reads ++ more) in
-      let others = pieces_front (k + 1) count (record { before = stretch.before ++ mine; events = rest }) reads more (All-tail IsRead line reads all) (subst P same later) in
+      let P : Option OneFile → Type 0 = λ o. ShowsEach start caller (record { before = stretch.before ++ mine; events = rest }) o new_writer (map reading (range_with_len (k + 1) count)) (reads ++ more) in
+      let others = pieces_front (k + 1) count (record { before = stretch.before ++ mine; events = rest }) new_writer reads more (All-tail IsRead line reads all) (subst P same later) in
       let place : (k + 1) * piece_length ≡ k * piece_length + piece_length = omega arith in
       let behind : drop ((k + 1) * piece_length) (seen_bytes file) ≡ drop piece_length (drop (k * piece_length) (seen_bytes file)) = ap (λ n. drop n (seen_bytes file)) place ∙ dropped (k * piece_length) piece_length (seen_bytes file) in
       let long : piece_length + length reads * piece_length ≡ length (line ∷ reads) * piece_length = omega arith in
@@ -123,11 +124,11 @@ module _ (start : Moment) (caller : ℕ) (file : OneFile) where
       ∙ ap (λ n. take n (drop (k * piece_length) (seen_bytes file))) long
 
   -- all of them are all of its bytes
-  pieces_whole : (size : ℕ) (stretch : Stretch) (count : ℕ) (lines : List Line) → size ≡ length (seen_bytes file) → All IsRead lines → length lines ≡ pieces_of size → ShowsEach start caller stretch (Some file) (map reading (range_with_len 0 count)) lines
+  pieces_whole : (size : ℕ) (stretch : Stretch) (writer : Option OneWriter) (count : ℕ) (lines : List Line) → size ≡ length (seen_bytes file) → All IsRead lines → length lines ≡ pieces_of size → ShowsEach start caller stretch (Some file) writer (map reading (range_with_len 0 count)) lines
       → contents lines ≡ seen_bytes file
-  pieces_whole size stretch count lines is all long shows =
-      let S : List Line → Type 0 = λ ls. ShowsEach start caller stretch (Some file) (map reading (range_with_len 0 count)) ls in
-      let front = pieces_front 0 count stretch lines [] all (subst S (sym (append-nil lines)) shows) in
+  pieces_whole size stretch writer count lines is all long shows =
+      let S : List Line → Type 0 = λ ls. ShowsEach start caller stretch (Some file) writer (map reading (range_with_len 0 count)) ls in
+      let front = pieces_front 0 count stretch writer lines [] all (subst S (sym (append-nil lines)) shows) in
       let bound = (div_ceil_times size piece_length (omega arith)).0 in
       let enough : length (seen_bytes file) ≤ length lines * piece_length = subst (λ n. length (seen_bytes file) ≤ n * piece_length) (sym long) (subst (λ n. n ≤ pieces_of size * piece_length) is bound) in
       front ∙ take_all (length lines * piece_length) (seen_bytes file) enough
@@ -153,21 +154,21 @@ told_all (s ∷ ss) (line ∷ lines) all long =
 -- ---- the law
 
 module _ (name : List ℕ) (count : ℕ) (start : State) (end : State) where
-  shown_so : (lines : List Line) (history : List Event) (m : Moment) (caller : ℕ) (sound : IsSoundFor m.issued start) → m.state ≡ start → ShowsEach m caller (record { before = []; events = history }) None (cat_statements name count) lines → ShowOneFile start history name lines
+  shown_so : (lines : List Line) (history : List Event) (m : Moment) (caller : ℕ) (sound : IsSoundFor m.issued start) → m.state ≡ start → ShowsEach m caller (record { before = []; events = history }) None None (cat_statements name count) lines → ShowOneFile start history name lines
   shown_so [] history m caller sound at shows = tt
-  shown_so (opened ∷ lines) history m caller sound at (mine, rest, new, split, number, shown, later) = λ size told.
+  shown_so (opened ∷ lines) history m caller sound at (mine, rest, new, new_writer, split, number, shown, writes, later) = λ size told.
       let r = is_reader opened.outcome size told in
       let O : Outcome → Type 0 = λ o. ShowsOpening m caller (record { before = []; events = mine }) name o new in
       let o = subst O r.3 shown in
-      let P : Option OneFile → Type 0 = λ z. ShowsEach m caller (record { before = mine; events = rest }) z (map reading (range_with_len 0 count)) lines in
+      let P : Option OneFile → Type 0 = λ z. ShowsEach m caller (record { before = mine; events = rest }) z new_writer (map reading (range_with_len 0 count)) lines in
       let reads = subst P o.1 later in
       let long : size ≡ length (seen_bytes o.0) = sym r.4 ∙ o.3.size_is in
       record {
         file = o.0;
         opened = record { issued = m.issued; sound = sound; caller = caller; first = mine; later = rest; all = split; opens = subst (λ st. OpensOneFile (record { state = st; issued = m.issued }) caller (record { before = []; events = mine }) name o.0) at o.2 };
         long = long;
-        front = λ done more is all. (let S : List Line → Type 0 = λ ls. ShowsEach m caller (record { before = mine; events = rest }) (Some o.0) (map reading (range_with_len 0 count)) ls in pieces_front m caller o.0 0 count (record { before = mine; events = rest }) done more all (subst S is reads));
-        whole = λ all pieces. pieces_whole m caller o.0 size (record { before = mine; events = rest }) count lines long all pieces reads;
+        front = λ done more is all. (let S : List Line → Type 0 = λ ls. ShowsEach m caller (record { before = mine; events = rest }) (Some o.0) new_writer (map reading (range_with_len 0 count)) ls in pieces_front m caller o.0 0 count (record { before = mine; events = rest }) new_writer done more all (subst S is reads));
+        whole = λ all pieces. pieces_whole m caller o.0 size (record { before = mine; events = rest }) new_writer count lines long all pieces reads;
       }
 
   -- where the lines of its readers show one plain file, so do its pieces
@@ -178,7 +179,7 @@ module _ (name : List ℕ) (count : ℕ) (start : State) (end : State) where
       let whole : statements_in (cat_script name count).phases ≡ statements = append-nil statements in
       let one = shows.show 0 actor refl in
       let long : length lines ≡ length statements = shows.right.long ∙ ap length whole in
-      let T : List Numbered × List Numbered → Type 0 = λ z. ShowsEach m one.0.number (record { before = []; events = shows.right.history }) None z.0 (told_at 0 (whose z.1) lines) in
+      let T : List Numbered × List Numbered → Type 0 = λ z. ShowsEach m one.0.number (record { before = []; events = shows.right.history }) None None z.0 (told_at 0 (whose z.1) lines) in
       let mine : T (own 0 statements, statements) = subst T (λ i. (own 0 (whole i), whole i)) one.2 in
-      let told = subst (λ ls. ShowsEach m one.0.number (record { before = []; events = shows.right.history }) None statements ls) (told_all statements lines (all_first name count) long) (subst (λ ss. ShowsEach m one.0.number (record { before = []; events = shows.right.history }) None ss (told_at 0 (whose statements) lines)) (own_all statements (all_first name count)) mine) in
+      let told = subst (λ ls. ShowsEach m one.0.number (record { before = []; events = shows.right.history }) None None statements ls) (told_all statements lines (all_first name count) long) (subst (λ ss. ShowsEach m one.0.number (record { before = []; events = shows.right.history }) None None ss (told_at 0 (whose statements) lines)) (own_all statements (all_first name count)) mine) in
       subst (λ es. ShowOneFile start es name lines) shows.same (shown_so lines shows.right.history m one.0.number shows.sound refl told)

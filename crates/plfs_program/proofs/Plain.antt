@@ -12,7 +12,8 @@ use Rattle.script_lang.specs.declared.line.Outcome.{Outcome}
 use Rattle.script_lang.specs.declared.line.Outcome.TheVariants as of
 use Rattle.script_lang.specs.declared.script.Script.{Script}
 use Rattle.play_laws.specs.Undamaged.{AreUndamaged, IsUndamaged}
-use Rattle.play_laws.proofs.Facts.{play_shows, play_undamaged, readers_show, right_undamaged}
+use Rattle.play_laws.specs.Counting.{CountWrites}
+use Rattle.play_laws.proofs.Facts.{play_counts, play_shows, play_undamaged, readers_show, right_counts, right_undamaged}
 use Rattle.plfs_program.specs.Outcomes.{has_line, is_damage}
 use Rattle.plfs_program.specs.SoundTrees.{TellsSoundTree}
 use Rattle.plfs_program.specs.Ways.{Way, HasLines, ShowsFiles, by_turns, on_threads}
@@ -27,6 +28,16 @@ plain_on by_turns times before script lines start end fits made play told = play
 plain_on on_threads times before script lines start end fits made right (tree, told, sound) =
     let begins = mounted_sound 0 times before start tree made told sound in
     record { issued = sound.issued; sound = begins; show = readers_show script (record { state = start; issued = sound.issued }) lines end fits begins right }
+
+-- ---- the numbers of syncs and closes
+
+are_counted : (way : Way) (script : Script) (start : State) (lines : List Line) (end : State) → FitsScript script → IsFine start → IsClean start → HasLines way script start lines end → CountWrites script lines
+are_counted by_turns script start lines end fits fine clean play = play_counts script start lines end fits fine clean play
+are_counted on_threads script start lines end fits fine clean right = right_counts script start lines end fits fine clean right
+
+-- they count the lines of writes
+pub counted_on : (way : Way) (times : Option (List ℕ)) (before : Stored) (script : Script) (lines : List Line) (start end : State) → FitsScript script → IsMounted 0 times before start → HasLines way script start lines end → TellsSoundTree before → CountWrites script lines
+counted_on way times before script lines start end fits made play told = are_counted way script start lines end fits (mounted_fine 0 times before start made) (mounted_clean times before start made told) play
 
 -- ---- no line is damaged
 

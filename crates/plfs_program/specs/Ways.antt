@@ -25,13 +25,13 @@ abbrev pub HasLines : Way → Script → State → List Line → State → Type 
 HasLines by_turns script start lines end = IsPlay script start lines end
 HasLines on_threads script start lines end = IsRight script start lines end
 
--- The lines of the readers show so, for what had been issued before.
+-- The lines of the actors show so, for what had been issued before.
 pub record RightShows (script : Script) (start : State) (lines : List Line) (end : State) (right : IsRight script start lines end) : Type 0 where
   pub issued : Ledger
   pub sound : IsSoundFor issued start
   pub show : ReadersShow script (record { state = start; issued = issued }) lines end right
 
--- either way the lines of each reader are those of one plain file
+-- either way the lines of each reader are those of one plain file, and those of each writer show what it wrote, synced and closed
 abbrev pub ShowsFiles : (way : Way) (script : Script) (start : State) (lines : List Line) (end : State) → HasLines way script start lines end → Type 0
 ShowsFiles by_turns script start lines end play = PlayShows script start lines end play
 ShowsFiles on_threads script start lines end right = RightShows script start lines end right
