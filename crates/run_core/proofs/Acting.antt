@@ -1,5 +1,5 @@
 -- One statement of an actor, and those of a phase.
-use Rattle.std.proofs.Common.{◌≡◌, ◌≢◌, ℕ, Bool, true, false, List, [], ◌∷◌, ◌++◌, Result, Ok, Err, refl, sym, ap, ◌∙◌, subst, append_assoc, append-nil}
+use Rattle.std.proofs.Common.{◌≡◌, ◌≢◌, ℕ, Bool, true, false, List, [], ◌∷◌, ◌++◌, Result, Ok, Err, refl, sym, ap, ◌∙◌, subst, append_assoc, append-nil, arith}
 use Rattle.std.specs.Prelude.{OnOk}
 use Rattle.std.specs.Result.{is_ok}
 use Rattle.turn_object.specs.History.{state_after}
@@ -17,9 +17,9 @@ use Rattle.run_core.specs.Course.{Course, then_line, one_by_one, own}
 use Rattle.run_core.proofs.Capacity.{capacity}
 use Rattle.run_core.proofs.Tables.{own_no, own_yes}
 use Rattle.run_core.proofs.Works.{idle_kept}
-use Rattle.run_core.specs.Views.{ThePass, TheTurn}
-use Rattle.run_core.specs.Alone.{Goes}
-use Rattle.run_core.specs.Driving.{MayGoOn, ComesToIts, IsAfter}
+use Rattle.share_workers.specs.Passes.{ThePass, TheTurn, IsAfter}
+use Rattle.run_core.specs.Going.{Goes}
+use Rattle.run_core.specs.Driving.{MayGoOn, ComesToIts}
 use Rattle.run_core.specs.Runners.{Runner, Acted, ActedSoFar, ActedAll, MayAct, Played}
 use Rattle.run_core.proofs.Going.{goes_none, goes_then}
 use Rattle.run_core.proofs.Driving.{fine_along}
@@ -45,7 +45,7 @@ module _ {P : Type 0} (turn : TheTurn P) where
   after_both a b c x y = record { pass = y.pass; known = y.known; parts = y.parts ∙ x.parts }
 
   pub may_after : (a b : ThePass) → MayAct turn a → IsAfter turn a b → MayAct turn b
-  may_after a b may x = record { pass_of = x.pass; known = x.known; fine = may.fine }
+  may_after a b may x = record { pass_of = x.pass; known = x.known; fine = may.fine; parts = (let p = x.parts in let few = may.parts in omega (arith, p, few)) }
 
 pub begun_busy : (old began : Progress) (line : ℕ) (statement : Statement) → IsIdle old → began ≡ begun old line statement → IsIdle began → ⊥
 begun_busy old began line statement rests is none =

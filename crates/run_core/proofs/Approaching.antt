@@ -1,6 +1,6 @@
 -- How a player comes to its next line.
 use Rattle.std.proofs.Common.{◌≡◌, ◌≢◌, ℕ, suc, ◌≤◌, List, [], ◌∷◌, ◌++◌, length, refl, sym, ap, ◌∙◌, subst, append_assoc, append-nil, arith}
-use Rattle.std.specs.Prelude.{All}
+use Rattle.std.specs.Prelude.{All, Some, None}
 use Rattle.mount_model.specs.declared.call.Ask.{Ask}
 use Rattle.mount_model.specs.declared.reply.Reply.{Reply}
 use Rattle.mount_model.specs.declared.reply.Reply.TheVariants.{NoMemory}
@@ -13,16 +13,15 @@ use Rattle.story.specs.InTurns.{ToEnd}
 use Rattle.script_lang.specs.declared.line.Line.{Line}
 use Rattle.script_lang.specs.declared.script.Numbered.{Numbered}
 use Rattle.actor_core.specs.declared.kept.Kept.{Kept}
-use Rattle.actor_core.specs.Progress.{Progress, idle, going, asked, handed, told, given, with_reply, IsIdle}
+use Rattle.actor_core.specs.Progress.{Progress, idle, going, asked, handed, told, given, with_reply, IsIdle, ask_of, waiting_line, line_taken}
 use Rattle.actor_core.specs.Standings.{progress_of}
 use Rattle.run_core.specs.declared.player.Player.{Player}
 use Rattle.run_core.specs.Course.{Course}
 use Rattle.run_core.specs.Leading.{AreBy, GoesOn, MadeCall}
 use Rattle.run_core.specs.Players.{course_at, course_left, IsSafeProgress, IsMade, IsFit, in_progress, lines_left}
 use Rattle.run_core.specs.Moving.{Approaches, Passes, Begins, IsDone}
-use Rattle.run_core.proofs.Leading.{leads_none, leads_both, memory_both, by_both, went, went_both}
-use Rattle.std.specs.Prelude.{Some, None}
-use Rattle.actor_core.specs.Progress.{ask_of, waiting_line, line_taken}
+use Rattle.run_core.proofs.Leading.{leads_none, leads_both, by_both, went, went_both}
+use Rattle.share_workers.proofs.Facts.{memory_both}
 use Rattle.run_core.proofs.Fitness.{idle_fit}
 use Rattle.run_core.proofs.Works.{AsksNext, TellsNext, its_line, same_some}
 use Rattle.run_core.proofs.Turning.{Same, same_made, same_fit, call_fit, same_left, course_same, after_reply}

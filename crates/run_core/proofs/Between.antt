@@ -13,7 +13,7 @@ use Rattle.script_lang.specs.declared.script.ActorDecl.{ActorDecl}
 use Rattle.script_lang.specs.declared.script.Numbered.{Numbered}
 use Rattle.script_lang.specs.declared.script.Phase.{Phase}
 use Rattle.run_core.specs.Players.{IsMade}
-use Rattle.run_core.specs.Views.{ThePass, TheTurn}
+use Rattle.share_workers.specs.Passes.{ThePass, TheTurn}
 use Rattle.run_core.specs.Runners.{Runner, IsReadyFor, Played, EachPlayed}
 use Rattle.run_core.specs.Each.{EachAt, ChangedTo}
 use Rattle.run_core.specs.Phases.{Keeps, IsFollower, IsLevel, IsPast, IsGathered, CaughtUp, HandedOver}

@@ -1,12 +1,12 @@
 -- How actors leave a run, and what it has made then.
 use Rattle.std.proofs.Common.{◌≡◌, ◌≢◌, ◌⊎◌, inl, inr, ℕ, zero, suc, ◌+◌, ◌<◌, Bool, true, false, List, [], ◌∷◌, ◌++◌, length, get_or, eq-eqb, sym, refl, ap, ◌∙◌, subst, arith, length-append, append_assoc, append-nil}
 use Rattle.std.proofs.lemmas.List.{map-append}
-use Rattle.std.specs.Prelude.{All, ◌==◌, cond}
-use Rattle.std.specs.List.{Any, filter}
+use Rattle.std.specs.Prelude.{All, ◌==◌, cond, Result, Ok, Err, IfOk}
+use Rattle.std.specs.List.{Any}
 use Rattle.std.proofs.lemmas.List.Elements.{All-nil, All-cons, All-head, All-tail, All-push}
 use Rattle.turn_object.specs.declared.history.Ended.{Ended}
 use Rattle.turn_object.specs.History.{StartsWith, Happens, state_after}
-use Rattle.turn_object.specs.Callers.{made_by, IsOwn, is_by}
+use Rattle.turn_object.specs.Callers.{made_by, IsOwn}
 use Rattle.turn_object.specs.Ended.{as_ended, AreApart, EndedIn}
 use Rattle.turn_object.specs.Front.{IsLegalFront, IsWhole}
 use Rattle.turn_object.specs.Shares.{longer}
@@ -26,22 +26,21 @@ use Rattle.mount_model.specs.History.{Event}
 use Rattle.mount_sound.specs.Owed.{IsLawful, Permits}
 use Rattle.flow.specs.declared.stuck.Stuck.{Stuck}
 use Rattle.index_reader.specs.declared.sharing.Share.{Share}
-use Rattle.std.specs.Prelude.{Result, Ok, Err, IfOk}
 use Rattle.script_lang.specs.declared.line.Line.{Line}
 use Rattle.script_lang.specs.declared.script.ActorDecl.{ActorDecl}
 use Rattle.script_lang.specs.declared.script.Phase.{Phase}
 use Rattle.run_core.specs.Course.{Course, course_of}
 use Rattle.run_core.specs.Cast.{cast_from}
-use Rattle.run_core.specs.Leading.{Leads, GoesOn, HadMemory}
-use Rattle.run_core.specs.Views.{View, ThePass, TheTurn, AnyCall}
-use Rattle.run_core.specs.Alone.{PlaysAlone}
+use Rattle.run_core.specs.Leading.{Leads, GoesOn, EndedWithMemory}
+use Rattle.share_workers.specs.Passes.{HadMemory, View, ThePass, TheTurn}
+use Rattle.run_core.proofs.Leading.{all_both, one_had}
 use Rattle.run_core.specs.Runners.{Runner}
 use Rattle.run_core.specs.Each.{EachAt}
-use Rattle.run_core.specs.Phases.{HasActed, IsFollower}
+use Rattle.run_core.specs.Phases.{AnyCall, HasActed, IsFollower}
 use Rattle.run_core.specs.Running.{Between, HaveAll, CanLeave, Leaves, ended_with, lines_of}
 use Rattle.run_core.specs.declared.threads.told.Told.{Told}
 use Rattle.run_core.specs.Collecting.{lines_in}
-use Rattle.run_core.specs.Closing.{ToldAlone, EachTold, HasRun}
+use Rattle.run_core.specs.Closing.{HasRun}
 use Rattle.run_core.proofs.Each.{each_all}
 use Rattle.run_core.proofs.Phasing.{known_free, starts_same}
 
@@ -163,61 +162,15 @@ have_ended start phases h bs place [] (r ∷ rs) each = absurd each
 have_ended start phases h bs place (d ∷ ds) [] each = absurd each
 have_ended start phases h bs place (d ∷ ds) (r ∷ rs) each = All-cons (HasEnded IsStep AnyCall start h bs) (player (course_of place phases d) (front r.pass) ends r.told.lines.items) (stories (place + 1) phases ds rs) (each.0.played, refl) (have_ended start phases h bs (place + 1) ds rs each.1)
 
--- ---- each actor's lines by its own calls
-
-keeps_none : (h : List Event) → [] ≡ filter (λ (e : Event). false) h
-keeps_none [] = refl
-keeps_none (e ∷ h) = keeps_none h
-
-all_right : {T : Type 0} (Q : T → Type 0) (xs ys : List T) → All Q (xs ++ ys) → All Q ys
-all_right Q [] ys all = all
-all_right Q (x ∷ xs) ys all = all_right Q xs ys (All-tail Q x (xs ++ ys) all)
-
-all_left : {T : Type 0} (Q : T → Type 0) (xs ys : List T) → All Q (xs ++ ys) → All Q xs
-all_left Q [] ys all = All-nil Q
-all_left Q (x ∷ xs) ys all = All-cons Q x xs (All-head Q x (xs ++ ys) all) (all_left Q xs ys (All-tail Q x (xs ++ ys) all))
-
-told_alone : (start : State) (phases : List Phase) (h : List Event) (bs : List (List Event)) (place : ℕ) (d : ActorDecl) (r : Runner) (mine : List Event) → mine ≡ mine_of r.pass → HasActed start phases [] h bs place d r → All (EndedIn h) (as_ended mine) → ToldAlone (course_of place phases d) h r.told.lines.items
-told_alone start phases h bs place d r mine is a kept =
-    let whole = a.alone [] [] (refl, refl) in
-    let Q : List Event × List Line → Type 0 = λ z. PlaysAlone (course_of place phases d) z.0 z.1 in
-    let plays : PlaysAlone (course_of place phases d) mine r.told.lines.items = subst Q (λ i. ((append-nil (mine_of r.pass) ∙ sym is) i, append-nil r.told.lines.items i)) whole in
-    by mine kept plays
-  where
-    by : (mine : List Event) → All (EndedIn h) (as_ended mine) → PlaysAlone (course_of place phases d) mine r.told.lines.items → ToldAlone (course_of place phases d) h r.told.lines.items
-    by [] kept plays = record { calls = []; keeps = λ e. false; among = keeps_none h; alone = plays }
-    by (e ∷ es) kept plays = record { calls = e ∷ es; keeps = is_by e.caller; among = sym (All-head (EndedIn h) (record { number = e.caller; entries = e ∷ es }) [] kept); alone = plays }
-
-each_told : (start : State) (phases : List Phase) (h : List Event) (bs : List (List Event)) (place : ℕ) (actors : List ActorDecl) (runners : List Runner) → AllActed start phases h bs place actors runners → All (EndedIn h) (ended_with runners) → EachTold place phases actors h (lines_of runners)
-each_told start phases h bs place [] [] each kept = tt
-each_told start phases h bs place [] (r ∷ rs) each kept = absurd each
-each_told start phases h bs place (d ∷ ds) [] each kept = absurd each
-each_told start phases h bs place (d ∷ ds) (r ∷ rs) each kept =
-    let own = ended_of r.pass ++ as_ended (mine_of r.pass) in (
-      told_alone start phases h bs place d r (mine_of r.pass) refl each.0 (all_right (EndedIn h) (ended_of r.pass) (as_ended (mine_of r.pass)) (all_left (EndedIn h) own (ended_with rs) kept)),
-      each_told start phases h bs (place + 1) ds rs each.1 (all_right (EndedIn h) own (ended_with rs) kept),
-    )
-
 -- ---- no call was refused memory
 
-abbrev HadIn : Ended Ask Reply State → Type 0
-HadIn gone = HadMemory gone.entries
-
-all_both : {T : Type 0} (Q : T → Type 0) (xs ys : List T) → All Q xs → All Q ys → All Q (xs ++ ys)
-all_both Q [] ys a b = b
-all_both Q (x ∷ xs) ys a b = All-cons Q x (xs ++ ys) (All-head Q x xs a) (all_both Q xs ys (All-tail Q x xs a) b)
-
-one_had : (mine : List Event) → HadMemory mine → All HadIn (as_ended mine)
-one_had [] had = All-nil HadIn
-one_had (e ∷ es) had = All-cons HadIn (record { number = e.caller; entries = e ∷ es }) [] had (All-nil HadIn)
-
-ended_had : (start : State) (phases : List Phase) (h : List Event) (bs : List (List Event)) (place : ℕ) (actors : List ActorDecl) (runners : List Runner) → AllActed start phases h bs place actors runners → All HadIn (ended_with runners)
-ended_had start phases h bs place [] [] each = All-nil HadIn
+ended_had : (start : State) (phases : List Phase) (h : List Event) (bs : List (List Event)) (place : ℕ) (actors : List ActorDecl) (runners : List Runner) → AllActed start phases h bs place actors runners → All EndedWithMemory (ended_with runners)
+ended_had start phases h bs place [] [] each = All-nil EndedWithMemory
 ended_had start phases h bs place [] (r ∷ rs) each = absurd each
 ended_had start phases h bs place (d ∷ ds) [] each = absurd each
 ended_had start phases h bs place (d ∷ ds) (r ∷ rs) each =
-    let gone : All HadIn (ended_of r.pass) = subst (λ z. All HadIn z) (sym each.0.no_workers) (All-nil HadIn) in
-    all_both HadIn (ended_of r.pass ++ as_ended (mine_of r.pass)) (ended_with rs) (all_both HadIn (ended_of r.pass) (as_ended (mine_of r.pass)) gone (one_had (mine_of r.pass) each.0.memory)) (ended_had start phases h bs (place + 1) ds rs each.1)
+    all_both EndedWithMemory (ended_of r.pass ++ as_ended (mine_of r.pass)) (ended_with rs)
+    (all_both EndedWithMemory (ended_of r.pass) (as_ended (mine_of r.pass)) each.0.workers_memory (one_had (mine_of r.pass) each.0.memory)) (ended_had start phases h bs (place + 1) ds rs each.1)
 
 had_at : (n : ℕ) (h : List Event) (k : ℕ) (d : Event) → HadMemory (made_by n h) → k < length h → (get_or h k d).caller ≡ n → (get_or h k d).reply ≢ NoMemory
 had_at n [] k d had lt is = absurd (omega (arith, lt))
@@ -237,7 +190,7 @@ all_had : (h : List Event) → ((k : ℕ) (d : Event) → k < length h → (get_
 all_had [] each = tt
 all_had (e ∷ h) each = (each 0 e (omega arith), all_had h (λ k d lt. each (suc k) d (omega (arith, lt))))
 
-had_memory : (v : View) → All (EndedIn v.seen) v.ended → All HadIn v.ended → IsWhole v → v.mine ≡ [] → HadMemory v.seen
+had_memory : (v : View) → All (EndedIn v.seen) v.ended → All EndedWithMemory v.ended → IsWhole v → v.mine ≡ [] → HadMemory v.seen
 had_memory v kept had whole none = all_had v.seen (λ k d lt. by k d lt (whole k d lt))
   where
     by : (k : ℕ) (d : Event) → k < length v.seen → IsOwn v.mine (get_or v.seen k d).caller ⊎ Any (λ (gone : Ended Ask Reply State). gone.number ≡ (get_or v.seen k d).caller) v.ended → (get_or v.seen k d).reply ≢ NoMemory
@@ -272,14 +225,12 @@ module _ {P : Type 0} (turn : TheTurn P) where
       }) in
       let same : lines ≡ lines_of runners = l.lines_are refl in
       let M : List Course × List (List Line) → Type 0 = λ z. MakesCalls z.0 h z.1 in
-      let kept : All (EndedIn h) (ended_with runners) = subst (λ z. All (EndedIn h) z) ended known.ended in
-      let had : All HadIn (ended_of m1) = subst (λ z. All HadIn z) (sym ended) (ended_had start phases h b.blocks 0 actors runners acted) in
+      let had : All EndedWithMemory (ended_of m1) = subst (λ z. All EndedWithMemory z) (sym ended) (ended_had start phases h b.blocks 0 actors runners acted) in
       record {
         history = h;
         leads = leads_to_end start (front m1) end known is;
         had_memory = had_memory (front m1) known.ended had whole (l.mine ∙ b.none);
         calls = subst M (λ i. (processes_are start phases h b.blocks 0 actors runners acted i, (told_are start phases h b.blocks 0 actors runners acted ∙ sym same) i)) story.calls;
-        each = subst (λ z. EachTold 0 phases actors h z) (sym same) (each_told start phases h b.blocks 0 actors runners acted kept);
       }
     where
       all_whole : (place : ℕ) (as' : List ActorDecl) (rs : List Runner) → EachAt (IsFollower turn phases [] (seen_of m0) b.blocks) place as' rs → All (λ (r : Runner). r.whole ≡ true) rs → AllActed (start_of turn) phases (seen_of m0) b.blocks place as' rs

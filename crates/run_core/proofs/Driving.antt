@@ -26,8 +26,8 @@ use Rattle.statement_laws.specs.Coming.{ComesToLine}
 use Rattle.run_core.specs.Course.{Course, then_line, one_by_one}
 use Rattle.run_core.specs.Players.{IsSafeProgress, course_at}
 use Rattle.run_core.proofs.Works.{same_some}
-use Rattle.run_core.specs.Views.{View, ThePass, TheTurn}
-use Rattle.run_core.specs.Alone.{Goes}
+use Rattle.share_workers.specs.Passes.{View, ThePass, TheTurn}
+use Rattle.run_core.specs.Going.{Goes}
 use Rattle.run_core.specs.Driving.{MayGoOn, ComesToIts, IsDriven}
 use Rattle.run_core.proofs.Going.{goes_none, goes_then, goes_tells, goes_call, goes_alone}
 
@@ -37,7 +37,7 @@ fine_along start [] happens fine = fine
 fine_along start (e ∷ es) happens fine = fine_along e.after es happens.2 (step_fine start e.after e.caller e.ask e.reply happens.0.1 happens.1 fine)
 
 -- a number under which the pass may call
-a_number : (seen mine : List Event) → (n : ℕ) × MayCallAs seen mine n
+pub a_number : (seen mine : List Event) → (n : ℕ) × MayCallAs seen mine n
 a_number seen [] = (length seen, omega arith)
 a_number seen (e ∷ es) = (e.caller, refl)
 
@@ -130,6 +130,10 @@ ready_at n now (asked number k) safe = absurd safe
 ready_at n now (handed number k) safe = absurd safe
 ready_at n now (told line kept) safe = tt
 
+-- no reply is awaited, and no results of workers
+pub ready_now : (start : State) (v : View) (progress : Progress) → MayGoOn start v progress → IsReady progress
+ready_now start v progress may = let one = as_one start v progress may in ready_at one.0 _ progress one.1
+
 module _ {P : Type 0} (turn : TheTurn P) where
   pub driven_first : (pass : ThePass) (progress : Progress) → IsPassOf turn pass → IsLegalFront IsStep Permits (start_of turn) (front pass) → MayGoOn (start_of turn) (front pass) progress → (IsIdle progress → ⊥) → IsDriven turn pass progress pass progress
   driven_first pass progress pass_of known may busy = record {
@@ -140,7 +144,7 @@ module _ {P : Type 0} (turn : TheTurn P) where
   }
 
   pub driven_ready : (first now : ThePass) (old progress : Progress) → IsDriven turn first old now progress → IsReady progress
-  driven_ready first now old progress d = let one = as_one (start_of turn) (front now) progress d.may in ready_at one.0 _ progress one.1
+  driven_ready first now old progress d = ready_now (start_of turn) (front now) progress d.may
 
   pub driven_asks : (first now : ThePass) (old progress : Progress) (question : Ask) → IsDriven turn first old now progress → Some question ≡ ask_of progress → PassAsks (start_of turn) (front now) progress question
   driven_asks first now old progress question d is = pass_asks (start_of turn) (front now) progress question d.after.known.own d.may is

@@ -20,7 +20,8 @@ use Rattle.run_core.specs.Players.{course_left, playing, lines_left, Stands}
 use Rattle.run_core.specs.Moving.{Passes}
 use Rattle.run_core.specs.Leading.{GoesOn}
 use Rattle.run_core.specs.World.{AllStand, At, CameToEnd, Tells, PassesAt}
-use Rattle.run_core.proofs.Leading.{leads_none, leads_both, memory_both, went, went_both}
+use Rattle.run_core.proofs.Leading.{leads_none, leads_both, went, went_both}
+use Rattle.share_workers.proofs.Facts.{memory_both}
 use Rattle.run_core.proofs.Tables.{map_here, at_all, own_yes, own_no, fit_at, stand_fit}
 
 to_its_end : (later : List Phase) (line : Line) (before after : Player) (start end : State) (d : Passes line before start after end) → ToItsEnd line (playing later before) d.events (playing later after)

@@ -1,7 +1,9 @@
 -- How a pass goes on in its actor's course.
-use Rattle.std.proofs.Common.{◌≢◌, List, [], ◌∷◌, ◌++◌, refl, sym, ap, ◌∙◌, subst, append_assoc, append-nil}
+use Rattle.std.proofs.Common.{◌≡◌, ◌≢◌, List, [], ◌∷◌, ◌++◌, sym, ap, ◌∙◌, append_assoc, append-nil}
 use Rattle.std.specs.Prelude.{Result}
-use Rattle.turn_object.specs.Front.{KeepsIn}
+use Rattle.std.proofs.lemmas.List.Elements.{All-nil}
+use Rattle.turn_object.specs.declared.history.Ended.{Ended}
+use Rattle.turn_object.specs.Front.{KeepsIn, IsLegalFront}
 use Rattle.turn_object.specs.Calls.{IsCalled}
 use Rattle.turn_object.specs.History.{entry}
 use Rattle.mount_model.specs.declared.call.Ask.{Ask}
@@ -16,20 +18,25 @@ use Rattle.index_reader.specs.declared.sharing.Share.{Share}
 use Rattle.script_lang.specs.declared.line.Line.{Line}
 use Rattle.story.specs.Program.{Program}
 use Rattle.story.specs.Process.{tells, asks, shares}
-use Rattle.story.proofs.Facts.{went_none, went_then, went_tells, went_call, went_alone}
+use Rattle.story.specs.MakesCalls.{with_numbers}
+use Rattle.story.proofs.Facts.{went_none, went_then, went_tells, went_call, went_alone, went_shares}
 use Rattle.run_core.specs.Course.{Course}
-use Rattle.run_core.proofs.Leading.{memory_both}
-use Rattle.run_core.specs.Views.{View}
-use Rattle.run_core.specs.Alone.{PlaysAlone, Goes}
+use Rattle.run_core.specs.Leading.{EndedWithMemory}
+use Rattle.share_workers.specs.Passes.{View}
+use Rattle.run_core.proofs.Leading.{all_both, each_had}
+use Rattle.share_workers.proofs.Facts.{memory_both}
+use Rattle.run_core.specs.Going.{Goes}
+use Rattle.share_workers.specs.Workers.{HaveRead}
 
 pub goes_none : (v : View) (p : Course) → Goes v p v p []
 goes_none v p = record {
   gone = went_none v p;
   calls = [];
   mine = sym (append-nil v.mine);
-  no_workers = refl;
   memory = tt;
-  alone = λ more others t. t;
+  workers = [];
+  ended = sym (append-nil v.ended);
+  workers_memory = All-nil EndedWithMemory;
 }
 
 pub goes_then : (v u w : View) (p q r : Course) (first second : List Line) → Goes v p u q first → Goes u q w r second → Goes v p w r (first ++ second)
@@ -37,11 +44,10 @@ goes_then v u w p q r first second a b = record {
   gone = went_then v u w p q r first second a.gone b.gone;
   calls = a.calls ++ b.calls;
   mine = b.mine ∙ (ap (λ (z : List Event). z ++ b.calls) a.mine ∙ append_assoc v.mine a.calls b.calls);
-  no_workers = b.no_workers ∙ a.no_workers;
   memory = memory_both a.calls b.calls a.memory b.memory;
-  alone = λ more others t.
-      let P : List Event × List Line → Type 0 = λ z. PlaysAlone p z.0 z.1 in
-      subst P (λ i. (sym (append_assoc a.calls b.calls more) i, sym (append_assoc first second others) i)) (a.alone (b.calls ++ more) (second ++ others) (b.alone more others t));
+  workers = a.workers ++ b.workers;
+  ended = b.ended ∙ (ap (λ (z : List (Ended Ask Reply State)). z ++ b.workers) a.ended ∙ append_assoc v.ended a.workers b.workers);
+  workers_memory = all_both EndedWithMemory a.workers b.workers a.workers_memory b.workers_memory;
 }
 
 pub goes_tells : (v : View) (line : Line) (p : Course) → Goes v (tells line p) v p (line ∷ [])
@@ -49,9 +55,10 @@ goes_tells v line p = record {
   gone = went_tells v line p;
   calls = [];
   mine = sym (append-nil v.mine);
-  no_workers = refl;
   memory = tt;
-  alone = λ more others t. (others, refl, t);
+  workers = [];
+  ended = sym (append-nil v.ended);
+  workers_memory = All-nil EndedWithMemory;
 }
 
 pub goes_call : (start : State) (v w : View) (q : Ask) (k : Reply → Course) (reply : Reply) → KeepsIn v.seen v.mine → IsCalled IsStep Permits start v q reply w → reply ≢ NoMemory → Goes v (asks q k) w (k reply) []
@@ -59,9 +66,10 @@ goes_call start v w q k reply own c memory = record {
   gone = went_call IsStep Permits start v w q k reply own c;
   calls = entry c.caller q reply c.after ∷ [];
   mine = c.mine;
-  no_workers = c.ended;
   memory = (memory, tt);
-  alone = λ more others t. (refl, t);
+  workers = [];
+  ended = c.ended ∙ sym (append-nil v.ended);
+  workers_memory = All-nil EndedWithMemory;
 }
 
 pub goes_alone : (v w : View) (ps : List (Program Ask Reply (Result Share Stuck))) (k : List (Result Share Stuck) → Course) (alone q : Course) (lines : List Line) → Goes v alone w q lines → Goes v (shares ps k alone) w q lines
@@ -69,7 +77,20 @@ goes_alone v w ps k alone q lines g = record {
   gone = went_alone v w ps k alone q lines g.gone;
   calls = g.calls;
   mine = g.mine;
-  no_workers = g.no_workers;
   memory = g.memory;
-  alone = g.alone;
+  workers = g.workers;
+  ended = g.ended;
+  workers_memory = g.workers_memory;
+}
+
+pub goes_shares : (start : State) (v w : View) (ps : List (Program Ask Reply (Result Share Stuck))) (k : List (Result Share Stuck) → Course) (alone : Course) (results : List (Result Share Stuck))
+    → IsLegalFront IsStep Permits start v → IsLegalFront IsStep Permits start w → w.parts ≡ v.parts → HaveRead v ps w results → Goes v (shares ps k alone) w (k results) []
+goes_shares start v w ps k alone results before now parts r = record {
+  gone = went_shares IsStep Permits start v w ps k alone r.calls results before now r.joined parts r.made r.new_to;
+  calls = [];
+  mine = r.joined.mine ∙ sym (append-nil v.mine);
+  memory = tt;
+  workers = with_numbers r.calls;
+  ended = r.joined.ended;
+  workers_memory = each_had r.calls r.memory;
 }

@@ -7,6 +7,7 @@ use Rattle.mount_model.specs.History.{Event}
 use Rattle.flow.specs.declared.stuck.Stuck.{Stuck}
 use Rattle.index_reader.specs.declared.sharing.Share.{Share}
 use Rattle.story.specs.Process.{ends, pauses, tells, asks, shares}
+use Rattle.story.specs.Calls.{AreCallsOfEach}
 use Rattle.story.specs.Turns.{TakesTurn, Finishes}
 use Rattle.story.specs.Performers.{Performer, performer, paused}
 use Rattle.story.specs.InTurns.{WrittenOrder, InTurn, AllInTurn, ToEnd, AllToEnd, InTurns}
@@ -27,30 +28,48 @@ use Rattle.run_core.specs.Cast.{cast_from, cast}
 use Rattle.run_core.proofs.Works.{same_some}
 
 module _ (Well : Ask → Reply → Type 0) (Good : Outcome → Type 0) where
+  -- ---- calls that are answered well, and good lines
+
+  abbrev pub AreWell : List Event → Type 0
+  AreWell [] = ⊤
+  AreWell (e ∷ es) = Well e.ask e.reply × AreWell es
+
+  -- the same of the calls of each of several
+  abbrev pub AreWellEach : List (List Event) → Type 0
+  AreWellEach [] = ⊤
+  AreWellEach (calls ∷ others) = AreWell calls × AreWellEach others
+
+  abbrev pub AreGood : List Line → Type 0
+  AreGood [] = ⊤
+  AreGood (line ∷ lines) = Good line.outcome × AreGood lines
+
   -- ---- courses
 
-  -- while its calls are answered well, the statement ends well
+  -- while its calls and its workers' are answered well, the statement ends well
   abbrev pub EndsGood : Work → Type 0
   EndsGood ends = ⊤
   EndsGood (pauses work) = EndsGood work
   EndsGood (tells ending work) = Good ending.outcome
   EndsGood (asks question k) = (reply : Reply) → Well question reply → EndsGood (k reply)
-  EndsGood (shares programs k alone) = EndsGood alone
+  EndsGood (shares programs k alone) =
+      ((calls : List (List Event)) (results : List (Result Share Stuck)) → AreCallsOfEach programs calls results → AreWellEach calls → EndsGood (k results)) × EndsGood alone
 
-  -- while its calls are answered well, it tells good lines
+  -- while its calls and its workers' are answered well, it tells good lines
   abbrev pub TellsGood : Course → Type 0
   TellsGood ends = ⊤
   TellsGood (pauses p) = TellsGood p
   TellsGood (tells line p) = Good line.outcome × TellsGood p
   TellsGood (asks q k) = (reply : Reply) → Well q reply → TellsGood (k reply)
-  TellsGood (shares ps k alone) = TellsGood alone
+  TellsGood (shares ps k alone) =
+      ((calls : List (List Event)) (results : List (Result Share Stuck)) → AreCallsOfEach ps calls results → AreWellEach calls → TellsGood (k results)) × TellsGood alone
 
   line_tells_good : (number : ℕ) (next : Kept → Course) (work : Work) → EndsGood work → ((kept : Kept) → TellsGood (next kept)) → TellsGood (then_line number next work)
   line_tells_good number next ends caused goes = tt
   line_tells_good number next (pauses work) caused goes = line_tells_good number next work caused goes
   line_tells_good number next (tells ending work) caused goes = (caused, goes ending.kept)
   line_tells_good number next (asks q k) caused goes = λ reply well. line_tells_good number next (k reply) (caused reply well) goes
-  line_tells_good number next (shares ps k alone) caused goes = line_tells_good number next alone caused goes
+  line_tells_good number next (shares ps k alone) caused goes =
+      ((λ calls results made well. line_tells_good number next (k results) (caused.0 calls results made well) goes), line_tells_good number next alone caused.1 goes)
 
   statements_tell_good : ((kept : Kept) (statement : Statement) → EndsGood (work_of kept statement)) → (statements : List Numbered) (next : Kept → Course) → ((kept : Kept) → TellsGood (next kept)) → (kept : Kept) → TellsGood (one_by_one statements next kept)
   statements_tell_good works [] next goes kept = goes kept
@@ -63,27 +82,19 @@ module _ (Well : Ask → Reply → Type 0) (Good : Outcome → Type 0) where
 
   -- ---- turns
 
-  abbrev pub AreWell : List Event → Type 0
-  AreWell [] = ⊤
-  AreWell (e ∷ es) = Well e.ask e.reply × AreWell es
-
-  abbrev pub AreGood : List Line → Type 0
-  AreGood [] = ⊤
-  AreGood (line ∷ lines) = Good line.outcome × AreGood lines
-
-  well_first : (xs ys : List Event) → AreWell (xs ++ ys) → AreWell xs
+  pub well_first : (xs ys : List Event) → AreWell (xs ++ ys) → AreWell xs
   well_first [] ys well = tt
   well_first (x ∷ xs) ys well = (well.0, well_first xs ys well.1)
 
-  well_rest : (xs ys : List Event) → AreWell (xs ++ ys) → AreWell ys
+  pub well_rest : (xs ys : List Event) → AreWell (xs ++ ys) → AreWell ys
   well_rest [] ys well = well
   well_rest (x ∷ xs) ys well = well_rest xs ys well.1
 
-  none_both : (ls ms : List Line) → AreGood ls → AreGood ms → AreGood (ls ++ ms)
+  pub none_both : (ls ms : List Line) → AreGood ls → AreGood ms → AreGood (ls ++ ms)
   none_both [] ms a b = b
   none_both (l ∷ ls) ms a b = (a.0, none_both ls ms a.1 b)
 
-  no_line : (lines : List Line) → lines ≡ [] → AreGood lines
+  pub no_line : (lines : List Line) → lines ≡ [] → AreGood lines
   no_line lines is = subst AreGood (sym is) tt
 
   turn_tells_good : (n : ℕ) (p : Course) (calls : List Event) (lines : List Line) (left : Course) → TellsGood p → AreWell calls → TakesTurn is_greeting n p calls lines left → AreGood lines × TellsGood left
@@ -100,7 +111,7 @@ module _ (Well : Ask → Reply → Type 0) (Good : Outcome → Type 0) where
         | true ↦ λ more. turn_tells_good n (k e.reply) calls lines left goes well.1 more
         | false ↦ λ rests. (no_line lines rests.1, subst TellsGood (sym rests.2) goes)
       ] t.2)
-  turn_tells_good n (shares ps k alone) calls lines left none well t = turn_tells_good n alone calls lines left none well t
+  turn_tells_good n (shares ps k alone) calls lines left none well t = turn_tells_good n alone calls lines left none.1 well t
 
   end_tells_good : (n : ℕ) (p : Course) (calls : List Event) (line : Line) (left : Course) → TellsGood p → AreWell calls → Finishes n p calls line left → Good line.outcome × TellsGood left
   end_tells_good n ends calls line left none well t = absurd t
@@ -110,7 +121,7 @@ module _ (Well : Ask → Reply → Type 0) (Good : Outcome → Type 0) where
   end_tells_good n (asks q k) (e ∷ calls) line left none well t =
       let here : Well q e.reply = subst (λ z. Well z e.reply) t.1 well.0 in
       end_tells_good n (k e.reply) calls line left (none e.reply here) well.1 t.2
-  end_tells_good n (shares ps k alone) calls line left none well t = end_tells_good n alone calls line left none well t
+  end_tells_good n (shares ps k alone) calls line left none well t = end_tells_good n alone calls line left none.1 well t
 
   -- ---- all actors
 

@@ -4,7 +4,7 @@ use Rattle.std.proofs.Math.Seq.{take-append_seam}
 use Rattle.std.specs.Prelude.{Result, Ok, Err, IfOk}
 use Rattle.script_lang.specs.declared.script.ActorDecl.{ActorDecl}
 use Rattle.script_lang.specs.declared.script.Phase.{Phase}
-use Rattle.run_core.specs.Views.{ThePass, TheTurn}
+use Rattle.share_workers.specs.Passes.{ThePass, TheTurn}
 use Rattle.run_core.specs.Runners.{Runner}
 use Rattle.run_core.specs.Phases.{IsFollower}
 use Rattle.run_core.specs.Running.{Between}

@@ -27,6 +27,7 @@ mod LoneSteps
 mod LonePlays
 mod Going
 mod Driving
+mod SharingOut
 mod Acting
 mod Each
 mod Phasing

@@ -20,7 +20,8 @@ use Rattle.actor_core.specs.Statements.{work_of}
 use Rattle.run_core.specs.Course.{Course, then_line, one_by_one, own}
 use Rattle.run_core.specs.Play.{IsPlay}
 use Rattle.run_core.specs.Written.{whose}
-use Rattle.run_core.proofs.Leading.{leads_none, leads_both, memory_both}
+use Rattle.run_core.proofs.Leading.{leads_none, leads_both}
+use Rattle.share_workers.proofs.Facts.{memory_both}
 use Rattle.run_core.specs.Making.{Makes, HasMade, lone_script}
 
 abbrev One : Type 0

@@ -17,7 +17,8 @@ use Rattle.actor_core.specs.Standings.{progress_of}
 use Rattle.actor_core.specs.Statements.{work_of}
 use Rattle.run_core.specs.Course.{Course}
 use Rattle.run_core.specs.Leading.{GoesOn, MadeCall}
-use Rattle.run_core.proofs.Leading.{leads_none, leads_both, memory_both, went, went_both}
+use Rattle.run_core.proofs.Leading.{leads_none, leads_both, went, went_both}
+use Rattle.share_workers.proofs.Facts.{memory_both}
 use Rattle.run_core.specs.declared.lone_reader.LoneReader.{LoneReader}
 use Rattle.run_core.specs.Making.{Keeps, HasMadeOne}
 use Rattle.run_core.specs.Working.{IsPlain, IsPlainProgress, rest_of, Carries, Nears}
@@ -71,10 +72,6 @@ ready (told line kept) plain = tt
 
 pub is_out : (old : Progress) (question : Ask) → AsksNext old question → (new : Progress) → new ≡ given old → IsAsked new
 is_out old question a new is = subst IsAsked (sym (is ∙ a.out)) tt
-
--- a reply that was taken is not for want of memory
-pub not_refused : (reply : Reply) → (reply ≡ NoMemory → false ≡ true) → reply ≢ NoMemory
-not_refused reply refuses = λ is. (let bad : false ≡ true = refuses is in cc)
 
 pub not_near : (reader : LoneReader) (now : State) → IsPlainProgress (progress_of reader.actor) → Nears reader now reader now
 not_near reader now plain = record { plain = plain; events = []; leads = leads_none now; had_memory = tt; nears = λ next more line left t. t }

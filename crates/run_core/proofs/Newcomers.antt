@@ -1,6 +1,8 @@
 -- How actors enter a run.
 use Rattle.std.proofs.Common.{◌≡◌, ℕ, ◌+◌, ◌-◌, ◌^◌, ◌<◌, ◌≤◌, List, [], ◌∷◌, ◌++◌, length, sym, ◌∙◌, subst, arith, length-append, append-nil, take}
 use Rattle.std.proofs.lemmas.List.{length-take-le}
+use Rattle.std.proofs.lemmas.List.Elements.{All-nil}
+use Rattle.std.specs.List.{All}
 use Rattle.turn_object.specs.Front.{IsHistory, IsLegalFront}
 use Rattle.turn_object.specs.Pass.{start_of, front, parts_of, mine_of, seen_of, ended_of, IsPassOf}
 use Rattle.turn_object.proofs.Facts.{legal_new}
@@ -15,12 +17,11 @@ use Rattle.script_lang.specs.declared.script.ActorDecl.{ActorDecl}
 use Rattle.script_lang.specs.declared.script.Phase.{Phase}
 use Rattle.actor_core.specs.Progress.{fresh}
 use Rattle.run_core.specs.Course.{course_of}
-use Rattle.run_core.specs.Leading.{HadMemory}
-use Rattle.run_core.specs.Views.{ThePass, TheTurn, AnyCall}
-use Rattle.run_core.specs.Alone.{PlaysAlone}
+use Rattle.share_workers.specs.Passes.{HadMemory, ThePass, TheTurn}
+use Rattle.run_core.specs.Leading.{EndedWithMemory}
 use Rattle.run_core.specs.Runners.{Runner}
 use Rattle.run_core.specs.Each.{EachAt}
-use Rattle.run_core.specs.Phases.{HasActed, IsFollower}
+use Rattle.run_core.specs.Phases.{AnyCall, HasActed, IsFollower}
 use Rattle.run_core.specs.Running.{Between, HaveAll, CanLeave, IsNewcomer, Enters}
 use Rattle.run_core.proofs.Each.{each_all, each_so, each_push, each_long}
 use Rattle.run_core.proofs.Phasing.{free, known_free}
@@ -60,15 +61,13 @@ module _ {P : Type 0} (turn : TheTurn P) where
       let known = known_free (start_of turn) (front r.pass) (known_new r.pass n.seen n.mine n.ended) in
       let played = played_none IsStep AnyCall (start_of turn) process (front r.pass) known n.seen n.mine n.ended (free (start_of turn) (front r.pass) process) in
       let Q : List Line → Type 0 = λ z. HasPlayed IsStep AnyCall (start_of turn) [] [] (player process (front r.pass) process z) in
-      let R : List Event × List Line → Type 0 = λ z. (more : List Event) (others : List Line) → PlaysAlone process more others → PlaysAlone process (z.0 ++ more) (z.1 ++ others) in
       record {
         kept = fresh declared.host declared.cap;
         rests = n.rests;
         at = n.at;
         played = subst Q (sym n.lines) played;
-        no_workers = n.ended;
         memory = subst HadMemory (sym n.mine) tt;
-        alone = subst R (λ i. (sym n.mine i, sym n.lines i)) (λ more others t. t);
+        workers_memory = subst (λ z. All EndedWithMemory z) (sym n.ended) (All-nil EndedWithMemory);
       }
 
   pub first_between : (actors : List ActorDecl) (phases : List Phase) (main : ThePass) (runners : List Runner) → Enters turn actors main runners → length actors ≤ 256 → IsFine (start_of turn) → Between turn actors phases phases main runners

@@ -3,7 +3,6 @@ use Rattle.std.proofs.Common.{ℕ, ◌-◌, List, [], ◌∷◌, ◌++◌, map, 
 use Rattle.std.specs.List.{range_with_len}
 use Rattle.story.specs.Program.{done}
 use Rattle.index_reader.specs.declared.listing.Listing.{Listing}
-use Rattle.index_reader.specs.declared.opened.OpenReader.{OpenReader}
 use Rattle.index_reader.specs.declared.sharing.Share.{Share}
 use Rattle.index_reader.specs.Replies.{Tries}
 use Rattle.index_reader.specs.Truncs.{trunc_program}
@@ -21,7 +20,8 @@ each_looks workers listing (worker ∷ numbers) sofar next well goes =
     then_looks well (worker_program workers listing worker) (λ share. by_itself (map (worker_program workers listing) numbers) (sofar ++ share ∷ []) next)
     (share_looks listing.room (dealt_to workers worker 0 listing.droppings) listing.flat.covers well) (λ more share. each_looks workers listing numbers (sofar ++ share ∷ []) next more goes)
 
-after_looks : (listing : Listing) (shares : List Share) (well : Type 0) → Looks well (opens listing shares)
+-- the same of the truncates behind shares that were read
+pub after_looks : (listing : Listing) (shares : List Share) (well : Type 0) → Looks well (opens listing shares)
 after_looks listing shares well = then_looks well (trunc_program listing.room) (if_truncs listing shares) (truncs_look listing.room well) (λ more truncs w. refl)
 
 pub opening_looks : (workers : ℕ) (listing : Listing) (well : Type 0) → Looks well (by_itself (programs_from workers listing 0) [] (opens listing))

@@ -26,7 +26,8 @@ use Rattle.run_core.specs.Leading.{GoesOn}
 use Rattle.run_core.specs.Play.{IsPlay}
 use Rattle.run_core.specs.Players.{course_at, playing, resting, IsMade, in_progress, Stands}
 use Rattle.run_core.specs.World.{AllStand, Dealt, TookTurns, Tells, PlayedPhase, PlayedSoFar, IsCast}
-use Rattle.run_core.proofs.Leading.{leads_none, leads_both, memory_both, went, went_both}
+use Rattle.run_core.proofs.Leading.{leads_none, leads_both, went, went_both}
+use Rattle.share_workers.proofs.Facts.{memory_both}
 use Rattle.mount_sound.specs.Sound.{IsFine}
 use Rattle.run_core.proofs.Fitness.{idle_fit}
 use Rattle.run_core.proofs.Works.{same_some}

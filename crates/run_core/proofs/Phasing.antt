@@ -1,5 +1,5 @@
 -- One actor at the ends of a phase.
-use Rattle.std.proofs.Common.{◌≡◌, ℕ, ◌+◌, ◌<◌, List, [], ◌∷◌, ◌++◌, length, sym, refl, ap, ◌∙◌, subst, arith, append_assoc, append-nil}
+use Rattle.std.proofs.Common.{◌≡◌, ℕ, ◌+◌, ◌<◌, List, [], ◌∷◌, ◌++◌, length, sym, refl, ap, ◌∙◌, subst, arith, append-nil}
 use mathlib.Core.Logic.{dite}
 use native.Mathlib.Decide.{ℕ_discrete}
 use Rattle.std.specs.Prelude.{◌≢◌, All, slice_index_or}
@@ -26,13 +26,14 @@ use Rattle.script_lang.specs.declared.script.Phase.{Phase}
 use Rattle.actor_core.specs.declared.kept.Kept.{Kept}
 use Rattle.actor_core.specs.Progress.{Progress, idle, IsIdle}
 use Rattle.run_core.specs.Course.{Course, course_of, own, one_by_one, through}
-use Rattle.run_core.specs.Leading.{HadMemory}
+use Rattle.share_workers.specs.Passes.{HadMemory, View, ThePass, TheTurn}
+use Rattle.run_core.specs.Leading.{EndedWithMemory}
 use Rattle.run_core.specs.Players.{IsMade}
-use Rattle.run_core.proofs.Leading.{memory_both}
-use Rattle.run_core.specs.Views.{View, ThePass, TheTurn, AnyCall}
-use Rattle.run_core.specs.Alone.{PlaysAlone, Goes}
+use Rattle.run_core.proofs.Leading.{all_both}
+use Rattle.share_workers.proofs.Facts.{memory_both}
+use Rattle.run_core.specs.Going.{Goes}
 use Rattle.run_core.specs.Runners.{Runner, ActedAll, IsReadyFor, Played}
-use Rattle.run_core.specs.Phases.{Keeps, OnlyPass, HasActed, IsFollower, IsLevel, IsPast, IsGathered, CaughtUp, HandedOver}
+use Rattle.run_core.specs.Phases.{AnyCall, Keeps, OnlyPass, HasActed, IsFollower, IsLevel, IsPast, IsGathered, CaughtUp, HandedOver}
 use Rattle.run_core.proofs.Each.{any_default}
 
 -- ---- where every call is allowed
@@ -80,11 +81,8 @@ acted_sees start phases left history blocks place declared old new a only more b
       let p = played_sees IsStep AnyCall start process (through place left a.kept) old.told.lines.items (front old.pass) (front new.pass) history blocks a.played more behind mine ended (known_free start (front new.pass) known) in
       let Q : List Line → Type 0 = λ z. HasPlayed IsStep AnyCall start history blocks (player process (front new.pass) (through place left a.kept) z) in
       subst Q (sym only.lines) p;
-  no_workers = ended ∙ a.no_workers;
   memory = subst HadMemory (sym mine) a.memory;
-  alone = λ rest others t.
-      let Q : List Event × List Line → Type 0 = λ z. PlaysAlone (course_of place phases declared) (z.0 ++ rest) (z.1 ++ others) in
-      subst Q (λ i. (sym mine i, sym only.lines i)) (a.alone rest others t);
+  workers_memory = subst (λ z. All EndedWithMemory z) (sym ended) a.workers_memory;
 }
 
 module _ {P : Type 0} (turn : TheTurn P) (phases left : List Phase) (history : List Event) (blocks : List (List Event)) (place : ℕ) (declared : ActorDecl) where
@@ -104,7 +102,7 @@ module _ {P : Type 0} (turn : TheTurn P) (phases left : List Phase) (history : L
 
   pub ready_level : (statements : List Numbered) (runner : Runner) → IsFine (start_of turn) → All IsMade statements → IsLevel turn phases left history blocks place declared runner → IsReadyFor turn statements runner
   ready_level statements runner fine made l = record {
-    may = record { pass_of = l.pass; known = l.known; fine = fine };
+    may = record { pass_of = l.pass; known = l.known; fine = fine; parts = (let p = l.parts in omega (arith, p)) };
     made = made;
     rests = λ whole. (let Q : Progress → Type 0 = λ z. IsIdle z in subst Q (sym (l.acted whole).rests) tt);
   }
@@ -151,13 +149,8 @@ acted_phase start phases left phase history block blocks place declared old new 
       played = subst P (sym acted.lines)
           (played_phase IsStep AnyCall start process (through place (phase ∷ left) a.kept) (through place left acted.left) old.told.lines.items acted.told (front old.pass) (front new.pass) history block blocks a.played level goes.gone
           (known_free start (front new.pass) known) (free start (front new.pass) (through place left acted.left)) behind);
-      no_workers = goes.no_workers ∙ a.no_workers;
       memory = subst HadMemory (sym goes.mine) (memory_both (mine_of old.pass) goes.calls a.memory goes.memory);
-      alone = λ rest others t.
-          let R : List Event × List Line → Type 0 = λ z. PlaysAlone process z.0 z.1 in
-          let mine : (mine_of old.pass) ++ (goes.calls ++ rest) ≡ mine_of new.pass ++ rest = sym (append_assoc (mine_of old.pass) goes.calls rest) ∙ ap (λ z. z ++ rest) (sym goes.mine) in
-          let lines : old.told.lines.items ++ (acted.told ++ others) ≡ new.told.lines.items ++ others = sym (append_assoc old.told.lines.items acted.told others) ∙ ap (λ z. z ++ others) (sym acted.lines) in
-          subst R (λ i. (mine i, lines i)) (a.alone (goes.calls ++ rest) (acted.told ++ others) (goes.alone rest others t));
+      workers_memory = subst (λ z. All EndedWithMemory z) (sym goes.ended) (all_both EndedWithMemory (ended_of old.pass) goes.workers a.workers_memory goes.workers_memory);
     }
 
 module _ {P : Type 0} (turn : TheTurn P) (phases left : List Phase) (phase : Phase) (history : List Event) (blocks : List (List Event)) (place : ℕ) (declared : ActorDecl) where

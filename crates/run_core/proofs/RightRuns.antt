@@ -7,20 +7,17 @@ use Rattle.plfs_types.specs.Counts.{HasRisen}
 use Rattle.mount_model.specs.declared.call.Ask.{Ask}
 use Rattle.mount_model.specs.declared.reply.Reply.{Reply}
 use Rattle.mount_model.specs.State.{State}
-use Rattle.mount_model.specs.History.{Event}
 use Rattle.story.specs.MakesCalls.{MakesCalls}
 use Rattle.story.specs.Performers.{left_of, told_at, told_by_each}
 use Rattle.script_lang.specs.declared.line.Line.{Line}
 use Rattle.script_lang.specs.declared.line.Outcome.{Outcome}
 use Rattle.script_lang.specs.declared.script.Statement.{Statement}
-use Rattle.script_lang.specs.declared.script.ActorDecl.{ActorDecl}
 use Rattle.script_lang.specs.declared.script.Numbered.{Numbered}
 use Rattle.script_lang.specs.declared.script.Phase.{Phase}
 use Rattle.script_lang.specs.declared.script.Script.{Script}
 use Rattle.script_lang.specs.Ranges.{FitsNumbered, FitsPhase}
 use Rattle.report_text.specs.Text.{HaveText, ListsLogicalNames}
 use Rattle.actor_core.specs.declared.kept.Kept.{Kept}
-use Rattle.actor_core.specs.Progress.{fresh}
 use Rattle.run_core.specs.Course.{own}
 use Rattle.run_core.specs.Cast.{cast, statements_in}
 use Rattle.run_core.specs.Conditions.{IsPlayable}
@@ -33,9 +30,9 @@ use Rattle.run_core.proofs.Caused.{none_has, well_or_risen}
 use Rattle.run_core.proofs.GoodLines.{AreGood, AreWell, EndsGood}
 use Rattle.run_core.proofs.WorksCaused.{IsWell, NoFault, work_caused}
 use Rattle.run_core.proofs.WorksText.{AnyReply, all_of_good, any_well, work_text}
-use Rattle.run_core.specs.Closing.{EachTold, HasRun}
+use Rattle.run_core.specs.Closing.{HasRun}
 use Rattle.run_core.specs.Collecting.{HaveLines, ArePut}
-use Rattle.run_core.proofs.Courses.{lines_told, each_good, all_good}
+use Rattle.run_core.proofs.Courses.{each_lines, told_long, each_good, all_good}
 
 -- ---- which scripts are run
 
@@ -82,45 +79,23 @@ places_there count (phase ∷ phases) there =
 
 -- ---- the lines of each
 
-told_long : (place : ℕ) (phases : List Phase) (actors : List ActorDecl) (h : List Event) (told : List (List Line)) → EachTold place phases actors h told → length told ≡ length actors
-told_long place phases [] h [] each = refl
-told_long place phases [] h (l ∷ told) each = absurd each
-told_long place phases (d ∷ ds) h [] each = absurd each
-told_long place phases (d ∷ ds) h (l ∷ told) each = ap (λ n. suc n) (told_long (place + 1) phases ds h told each.1)
-
-each_lines : (place : ℕ) (phases : List Phase) (actors : List ActorDecl) (h : List Event) (told : List (List Line)) → EachTold place phases actors h told
-    → (k : ℕ) (lines : List Line) → slice_get told k ≡ Some lines → length lines ≡ length (own (place + k) (statements_in phases))
-each_lines place phases [] h [] each k lines here = absurd (cc)
-each_lines place phases [] h (l ∷ told) each k lines here = absurd each
-each_lines place phases (d ∷ ds) h [] each k lines here = absurd each
-each_lines place phases (d ∷ ds) h (l ∷ told) each zero lines here =
-    let same : l ≡ lines = same_line l lines here in
-    let at : place ≡ place + 0 = omega arith in
-    ap length (sym same) ∙ (lines_told place phases (fresh d.host d.cap) each.0.calls l each.0.alone ∙ ap (λ n. length (own n (statements_in phases))) at)
-  where
-    same_line : (x y : List Line) → Some x ≡ Some y → x ≡ y
-    same_line x y e = cc
-each_lines place phases (d ∷ ds) h (l ∷ told) each (suc k) lines here =
-    let at : place + 1 + k ≡ place + suc k = omega arith in
-    each_lines (place + 1) phases ds h told each.1 k lines here ∙ ap (λ n. length (own n (statements_in phases))) at
-
 pub have_lines : (script : Script) (start : State) (told : List (List Line)) (end : State) → HasRun script.actors script.phases start told end → HaveLines (statements_in script.phases) told
 have_lines script start told end r = λ place lines here.
     let at : 0 + place ≡ place = omega arith in
-    each_lines 0 script.phases script.actors r.history told r.each place lines here ∙ ap (λ n. length (own n (statements_in script.phases))) at
+    each_lines 0 script.phases script.actors r.calls.blocks r.calls.roles told r.calls.plays place lines here ∙ ap (λ n. length (own n (statements_in script.phases))) at
 
 pub told_as_many : (script : Script) (start : State) (told : List (List Line)) (end : State) → HasRun script.actors script.phases start told end → length told ≡ length script.actors
-told_as_many script start told end r = told_long 0 script.phases script.actors r.history told r.each
+told_as_many script start told end r = told_long 0 script.phases script.actors r.calls.blocks r.calls.roles told r.calls.plays
 
-each_put : (place : ℕ) (phases : List Phase) (actors : List ActorDecl) (h : List Event) (told : List (List Line)) (places : List ℕ) (lines : List Line) → EachTold place phases actors h told
-    → ((k : ℕ) (one : List Line) → slice_get told k ≡ Some one → one ≡ told_at (place + k) places lines) → told ≡ told_by_each place actors places lines
-each_put place phases [] h [] places lines each put = refl
-each_put place phases [] h (l ∷ told) places lines each put = absurd each
-each_put place phases (d ∷ ds) h [] places lines each put = absurd each
-each_put place phases (d ∷ ds) h (l ∷ told) places lines each put =
+each_put : {C : Type 0} (place : ℕ) (cs : List C) (told : List (List Line)) (places : List ℕ) (lines : List Line) → length told ≡ length cs
+    → ((k : ℕ) (one : List Line) → slice_get told k ≡ Some one → one ≡ told_at (place + k) places lines) → told ≡ told_by_each place cs places lines
+each_put place [] [] places lines long put = refl
+each_put place [] (l ∷ told) places lines long put = absurd (omega (arith, long))
+each_put place (c ∷ cs) [] places lines long put = absurd (omega (arith, long))
+each_put place (c ∷ cs) (l ∷ told) places lines long put =
     let at : place + 0 ≡ place = omega arith in
     let first : l ≡ told_at place places lines = put 0 l refl ∙ ap (λ n. told_at n places lines) at in
-    let rest = each_put (place + 1) phases ds h told places lines each.1 (λ k one here. let next : place + suc k ≡ place + 1 + k = omega arith in put (suc k) one here ∙ ap (λ n. told_at n places lines) next) in
+    let rest = each_put (place + 1) cs told places lines (omega (arith, long)) (λ k one here. let next : place + suc k ≡ place + 1 + k = omega arith in put (suc k) one here ∙ ap (λ n. told_at n places lines) next) in
     λ i. first i ∷ rest i
 
 -- ---- right lines
@@ -130,7 +105,7 @@ is_right script start told lines end r put = record {
   history = r.history;
   leads = r.leads;
   had_memory = r.had_memory;
-  calls = subst (λ z. MakesCalls (left_of (cast script)) r.history z) (each_put 0 script.phases script.actors r.history told (whose (statements_in script.phases)) lines r.each (λ k one here. let at : k ≡ 0 + k = omega arith in put.each k one here ∙ ap (λ n. told_at n (whose (statements_in script.phases)) lines) at)) r.calls;
+  calls = subst (λ z. MakesCalls (left_of (cast script)) r.history z) (each_put 0 script.actors told (whose (statements_in script.phases)) lines (told_as_many script start told end r) (λ k one here. let at : k ≡ 0 + k = omega arith in put.each k one here ∙ ap (λ n. told_at n (whose (statements_in script.phases)) lines) at)) r.calls;
   long = put.long;
 }
 
@@ -144,11 +119,11 @@ module _ (Well : Ask → Reply → Type 0) (Good : Outcome → Type 0) where
       → (r : HasRun script.actors script.phases start told end) → AreWell Well Good r.history → ArePut (statements_in script.phases) told lines → AreGood Well Good lines
   good_lines works script start told lines end playable r well put =
       let count = length script.actors in
-      let many = told_long 0 script.phases script.actors r.history told r.each in
+      let many = told_long 0 script.phases script.actors r.calls.blocks r.calls.roles told r.calls.plays in
       all_good Well Good count (whose (statements_in script.phases)) lines (put.long ∙ sym (length-map (statements_in script.phases) (λ (s : Numbered). s.actor))) (places_there count script.phases (all_there script count playable refl))
       (λ k lt.
       let one = found told k (omega (arith, lt, many)) in
-      subst (λ z. AreGood Well Good z) (put.each k one.0 one.1) (each_good Well Good works 0 script.phases script.actors r.history told well r.each k one.0 one.1))
+      subst (λ z. AreGood Well Good z) (put.each k one.0 one.1) (each_good Well Good works 0 script.phases script.actors r.calls.blocks r.calls.roles told (subst (λ z. AreWell Well Good z) r.calls.in_phases well) r.calls.plays k one.0 one.1))
 
 pub has_text : (script : Script) (start : State) (told : List (List Line)) (lines : List Line) (end : State) → IsPlayable script → HasRun script.actors script.phases start told end → ArePut (statements_in script.phases) told lines → HaveText lines
 has_text script start told lines end playable r put = all_of_good lines (good_lines AnyReply ListsLogicalNames work_text script start told lines end playable r (any_well r.history) put)

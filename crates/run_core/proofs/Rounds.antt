@@ -20,7 +20,8 @@ use Rattle.run_core.specs.Players.{course_left, playing}
 use Rattle.run_core.specs.Moving.{Turns, Advances, IsDone}
 use Rattle.run_core.specs.Leading.{GoesOn}
 use Rattle.run_core.specs.World.{AllFit, At, TookTurns}
-use Rattle.run_core.proofs.Leading.{leads_none, leads_both, memory_both, went, went_both}
+use Rattle.run_core.proofs.Leading.{leads_none, leads_both, went, went_both}
+use Rattle.share_workers.proofs.Facts.{memory_both}
 use Rattle.run_core.proofs.Tables.{map_here, set_same, set_found, keep_all, keep_both, keep_at, fit_at}
 use Rattle.run_core.proofs.Turning.{done_turn}
 

@@ -12,7 +12,7 @@ use Rattle.story.specs.Turns.{TakesTurn}
 use Rattle.script_lang.specs.declared.line.Line.{Line}
 use Rattle.script_lang.specs.declared.script.Numbered.{Numbered}
 use Rattle.actor_core.specs.declared.kept.Kept.{Kept}
-use Rattle.actor_core.specs.Progress.{Progress, idle, going, asked, handed, told, ask_of, given, with_reply, waiting_line, line_taken, IsIdle}
+use Rattle.actor_core.specs.Progress.{Progress, idle, going, asked, handed, told, ask_of, given, with_reply, waiting_line, line_taken, IsIdle, begun as begun_at}
 use Rattle.actor_core.specs.Standings.{progress_of}
 use Rattle.run_core.specs.declared.player.Player.{Player}
 use Rattle.run_core.specs.Course.{Course}
@@ -22,10 +22,10 @@ use Rattle.run_core.specs.Players.{course_at, course_left, IsSafeProgress, IsMad
 use Rattle.run_core.specs.Moving.{Comes, Turns, Advances, IsDone, Begins}
 use Rattle.mount_sound.specs.Sound.{IsFine}
 use Rattle.mount_sound.proofs.Facts.{step_fine}
-use Rattle.run_core.proofs.Leading.{leads_none, leads_both, memory_both, by_then, went, went_both}
+use Rattle.run_core.proofs.Leading.{leads_none, leads_both, by_then, went, went_both}
+use Rattle.share_workers.proofs.Facts.{memory_both}
 use Rattle.std.specs.Option.{option_to_list}
 use Rattle.std.proofs.lemmas.List.Elements.{All-tail}
-use Rattle.actor_core.specs.Progress.{begun as begun_at}
 use Rattle.actor_core.specs.Statements.{work_of}
 use Rattle.statement_laws.proofs.Facts.{comes_to_line, work_safe}
 use Rattle.run_core.proofs.Capacity.{capacity}

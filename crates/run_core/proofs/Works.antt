@@ -1,9 +1,8 @@
 -- What an actor does next in its statement.
-use Rattle.std.proofs.Common.{◌≡◌, ◌≢◌, ℕ, List, [], ◌∷◌, Option, Some, None, true, false, refl, sym, ap, ◌∙◌, subst}
+use Rattle.std.proofs.Common.{◌≡◌, ℕ, List, [], ◌∷◌, Option, Some, None, refl, sym, ap, ◌∙◌, subst}
 use Rattle.std.specs.Prelude.{MatchBool}
 use Rattle.mount_model.specs.declared.call.Ask.{Ask}
 use Rattle.mount_model.specs.declared.reply.Reply.{Reply}
-use Rattle.mount_model.specs.declared.reply.Reply.TheVariants.{NoMemory}
 use Rattle.mount_model.specs.History.{Event}
 use Rattle.mount_model.specs.State.{State}
 use Rattle.mount_model.specs.Step.{IsStep}
@@ -141,7 +140,3 @@ no_line_left me now old mid found safe busy none is waits gone =
     let h = its_line me now old mid safe busy none is in
     let bad : None ≡ Some h.line = sym gone ∙ (waits ∙ h.waits) in
     cc
-
--- a reply that was taken is not for want of memory
-pub not_refused : (reply : Reply) → (reply ≡ NoMemory → false ≡ true) → reply ≢ NoMemory
-not_refused reply refuses = λ is. (let bad : false ≡ true = refuses is in cc)

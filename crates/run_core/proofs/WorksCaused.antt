@@ -1,7 +1,11 @@
 -- The line of a statement tells of a fault only where a fault was answered.
-use Rattle.std.proofs.Common.{◌≡◌, ◌≢◌, ◌⊎◌, inl, inr, ℕ, List, [], length, Bool, true, false, Option, Some, None, Result, Ok, Err, refl, ap, subst}
+use Rattle.std.proofs.Common.{◌≡◌, ◌≢◌, ◌⊎◌, inl, inr, ℕ, ◌-◌, List, [], ◌∷◌, map, length, Bool, true, false, Option, Some, None, Result, Ok, Err, refl, ap, subst}
 use Rattle.std.specs.Prelude.{⊤, if◌then◌else◌, ◌==◌, MatchOption}
+use Rattle.std.specs.List.{range_with_len}
 use Rattle.story.specs.Program.{Program, done, ask}
+use Rattle.story.specs.Calls.{AreCallsOf, AreCallsOfEach}
+use Rattle.flow.specs.Running.{asking, unbroken}
+use Rattle.mount_model.specs.History.{Event}
 use Rattle.mount_model.specs.declared.call.Ask.{Ask}
 use Rattle.mount_model.specs.declared.call.Call.{Call}
 use Rattle.mount_model.specs.declared.reply.Reply.{Reply}
@@ -29,6 +33,9 @@ use Rattle.index_reader.specs.Opening.{open_at_program, open_read_program}
 use Rattle.index_reader.specs.Reading.{read_program}
 use Rattle.index_reader.specs.declared.listing.Listing.{Listing}
 use Rattle.index_reader.specs.declared.opened.OpenReader.{OpenReader}
+use Rattle.index_reader.specs.declared.sharing.Share.{Share}
+use Rattle.index_reader.specs.Replies.{on_ok}
+use Rattle.gather_flow.specs.Dealing.{dealt_to}
 use Rattle.script_lang.specs.declared.line.Outcome.{Outcome}
 use Rattle.script_lang.specs.declared.line.Outcome.TheVariants as of
 use Rattle.script_lang.specs.declared.line.Why.TheVariants.{NotOpen}
@@ -45,19 +52,20 @@ use Rattle.actor_core.specs.Names.{names_program}
 use Rattle.actor_core.specs.Telling.{if_asked, if_relisted, tells_by, tells_of_file}
 use Rattle.actor_core.specs.Opened.{opens as opens_after, reader_opened}
 use Rattle.actor_core.specs.Readers.{opens_reader, if_listed, reads, verifies, maps, closes_reader}
-use Rattle.gather_flow.specs.Shares.{programs_from, by_itself}
+use Rattle.gather_flow.specs.Workers.{all_of, and_share}
+use Rattle.gather_flow.specs.Shares.{programs_from, worker_program, by_itself}
 use Rattle.actor_core.specs.Statements.{does, greeted, greeted_work, disarmed, work_of}
 use Rattle.actor_core.specs.ByName.{flattens_file, lists_names, recovers_file, renames_file, truncates_file}
 use Rattle.actor_core.specs.Stopping.{carried, is_due, due_bytes, stoppable, one_nearer}
 use Rattle.actor_core.specs.Work.{Work, finishes}
 use Rattle.actor_core.specs.Writers.{opens, writes, writes_bytes, syncs, closes}
-use Rattle.run_core.proofs.GoodLines.{EndsGood}
+use Rattle.run_core.proofs.GoodLines.{AreWell, AreWellEach, EndsGood}
 use Rattle.run_core.proofs.EndsWell.{EndsIn, is_no_fault, ends_well, open_well, write_well, sync_well, close_well}
-use Rattle.run_core.proofs.Looking.{IsAnswered, Looks}
+use Rattle.run_core.proofs.Looking.{IsAnswered, Looks, on_ok_looks, same_fine}
 use Rattle.run_core.proofs.FilesWell.{attr_well, names_well, recover_well, rename_well, truncate_well}
-use Rattle.run_core.proofs.ReaderLooks.{listing_looks, open_at_looks, read_looks}
+use Rattle.run_core.proofs.ReaderLooks.{listing_looks, open_at_looks, read_looks, share_looks}
 use Rattle.run_core.proofs.FlattenLooks.{flatten_looks}
-use Rattle.run_core.proofs.OpeningLooks.{opening_looks, telling_looks}
+use Rattle.run_core.proofs.OpeningLooks.{after_looks, opening_looks, telling_looks}
 
 -- the reply fits, is no fault, and was not for want of memory
 abbrev pub IsWell : Ask → Reply → Type 0
@@ -167,9 +175,45 @@ itself_caused kept workers stop listing =
     looked_caused ⊤ (by_itself (programs_from workers listing 0) [] (opens_after listing)) stop (λ left result. finishes (reader_opened kept result)) (finishes (stopped kept)) tt (opening_looks workers listing ⊤)
     (λ left result fine. reader_none kept result fine) (stops_none kept)
 
+-- ---- what workers read
+
+worker_fine : {R : Type 0} (well : Type 0) (p : Program Call Reply (Result R Stuck)) (calls : List Event) (result : Result R Stuck) → well → Looks well p → AreCallsOf (asking p) calls result → AreWell IsWell NoFault calls → is_no_fault result ≡ true
+worker_fine {R} well (done r) calls result sofar looks made all = let P : Result R Stuck → Type 0 = λ z. is_no_fault z ≡ true in subst P made.1 (looks sofar)
+worker_fine well (ask call k) [] result sofar looks made all = absurd made
+worker_fine well (ask call k) (e ∷ calls) result sofar looks made all =
+    let here : IsWell (unbroken call) e.reply = subst (λ z. IsWell z e.reply) made.0 all.0 in
+    let answered : IsAnswered call e.reply = record { fits = here.2; has_memory = here.1; is_good = here.0 } in
+    worker_fine (well × IsAnswered call e.reply) (k e.reply) calls result (sofar, answered) (looks e.reply) made.1 all.1
+
+and_fine : (share : Share) (others : Result (List Share) Stuck) → is_no_fault others ≡ true → is_no_fault (and_share share others) ≡ true
+and_fine share (Ok others) fine = refl
+and_fine share (Err why) fine = fine
+
+all_fine : (result : Result Share Stuck) (results : List (Result Share Stuck)) → is_no_fault result ≡ true → is_no_fault (all_of results) ≡ true → is_no_fault (all_of (result ∷ results)) ≡ true
+all_fine (Ok share) results fine rest = and_fine share (all_of results) rest
+all_fine (Err why) results fine rest = same_fine Share (List Share) why fine
+
+shares_fine : (workers : ℕ) (listing : Listing) (numbers : List ℕ) (calls : List (List Event)) (results : List (Result Share Stuck)) → AreCallsOfEach (map asking (map (worker_program workers listing) numbers)) calls results
+    → AreWellEach IsWell NoFault calls → is_no_fault (all_of results) ≡ true
+shares_fine workers listing [] [] [] made all = refl
+shares_fine workers listing [] [] (r ∷ results) made all = absurd made
+shares_fine workers listing [] (c ∷ calls) results made all = absurd made
+shares_fine workers listing (n ∷ numbers) [] results made all = absurd made
+shares_fine workers listing (n ∷ numbers) (c ∷ calls) [] made all = absurd made
+shares_fine workers listing (n ∷ numbers) (c ∷ calls) (r ∷ results) made all =
+    let here : is_no_fault r ≡ true = worker_fine ⊤ (worker_program workers listing n) c r tt (share_looks listing.room (dealt_to workers n 0 listing.droppings) listing.flat.covers ⊤) made.0 all.0 in
+    all_fine r results here (shares_fine workers listing numbers calls results made.1 all.1)
+
+shared_caused : (kept : Kept) (workers : ℕ) (listing : Listing) (calls : List (List Event)) (results : List (Result Share Stuck)) → AreCallsOfEach (map asking (programs_from workers listing 0)) calls results → AreWellEach IsWell NoFault calls
+    → IsCaused (carried (on_ok (opens_after listing) (all_of results)) None (λ left result. finishes (reader_opened kept result)) (finishes (stopped kept)))
+shared_caused kept workers listing calls results made all =
+    looked_caused ⊤ (on_ok (opens_after listing) (all_of results)) None (λ left result. finishes (reader_opened kept result)) (finishes (stopped kept)) tt
+    (on_ok_looks ⊤ (opens_after listing) (all_of results) (shares_fine workers listing (range_with_len 0 (workers - 0)) calls results made all) (λ shares. after_looks listing shares ⊤))
+    (λ left result fine. reader_none kept result fine) (stops_none kept)
+
 listed_caused : (kept : Kept) (workers : ℕ) (stop : Option Stop) (result : Result Listing Stuck) → is_no_fault result ≡ true → IsCaused (if_listed kept workers stop result)
 listed_caused kept workers stop (Err why) fine = stuck_is_none Listing why fine
-listed_caused kept workers None (Ok listing) fine = itself_caused kept workers None listing
+listed_caused kept workers None (Ok listing) fine = (shared_caused kept workers listing, itself_caused kept workers None listing)
 listed_caused kept workers (Some stop) (Ok listing) fine = itself_caused kept workers (Some stop) listing
 
 opens_reader_caused : (kept : Kept) (stop : Option Stop) (name : List ℕ) (workers : ℕ) (reader : Option OpenReader) → IsCaused (opens_reader kept stop name workers reader)

@@ -31,6 +31,8 @@ use Rattle.index_reader.specs.Opening.{open_at_program, open_read_program}
 use Rattle.index_reader.specs.Reading.{read_program}
 use Rattle.index_reader.specs.declared.listing.Listing.{Listing}
 use Rattle.index_reader.specs.declared.opened.OpenReader.{OpenReader}
+use Rattle.index_reader.specs.declared.sharing.Share.{Share}
+use Rattle.index_reader.specs.Replies.{on_ok}
 use Rattle.script_lang.specs.declared.line.Line.{Line}
 use Rattle.script_lang.specs.declared.line.Outcome.{Outcome}
 use Rattle.script_lang.specs.declared.line.Outcome.TheVariants as of
@@ -50,6 +52,7 @@ use Rattle.actor_core.specs.Telling.{if_asked, if_relisted, tells_by, tells_of_f
 use Rattle.actor_core.specs.Opened.{opens as opens_after, reader_opened}
 use Rattle.actor_core.specs.Readers.{opens_reader, if_listed, reads, verifies, maps, closes_reader}
 use Rattle.gather_flow.specs.Shares.{programs_from, by_itself}
+use Rattle.gather_flow.specs.Workers.{all_of}
 use Rattle.actor_core.specs.Statements.{does, greeted, greeted_work, disarmed, work_of}
 use Rattle.actor_core.specs.ByName.{flattens_file, lists_names, recovers_file, renames_file, truncates_file}
 use Rattle.actor_core.proofs.Facts.{logical_names}
@@ -116,9 +119,14 @@ itself_text : (kept : Kept) (workers : ℕ) (stop : Option Stop) (listing : List
 itself_text kept workers stop listing =
     carried_text (by_itself (programs_from workers listing 0) [] (opens_after listing)) stop (λ left result. finishes (reader_opened kept result)) (finishes (stopped kept)) (λ left result. reader_text kept result) tt
 
+-- the same of what workers read
+shared_text : (kept : Kept) (listing : Listing) (results : List (Result Share Stuck)) → HasText (carried (on_ok (opens_after listing) (all_of results)) None (λ left result. finishes (reader_opened kept result)) (finishes (stopped kept)))
+shared_text kept listing results =
+    carried_text (on_ok (opens_after listing) (all_of results)) None (λ left result. finishes (reader_opened kept result)) (finishes (stopped kept)) (λ left result. reader_text kept result) tt
+
 listed_text : (kept : Kept) (workers : ℕ) (stop : Option Stop) (result : Result Listing Stuck) → HasText (if_listed kept workers stop result)
 listed_text kept workers stop (Err why) = stuck_text why
-listed_text kept workers None (Ok listing) = itself_text kept workers None listing
+listed_text kept workers None (Ok listing) = ((λ calls results made well. shared_text kept listing results), itself_text kept workers None listing)
 listed_text kept workers (Some stop) (Ok listing) = itself_text kept workers (Some stop) listing
 
 opens_reader_text : (kept : Kept) (stop : Option Stop) (name : List ℕ) (workers : ℕ) (reader : Option OpenReader) → HasText (opens_reader kept stop name workers reader)

@@ -13,7 +13,8 @@ use Rattle.run_core.specs.Cast.{statements_in}
 use Rattle.run_core.specs.Course.{own}
 use Rattle.run_core.specs.Written.{whose}
 use Rattle.run_core.proofs.Dealing.{own_both}
-use Rattle.run_core.proofs.Tables.{left_item, own_no, own_yes, taken_item}
+use Rattle.run_core.proofs.Tables.{left_item, own_no, own_yes}
+use Rattle.share_workers.proofs.Facts.{taken_item}
 use Rattle.run_core.specs.declared.threads.told.Told.{Told}
 use Rattle.run_core.specs.Collecting.{lines_in, Suffice, HasLine, HaveLines, TakesOne, AreTaken, TakesAll, ArePut}
 

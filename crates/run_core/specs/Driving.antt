@@ -2,19 +2,16 @@
 use Rattle.std.specs.Prelude.{◌≡◌, ℕ, List, [], ◌∷◌}
 use Rattle.turn_object.specs.History.{state_after}
 use Rattle.turn_object.specs.Callers.{MayCallAs}
-use Rattle.turn_object.specs.Front.{IsLegalFront}
-use Rattle.turn_object.specs.Pass.{start_of, front, parts_of, IsPassOf}
+use Rattle.turn_object.specs.Pass.{start_of, front}
 use Rattle.mount_model.specs.State.{State}
-use Rattle.mount_model.specs.Step.{IsStep}
-use Rattle.mount_sound.specs.Owed.{Permits}
 use Rattle.script_lang.specs.declared.line.Line.{Line}
 use Rattle.script_lang.specs.declared.script.Numbered.{Numbered}
 use Rattle.actor_core.specs.declared.kept.Kept.{Kept}
 use Rattle.actor_core.specs.Progress.{Progress, idle, IsIdle}
 use Rattle.run_core.specs.Course.{Course, one_by_one}
 use Rattle.run_core.specs.Players.{IsSafeProgress, course_at}
-use Rattle.run_core.specs.Views.{View, ThePass, TheTurn}
-use Rattle.run_core.specs.Alone.{Goes}
+use Rattle.share_workers.specs.Passes.{View, ThePass, TheTurn, IsAfter}
+use Rattle.run_core.specs.Going.{Goes}
 
 -- after all that the pass has seen the actor may make the calls of its statement, under each number under which it may call, and comes to its line
 abbrev pub MayGoOn : State → View → Progress → Type 0
@@ -27,15 +24,9 @@ pub record ComesToIts (line : Line) (v : View) (old : Progress) (w : View) (new 
   pub goes : (statements : List Numbered) (later : Kept → Course) → Goes v (course_at old statements later) w (one_by_one statements later kept) (line ∷ [])
 
 module _ {P : Type 0} (turn : TheTurn P) where
-  -- the pass after calls
-  pub record IsAfter (old new : ThePass) : Type 0 where
-    pub pass : IsPassOf turn new
-    pub known : IsLegalFront IsStep Permits (start_of turn) (front new)
-    pub parts : parts_of new ≡ parts_of old
-
   -- so far within its statement
   pub record IsDriven (first : ThePass) (old : Progress) (now : ThePass) (progress : Progress) : Type 0 where
-    pub after : IsAfter first now
+    pub after : IsAfter turn first now
     pub may : MayGoOn (start_of turn) (front now) progress
     pub busy : IsIdle progress → ⊥
     pub goes : (statements : List Numbered) (later : Kept → Course) → Goes (front first) (course_at old statements later) (front now) (course_at progress statements later) []

@@ -1,12 +1,13 @@
 -- Calls that lead from one state of a mount to another.
-use Rattle.std.specs.Prelude.{◌≡◌, ◌≢◌, ℕ, List, [], ◌∷◌}
+use Rattle.std.specs.Prelude.{◌≡◌, ℕ, List, [], ◌∷◌}
 use Rattle.std.specs.List.{AllByRecursion}
+use Rattle.turn_object.specs.declared.history.Ended.{Ended}
 use Rattle.mount_model.specs.declared.call.Ask.{Ask}
 use Rattle.mount_model.specs.declared.reply.Reply.{Reply}
-use Rattle.mount_model.specs.declared.reply.Reply.TheVariants.{NoMemory}
 use Rattle.mount_model.specs.State.{State}
 use Rattle.mount_model.specs.History.{Event, state_after}
 use Rattle.mount_sound.specs.Owed.{IsLawful}
+pub use Rattle.share_workers.specs.Passes.{HadMemory}
 
 -- these calls were made in this order, of each the caller owed no more than it met, and they lead from one state to the other
 pub record Leads (old : State) (events : List Event) (new : State) : Type 0 where
@@ -22,9 +23,9 @@ pub record GoesOn (old new : State) : Type 0 where
 abbrev pub MadeCall : State → ℕ → Ask → Reply → State → Type 0
 MadeCall old caller ask reply new = Leads old (record { caller = caller; ask = ask; reply = reply; after = new } ∷ []) new
 
--- none of them was refused memory
-abbrev pub HadMemory : List Event → Type 0
-HadMemory events = AllByRecursion (λ (event : Event). event.reply ≢ NoMemory) events
+-- of the calls of one that ended none was refused memory
+abbrev pub EndedWithMemory : Ended Ask Reply State → Type 0
+EndedWithMemory gone = HadMemory gone.entries
 
 -- all of them are this caller's
 abbrev pub AreBy : ℕ → List Event → Type 0

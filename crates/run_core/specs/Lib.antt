@@ -10,8 +10,7 @@ pub mod Moving
 pub mod World
 pub mod Making
 pub mod Working
-pub mod Views
-pub mod Alone
+pub mod Going
 pub mod Driving
 pub mod Runners
 pub mod Each

@@ -1,24 +1,24 @@
 -- Actors between phases, and in one.
 use Rattle.std.specs.Prelude.{◌≡◌, ◌+◌, ◌^◌, ℕ, List, [], ◌∷◌, ◌++◌, true}
+use Rattle.std.specs.List.{All}
 use Rattle.turn_object.specs.History.{StartsWith}
 use Rattle.turn_object.specs.Front.{IsLegalFront}
 use Rattle.turn_object.specs.Shares.{longer}
 use Rattle.turn_object.specs.Pass.{start_of, front, parts_of, mine_of, seen_of, ended_of, IsPassOf}
 use Rattle.story.specs.Players.{player, HasPlayed}
+use Rattle.mount_model.specs.declared.call.Ask.{Ask}
 use Rattle.mount_model.specs.State.{State}
 use Rattle.mount_model.specs.Step.{IsStep}
 use Rattle.mount_model.specs.History.{Event}
 use Rattle.mount_sound.specs.Owed.{Permits}
-use Rattle.script_lang.specs.declared.line.Line.{Line}
 use Rattle.script_lang.specs.declared.script.ActorDecl.{ActorDecl}
 use Rattle.script_lang.specs.declared.script.Phase.{Phase}
 use Rattle.actor_core.specs.declared.kept.Kept.{Kept}
 use Rattle.actor_core.specs.Progress.{idle}
 use Rattle.actor_core.specs.Standings.{progress_of}
 use Rattle.run_core.specs.Course.{course_of, through}
-use Rattle.run_core.specs.Leading.{HadMemory}
-use Rattle.run_core.specs.Views.{ThePass, TheTurn, AnyCall}
-use Rattle.run_core.specs.Alone.{PlaysAlone}
+use Rattle.share_workers.specs.Passes.{HadMemory, ThePass, TheTurn}
+use Rattle.run_core.specs.Leading.{EndedWithMemory}
 use Rattle.run_core.specs.Runners.{Runner}
 
 -- the pass has its calls, and the callers that ended, and so many parts more and fewer
@@ -34,16 +34,19 @@ pub record OnlyPass (old new : Runner) : Type 0 where
   pub lines : new.told.lines.items ≡ old.told.lines.items
   pub whole : new.whole ≡ old.whole
 
--- Up to this history, of which each phase has one block, the actor that is declared so at this place has played the phases but those that are left. It had
--- memory and no workers. What it may call is told statement by statement, so here every call counts as allowed.
+-- every call is allowed
+abbrev pub AnyCall : State → ℕ → Ask → Type 0
+AnyCall state caller ask = Unit {0}
+
+-- Up to this history, of which each phase has one block, the actor that is declared so at this place has played the phases but those that are left. It and its
+-- workers had memory. What it may call is told statement by statement, so here every call counts as allowed.
 pub record HasActed (start : State) (phases left : List Phase) (history : List Event) (blocks : List (List Event)) (place : ℕ) (declared : ActorDecl) (runner : Runner) : Type 0 where
   pub kept : Kept
   pub rests : progress_of runner.actor ≡ idle kept
   pub at : runner.place ≡ place
   pub played : HasPlayed IsStep AnyCall start history blocks (player (course_of place phases declared) (front runner.pass) (through place left kept) runner.told.lines.items)
-  pub no_workers : ended_of runner.pass ≡ []
   pub memory : HadMemory (mine_of runner.pass)
-  pub alone : (more : List Event) (others : List Line) → PlaysAlone (through place left kept) more others → PlaysAlone (course_of place phases declared) (mine_of runner.pass ++ more) (runner.told.lines.items ++ others)
+  pub workers_memory : All EndedWithMemory (ended_of runner.pass)
 
 module _ {P : Type 0} (turn : TheTurn P) (phases left : List Phase) (history : List Event) (blocks : List (List Event)) (place : ℕ) (declared : ActorDecl) where
   -- an actor between phases

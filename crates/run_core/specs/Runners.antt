@@ -1,7 +1,7 @@
 -- Actors before and after a phase.
 use Rattle.std.specs.Prelude.{◌≡◌, ℕ, ◌<◌, List, [], ◌∷◌, ◌++◌, true, All, length, slice_index_or}
 use Rattle.turn_object.specs.Front.{IsLegalFront}
-use Rattle.turn_object.specs.Pass.{start_of, front, IsPassOf}
+use Rattle.turn_object.specs.Pass.{start_of, front, parts_of, IsPassOf}
 use Rattle.mount_model.specs.Step.{IsStep}
 use Rattle.mount_sound.specs.Owed.{Permits}
 use Rattle.mount_sound.specs.Sound.{IsFine}
@@ -14,9 +14,9 @@ use Rattle.actor_core.specs.Statements.{work_of}
 use Rattle.run_core.specs.Course.{Course, then_line, one_by_one, own}
 use Rattle.run_core.specs.Players.{IsMade}
 use Rattle.run_core.specs.declared.threads.player.Player.{Player}
-use Rattle.run_core.specs.Views.{ThePass, TheTurn}
-use Rattle.run_core.specs.Alone.{Goes}
-use Rattle.run_core.specs.Driving.{IsAfter}
+use Rattle.run_core.specs.declared.threads.player.TheConstants.{TOO_MANY}
+use Rattle.share_workers.specs.Passes.{ThePass, TheTurn, IsAfter}
+use Rattle.run_core.specs.Going.{Goes}
 
 -- an actor with its pass
 abbrev pub Runner : Type 0
@@ -54,6 +54,7 @@ module _ {P : Type 0} (turn : TheTurn P) where
     pub pass_of : IsPassOf turn pass
     pub known : IsLegalFront IsStep Permits (start_of turn) (front pass)
     pub fine : IsFine (start_of turn)
+    pub parts : TOO_MANY < parts_of pass
 
   -- the actor may play its part of these statements; one that was refused memory has nothing to show
   pub record IsReadyFor (statements : List Numbered) (player : Runner) : Type 0 where

@@ -18,7 +18,7 @@ use Rattle.script_lang.specs.declared.script.ActorDecl.{ActorDecl}
 use Rattle.script_lang.specs.declared.script.Phase.{Phase}
 use Rattle.actor_core.specs.Progress.{idle, fresh}
 use Rattle.actor_core.specs.Standings.{progress_of}
-use Rattle.run_core.specs.Views.{ThePass, TheTurn}
+use Rattle.share_workers.specs.Passes.{ThePass, TheTurn}
 use Rattle.run_core.specs.Runners.{Runner}
 use Rattle.run_core.specs.Each.{EachAt}
 use Rattle.run_core.specs.Phases.{IsFollower}

@@ -10,7 +10,8 @@ use Rattle.script_lang.specs.declared.script.Phase.{Phase}
 use Rattle.actor_core.specs.Standings.{progress_of}
 use Rattle.run_core.specs.declared.player.Player.{Player}
 use Rattle.run_core.specs.Written.{is_greeting, written_of}
-use Rattle.run_core.specs.Leading.{Leads, HadMemory}
+use Rattle.run_core.specs.Leading.{Leads}
+use Rattle.share_workers.specs.Passes.{HadMemory}
 use Rattle.script_lang.specs.declared.script.ActorDecl.{ActorDecl}
 use Rattle.run_core.specs.Cast.{cast_from}
 use Rattle.run_core.specs.Course.{own}

@@ -8,7 +8,7 @@ ghost use Rattle.mount_sound.specs.Owed.{Permits};
 ghost use Rattle.script_lang.specs.declared.script.ActorDecl.{ActorDecl};
 ghost use Rattle.script_lang.specs.declared.script.Phase.{Phase as ThePhase};
 ghost use Rattle.run_core.specs.Players.{IsMade};
-ghost use Rattle.run_core.specs.Runners.{IsReadyFor, EachPlayed};
+ghost use Rattle.run_core.specs.Runners.{IsReadyFor, Played, EachPlayed};
 ghost use Rattle.run_core.specs.Each.{ChangedTo};
 ghost use Rattle.run_core.specs.Phases.{Keeps, CaughtUp, HandedOver};
 ghost use Rattle.run_core.specs.Running.{Between};
@@ -99,7 +99,22 @@ fn gather_all<S: Store + Drop, C: Clock + Drop>(
     }
 }
 
-/// Has all actors play their parts of a phase, each on a thread of its own.
+/// How many threads a phase of so many actors is worth: one where its statements are all of one actor.
+fn threads_for(count: usize, statements: &[Numbered]) -> usize
+    ensures { 0 < count → 0 < result }
+{
+    let Some(first) = statements.first() else {
+        return 1;
+    };
+    for statement in statements {
+        if statement.actor != first.actor {
+            return count;
+        }
+    }
+    1
+}
+
+/// Has all actors play their parts of a phase, each on a thread of its own. Where only one has a part, the caller plays it.
 fn play_each<
     S: Store + Drop + Send,
     C: Clock + Drop + Send,
@@ -118,11 +133,15 @@ fn play_each<
 {
     let count = players.len();
     if count > 0 {
+        let threads = threads_for(count, statements);
         thread::for_each_mut(
             rt,
             players,
-            count,
-            &|_, player| play_own(rt, alloc, turn, gate, player, statements),
+            threads,
+            &|_, player: &mut Player<Pass<Mount<S, C>>>|
+                requires { IsReadyFor turn.now statements.now player.old }
+                ensures { Played turn.entry.now statements.entry.now player.old player.new }
+            { play_own(rt, alloc, turn, gate, player, statements) },
         );
     }
 }

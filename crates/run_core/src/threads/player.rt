@@ -1,13 +1,15 @@
 //! One actor in a phase.
-ghost use Rattle.std.specs.Prelude.{◌≡◌, IfOk, OnOk, All};
+ghost use Rattle.std.specs.Prelude.{◌≡◌, ◌<◌, ◌≤◌, IfOk, OnOk, All};
 ghost use Rattle.mount_model.specs.Step.{IsStep};
 ghost use Rattle.mount_sound.specs.Owed.{Permits};
 ghost use Rattle.turn_object.specs.Front.{IsLegalFront};
-ghost use Rattle.turn_object.specs.Pass.{start_of, front, IsPassOf};
+ghost use Rattle.turn_object.specs.Pass.{start_of, front, parts_of, IsPassOf};
 ghost use Rattle.actor_core.specs.Progress.{IsIdle};
-ghost use Rattle.actor_core.specs.Standings.{progress_of};
+ghost use Rattle.actor_core.specs.Standings.{progress_of, calls_left};
 ghost use Rattle.run_core.specs.Players.{IsMade};
-ghost use Rattle.run_core.specs.Driving.{MayGoOn, IsAfter, ComesToIts};
+ghost use Rattle.run_core.specs.Driving.{MayGoOn, IsDriven, ComesToIts};
+ghost use Rattle.share_workers.specs.Passes.{IsAfter};
+ghost use Rattle.run_core.specs.declared.threads.player.TheConstants.{TOO_MANY};
 ghost use Rattle.run_core.specs.Runners.{MayAct, Acted, ActedAll, IsReadyFor, Played};
 
 use crate::threads::told::Told;
@@ -16,8 +18,10 @@ use edge_io::{Clock, Gate};
 use mount_core::Mount;
 use plfs_types::NoMemory;
 use script_lang::{Line, Numbered};
+use share_workers::read_by_workers;
 use std::alloc::Global;
 use std::sync::Wait;
+use std::thread::Threads;
 use store_api::Store;
 use turn_object::{Pass, Turn};
 
@@ -53,9 +57,48 @@ impl<P> Player<P> {
     }
 }
 
-/// Makes the calls of the statement in progress, each after the gate, and gives its line.
-fn drive<S: Store + Drop, C: Clock + Drop, G: Gate, W: Wait>(
-    rt: &W,
+/// More workers than any statement has.
+const TOO_MANY: usize = 1 << 16;
+
+/// Has workers read the shares of the reader that the actor opens, where it is at them.
+fn share_out<
+    S: Store + Drop + Send,
+    C: Clock + Drop + Send,
+    G: Gate + Sync,
+    R: Threads + Wait + Sync,
+>(
+    rt: &R,
+    alloc: Global,
+    turn: &Turn<Mount<S, C>>,
+    gate: &G,
+    pass: &mut Pass<Mount<S, C>>,
+    place: u64,
+    actor: &mut Actor,
+) -> Result<(), NoMemory>
+    requires pass { IsPassOf turn.now pass.old }
+    requires known { IsLegalFront IsStep Permits (start_of turn.now) (front pass.old) }
+    requires may { MayGoOn (start_of turn.now) (front pass.old) (progress_of actor.old) }
+    requires busy { IsIdle (progress_of actor.old) → ⊥ }
+    requires parts { TOO_MANY < parts_of pass.old }
+    ensures after { IsAfter turn.now pass.old pass.new }
+    ensures driven { OnOk result (IsDriven turn.now pass.old (progress_of actor.old) pass.new (progress_of actor.new)) }
+    ensures left { OnOk result (calls_left actor.new ≤ calls_left actor.old) }
+{
+    let Some(works) = actor.shares()? else {
+        return Ok(());
+    };
+    if works.as_slice().len() >= TOO_MANY {
+        drop(works);
+        return Err(NoMemory);
+    }
+    let outcome = read_by_workers(rt, alloc, turn, gate, pass, place, works)?;
+    actor.give(outcome)
+}
+
+/// Makes the calls of the statement in progress, each after the gate, and gives its line. The shares of a reader are read by workers.
+fn drive<S: Store + Drop + Send, C: Clock + Drop + Send, G: Gate + Sync, R: Threads + Wait + Sync>(
+    rt: &R,
+    alloc: Global,
     turn: &Turn<Mount<S, C>>,
     gate: &G,
     pass: &mut Pass<Mount<S, C>>,
@@ -67,6 +110,7 @@ fn drive<S: Store + Drop, C: Clock + Drop, G: Gate, W: Wait>(
     requires known { IsLegalFront IsStep Permits (start_of turn.now) (front pass.old) }
     requires may { MayGoOn (start_of turn.now) (front pass.old) (progress_of actor.old) }
     requires busy { IsIdle (progress_of actor.old) → ⊥ }
+    requires parts { TOO_MANY < parts_of pass.old }
     ensures after { IsAfter turn.now pass.old pass.new }
     ensures comes { IfOk result (λ line. ComesToIts line (front pass.old) (progress_of actor.old) (front pass.new) (progress_of actor.new)) }
 {
@@ -76,6 +120,7 @@ fn drive<S: Store + Drop, C: Clock + Drop, G: Gate, W: Wait>(
         let reply = turn.call(rt, pass, &ask);
         drop(ask);
         actor.take(reply)?;
+        share_out(rt, alloc, turn, gate, pass, place, actor)?;
     }
     match actor.line() {
         Some(line) => Ok(line),
@@ -84,8 +129,8 @@ fn drive<S: Store + Drop, C: Clock + Drop, G: Gate, W: Wait>(
 }
 
 /// Makes this statement, and keeps its line.
-fn act<S: Store + Drop, C: Clock + Drop, G: Gate, W: Wait>(
-    rt: &W,
+fn act<S: Store + Drop + Send, C: Clock + Drop + Send, G: Gate + Sync, R: Threads + Wait + Sync>(
+    rt: &R,
     alloc: Global,
     turn: &Turn<Mount<S, C>>,
     gate: &G,
@@ -102,6 +147,7 @@ fn act<S: Store + Drop, C: Clock + Drop, G: Gate, W: Wait>(
     player.actor.begin(statement.line, copy)?;
     let line = drive(
         rt,
+        alloc,
         turn,
         gate,
         &mut player.pass,
@@ -114,8 +160,13 @@ fn act<S: Store + Drop, C: Clock + Drop, G: Gate, W: Wait>(
 }
 
 /// Makes those of these statements that are its own, one after the other.
-fn act_all<S: Store + Drop, C: Clock + Drop, G: Gate, W: Wait>(
-    rt: &W,
+fn act_all<
+    S: Store + Drop + Send,
+    C: Clock + Drop + Send,
+    G: Gate + Sync,
+    R: Threads + Wait + Sync,
+>(
+    rt: &R,
     alloc: Global,
     turn: &Turn<Mount<S, C>>,
     gate: &G,
@@ -137,8 +188,13 @@ fn act_all<S: Store + Drop, C: Clock + Drop, G: Gate, W: Wait>(
 }
 
 /// Plays its part of a phase, where it has had memory so far.
-pub(crate) fn play_own<S: Store + Drop, C: Clock + Drop, G: Gate, W: Wait>(
-    rt: &W,
+pub(crate) fn play_own<
+    S: Store + Drop + Send,
+    C: Clock + Drop + Send,
+    G: Gate + Sync,
+    R: Threads + Wait + Sync,
+>(
+    rt: &R,
     alloc: Global,
     turn: &Turn<Mount<S, C>>,
     gate: &G,

@@ -2,7 +2,8 @@ use Rattle.std.proofs.Common.{◌+◌, List, subst, take, drop}
 use Rattle.script_lang.specs.declared.script.Numbered.{Numbered}
 use Rattle.run_core.specs.Written.{whose}
 use Rattle.run_core.specs.World.{AllStand}
-use Rattle.run_core.proofs.Tables.{taken_item, left_item}
+use Rattle.share_workers.proofs.Facts.{taken_item}
+use Rattle.run_core.proofs.Tables.{left_item}
 use Rattle.run_core.proofs.Finishing.{tells_none, tells_more, has_line, went_told}
 use Rattle.run_core.proofs.ending.finish.Goals as goal
 

@@ -3,7 +3,7 @@ use Rattle.std.proofs.lemmas.Option.{slice_get-get_or}
 use Rattle.script_lang.specs.declared.script.Numbered.{Numbered}
 use Rattle.script_lang.specs.declared.script.Statement.{Statement}
 use Rattle.run_core.specs.World.{IsDealt}
-use Rattle.run_core.proofs.Tables.{taken_item}
+use Rattle.share_workers.proofs.Facts.{taken_item}
 use Rattle.run_core.proofs.Dealing.{dealt_none, dealt_more}
 use Rattle.run_core.proofs.phase.deal.Goals as goal
 

@@ -3,7 +3,7 @@ use Rattle.script_lang.specs.declared.line.Line.{Line}
 use Rattle.script_lang.specs.declared.script.Phase.{Phase}
 use Rattle.script_lang.specs.Ranges.{FitsPhase}
 use Rattle.run_core.specs.World.{PlayedSoFar}
-use Rattle.run_core.proofs.Tables.{taken_item}
+use Rattle.share_workers.proofs.Facts.{taken_item}
 use Rattle.run_core.proofs.Phases.{no_phase, one_phase_more, went_phase}
 use Rattle.run_core.proofs.phase.play_all.Goals as goal
 

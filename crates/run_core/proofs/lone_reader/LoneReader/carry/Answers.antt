@@ -2,7 +2,8 @@ use Rattle.std.proofs.Common.{sym, ap, ◌∙◌}
 use Rattle.actor_core.specs.Progress.{with_reply}
 use Rattle.actor_core.specs.Standings.{progress_of}
 use Rattle.run_core.proofs.Leading.{went}
-use Rattle.run_core.proofs.LoneSteps.{asks_next, is_out, not_refused, not_near, nearer, went_near, no_line_left, carries}
+use Rattle.run_core.proofs.LoneSteps.{asks_next, is_out, not_near, nearer, went_near, no_line_left, carries}
+use Rattle.share_workers.proofs.Facts.{not_refused}
 use Rattle.run_core.proofs.lone_reader.LoneReader.carry.Goals as goal
 
 pub loop-ask-init : goal.loop-ask-init

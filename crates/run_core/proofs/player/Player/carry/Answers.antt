@@ -2,7 +2,8 @@ use Rattle.std.proofs.Common.{refl, sym, ap, ◌∙◌}
 use Rattle.actor_core.specs.Progress.{with_reply}
 use Rattle.actor_core.specs.Standings.{progress_of}
 use Rattle.run_core.proofs.Leading.{went}
-use Rattle.run_core.proofs.Works.{not_refused, asks_next, is_out, not_idle, no_line_left}
+use Rattle.share_workers.proofs.Facts.{not_refused}
+use Rattle.run_core.proofs.Works.{asks_next, is_out, not_idle, no_line_left}
 use Rattle.run_core.proofs.Turning.{after_reply}
 use Rattle.run_core.proofs.Approaching.{not_near, nearer, went_near, line_passes}
 use Rattle.run_core.proofs.player.Player.carry.Goals as goal

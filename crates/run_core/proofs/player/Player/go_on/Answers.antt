@@ -2,7 +2,8 @@ use Rattle.std.proofs.Common.{refl, sym, ap, ◌∙◌}
 use Rattle.actor_core.specs.Progress.{with_reply}
 use Rattle.actor_core.specs.Standings.{progress_of}
 use Rattle.run_core.proofs.Leading.{went}
-use Rattle.run_core.proofs.Works.{not_refused, asks_next, is_out}
+use Rattle.share_workers.proofs.Facts.{not_refused}
+use Rattle.run_core.proofs.Works.{asks_next, is_out}
 use Rattle.run_core.proofs.Turning.{not_yet, further, turned, greeted, called, went_on, no_further_call}
 use Rattle.run_core.proofs.player.Player.go_on.Goals as goal
 

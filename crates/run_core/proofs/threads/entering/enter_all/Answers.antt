@@ -1,7 +1,7 @@
 use Rattle.std.proofs.Common.{rules, ◌≡◌, ◌+◌, List, length, take, subst, ap, ◌∙◌, arith}
 use Rattle.std.proofs.Math.Seq.{take-length}
 use Rattle.script_lang.specs.declared.script.ActorDecl.{ActorDecl}
-use Rattle.run_core.proofs.Tables.{taken_item}
+use Rattle.share_workers.proofs.Facts.{taken_item}
 use Rattle.turn_object.specs.Pass.{parts_of}
 use Rattle.run_core.specs.Runners.{Runner}
 use Rattle.run_core.specs.Running.{Enters}

@@ -4,11 +4,11 @@ use Rattle.run_core.proofs.Acting.{begun_may, begun_busy, acted_by}
 use Rattle.run_core.proofs.threads.player.act.Goals as goal
 
 pub drive-requires-clause-may : goal.drive-requires-clause-may
-drive-requires-clause-may g c =
+drive-requires-clause-may g c = λ κs lives.
     begun_may c.args.turn.now c.args.player.now.pass c.args.player.now.actor (progress_of c.begin.new.self) c.args.statement.now.line c.in_ok-copy.copy c.requires.may c.requires.idle c.in_ok-begin.ensures
 
 pub drive-requires-clause-busy : goal.drive-requires-clause-busy
-drive-requires-clause-busy g c = begun_busy (progress_of c.args.player.now.actor) (progress_of c.begin.new.self) c.args.statement.now.line c.in_ok-copy.copy c.requires.idle c.in_ok-begin.ensures
+drive-requires-clause-busy g c = λ κs lives. begun_busy (progress_of c.args.player.now.actor) (progress_of c.begin.new.self) c.args.statement.now.line c.in_ok-copy.copy c.requires.idle c.in_ok-begin.ensures
 
 pub returns-clause-acted : goal.returns-clause-acted
 returns-clause-acted g c =

@@ -2,7 +2,7 @@ use Rattle.std.proofs.Common.{◌≡◌, ◌+◌, drop, length, subst, sym, ap, 
 use Rattle.std.proofs.Math.Seq.{drop-length}
 use Rattle.run_core.proofs.Tables.{left_item}
 use Rattle.run_core.proofs.Acting.{after_none, after_both, may_after, acting_none, acting_idle, acting_own, acting_other, acting_all}
-use Rattle.run_core.specs.Driving.{IsAfter}
+use Rattle.share_workers.specs.Passes.{IsAfter}
 use Rattle.run_core.specs.Runners.{Runner, ActedSoFar}
 use Rattle.run_core.proofs.threads.player.act_all.Goals.{then-statement-player+in_ok-act, else-statement-player}
 use Rattle.run_core.proofs.threads.player.act_all.Goals as goal
@@ -11,10 +11,10 @@ pub loop-statement-init : goal.loop-statement-init
 loop-statement-init g c = (after_none c.args.turn.now c.args.player.now.pass c.requires.may, acting_none c.args.statements.now c.args.player.now c.requires.idle)
 
 pub act-requires-clause-may : goal.act-requires-clause-may
-act-requires-clause-may g c = may_after c.args.turn.now c.args.player.now.pass c.loop-statement.player.pass c.requires.may c.loop-statement.invariant.0
+act-requires-clause-may g c = λ κs lives. may_after c.args.turn.now c.args.player.now.pass c.loop-statement.player.pass c.requires.may c.loop-statement.invariant.0
 
 pub act-requires-clause-idle : goal.act-requires-clause-idle
-act-requires-clause-idle g c = acting_idle c.args.statements.now (drop c.loop-statement.statement-index c.args.statements.now) c.args.player.now c.loop-statement.player c.loop-statement.invariant.1
+act-requires-clause-idle g c = λ κs lives. acting_idle c.args.statements.now (drop c.loop-statement.statement-index c.args.statements.now) c.args.player.now c.loop-statement.player c.loop-statement.invariant.1
 
 pub loop-statement-preserved : goal.loop-statement-preserved
 loop-statement-preserved g c =

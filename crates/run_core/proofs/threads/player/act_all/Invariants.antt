@@ -1,5 +1,5 @@
 use Rattle.std.proofs.Common.{drop}
-use Rattle.run_core.specs.Driving.{IsAfter}
+use Rattle.share_workers.specs.Passes.{IsAfter}
 use Rattle.run_core.specs.Runners.{ActedSoFar}
 use Rattle.run_core.proofs.threads.player.act_all.Given as goal
 
