@@ -1,4 +1,5 @@
-//! Two actors of one phase that wait for each other before their second calls: they meet only where both are on threads of their own.
+//! Two actors of one phase wait for each other before their second calls, and so do two workers of a reader: they meet only
+//! where each is on a thread of its own.
 use crate::runs::at_gate;
 use edge_io::Gate;
 use plfs_types::NoMemory;
@@ -9,18 +10,18 @@ use std::test::Fail;
 use std::thread;
 use std::thread::Threads;
 
-/// Has actors 0 and 1 wait before their second calls until the other one has come there too. It counts those that have waited in vain.
+/// Two that wait before their second calls until the other one has come there too. It counts those that have waited in vain.
 #[derive(Drop)]
-struct MeetGate {
+struct Meeting {
     turns: u64,
     first: AtomicU64,
     second: AtomicU64,
     misses: AtomicU64,
 }
 
-impl MeetGate {
-    fn new(turns: u64) -> MeetGate {
-        MeetGate {
+impl Meeting {
+    fn new(turns: u64) -> Meeting {
+        Meeting {
             turns,
             first: AtomicU64::new(0),
             second: AtomicU64::new(0),
@@ -38,38 +39,88 @@ impl MeetGate {
         }
         self.misses.fetch_add(1, Ordering::SeqCst);
     }
+
+    /// Whether each of the two came, and how many have waited in vain.
+    fn told(&self) -> [u64; 3] {
+        [
+            self.first.load(Ordering::SeqCst),
+            self.second.load(Ordering::SeqCst),
+            self.misses.load(Ordering::SeqCst),
+        ]
+    }
+}
+
+/// Has actors 0 and 1 meet, and workers 1 and 2 of a reader.
+#[derive(Drop)]
+struct MeetGate {
+    actors: Meeting,
+    workers: Meeting,
 }
 
 impl Gate for MeetGate {
     fn before(&self, actor: u64, worker: u64, n: u64) {
         match (actor, worker, n) {
-            (0, 0, 2) => self.meet(&self.first, &self.second),
-            (1, 0, 2) => self.meet(&self.second, &self.first),
+            (0, 0, 2) => self.actors.meet(&self.actors.first, &self.actors.second),
+            (1, 0, 2) => self.actors.meet(&self.actors.second, &self.actors.first),
+            (_, 1, 2) => self.workers.meet(&self.workers.first, &self.workers.second),
+            (_, 2, 2) => self.workers.meet(&self.workers.second, &self.workers.first),
             _ => {}
         }
     }
 }
 
-const TOGETHER: &str = "actor w1\nactor w2\nw1 open f\nw2 open f\n";
+/// A script, how many turns actors and workers wait, and of the two actors and of the two workers whether each came, and how
+/// many have waited in vain.
+type Row = (&'static str, u64, u64, [u64; 3], [u64; 3]);
 
-const ONE_AFTER_THE_OTHER: &str = "actor w1\nactor w2\nw1 open f\nphase\nw2 open f\n";
+const MEETINGS: &[Row] = &[
+    // Two writers of one phase, and a reader with two workers.
+    (
+        "actor w1\nactor w2\nphase\nw1 open f\nw2 open f\nphase\nw1 write 0 text:AAAA\nw2 write 1 text:BB\nphase\nw1 close\nw2 close\nphase\nw1 ropen f 2\nw1 read 0 4\nw1 map\n",
+        10_000_000,
+        10_000_000,
+        [1, 1, 0],
+        [1, 1, 0],
+    ),
+    // A reader with one worker, which waits in vain.
+    (
+        "actor w1\nactor w2\nphase\nw1 open f\nw2 open f\nphase\nw1 write 0 text:AAAA\nw2 write 1 text:BB\nphase\nw1 close\nw2 close\nphase\nw1 ropen f\nw1 read 0 4\nw1 map\n",
+        10_000_000,
+        10,
+        [1, 1, 0],
+        [1, 0, 1],
+    ),
+    // Writers of one phase after the other.
+    (
+        "actor w1\nactor w2\nw1 open f\nphase\nw2 open f\n",
+        10,
+        10,
+        [1, 1, 1],
+        [0, 0, 0],
+    ),
+];
 
-// How many of the two have waited in vain in a run of this script.
-fn missed<R: Threads + Wait + Sync>(
+fn met<R: Threads + Wait + Sync>(
     rt: &R,
     alloc: Global,
     script: &str,
-    turns: u64,
-) -> Result<u64, NoMemory> {
-    let gate = MeetGate::new(turns);
-    at_gate(rt, alloc, script, &[10], &gate)?;
-    Ok(gate.misses.load(Ordering::SeqCst))
+    gate: &MeetGate,
+) -> Result<([u64; 3], [u64; 3]), NoMemory> {
+    at_gate(rt, alloc, script, &[10], gate)?;
+    Ok((gate.actors.told(), gate.workers.told()))
 }
 
 #[test]
-fn actors_of_one_phase_are_on_threads_of_their_own(rt: HostRuntime) -> Result<(), Fail> {
-    let together = missed(&rt, rt.alloc(), TOGETHER, 10_000_000)?;
-    let apart = missed(&rt, rt.alloc(), ONE_AFTER_THE_OTHER, 10)?;
-    assert_eq!(rt; [together, apart], [0, 1]);
+fn actors_of_one_phase_and_workers_of_one_reader_are_on_threads_of_their_own(
+    rt: HostRuntime,
+) -> Result<(), Fail> {
+    for (script, actor_turns, worker_turns, actors, workers) in MEETINGS {
+        let gate = MeetGate {
+            actors: Meeting::new(*actor_turns),
+            workers: Meeting::new(*worker_turns),
+        };
+        let found = met(&rt, rt.alloc(), script, &gate)?;
+        assert!(rt; found == (*actors, *workers));
+    }
     Ok(())
 }
