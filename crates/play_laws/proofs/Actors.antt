@@ -26,7 +26,7 @@ use Rattle.run_core.specs.Course.{Course, one_by_one, own, through}
 use Rattle.play_laws.specs.OneFile.{OneFile}
 use Rattle.play_laws.specs.Opening.{Stretch}
 use Rattle.play_laws.specs.Readers.{ShowsEach}
-use Rattle.play_laws.specs.Writing.{OneWriter}
+use Rattle.play_laws.specs.OneWriter.{OneWriter}
 use Rattle.play_laws.proofs.Carrying.{behind, same_course}
 use Rattle.play_laws.proofs.OneWriters.{KeepsWriter}
 use Rattle.play_laws.proofs.Opened.{Keeps}

@@ -21,7 +21,8 @@ use Rattle.play_laws.specs.Ending.{DoesNothing}
 use Rattle.play_laws.specs.OneFile.{OneFile}
 use Rattle.play_laws.specs.Opening.{Stretch}
 use Rattle.play_laws.specs.Readers.{ShowsEach}
-use Rattle.play_laws.specs.Writing.{OneWriter, ShowsClosed, ShowsNoWriting, ShowsSynced, ShowsWriterOpened, ShowsWriting, ShowsWritten, StaysOpen}
+use Rattle.play_laws.specs.OneWriter.{OneWriter}
+use Rattle.play_laws.specs.Writing.{ShowsClosed, ShowsNoWriting, ShowsSynced, ShowsWriterOpened, ShowsWriting, ShowsWritten, StaysOpen}
 use Rattle.play_laws.proofs.Casts.{readers_show}
 
 -- the writer that is open has so many writes

@@ -18,7 +18,7 @@ use Rattle.gathering.specs.Bounds.{IsOf, IsSyncedIn}
 use Rattle.gathering.specs.Moments.{Dropping}
 use Rattle.gathering.proofs.Facts.{among_left, among_right, any_found, found_any}
 use Rattle.actor_core.specs.declared.kept.Kept.{Kept}
-use Rattle.play_laws.specs.Writing.{OneWriter, WritesNone}
+use Rattle.play_laws.specs.OneWriter.{OneWriter, WritesNone}
 
 -- ---- one of some events
 

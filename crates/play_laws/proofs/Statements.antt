@@ -33,7 +33,8 @@ use Rattle.actor_core.specs.Work.{finishes}
 use Rattle.play_laws.specs.OneFile.{OneFile}
 use Rattle.play_laws.specs.Opening.{Stretch}
 use Rattle.play_laws.specs.Showing.{Shows, ShowsFlattening, ShowsLook, ShowsRecovery, ShowsRename, ShowsTruncate}
-use Rattle.play_laws.specs.Writing.{OneWriter, ShowsNoWriting, ShowsWriting, StaysOpen, WritesNone}
+use Rattle.play_laws.specs.OneWriter.{OneWriter, WritesNone}
+use Rattle.play_laws.specs.Writing.{ShowsNoWriting, ShowsWriting, StaysOpen}
 use Rattle.play_laws.proofs.Carrying.{CourseOf, EndsSo, ended, ends_later, then_told}
 use Rattle.play_laws.proofs.Coming.{all_of_first, by_itself, came_good, came_lets, came_to, end_alone, lets_both, lets_first, lets_none, lets_one, nothing_more, with_others}
 use Rattle.play_laws.proofs.OneWriters.{KeepsWriter, Writes, none_both, writes_later}

@@ -29,7 +29,7 @@ use Rattle.play_laws.specs.OneFile.{OneFile}
 use Rattle.play_laws.specs.Opening.{Stretch}
 use Rattle.play_laws.specs.Readers.{ReadersShow, ShowsEach}
 use Rattle.play_laws.specs.Showing.{Shows, ShowsClosing, ShowsFlattening, ShowsLook, ShowsMap, ShowsNone, ShowsOpening, ShowsRead, ShowsRecovery, ShowsRename, ShowsTruncate, ShowsVerified}
-use Rattle.play_laws.specs.Writing.{OneWriter}
+use Rattle.play_laws.specs.OneWriter.{OneWriter}
 use Rattle.play_laws.proofs.Casts.{readers_show}
 use Rattle.play_laws.specs.Undamaged.{AreUndamaged, IsUndamaged}
 

@@ -50,7 +50,8 @@ use Rattle.actor_core.specs.Writers.{closes, opens, syncs, writes, writes_bytes}
 use Rattle.play_laws.specs.OneFile.{OneFile}
 use Rattle.play_laws.specs.Opening.{Stretch}
 use Rattle.play_laws.specs.Showing.{Shows}
-use Rattle.play_laws.specs.Writing.{OneWriter, ShowsClosed, ShowsSynced, ShowsWriterOpened, ShowsWriting, ShowsWritten, WritesNone, one_more}
+use Rattle.play_laws.specs.OneWriter.{OneWriter, WritesNone, one_more}
+use Rattle.play_laws.specs.Writing.{ShowsClosed, ShowsSynced, ShowsWriterOpened, ShowsWriting, ShowsWritten}
 use Rattle.play_laws.proofs.Carrying.{CourseOf, EndsSo, carried_on, ended, ended_behind, then_told}
 use Rattle.play_laws.proofs.Finding.{name_made}
 use Rattle.play_laws.proofs.Opened.{Good, Keeps, keeps_later}

@@ -8,6 +8,7 @@ pub mod Flattening
 pub mod Recovering
 pub mod Refusing
 pub mod Showing
+pub mod OneWriter
 pub mod Writing
 pub mod Readers
 pub mod Undamaged

@@ -20,7 +20,8 @@ use Rattle.gathering.specs.Moments.{Moment}
 use Rattle.play_laws.specs.OneFile.{OneFile}
 use Rattle.play_laws.specs.Opening.{Stretch}
 use Rattle.play_laws.specs.Showing.{Shows}
-use Rattle.play_laws.specs.Writing.{OneWriter, ShowsWriting}
+use Rattle.play_laws.specs.OneWriter.{OneWriter}
+use Rattle.play_laws.specs.Writing.{ShowsWriting}
 
 -- One statement after the other has its part of the stretch, and its line shows so much of the file that the caller has open, and of its writer.
 abbrev pub ShowsEach : Moment → ℕ → Stretch → Option OneFile → Option OneWriter → List Numbered → List Line → Type 0

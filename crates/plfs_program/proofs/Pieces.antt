@@ -26,7 +26,7 @@ use Rattle.run_core.specs.Written.{whose}
 use Rattle.play_laws.specs.OneFile.{OneFile, seen_bytes}
 use Rattle.play_laws.specs.Opening.{Stretch, OpensOneFile}
 use Rattle.play_laws.specs.Readers.{ShowsEach, PlayShows}
-use Rattle.play_laws.specs.Writing.{OneWriter}
+use Rattle.play_laws.specs.OneWriter.{OneWriter}
 use Rattle.play_laws.specs.Showing.{ShowsOpening, ShowsRead}
 use Rattle.plfs_program.specs.Cat.{IsRead, is_read, content_of, contents, cat_script, cat_statements, opening, piece_length, pieces_of, reader_size, reading}
 use Rattle.plfs_program.specs.Commands.{actor}
