@@ -112,6 +112,22 @@ passed writer (suc i) (c ∷ covers) le lesser others = (
       (λ k d low high. others (suc k) d (omega arith) (omega arith)),
 )
 
+-- a cover of this writer stands behind all covers of lesser ones
+passed_one : (writer place : ℕ) (covers : List Cover) (c : Cover) → AreCovers covers → slice_get covers place ≡ Some c → c.writer ≡ writer → HasPassedCovers writer place covers
+passed_one writer place [] c are stands is = absurd (none-some c stands)
+passed_one writer zero (b ∷ covers) c are stands is =
+    let same : b ≡ c = same_Some b c stands in
+    let of : b.writer ≡ c.writer = ap (λ (d : Cover). d.writer) same in
+    omega (arith, of, is)
+passed_one writer (suc place) (b ∷ covers) c are stands is =
+    let at : get_or covers place c ≡ c = get_or_from_slice_get covers place c c stands in
+    let above : b.writer < (get_or covers place c).writer = later b covers place c are (slice_get_within covers place c stands) in
+    let of : (get_or covers place c).writer ≡ c.writer = ap (λ (d : Cover). d.writer) at in
+    (omega (arith, above, of, is), passed_one writer place covers c are.2 stands is)
+
+pub passed_at : (writer place : ℕ) (covers : List Cover) (d : Cover) → AreCovers covers → place < length covers → (get_or covers place d).writer ≡ writer → HasPassedCovers writer place covers
+passed_at writer place covers d are lt is = passed_one writer place covers (get_or covers place d) are (reads covers place d lt) is
+
 -- a cover at any place may count it
 pub counted_at : (p : Piece) (place : ℕ) (covers : List Cover) (c : Cover) → slice_get covers place ≡ Some c → IsCoveredBy p c → AnyCovers p covers
 counted_at p place [] c stands is = absurd (none-some c stands)

@@ -115,8 +115,15 @@ fn piece_at(bytes: &[u8], place: usize) -> Option<Piece>
     }
 }
 
-/// The piece at this place, where it goes on after these pieces, and one of the covers counts its entry.
-fn next_piece(bytes: &[u8], place: usize, covers: &[Cover], pieces: &[Piece]) -> Option<Piece>
+/// The piece at this place, where it goes on after these pieces, and one of the covers counts its entry. `near` is the place of
+/// the cover that counts the piece before.
+fn next_piece(
+    bytes: &[u8],
+    place: usize,
+    covers: &[Cover],
+    near: &mut usize,
+    pieces: &[Piece],
+) -> Option<Piece>
     requires fits { place + ENTRY_SIZE ≤ length bytes.now }
     requires covers { AreCovers covers.now }
     requires pieces { AreFlatPieces covers.now pieces.now }
@@ -125,7 +132,7 @@ fn next_piece(bytes: &[u8], place: usize, covers: &[Cover], pieces: &[Piece]) ->
     ensures none { IfNone result (AreFlatPieces covers.now (pieces.now ++ piece_in (drop place bytes.now) ∷ []) → ⊥) }
 {
     let piece = piece_at(bytes, place)?;
-    if is_counted(covers, &piece) && goes_on(pieces, &piece) {
+    if is_counted(covers, &piece, near) && goes_on(pieces, &piece) {
         Some(piece)
     } else {
         None
@@ -147,9 +154,10 @@ fn piece_list(
     ensures bad { IfErr result (IsRecordTrouble (AreFlatPieces covers.now) (pieces_in begin count bytes.now) begin ENTRY_SIZE) }
 {
     let mut pieces = Vec::with_capacity(alloc, count)?;
+    let mut near = 0;
     for index in 0..count {
         let place = begin + ENTRY_SIZE * index;
-        let Some(piece) = next_piece(bytes, place, covers, pieces.as_slice()) else {
+        let Some(piece) = next_piece(bytes, place, covers, &mut near, pieces.as_slice()) else {
             return Err(FlatTrouble::Bad {
                 place: place as u64,
             });

@@ -55,22 +55,49 @@ fn is_apart(pieces: &[Piece], next: &Piece) -> bool
     }
 }
 
-/// Whether one of the covers counts the piece's entry.
-pub(crate) fn is_counted(covers: &[Cover], piece: &Piece) -> bool
+/// Whether one of the covers counts the piece's entry. `near` is the place of the cover that was found last: neighbouring pieces
+/// are mostly of neighbouring writers.
+pub(crate) fn is_counted(covers: &[Cover], piece: &Piece, near: &mut usize) -> bool
     requires { AreCovers covers.now }
     ensures { IsTrue result ↔ AnyCovers piece.now covers.now }
 {
-    let place = first_from(covers, piece.writer);
+    let place = first_from(covers, piece.writer, *near);
+    *near = place;
     place < covers.len() && counts(&covers[place], piece)
 }
 
-/// The place of the first cover of this writer or a greater one.
-fn first_from(covers: &[Cover], writer: u64) -> usize
+/// The place of the first cover of this writer or a greater one. The cover behind `near`, and the one at it, are looked at first.
+fn first_from(covers: &[Cover], writer: u64, near: usize) -> usize
     requires { AreCovers covers.now }
     ensures within { result ≤ length covers.now }
     ensures passed { HasPassedCovers writer result covers.now }
 {
-    covers.partition_point(|cover| cover.writer < writer)
+    let behind = place_behind(covers.len(), near);
+    if is_at(covers, writer, behind) {
+        behind
+    } else if is_at(covers, writer, near) {
+        near
+    } else {
+        covers.partition_point(|cover| cover.writer < writer)
+    }
+}
+
+/// The place behind this one, the first place again behind the last one.
+fn place_behind(count: usize, place: usize) -> usize {
+    if place < count && place + 1 < count {
+        place + 1
+    } else {
+        0
+    }
+}
+
+/// Whether the cover at this place is that of the writer.
+fn is_at(covers: &[Cover], writer: u64, place: usize) -> bool
+    requires { AreCovers covers.now }
+    ensures within { IsTrue result → place < length covers.now }
+    ensures passed { IsTrue result → HasPassedCovers writer place covers.now }
+{
+    place < covers.len() && covers[place].writer == writer
 }
 
 fn counts(cover: &Cover, piece: &Piece) -> bool
