@@ -66,7 +66,7 @@ fn main(rt: HostRuntime) -> ExitCode {
         return starved(&rt);
     };
     let ran = run(&rt, &rt, command, Backing::One(store));
-    tell_one(&rt, root, ran, &standard)
+    tell_ran(&rt, root, &folders, ran, &standard)
 }
 
 // Runs the command over several folders as one store.
@@ -87,7 +87,7 @@ fn serve_several<H: Threads + Wait + Sync>(
     match Spread::open(rt.alloc(), stores) {
         Ok(spread) => {
             let ran = run(handle, &rt, command, Backing::Several(spread));
-            tell_several(&rt, root, folders, ran, standard)
+            tell_ran(&rt, root, folders, ran, standard)
         }
         Err((stores, trouble)) => tell_unopened(&rt, root, folders, &stores, trouble, standard),
     }
@@ -149,20 +149,8 @@ fn tell(
     }
 }
 
-// Says why a run over one folder ended so.
-fn tell_one(rt: &HostRuntime, root: &Word, ran: Ran, standard: &Standard) -> ExitCode {
-    let Ran { ended, input, said } = ran;
-    let Ended { store, status } = ended;
-    let store = match &store {
-        Some(Backing::One(store)) => Some(store),
-        _ => None,
-    };
-    tell(rt, status, root.as_str(), store, input, &said, standard);
-    ExitCode::from(status)
-}
-
-// Says why a run over several folders ended so, of the folder where it did.
-fn tell_several(
+// Says why a run ended so: of the one folder, or of that of several where it did.
+fn tell_ran(
     rt: &HostRuntime,
     root: &Word,
     folders: &[&str],
@@ -171,8 +159,21 @@ fn tell_several(
 ) -> ExitCode {
     let Ran { ended, input, said } = ran;
     let Ended { store, status } = ended;
-    match store {
-        Some(Backing::Several(spread)) => {
+    let Some(store) = store else {
+        tell(rt, status, root.as_str(), None, input, &said, standard);
+        return ExitCode::from(status);
+    };
+    match store.apart() {
+        Ok(store) => tell(
+            rt,
+            status,
+            root.as_str(),
+            Some(&store),
+            input,
+            &said,
+            standard,
+        ),
+        Err(spread) => {
             let last = spread.last();
             let stores = spread.close();
             let place = if status == 4 {
@@ -188,7 +189,6 @@ fn tell_several(
                 _ => tell(rt, status, root.as_str(), None, input, &said, standard),
             }
         }
-        _ => tell(rt, status, root.as_str(), None, input, &said, standard),
     }
     ExitCode::from(status)
 }

@@ -1,10 +1,16 @@
 -- What contracts see of one store by itself, or of several as one.
+use Rattle.std.specs.Prelude.{Result, Ok, Err}
 use Rattle.store_api.specs.Acts.{Stored}
 use Rattle.spread_store.specs.declared.backing.Backing.{Backing}
 use Rattle.spread_store.specs.declared.backing.Backing.TheVariants.{One, Several}
-use Rattle.spread_store.specs.Shown.{stored_of}
+use Rattle.spread_store.specs.Shown.{Shown, stored_of}
 
 -- as the one store, or as the several are seen
 abbrev pub stored_by : {S : Type 0} → (S → Stored) → Backing S → Stored
 stored_by stored (One store) = stored store
 stored_by stored (Several spread) = stored_of spread
+
+-- the one store, or else the several
+abbrev pub apart_of : {S : Type 0} → Backing S → Result S Shown
+apart_of (One store) = Ok store
+apart_of (Several spread) = Err spread

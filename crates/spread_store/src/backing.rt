@@ -12,6 +12,21 @@ pub enum Backing<S: Store + Drop> {
     Several(Spread<S>),
 }
 
+impl<S: Store + Drop> Backing<S> {
+    ghost use Rattle.std.specs.Prelude.{◌≡◌};
+    ghost use Rattle.spread_store.specs.Backing.{apart_of};
+
+    /// The one store, or else the several.
+    pub fn apart(self) -> Result<S, Spread<S>>
+        ensures { result ≡ apart_of self }
+    {
+        match self {
+            Backing::One(store) => Ok(store),
+            Backing::Several(spread) => Err(spread),
+        }
+    }
+}
+
 impl<S: Store + Drop> Store for Backing<S> {
     ghost use Rattle.spread_store.specs.Backing.{stored_by};
 
