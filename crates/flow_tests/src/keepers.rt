@@ -1,16 +1,13 @@
 //! The calls of who truncates, renames, looks at or recovers a file, and what comes of the replies to them.
 use crate::cases::{Case, Machine, all_hold};
-use crate::playing::{Shown, Tell, is_played, show};
+use crate::playing::Tell;
 use crate::replies::Told;
 use crate::spelling::{pair, say};
-use attr_flow::{Attr, AttrFlow, AttrOut};
-use flow::Flow;
+use attr_flow::{Attr, AttrOut};
 use mount_model::Refusal;
 use plfs_types::{LogicalName, NoMemory};
-use std::alloc::Global;
 use std::test::Fail;
-use torn_tail::{RecoverFlow, Recovered};
-use trunc_rename::{RenameFlow, TruncFlow};
+use torn_tail::Recovered;
 
 pub(crate) fn logical(bytes: &[u8]) -> Result<LogicalName, &'static str> {
     LogicalName::read(bytes).ok_or("no logical name")
@@ -59,30 +56,6 @@ impl Tell for Recovered {
         say(line, "alive", self.alive.as_slice())?;
         say(line, if self.hold { "made" } else { "whole" }, &[])
     }
-}
-
-pub(crate) fn truncate(alloc: Global, told: &[Told], shown: &mut Shown) -> Result<(), Fail> {
-    let mut flow = TruncFlow::new(logical(b"a")?, 3);
-    if is_played(alloc, &mut flow, told, &mut shown.asks)? {
-        flow.out().tell(&mut shown.ends)?;
-    }
-    Ok(())
-}
-
-pub(crate) fn rename(alloc: Global, told: &[Told], shown: &mut Shown) -> Result<(), Fail> {
-    let mut flow = RenameFlow::new(logical(b"a")?, logical(b"b")?);
-    if is_played(alloc, &mut flow, told, &mut shown.asks)? {
-        flow.out().tell(&mut shown.ends)?;
-    }
-    Ok(())
-}
-
-pub(crate) fn attr(alloc: Global, told: &[Told], shown: &mut Shown) -> Result<(), Fail> {
-    show(alloc, AttrFlow::new(alloc, logical(b"a")?), told, shown)
-}
-
-pub(crate) fn recover(alloc: Global, told: &[Told], shown: &mut Shown) -> Result<(), Fail> {
-    show(alloc, RecoverFlow::new(alloc, logical(b"a")?), told, shown)
 }
 
 // ---- truncates

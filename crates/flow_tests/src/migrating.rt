@@ -1,13 +1,11 @@
 //! The calls of who packs the closed writers of a file, and what comes of the replies to them.
 use crate::cases::{Case, Machine, all_hold};
-use crate::keepers::logical;
-use crate::playing::{Shown, Tell, show};
+use crate::playing::Tell;
 use crate::replies::Told;
 use crate::spelling::say;
-use migrate_core::{MigrateFlow, Migrated};
+use migrate_core::Migrated;
 use mount_model::Refusal;
 use plfs_types::NoMemory;
-use std::alloc::Global;
 use std::test::Fail;
 
 impl Tell for Migrated {
@@ -17,10 +15,6 @@ impl Tell for Migrated {
         say(line, "migrated", &[self.writers, entries, runs])?;
         say(line, "left", &[self.left])
     }
-}
-
-pub(crate) fn migrate(alloc: Global, told: &[Told], shown: &mut Shown) -> Result<(), Fail> {
-    show(alloc, MigrateFlow::new(alloc, logical(b"a")?), told, shown)
 }
 
 const TOP: Told = Told::Names(&["access", "flats", "hostdir.0", "metadata", "truncs"]);

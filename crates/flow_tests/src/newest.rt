@@ -1,5 +1,5 @@
 //! A reader's machines over sets of writes, against the newest write asked byte by byte.
-ghost use Rattle.std.specs.Prelude.{◌<◌, ◌≤◌, IfOk};
+ghost use Rattle.std.specs.Prelude.{◌≤◌, IfOk};
 ghost use Rattle.flow.specs.Standing.{IsFresh};
 ghost use Rattle.index_reader.specs.Listing as listed;
 
@@ -32,26 +32,21 @@ fn ended<F: Flow + Drop>(alloc: Global, set: &Set, mut flow: F) -> Result<F::Out
     requires { IsFresh (F.standing flow) }
 {
     while let Some(call) = flow.next()? {
-        flow.take(replied(alloc, set, &call))?;
+        let reply = replied(alloc, set, &call);
+        drop(call);
+        flow.take(reply)?;
     }
     Ok(flow.out())
 }
 
-fn dropping(place: usize) -> Dropping
-    requires { place < 3 }
-{
-    let (writer, host) = WRITERS[place];
-    Dropping {
+fn dropping(letter: char) -> Result<Dropping, Fail> {
+    let place = "abc".find(letter).ok_or("no writer")?;
+    let (writer, host) = *WRITERS.get(place).ok_or("no writer")?;
+    Ok(Dropping {
         host,
         writer,
         packed: false,
-    }
-}
-
-fn share_of(alloc: Global, set: &Set, droppings: DroppingList) -> Result<Share, Fail> {
-    let flow = ShareRead::new(alloc, 1, droppings, CoverList::new(alloc));
-    let share = ended(alloc, set, flow)?.ok().ok_or("no share")?;
-    Ok(share)
+    })
 }
 
 fn listing(alloc: Global) -> Result<Listing, Fail>
@@ -59,12 +54,12 @@ fn listing(alloc: Global) -> Result<Listing, Fail>
 {
     let all = [
         Dropping {
-            host: 7,
+            host: 33,
             writer: 3,
             packed: false,
         },
         Dropping {
-            host: 33,
+            host: 7,
             writer: 9,
             packed: false,
         },
@@ -87,32 +82,35 @@ fn listing(alloc: Global) -> Result<Listing, Fail>
     })
 }
 
-fn add(
-    alloc: Global,
-    set: &Set,
-    shares: &mut ShareList,
-    droppings: Vec<Dropping>,
-) -> Result<(), Fail> {
-    let share = share_of(alloc, set, DroppingList::from_vec(droppings))?;
-    shares.push(share)?;
+// The share of a worker, to whom these writers are given.
+fn share_of(alloc: Global, set: &Set, letters: &str) -> Result<Share, Fail> {
+    let mut droppings = DroppingList::new(alloc);
+    for letter in letters.chars() {
+        droppings.push(dropping(letter)?)?;
+    }
+    let flow = ShareRead::new(alloc, 1, droppings, CoverList::new(alloc));
+    let share = ended(alloc, set, flow)?.ok().ok_or("no share")?;
+    Ok(share)
+}
+
+// The share of each of the workers.
+fn add_each(alloc: Global, set: &Set, workers: &str, shares: &mut ShareList) -> Result<(), Fail> {
+    for letters in workers.split_whitespace() {
+        let share = share_of(alloc, set, letters)?;
+        shares.push(share)?;
+    }
     Ok(())
 }
 
-// The shares of two workers.
-fn add_both(alloc: Global, set: &Set, shares: &mut ShareList) -> Result<(), Fail> {
-    add(alloc, set, shares, vec![in alloc; dropping(0)]?)?;
-    add(
-        alloc,
-        set,
-        shares,
-        vec![in alloc; dropping(1), dropping(2)]?,
-    )
-}
-
-// The shares of two workers as one.
-fn joined<R: Threads + Sync>(rt: &R, alloc: Global, set: &Set) -> Result<ShareList, Fail> {
+/// The shares of the workers, each a word of its writers, as one.
+pub(crate) fn joined<R: Threads + Sync>(
+    rt: &R,
+    alloc: Global,
+    set: &Set,
+    workers: &str,
+) -> Result<ShareList, Fail> {
     let mut shares = ShareList::new(alloc);
-    if let Err(fail) = add_both(alloc, set, &mut shares) {
+    if let Err(fail) = add_each(alloc, set, workers, &mut shares) {
         drop(shares);
         return Err(fail);
     }
@@ -120,14 +118,18 @@ fn joined<R: Threads + Sync>(rt: &R, alloc: Global, set: &Set) -> Result<ShareLi
     Ok(ShareList::from_vec(vec![in alloc; share]?))
 }
 
-// What two workers gather.
-fn gathered<R: Threads + Sync>(rt: &R, alloc: Global, set: &Set) -> Result<Gathered, Fail>
+/// What two workers gather.
+pub(crate) fn gathered<R: Threads + Sync>(
+    rt: &R,
+    alloc: Global,
+    set: &Set,
+) -> Result<Gathered, Fail>
     ensures { IfOk result (λ all. listed.AreByWriter all.droppings) }
 {
     let truncs = ended(alloc, set, TruncRead::new(alloc, 1))?
         .ok()
         .ok_or("no truncates")?;
-    let shares = match joined(rt, alloc, set) {
+    let shares = match joined(rt, alloc, set, "a bc") {
         Ok(shares) => shares,
         Err(fail) => {
             drop(truncs);

@@ -1,10 +1,11 @@
 //! One machine is taken through the replies of a case, and what comes of it is told.
 ghost use Rattle.std.specs.Prelude.{IfOk, IsTrue};
-ghost use Rattle.flow.specs.Standing.{IsFresh, IsOver, rest_of};
+ghost use Rattle.flow.specs.Standing.{Awaits, IsFresh, IsOver, rest_of};
 
 use crate::replies::{Told, reply_of};
 use crate::spelling::{spell, trouble};
 use flow::{Flow, Stuck};
+use mount_model::Reply;
 use plfs_types::NoMemory;
 use std::alloc::Global;
 use std::test::Fail;
@@ -28,19 +29,35 @@ pub(crate) fn is_played<F: Flow>(
     ensures { IfOk result (λ over. IsTrue over → IsOver (rest_of (F.standing flow.new))) }
 {
     for spelled in told {
-        let reply = reply_of(alloc, *spelled)?;
         match flow.next()? {
             Some(call) => {
-                spell(asks, &call)?;
-                flow.take(reply)?;
+                let said = spell(asks, &call);
+                drop(call);
+                said?;
+                flow.take(reply_of(alloc, *spelled)?)?;
             }
             None => return Ok(false),
         }
     }
     match flow.next()? {
-        Some(_) => Ok(false),
+        Some(call) => {
+            drop(call);
+            Ok(false)
+        }
         None => Ok(true),
     }
+}
+
+/// Puts the machine's call behind `asks`, and says whether want of memory ends it there.
+pub(crate) fn wants_memory<F: Flow>(flow: &mut F, asks: &mut String) -> Result<bool, NoMemory>
+    requires { Awaits (rest_of (F.standing flow.old)) }
+{
+    if let Some(call) = flow.next()? {
+        let said = spell(asks, &call);
+        drop(call);
+        said?;
+    }
+    Ok(flow.take(Reply::NoMemory).is_err())
 }
 
 /// What comes of a machine, as text.
@@ -57,27 +74,10 @@ impl<T: Tell> Tell for Result<T, Stuck> {
     }
 }
 
-/// What comes of the machine of these replies, where it then has an outcome.
-pub(crate) fn outcome<F: Flow + Drop>(
-    alloc: Global,
-    mut flow: F,
-    told: &[Told],
-    asks: &mut String,
-) -> Result<Option<F::Out>, NoMemory>
-    requires { IsFresh (F.standing flow) }
-{
-    if is_played(alloc, &mut flow, told, asks)? {
-        Ok(Some(flow.out()))
-    } else {
-        Ok(None)
-    }
-}
-
-/// Shows what a machine makes of these replies. One that owns no memory has no proof where it is passed on by value: who
-/// has such a one does the same in place.
+/// Shows what a machine makes of these replies.
 pub(crate) fn show<F: Flow + Drop>(
     alloc: Global,
-    flow: F,
+    mut flow: F,
     told: &[Told],
     shown: &mut Shown,
 ) -> Result<(), Fail>
@@ -85,8 +85,11 @@ where
     F::Out: Tell + Drop,
     requires { IsFresh (F.standing flow) }
 {
-    if let Some(out) = outcome(alloc, flow, told, &mut shown.asks)? {
-        out.tell(&mut shown.ends)?;
+    if is_played(alloc, &mut flow, told, &mut shown.asks)? {
+        let out = flow.out();
+        let told = out.tell(&mut shown.ends);
+        drop(out);
+        told?;
     }
     Ok(())
 }

@@ -64,7 +64,7 @@ fn writers(line: &mut String, call: &Call) -> Result<(), NoMemory> {
         Call::MakeLog { .. } => say(line, "log", &[]),
         Call::Write { at, .. } => say(line, "write", &[*at]),
         Call::Flush { .. } => say(line, "flush", &[]),
-        Call::SyncLog { .. } => say(line, "sync-log", &[]),
+        Call::SyncLog { writer } => say(line, "sync-log", &[*writer]),
         Call::SyncIndex { .. } => say(line, "sync-index", &[]),
         Call::PutMeta { .. } => say(line, "meta", &[]),
         Call::Exit { .. } => say(line, "exit", &[]),
@@ -105,6 +105,7 @@ fn packers(line: &mut String, call: &Call) -> Result<(), NoMemory> {
 /// A call behind those that the line has.
 pub(crate) fn spell(line: &mut String, call: &Call) -> Result<(), NoMemory> {
     match call {
+        Call::Greet => say(line, "greet", &[]),
         Call::Find { .. } => say(line, "find", &[]),
         Call::Look { look, .. } => look_at(line, look),
         Call::Hold { room } => say(line, "hold", &[*room]),
