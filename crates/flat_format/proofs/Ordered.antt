@@ -1,5 +1,5 @@
 -- Covers and pieces in order: one more at the end, the first ones of them, and where a writer's cover stands.
-use Rattle.std.proofs.Common.{◌≡◌, ℕ, zero, suc, ◌+◌, ◌-◌, ◌<◌, ◌≤◌, List, [], ◌∷◌, ◌++◌, length, take, get_or, Some, Bool, not, true, false, refl, ap, sym, ◌∙◌, subst, arith, nat_lt, inl, inr}
+use Rattle.std.proofs.Common.{◌≡◌, ℕ, zero, suc, ◌+◌, ◌-◌, ◌<◌, ◌≤◌, List, [], ◌∷◌, ◌++◌, length, take, get_or, Some, Bool, not, true, false, refl, ap, sym, subst, arith, nat_lt, inl, inr}
 use Rattle.std.specs.Prelude.{slice_get}
 use Rattle.std.specs.List.{AllWithin, AllByRecursion}
 use Rattle.std.specs.List.Sorted.{IsPartitionedBy}
@@ -8,19 +8,12 @@ use Rattle.std.proofs.lemmas.Option.{none-some, same_Some, slice_get_within, get
 use Rattle.plfs_types.specs.declared.entries.Cover.{Cover}
 use Rattle.plain_file.specs.declared.pieces.Piece.{Piece}
 use Rattle.plain_file.specs.Runs.{IsPiece, Joins, AreRuns}
+use Rattle.plain_file.proofs.Facts.{shorter_last}
 use Rattle.flat_format.specs.Covers.{IsCover, AreCovers, IsCoveredBy, AnyCovers, IsFlatPiece}
 use Rattle.flat_format.specs.Valid.{AreFlatPieces}
 use Rattle.flat_format.specs.Order.{HasPassedCovers, AtLast}
 
 -- ---- the last one
-
-inner : {A : Type 0} (y z : A) (xs : List A) (x : A) → slice_get (y ∷ z ∷ xs) (length (y ∷ z ∷ xs) - 1) ≡ Some x → slice_get (z ∷ xs) (length (z ∷ xs) - 1) ≡ Some x
-inner {A} y z xs x stands =
-    let one_less : length (z ∷ xs) - 1 ≡ length xs = omega arith in
-    let two : suc (length xs) ≡ length (y ∷ z ∷ xs) - 1 = omega arith in
-    let a : slice_get (z ∷ xs) (length (z ∷ xs) - 1) ≡ slice_get (z ∷ xs) (length xs) = ap (λ (k : ℕ). slice_get (z ∷ xs) k) one_less in
-    let b : slice_get (y ∷ z ∷ xs) (suc (length xs)) ≡ slice_get (y ∷ z ∷ xs) (length (y ∷ z ∷ xs) - 1) = ap (λ (k : ℕ). slice_get (y ∷ z ∷ xs) k) two in
-    a ∙ b ∙ stands
 
 -- the item at a place, whatever stands for one past the end
 pub reads : {A : Type 0} (xs : List A) (place : ℕ) (d : A) → place < length xs → slice_get xs place ≡ Some (get_or xs place d)
@@ -31,12 +24,12 @@ reads (x ∷ xs) (suc place) d lt = reads xs place d (omega arith)
 pub at_last : {A : Type 0} (P : A → Type 0) (xs : List A) (x : A) → slice_get xs (length xs - 1) ≡ Some x → P x → AtLast P xs
 at_last P [] x stands holds = tt
 at_last P (y ∷ []) x stands holds = let same : x ≡ y = sym (same_Some y x stands) in subst P same holds
-at_last P (y ∷ z ∷ xs) x stands holds = at_last P (z ∷ xs) x (inner y z xs x stands) holds
+at_last P (y ∷ z ∷ xs) x stands holds = at_last P (z ∷ xs) x (shorter_last y z xs x stands) holds
 
 pub from_last : {A : Type 0} (P : A → Type 0) (xs : List A) (x : A) → slice_get xs (length xs - 1) ≡ Some x → AtLast P xs → P x
 from_last P [] x stands holds = absurd (none-some x stands)
 from_last P (y ∷ []) x stands holds = let same : y ≡ x = same_Some y x stands in subst P same holds
-from_last P (y ∷ z ∷ xs) x stands holds = from_last P (z ∷ xs) x (inner y z xs x stands) holds
+from_last P (y ∷ z ∷ xs) x stands holds = from_last P (z ∷ xs) x (shorter_last y z xs x stands) holds
 
 -- ---- covers
 
@@ -75,12 +68,6 @@ first_runs (suc count) [] are = tt
 first_runs (suc zero) (p ∷ pieces) are = (are.0, tt, tt)
 first_runs (suc (suc count)) (p ∷ []) are = are
 first_runs (suc (suc count)) (p ∷ q ∷ pieces) are = (are.0, are.1, first_runs (suc count) (q ∷ pieces) are.2)
-
--- the last of the runs is a piece
-pub last_piece : (pieces : List Piece) (p : Piece) → AreRuns pieces → slice_get pieces (length pieces - 1) ≡ Some p → IsPiece p
-last_piece [] p are stands = absurd (none-some p stands)
-last_piece (q ∷ []) p are stands = let same : q ≡ p = same_Some q p stands in subst IsPiece same are.0
-last_piece (q ∷ r ∷ pieces) p are stands = last_piece (r ∷ pieces) p are.2 (inner q r pieces p stands)
 
 -- ---- a writer's cover
 

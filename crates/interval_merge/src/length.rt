@@ -6,7 +6,7 @@ ghost use Rattle.plain_file.specs.File.{HasItsBytes, plain_size};
 ghost use Rattle.plain_file.specs.Keys.{KeysDiffer};
 ghost use Rattle.plain_file.specs.Shows.{entries_of, truncs_of};
 ghost use Rattle.plain_file.specs.Runs.{AreRuns, ArePieces};
-ghost use Rattle.plain_file.specs.Size.{later, last_trunc, is_after, size_from};
+ghost use Rattle.plain_file.specs.Size.{later, last_trunc, is_after, end_after, size_from};
 
 use plain_file::{Piece, Pieces};
 use plfs_types::Trunc;
@@ -29,6 +29,9 @@ fn size_of(pieces: &[Piece], truncs: &[Trunc]) -> u64
     ensures { result ≡ size_from pieces.now truncs.now }
 {
     let last = last_of(truncs);
+    if last.is_none() {
+        return end_of(pieces);
+    }
     let mut size = match last {
         None => 0,
         Some(trunc) => trunc.size,
@@ -39,6 +42,17 @@ fn size_of(pieces: &[Piece], truncs: &[Trunc]) -> u64
         }
     }
     size
+}
+
+/// Where the last piece ends, 0 where there is none.
+fn end_of(pieces: &[Piece]) -> u64
+    requires { AreRuns pieces.now }
+    ensures { result ≡ end_after None pieces.now }
+{
+    match pieces.last() {
+        None => 0,
+        Some(last) => last.at + last.len,
+    }
 }
 
 /// The truncate that comes after the other.

@@ -13,7 +13,7 @@ use crate::standard::{INPUT, OUTPUT, Standard};
 use edge_io::{NoGate, StdSink, StdSource, SystemClock};
 use plfs_program::{Ended, USAGE, plfs};
 use plfs_types::{NoMemory, Word};
-use spread_store::{Spread, SpreadTrouble};
+use spread_store::{Backing, Spread, SpreadTrouble};
 use std::alloc::Global;
 use std::cell::{Cell, RefCell};
 use std::io::{self, Write};
@@ -21,16 +21,18 @@ use std::process::ExitCode;
 use std::sync::Wait;
 use std::thread::Threads;
 use std::{env, str};
-use store_api::Store;
 use store_folder::{FolderStore, Place};
 
 /// What helps where something is damaged.
 const CURE: &str = "restore it from a copy";
 
+/// The folders that a command is run over. All runs are over this one type, so that the program is compiled once.
+type Folders = Backing<FolderStore<HostRuntime>>;
+
 /// What a run leaves: the store, the status, and what the standard streams told.
 #[derive(Drop)]
-struct Ran<S: Drop> {
-    ended: Ended<S>,
+struct Ran {
+    ended: Ended<Folders>,
     input: Option<io::Error>,
     said: Said,
 }
@@ -63,18 +65,8 @@ fn main(rt: HostRuntime) -> ExitCode {
     let Ok(store) = FolderStore::open(rt, rt.alloc(), root) else {
         return starved(&rt);
     };
-    let ran = run(&rt, &rt, command, store);
-    let status = ran.ended.status;
-    tell(
-        &rt,
-        status,
-        root.as_str(),
-        ran.ended.store.as_ref(),
-        ran.input,
-        &ran.said,
-        &standard,
-    );
-    ExitCode::from(status)
+    let ran = run(&rt, &rt, command, Backing::One(store));
+    tell_one(&rt, root, ran, &standard)
 }
 
 // Runs the command over several folders as one store.
@@ -94,7 +86,7 @@ fn serve_several<H: Threads + Wait + Sync>(
     };
     match Spread::open(rt.alloc(), stores) {
         Ok(spread) => {
-            let ran = run(handle, &rt, command, spread);
+            let ran = run(handle, &rt, command, Backing::Several(spread));
             tell_several(&rt, root, folders, ran, standard)
         }
         Err((stores, trouble)) => tell_unopened(&rt, root, folders, &stores, trouble, standard),
@@ -102,12 +94,12 @@ fn serve_several<H: Threads + Wait + Sync>(
 }
 
 // Runs the command over the store, the standard streams and the system's clock.
-fn run<H: Threads + Wait + Sync, S: Store + Drop + Send>(
+fn run<H: Threads + Wait + Sync>(
     handle: &H,
     rt: &HostRuntime,
     command: &[Word],
-    store: S,
-) -> Ran<S> {
+    store: Folders,
+) -> Ran {
     let input = Cell::new(None);
     let said = RefCell::new(Said::new(rt.alloc(), !writes_a_file(command)));
     let mut source = StdSource::new(Heard {
@@ -157,19 +149,30 @@ fn tell(
     }
 }
 
+// Says why a run over one folder ended so.
+fn tell_one(rt: &HostRuntime, root: &Word, ran: Ran, standard: &Standard) -> ExitCode {
+    let Ran { ended, input, said } = ran;
+    let Ended { store, status } = ended;
+    let store = match &store {
+        Some(Backing::One(store)) => Some(store),
+        _ => None,
+    };
+    tell(rt, status, root.as_str(), store, input, &said, standard);
+    ExitCode::from(status)
+}
+
 // Says why a run over several folders ended so, of the folder where it did.
 fn tell_several(
     rt: &HostRuntime,
     root: &Word,
     folders: &[&str],
-    ran: Ran<Spread<FolderStore<HostRuntime>>>,
+    ran: Ran,
     standard: &Standard,
 ) -> ExitCode {
     let Ran { ended, input, said } = ran;
     let Ended { store, status } = ended;
     match store {
-        None => tell(rt, status, root.as_str(), None, input, &said, standard),
-        Some(spread) => {
+        Some(Backing::Several(spread)) => {
             let last = spread.last();
             let stores = spread.close();
             let place = if status == 4 {
@@ -185,6 +188,7 @@ fn tell_several(
                 _ => tell(rt, status, root.as_str(), None, input, &said, standard),
             }
         }
+        _ => tell(rt, status, root.as_str(), None, input, &said, standard),
     }
     ExitCode::from(status)
 }

@@ -1,4 +1,5 @@
 pub mod Asking
+pub mod Backing
 pub mod Homes
 pub mod Joined
 pub mod Fits

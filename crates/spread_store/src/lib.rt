@@ -3,6 +3,7 @@
 #![tactic(auto)]
 
 mod asking;
+mod backing;
 mod finding;
 mod homes;
 mod listing;
@@ -18,6 +19,7 @@ mod sites;
 mod spread;
 
 pub use asking::StoreList;
+pub use backing::Backing;
 pub use losses::losses_join;
 pub use opening::SpreadTrouble;
 pub use places::{Doubt, Place, PlaceList};
