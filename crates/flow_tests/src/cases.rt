@@ -1,8 +1,10 @@
 //! Cases, and whether they hold.
 use crate::keepers::logical;
+use crate::machines::Greeter;
 use crate::playing::{Shown, show};
 use crate::readers::{reading, sharing};
 use crate::replies::Told;
+use crate::spelling::Line;
 use crate::writers::{handle_of, writing};
 use attr_flow::AttrFlow;
 use index_reader::{OpenRead, TruncRead};
@@ -18,6 +20,8 @@ use writer_flow::{CloseFlow, OpenWrite, SyncFlow};
 /// Which machine runs.
 #[derive(Clone, Copy)]
 pub(crate) enum Machine {
+    /// It greets once.
+    Greet,
     /// It truncates to 3 bytes.
     Truncate,
     Rename,
@@ -59,9 +63,11 @@ fn play<R: Threads + Sync>(
 ) -> Result<(), Fail> {
     let told = case.told;
     let name = logical(b"a")?;
+    let other = logical(b"b")?;
     match case.machine {
+        Machine::Greet => show(alloc, Greeter { is_answered: false }, told, shown),
         Machine::Truncate => show(alloc, TruncFlow::new(name, 3), told, shown),
-        Machine::Rename => show(alloc, RenameFlow::new(name, logical(b"b")?), told, shown),
+        Machine::Rename => show(alloc, RenameFlow::new(name, other), told, shown),
         Machine::Attr => show(alloc, AttrFlow::new(alloc, name), told, shown),
         Machine::Recover => show(alloc, RecoverFlow::new(alloc, name), told, shown),
         Machine::Migrate => show(alloc, MigrateFlow::new(alloc, name), told, shown),
@@ -86,6 +92,7 @@ fn play<R: Threads + Sync>(
             shown,
         ),
     }
+    Ok(())
 }
 
 /// Each of the cases holds.
@@ -96,16 +103,14 @@ pub(crate) fn all_hold<R: Threads + Sync + Abort>(
 ) -> Result<(), Fail> {
     for case in cases {
         let mut shown = Shown {
-            asks: String::new(alloc),
-            ends: String::new(alloc),
+            asks: Line::new(alloc),
+            ends: Line::new(alloc),
         };
-        play(rt, alloc, case, &mut shown)?;
-        assert!(rt;
-            shown.asks.as_str() == case.asks && shown.ends.as_str() == case.ends,
-            "{}: {}",
-            shown.asks,
-            shown.ends
-        );
+        let played = play(rt, alloc, case, &mut shown);
+        let is_so = shown.asks.as_str() == case.asks && shown.ends.as_str() == case.ends;
+        assert!(rt; is_so, "{}: {}", shown.asks.as_str(), shown.ends.as_str());
+        drop(shown);
+        played?;
     }
     Ok(())
 }

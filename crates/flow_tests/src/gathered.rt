@@ -4,16 +4,14 @@ use crate::newest::{gathered, joined};
 use crate::playing::Tell;
 use crate::replies::Told;
 use crate::sets::read;
+use crate::spelling::Line;
 use attr_flow::attr_of;
-use plfs_types::{Bytes, NoMemory};
+use plfs_types::Bytes;
 use std::test::Fail;
 
 impl Tell for Bytes {
-    fn tell(&self, line: &mut String) -> Result<(), NoMemory> {
-        for byte in self.as_slice() {
-            line.push(char::from(*byte))?;
-        }
-        Ok(())
+    fn tell(&self, line: &mut Line) {
+        line.letters(self.as_slice());
     }
 }
 
@@ -26,11 +24,11 @@ fn a_joined_share_has_each_writer_and_the_newest_bytes(rt: HostRuntime) -> Resul
     // Beside them the newest entry, of the writer 3. The first worker has the greater writer.
     let set = read(alloc, "b@11:0+5 b@12:4+3 a@13:6+2", 0)?;
     let shares = joined(&rt, alloc, &set, "b a")?;
-    let mut line = String::new(alloc);
+    let mut line = Line::new(alloc);
     for share in shares.as_slice() {
-        share.tell(&mut line)?;
+        share.tell(&mut line);
     }
-    assert!(rt; line.as_str() == "share 3:1 9:2 0+4 4+2 6+2", "{line}");
+    assert_eq!(rt; line.as_str(), "share 3:1 9:2 0+4 4+2 6+2");
     Ok(())
 }
 
@@ -41,14 +39,10 @@ fn a_gathered_index_tells_of_its_file(rt: HostRuntime) -> Result<(), Fail> {
     let attr = attr_of(alloc, &all.flat, &all.truncs);
     drop(all);
     let attr = attr?;
-    let mut line = String::new(alloc);
-    let told = attr.tell(&mut line);
+    let mut line = Line::new(alloc);
+    attr.tell(&mut line);
     drop(attr);
-    told?;
-    assert!(rt;
-        line.as_str() == "size 3 stored 8 9=8 truncates 20:3",
-        "{line}"
-    );
+    assert_eq!(rt; line.as_str(), "size 3 stored 8 9=8 truncates 20:3");
     Ok(())
 }
 

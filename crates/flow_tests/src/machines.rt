@@ -4,10 +4,10 @@ ghost use Rattle.mount_model.specs.declared.call.Call.TheVariants.{Greet as Asks
 ghost use Rattle.story.specs.Program.{done, ask};
 ghost use Rattle.flow.specs.Standing.{ready};
 
-use crate::playing::{Shown, Tell, show, wants_memory};
+use crate::cases::{Case, Machine, all_hold};
+use crate::playing::Tell;
 use crate::replies::Told;
-use crate::spelling::say;
-use crate::writers::handle_of;
+use crate::spelling::Line;
 use flow::Flow;
 use mount_model::{Call, Reply};
 use plfs_types::NoMemory;
@@ -16,8 +16,8 @@ use writer_flow::{CloseFlow, OpenWrite, SyncFlow, WriteFlow};
 
 /// Greets once, and ends with a word.
 #[derive(Drop)]
-struct Greeter {
-    is_answered: bool,
+pub(crate) struct Greeter {
+    pub(crate) is_answered: bool,
 }
 
 impl Flow for Greeter {
@@ -51,36 +51,36 @@ impl Flow for Greeter {
 }
 
 impl Tell for u8 {
-    fn tell(&self, line: &mut String) -> Result<(), NoMemory> {
-        say(line, "answer", &[*self as u64])
+    fn tell(&self, line: &mut Line) {
+        line.say("answer", &[*self as u64])
     }
 }
 
-#[test]
-fn a_machine_is_driven_through_its_bound(rt: HostRuntime) -> Result<(), Fail> {
-    let mut shown = Shown {
-        asks: String::new(rt.alloc()),
-        ends: String::new(rt.alloc()),
-    };
-    let mut greeter = Greeter { is_answered: false };
-    let is_ended = wants_memory(&mut greeter, &mut shown.asks)?;
-    // It greets once more, and takes any reply but that.
-    show(rt.alloc(), greeter, &[Told::Fault], &mut shown)?;
-    assert!(rt;
-        is_ended && shown.asks.as_str() == "greet greet" && shown.ends.as_str() == "answer 7"
-    );
-    Ok(())
-}
+const CASES: [Case; 3] = [
+    Case {
+        machine: Machine::Greet,
+        told: &[Told::Fault],
+        asks: "greet",
+        ends: "answer 7",
+    },
+    // want of memory ends a machine
+    Case {
+        machine: Machine::Greet,
+        told: &[Told::NoMemory],
+        asks: "greet",
+        ends: "no-memory",
+    },
+    Case {
+        machine: Machine::Sync { pending: 0 },
+        told: &[Told::NoMemory],
+        asks: "sync-log 4294967297",
+        ends: "no-memory",
+    },
+];
 
 #[test]
-fn want_of_memory_ends_a_machine(rt: HostRuntime) -> Result<(), Fail> {
-    let mut asks = String::new(rt.alloc());
-    let mut sync = SyncFlow::new(handle_of(0, false, 5));
-    let is_ended = wants_memory(&mut sync, &mut asks);
-    drop(sync);
-    let is_ended = is_ended?;
-    assert!(rt; is_ended && asks.as_str() == "sync-log 4294967297");
-    Ok(())
+fn a_machine_is_driven_through_its_bound(rt: HostRuntime) -> Result<(), Fail> {
+    all_hold(&rt, rt.alloc(), &CASES)
 }
 
 fn crosses<T: Send>() {}

@@ -2,18 +2,17 @@
 use crate::cases::{Case, Machine, all_hold};
 use crate::playing::Tell;
 use crate::replies::Told;
-use crate::spelling::say;
+use crate::spelling::Line;
 use migrate_core::Migrated;
 use mount_model::Refusal;
-use plfs_types::NoMemory;
 use std::test::Fail;
 
 impl Tell for Migrated {
-    fn tell(&self, line: &mut String) -> Result<(), NoMemory> {
+    fn tell(&self, line: &mut Line) {
         let entries = u64::try_from(self.entries).unwrap_or(0);
         let runs = u64::try_from(self.runs).unwrap_or(0);
-        say(line, "migrated", &[self.writers, entries, runs])?;
-        say(line, "left", &[self.left])
+        line.say("migrated", &[self.writers, entries, runs]);
+        line.say("left", &[self.left])
     }
 }
 

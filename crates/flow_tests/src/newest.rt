@@ -1,5 +1,5 @@
 //! A reader's machines over sets of writes, against the newest write asked byte by byte.
-ghost use Rattle.std.specs.Prelude.{◌≤◌, IfOk};
+ghost use Rattle.std.specs.Prelude.{IfOk};
 ghost use Rattle.flow.specs.Standing.{IsFresh};
 ghost use Rattle.index_reader.specs.Listing as listed;
 
@@ -146,42 +146,45 @@ pub(crate) fn gathered<R: Threads + Sync>(
     Ok(gather(alloc, listing, shares, truncs)?)
 }
 
-// What is to be read there.
-fn bytes_of(alloc: Global, set: &Set, at: u64, len: u64) -> Result<Vec<u8>, NoMemory> {
-    let mut all = Vec::new(alloc);
-    for x in at..at.saturating_add(len).min(size(set)) {
-        all.push(newest(set, x))?;
+// Whether these are the bytes that are to be read there, up to the end of the file.
+fn are_newest(set: &Set, at: u64, len: u64, bytes: &[u8]) -> bool {
+    let end = at.saturating_add(len).min(size(set));
+    if bytes.len() as u64 != end.saturating_sub(at) {
+        return false;
     }
-    Ok(all)
+    let mut x = at;
+    for byte in bytes {
+        if *byte != newest(set, x) {
+            return false;
+        }
+        x = x.saturating_add(1);
+    }
+    true
 }
 
 // Whether a read of so many bytes gives them.
-fn reads(alloc: Global, set: &Set, reader: &OpenReader, at: u64, len: u64) -> Result<bool, Fail>
-    requires { len ≤ 64 }
-{
+fn reads(alloc: Global, set: &Set, reader: &OpenReader, at: u64, len: u64) -> Result<bool, Fail> {
     let at = set.from.saturating_add(at);
-    let flow = Reading::new(alloc, reader, at, len)?;
+    let flow = Reading::new(alloc, reader, at, len.min(64))?;
     let given = ended(alloc, set, flow)?.ok().ok_or("no bytes")?;
-    let want = bytes_of(alloc, set, at, len)?;
-    Ok(given.as_slice() == want.as_slice())
+    Ok(are_newest(set, at, len, given.as_slice()))
 }
 
-// Whether all of these reads do.
-fn reads_each(alloc: Global, set: &Set, reader: &OpenReader) -> Result<bool, Fail> {
-    Ok(
-        reads(alloc, set, reader, 0, 64)?
-            && reads(alloc, set, reader, 7, 20)?
-            && reads(alloc, set, reader, 31, 1)?,
-    )
+// Whether the file is as long as it should be, and all of these reads give its bytes.
+fn is_shown(alloc: Global, set: &Set, reader: &OpenReader) -> Result<bool, Fail> {
+    let mut is_so = reader.size() == size(set);
+    for (at, len) in [(0, 64), (7, 20), (31, 1)] {
+        is_so = is_so && reads(alloc, set, reader, at, len)?;
+    }
+    Ok(is_so)
 }
 
-fn shows<R: Threads + Sync>(rt: &R, alloc: Global, set: &Set) -> Result<bool, Fail> {
-    let reader = OpenReader::new(alloc, gathered(rt, alloc, set)?)?;
-    let is_long = reader.size() == size(set);
-    let shown = reads_each(alloc, set, &reader);
-    drop(reader);
-    let shown = shown?;
-    Ok(is_long && shown)
+fn shows<R: Threads + Sync>(rt: &R, alloc: Global, line: &str, from: u64) -> Result<bool, Fail> {
+    let set = read(alloc, line, from)?;
+    let reader = OpenReader::new(alloc, gathered(rt, alloc, &set)?)?;
+    let shown = is_shown(alloc, &set, &reader);
+    drop((reader, set));
+    shown
 }
 
 fn all_show<R: Threads + Sync + Abort>(
@@ -191,8 +194,8 @@ fn all_show<R: Threads + Sync + Abort>(
     from: u64,
 ) -> Result<(), Fail> {
     for line in sets.lines() {
-        let set = read(alloc, line, from)?;
-        assert!(rt; shows(rt, alloc, &set)?, "{line}");
+        let is_shown = shows(rt, alloc, line, from)?;
+        assert!(rt; is_shown, "{line}");
     }
     Ok(())
 }

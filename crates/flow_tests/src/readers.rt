@@ -9,7 +9,7 @@ use crate::gathered::TWO;
 use crate::newest::gathered;
 use crate::playing::Tell;
 use crate::sets::read;
-use crate::spelling::{pair, say};
+use crate::spelling::Line;
 use index_reader::{Dropping, DroppingList, Listing, OpenReader, Reading, Share, ShareRead};
 use plfs_types::{Cover, CoverList, MAX_LOG, NoMemory, TruncList};
 use std::alloc::Global;
@@ -17,36 +17,33 @@ use std::test::Fail;
 use std::thread::Threads;
 
 impl Tell for Listing {
-    fn tell(&self, line: &mut String) -> Result<(), NoMemory> {
-        say(line, "droppings", &[self.droppings.as_slice().len() as u64])?;
+    fn tell(&self, line: &mut Line) {
+        line.say("droppings", &[self.droppings.as_slice().len() as u64]);
         for cover in self.flat.covers.as_slice() {
-            pair(line, cover.writer, ":", cover.count)?;
+            line.pair(cover.writer, ":", cover.count);
         }
-        Ok(())
     }
 }
 
 // The count of each writer's entries, and where the pieces are that they have.
 impl Tell for Share {
-    fn tell(&self, line: &mut String) -> Result<(), NoMemory> {
-        say(line, "share", &[])?;
+    fn tell(&self, line: &mut Line) {
+        line.say("share", &[]);
         for cover in self.covers.as_slice() {
-            pair(line, cover.writer, ":", cover.count)?;
+            line.pair(cover.writer, ":", cover.count);
         }
         for piece in self.pieces.as_slice() {
-            pair(line, piece.at, "+", piece.len)?;
+            line.pair(piece.at, "+", piece.len);
         }
-        Ok(())
     }
 }
 
 impl Tell for TruncList {
-    fn tell(&self, line: &mut String) -> Result<(), NoMemory> {
-        say(line, "truncates", &[])?;
+    fn tell(&self, line: &mut Line) {
+        line.say("truncates", &[]);
         for t in self.as_slice() {
-            pair(line, t.stamp, ":", t.size)?;
+            line.pair(t.stamp, ":", t.size);
         }
-        Ok(())
     }
 }
 

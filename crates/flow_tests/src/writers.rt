@@ -6,8 +6,8 @@ ghost use Rattle.writer_flow.specs.WritingStages.{write_standing};
 use crate::cases::{Case, Machine, all_hold};
 use crate::playing::Tell;
 use crate::replies::Told;
-use crate::spelling::{say, trouble};
-use plfs_types::{Block, Bytes, NoMemory};
+use crate::spelling::{Line, trouble};
+use plfs_types::{Block, Bytes};
 use std::alloc::Global;
 use std::test::Fail;
 use writer_flow::{WriteFlow, WriterHandle, WriterOut};
@@ -32,21 +32,21 @@ fn block(alloc: Global) -> Result<Block, Fail> {
 
 // The writer, the capacity, and how many are pending and have landed.
 impl Tell for WriterHandle {
-    fn tell(&self, line: &mut String) -> Result<(), NoMemory> {
+    fn tell(&self, line: &mut Line) {
         let word = if self.closing { "closing" } else { "open" };
         let numbers = [self.writer, self.cap as u64, self.pending, self.landed];
-        say(line, word, &numbers)
+        line.say(word, &numbers)
     }
 }
 
 impl Tell for WriterOut {
-    fn tell(&self, line: &mut String) -> Result<(), NoMemory> {
+    fn tell(&self, line: &mut Line) {
         match &self.handle {
-            Some(handle) => handle.tell(line)?,
-            None => say(line, "left", &[])?,
+            Some(handle) => handle.tell(line),
+            None => line.say("left", &[]),
         }
         match &self.result {
-            Ok(number) => say(line, "ok", &[*number]),
+            Ok(number) => line.say("ok", &[*number]),
             Err(why) => trouble(line, why),
         }
     }
