@@ -16,11 +16,13 @@ pub(crate) struct Shown {
     pub(crate) ends: Line,
 }
 
-// The reply to a call, which is put behind `asks`.
-fn replied(alloc: Global, call: Call, told: Told, asks: &mut Line) -> Result<Reply, NoMemory> {
-    spell(asks, &call);
-    drop(call);
-    reply_of(alloc, told)
+// The reply to a call, which is put behind `asks`; of want of memory where that was met.
+fn replied(alloc: Global, call: &Call, told: Told, asks: &mut Line) -> Reply {
+    spell(asks, call);
+    match reply_of(alloc, told) {
+        Ok(reply) => reply,
+        Err(NoMemory) => Reply::NoMemory,
+    }
 }
 
 /// Takes the machine through these replies, and says whether it then has an outcome: not where it asks for fewer or
@@ -37,7 +39,8 @@ fn is_played<F: Flow>(
     for spelled in told {
         match flow.next()? {
             Some(call) => {
-                let reply = replied(alloc, call, *spelled, asks)?;
+                let reply = replied(alloc, &call, *spelled, asks);
+                drop(call);
                 flow.take(reply)?;
             }
             None => return Ok(false),
