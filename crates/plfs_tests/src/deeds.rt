@@ -1,6 +1,7 @@
 //! What is done to one store, one thing after the other: runs, and changes from outside.
-use crate::runs::{Setup, ends, playing, run_on};
+use crate::runs::{Setup, Under, alone, ends, playing, run_on};
 use plfs_types::{Name, NoMemory, Path};
+use spread_store::Backing;
 use std::alloc::Global;
 use std::process::Abort;
 use std::test::Fail;
@@ -95,56 +96,75 @@ fn is_made(answer: &Answer) -> bool {
     matches!(answer, Answer::Made | Answer::Number { .. })
 }
 
-fn run(
-    rt: &impl Abort,
-    alloc: Global,
-    store: MemoryStore,
-    words: &[&str],
-    script: &str,
-    status: u8,
-    output: &str,
-) -> Result<MemoryStore, Fail> {
-    let run = run_on(
-        alloc,
-        store,
-        Setup {
-            words,
-            ..playing(script.as_bytes())
-        },
-    )?;
-    ends(rt, &run, status, output);
-    Ok(run.store.ok_or("no store")?)
-}
-
-fn act(rt: &impl Abort, store: &mut MemoryStore, deed: Deed) -> Result<(), Fail> {
-    let told = store.act(&step_of(deed));
-    let answer = told.ok().ok_or("a fault")?;
-    let is_done = match deed {
-        Deed::Has(_, _, _, bytes) => has(&answer, bytes),
-        _ => is_made(&answer),
-    };
-    assert!(rt; is_done);
-    Ok(())
+// Whether the step of the deed is done, and answered as it says.
+fn is_done(store: &mut Under, deed: Deed) -> bool {
+    match store.act(&step_of(deed)) {
+        Ok(answer) => {
+            let is_so = match deed {
+                Deed::Has(_, _, _, bytes) => has(&answer, bytes),
+                _ => is_made(&answer),
+            };
+            drop(answer);
+            is_so
+        }
+        Err(_) => false,
+    }
 }
 
 fn lost(
     alloc: Global,
-    store: MemoryStore,
+    store: Under,
     room: u64,
     folder: &str,
     file: &str,
     extra: u64,
-) -> Result<MemoryStore, NoMemory> {
+) -> Result<Under, Fail> {
+    let store = alone(Some(store))?;
     let path = Path {
         folder: name(folder),
         file: name(file),
     };
-    let mut keeps = KeepList::new(alloc);
-    keeps.push(Keep { room, path, extra })?;
-    Ok(store.lose(keeps))
+    let keeps = KeepList::from_vec(vec![in alloc; Keep { room, path, extra }]?);
+    Ok(Backing::One(store.lose(keeps)))
 }
 
-fn planned(alloc: Global, fails: &[(u64, u64)]) -> Result<MemoryStore, Fail> {
+// The store once the deed is done, which is as it says.
+fn done(rt: &impl Abort, alloc: Global, mut store: Under, deed: Deed) -> Result<Under, Fail> {
+    match deed {
+        Deed::Run(words, script, status, output) => {
+            let setup = Setup {
+                words,
+                ..playing(script.as_bytes())
+            };
+            let run = run_on(alloc, store, setup)?;
+            ends(rt, run, status, output)
+        }
+        Deed::Loss(room, folder, file, extra) => lost(alloc, store, room, folder, file, extra),
+        other => {
+            let is_so = is_done(&mut store, other);
+            assert!(rt; is_so);
+            Ok(store)
+        }
+    }
+}
+
+/// Each of the deeds is done to this store, one after the other.
+pub(crate) fn play_deeds(
+    rt: &impl Abort,
+    alloc: Global,
+    store: Under,
+    deeds: &[Deed],
+) -> Result<(), Fail> {
+    let mut store = store;
+    for deed in deeds {
+        store = done(rt, alloc, store, *deed)?;
+    }
+    drop(store);
+    Ok(())
+}
+
+/// A store of which these acts fault, each of which leaves so many bytes.
+pub(crate) fn planned(alloc: Global, fails: &[(u64, u64)]) -> Result<MemoryStore, NoMemory> {
     let mut planned = FailList::new(alloc);
     for (act, part) in fails {
         planned.push(Planned {
@@ -152,7 +172,7 @@ fn planned(alloc: Global, fails: &[(u64, u64)]) -> Result<MemoryStore, Fail> {
             part: *part,
         })?;
     }
-    Ok(MemoryStore::new(alloc, planned)?)
+    MemoryStore::new(alloc, planned)
 }
 
 /// In each of the sessions each run ends so, and each deed is done.
@@ -162,21 +182,8 @@ pub(crate) fn play_sessions(
     sessions: &[Session],
 ) -> Result<(), Fail> {
     for (fails, deeds) in sessions {
-        let mut store = planned(alloc, fails)?;
-        for deed in *deeds {
-            store = match *deed {
-                Deed::Run(words, script, status, output) => {
-                    run(rt, alloc, store, words, script, status, output)?
-                }
-                Deed::Loss(room, folder, file, extra) => {
-                    lost(alloc, store, room, folder, file, extra)?
-                }
-                other => {
-                    act(rt, &mut store, other)?;
-                    store
-                }
-            };
-        }
+        let store = planned(alloc, fails)?;
+        play_deeds(rt, alloc, Backing::One(store), deeds)?;
     }
     Ok(())
 }

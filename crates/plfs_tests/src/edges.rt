@@ -1,5 +1,7 @@
 //! Words, inputs and streams that are refused or break.
-use crate::runs::{Setup, ends, playing, run_fresh};
+use crate::runs::{Setup, alone, empty, ends, playing, run_on};
+use plfs_types::NoMemory;
+use std::alloc::Global;
 use std::test::Fail;
 
 /// The line of words that are no command.
@@ -205,38 +207,81 @@ fn words_inputs_and_outputs_break_so(rt: HostRuntime) -> Result<(), Fail> {
             sink_fails,
             sink_piece: *sink_piece,
         };
-        let run = run_fresh(rt.alloc(), setup)?;
-        ends(&rt, &run, *status, output);
-        let store = run.store.ok_or("no store")?;
-        assert_eq!(rt; store.acts(), *acts);
+        let run = run_on(rt.alloc(), empty(rt.alloc())?, setup)?;
+        let store = alone(Some(ends(&rt, run, *status, output)?))?;
+        let made = store.acts();
+        drop(store);
+        assert_eq!(rt; made, *acts);
     }
     Ok(())
 }
 
-#[test]
-fn reads_of_more_than_2_to_28_bytes_are_a_fault(rt: HostRuntime) -> Result<(), Fail> {
-    let mut script = Vec::from_slice(rt.alloc(), b"actor a\n")?;
-    for _ in 0..16 {
-        script.extend_from_slice(b"a read 0 16777216\n")?;
+// A beginning, a piece and how often it stands behind that, what comes at the end, and how many bytes all have.
+type Long = (
+    &'static [u8],
+    &'static [u8],
+    u64,
+    &'static [u8],
+    usize,
+    u8,
+    &'static str,
+);
+
+const LONG: &[Long] = &[
+    // Reads of more than 2^28 bytes are a fault.
+    (
+        b"actor a\n",
+        b"a read 0 16777216\n",
+        16,
+        b"a read 0 1",
+        306,
+        2,
+        "script 18 reads\n",
+    ),
+    // A script of 2^20 bytes, and one more.
+    (
+        b"actor a\na open f\na write 0 text:",
+        b"x",
+        1048543,
+        b"\n",
+        1 << 20,
+        0,
+        "2 open 4294967297\n3 wrote 0 1048543 10\n",
+    ),
+    (
+        b"actor a\na open f\na write 0 text:",
+        b"x",
+        1048543,
+        b"\n\n",
+        (1 << 20) + 1,
+        2,
+        "script 0 long\n",
+    ),
+];
+
+fn repeated(
+    alloc: Global,
+    head: &[u8],
+    piece: &[u8],
+    times: u64,
+    end: &[u8],
+) -> Result<Vec<u8>, NoMemory> {
+    let mut script = Vec::from_slice(alloc, head)?;
+    for _ in 0..times {
+        script.extend_from_slice(piece)?;
     }
-    script.extend_from_slice(b"a read 0 1")?;
-    let run = run_fresh(rt.alloc(), playing(&script))?;
-    ends(&rt, &run, 2, "script 18 reads\n");
-    Ok(())
+    script.extend_from_slice(end)?;
+    Ok(script)
 }
 
 #[test]
-fn a_script_of_2_to_20_bytes_and_one_more(rt: HostRuntime) -> Result<(), Fail> {
-    let mut script = Vec::from_slice(rt.alloc(), b"actor a\na open f\na write 0 text:")?;
-    for _ in 0..1048543 {
-        script.push(b'x')?;
+fn long_scripts_end_so(rt: HostRuntime) -> Result<(), Fail> {
+    for (head, piece, times, end, len, status, output) in LONG {
+        let script = repeated(rt.alloc(), head, piece, *times, end)?;
+        assert_eq!(rt; script.len(), *len);
+        let run = run_on(rt.alloc(), empty(rt.alloc())?, playing(&script));
+        drop(script);
+        drop(ends(&rt, run?, *status, output)?);
     }
-    script.push(b'\n')?;
-    assert_eq!(rt; script.len(), 1 << 20);
-    let full = run_fresh(rt.alloc(), playing(&script))?;
-    ends(&rt, &full, 0, "2 open 4294967297\n3 wrote 0 1048543 10\n");
-    script.push(b'\n')?;
-    let over = run_fresh(rt.alloc(), playing(&script))?;
-    ends(&rt, &over, 2, "script 0 long\n");
     Ok(())
 }

@@ -1,7 +1,8 @@
 //! Runs after a loss of power.
 use crate::deeds::Deed::{Loss, Run};
 use crate::deeds::{Session, play_sessions};
-use crate::runs::{Setup, playing, run_on};
+use crate::runs::{Setup, ended, playing};
+use std::alloc::Global;
 use std::test::Fail;
 use store_memory::{KeepList, MemoryStore};
 
@@ -34,23 +35,26 @@ fn a_loss_leaves_what_was_synced(rt: HostRuntime) -> Result<(), Fail> {
 // Three acts of the mounting, six to open, one to write, three to sync, four to close, and nine of the reader.
 const ACTS: u64 = 26;
 
+// The status of a recovery after a run whose power was lost in this act.
+fn recovered(alloc: Global, act: u64) -> Result<u8, Fail> {
+    let off = MemoryStore::off(alloc, act, 1)?;
+    let script =
+        b"actor a\na open f\na write 0 text:hello\na sync\na close\na ropen f\na read 0 5\n";
+    let (_, _, store) = ended(alloc, off, playing(script))?;
+    let recovers = Setup {
+        words: &["recover", "f"],
+        ..playing(b"")
+    };
+    let (status, _, store) = ended(alloc, store.lose(KeepList::new(alloc)), recovers)?;
+    drop(store);
+    Ok(status)
+}
+
 #[test]
 fn no_loss_leaves_damage(rt: HostRuntime) -> Result<(), Fail> {
     for act in 0..ACTS {
-        let off = MemoryStore::off(rt.alloc(), act, 1)?;
-        let script =
-            b"actor a\na open f\na write 0 text:hello\na sync\na close\na ropen f\na read 0 5\n";
-        let first = run_on(rt.alloc(), off, playing(script))?;
-        let lost = first
-            .store
-            .ok_or("no store")?
-            .lose(KeepList::new(rt.alloc()));
-        let recovers = Setup {
-            words: &["recover", "f"],
-            ..playing(b"")
-        };
-        let second = run_on(rt.alloc(), lost, recovers)?;
-        assert!(rt; second.status <= 1);
+        let status = recovered(rt.alloc(), act)?;
+        assert!(rt; status <= 1);
     }
     Ok(())
 }

@@ -10,7 +10,20 @@ const HELLO: &str =
 const HELLO_LINES: &str =
     "2 open 4294967297\n3 wrote 0 5 10\n4 synced 1\n5 closed 1\n6 reader 5 cut 4294967297:1 trunc -\n7 read 0 68656c6c6f\n";
 
-const AGAIN: &[Session] = &[
+const SUMMARY: &str =
+    "lines 134\nrefused 0\nfaults 0\ndamaged 0\nsame 64\ndiffers 0\nsize 3008512\n";
+
+// The entries A and B of the writer, whose third was torn.
+const MENDED: &[u8] =
+    b"\0\0\0\0\0\0\0\0\x01\0\0\0\0\0\0\0\0\0\0\0\0\0\0\0\x0a\0\0\0\0\0\0\0\x01\0\0\0\x01\0\0\0\x01\0\0\0\0\0\0\0\x01\0\0\0\0\0\0\0\x01\0\0\0\0\0\0\0\x0b\0\0\0\0\0\0\0\x01\0\0\0\x01\0\0\0";
+
+// The flattened index of both entries of a writer: its cover, and three pieces.
+const SECOND_FLAT: &[u8] =
+    b"PLFSFLT1\x01\0\0\0\0\0\0\0\x03\0\0\0\0\0\0\0\x01\0\0\0\x01\0\0\0\x02\0\0\0\0\0\0\0\x06\0\0\0\0\0\0\0\x0b\0\0\0\0\0\0\0\0\0\0\0\0\0\0\0\x01\0\0\0\0\0\0\0\0\0\0\0\0\0\0\0\x0a\0\0\0\0\0\0\0\x01\0\0\0\x01\0\0\0\x01\0\0\0\0\0\0\0\x02\0\0\0\0\0\0\0\x04\0\0\0\0\0\0\0\x0b\0\0\0\0\0\0\0\x01\0\0\0\x01\0\0\0\x03\0\0\0\0\0\0\0\x01\0\0\0\0\0\0\0\x03\0\0\0\0\0\0\0\x0a\0\0\0\0\0\0\0\x01\0\0\0\x01\0\0\0";
+
+const SESSIONS: &[Session] = &[
+    // ---- runs follow each other
+
     // A second run sees the first, and has ids of its own.
     (
         &[],
@@ -52,14 +65,8 @@ const AGAIN: &[Session] = &[
             "2 open 4294967297\n3 wrote 0 1 10\n4 wrote 1 1 11\n5 fault\n6 synced 2\n7 reader 2 cut 4294967297:2 trunc -\n8 read 0 4142\n",
         )],
     ),
-];
+    // ---- commands are statements of their own
 
-#[test]
-fn runs_follow_each_other(rt: HostRuntime) -> Result<(), Fail> {
-    play_sessions(&rt, rt.alloc(), AGAIN)
-}
-
-const COMMANDS: &[Session] = &[
     (
         &[],
         &[
@@ -135,17 +142,8 @@ const COMMANDS: &[Session] = &[
             Run(&["cat", "f"], "", 0, ""),
         ],
     ),
-];
+    // ---- generated checkpoints are read back whole
 
-#[test]
-fn commands_are_statements_of_their_own(rt: HostRuntime) -> Result<(), Fail> {
-    play_sessions(&rt, rt.alloc(), COMMANDS)
-}
-
-const SUMMARY: &str =
-    "lines 134\nrefused 0\nfaults 0\ndamaged 0\nsame 64\ndiffers 0\nsize 3008512\n";
-
-const GENERATED: &[Session] = &[
     // The mounting broke off.
     (&[(1, 0)], &[Run(&["gen", "2"], "", 4, "0 fault\n")]),
     (
@@ -161,22 +159,8 @@ const GENERATED: &[Session] = &[
             ),
         ],
     ),
-];
+    // ---- statements leave these files
 
-#[test]
-fn generated_checkpoints_are_read_back_whole(rt: HostRuntime) -> Result<(), Fail> {
-    play_sessions(&rt, rt.alloc(), GENERATED)
-}
-
-// The entries A and B of the writer, whose third was torn.
-const MENDED: &[u8] =
-    b"\0\0\0\0\0\0\0\0\x01\0\0\0\0\0\0\0\0\0\0\0\0\0\0\0\x0a\0\0\0\0\0\0\0\x01\0\0\0\x01\0\0\0\x01\0\0\0\0\0\0\0\x01\0\0\0\0\0\0\0\x01\0\0\0\0\0\0\0\x0b\0\0\0\0\0\0\0\x01\0\0\0\x01\0\0\0";
-
-// The flattened index of both entries of a writer: its cover, and three pieces.
-const SECOND_FLAT: &[u8] =
-    b"PLFSFLT1\x01\0\0\0\0\0\0\0\x03\0\0\0\0\0\0\0\x01\0\0\0\x01\0\0\0\x02\0\0\0\0\0\0\0\x06\0\0\0\0\0\0\0\x0b\0\0\0\0\0\0\0\0\0\0\0\0\0\0\0\x01\0\0\0\0\0\0\0\0\0\0\0\0\0\0\0\x0a\0\0\0\0\0\0\0\x01\0\0\0\x01\0\0\0\x01\0\0\0\0\0\0\0\x02\0\0\0\0\0\0\0\x04\0\0\0\0\0\0\0\x0b\0\0\0\0\0\0\0\x01\0\0\0\x01\0\0\0\x03\0\0\0\0\0\0\0\x01\0\0\0\0\0\0\0\x03\0\0\0\0\0\0\0\x0a\0\0\0\0\0\0\0\x01\0\0\0\x01\0\0\0";
-
-const LEFT: &[Session] = &[
     // A recovery cuts a torn index to its whole entries, and leaves the log.
     (
         &[],
@@ -209,6 +193,6 @@ const LEFT: &[Session] = &[
 ];
 
 #[test]
-fn statements_leave_these_files(rt: HostRuntime) -> Result<(), Fail> {
-    play_sessions(&rt, rt.alloc(), LEFT)
+fn runs_follow_each_other_and_leave_these_files(rt: HostRuntime) -> Result<(), Fail> {
+    play_sessions(&rt, rt.alloc(), SESSIONS)
 }

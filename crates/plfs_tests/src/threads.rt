@@ -1,6 +1,6 @@
 //! Scripts that `run` has made on threads, in phases that leave one order of the calls.
 use crate::edges::USAGE;
-use crate::runs::{Setup, ends, playing, run_with_threads};
+use crate::runs::{Setup, empty, ends, playing, run_with_threads};
 use std::test::Fail;
 
 /// Words, an input, and the status and the lines of a run at the time 10.
@@ -33,8 +33,8 @@ fn scripts_are_run_on_threads(rt: HostRuntime) -> Result<(), Fail> {
             words,
             ..playing(script.as_bytes())
         };
-        let run = run_with_threads(&rt, rt.alloc(), setup)?;
-        ends(&rt, &run, *status, output);
+        let run = run_with_threads(&rt, rt.alloc(), empty(rt.alloc())?, setup)?;
+        drop(ends(&rt, run, *status, output)?);
     }
     Ok(())
 }
