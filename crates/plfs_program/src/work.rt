@@ -14,12 +14,13 @@ ghost use Rattle.plfs_program.specs.Ways.{by_turns, on_threads};
 use edge_io::{Clock, Gate};
 use mount_core::{Mount, MountTrouble};
 use plfs_types::{Name, NoMemory};
-use run_core::{RunEnded, play, run};
+use run_core::play;
 use script_lang::{Line, Lines, Outcome, Script, Why};
 use std::alloc::Global;
 use std::sync::Wait;
 use std::thread::Threads;
 use store_api::Store;
+use thread_runs::{RunEnded, run};
 
 // A file among the marks is damaged.
 fn damaged_marks(file: Name) -> Outcome

@@ -6,12 +6,7 @@ use Rattle.mount_model.specs.State.{State}
 use Rattle.mount_model.specs.Step.{IsStep}
 use Rattle.mount_model.specs.History.{Event, state_after}
 use Rattle.mount_sound.specs.Owed.{IsLawful, May}
-use Rattle.std.specs.List.{All}
-use Rattle.std.proofs.lemmas.List.Elements.{All-nil, All-cons, All-head, All-tail}
-use Rattle.turn_object.specs.Ended.{as_ended}
-use Rattle.story.specs.MakesCalls.{with_numbers}
-use Rattle.run_core.specs.Leading.{AreBy, EndedWithMemory, GoesOn, Leads, MadeCall}
-use Rattle.share_workers.specs.Passes.{HadMemory}
+use Rattle.run_core.specs.Leading.{AreBy, GoesOn, Leads, MadeCall}
 
 -- a call that its caller may make leads on
 pub called : (old : State) (caller : ℕ) (ask : Ask) (reply : Reply) (new : State) → May old caller ask → IsStep old caller ask reply new → MadeCall old caller ask reply new
@@ -54,18 +49,3 @@ went a b xs x = record { events = xs; leads = x }
 
 pub went_both : (a b c : State) → GoesOn a b → GoesOn b c → GoesOn a c
 went_both a b c x y = record { events = x.events ++ y.events; leads = leads_both a b c x.events y.events x.leads y.leads }
-
--- ---- who had memory
-
-pub all_both : {T : Type 0} (Q : T → Type 0) (xs ys : List T) → All Q xs → All Q ys → All Q (xs ++ ys)
-all_both Q [] ys a b = b
-all_both Q (x ∷ xs) ys a b = All-cons Q x (xs ++ ys) (All-head Q x xs a) (all_both Q xs ys (All-tail Q x xs a) b)
-
-pub one_had : (mine : List Event) → HadMemory mine → All EndedWithMemory (as_ended mine)
-one_had [] had = All-nil EndedWithMemory
-one_had (e ∷ es) had = All-cons EndedWithMemory (record { number = e.caller; entries = e ∷ es }) [] had (All-nil EndedWithMemory)
-
-pub each_had : (workers : List (List Event)) → All HadMemory workers → All EndedWithMemory (with_numbers workers)
-each_had [] had = All-nil EndedWithMemory
-each_had (calls ∷ others) had =
-    all_both EndedWithMemory (as_ended calls) (with_numbers others) (one_had calls (All-head HadMemory calls others had)) (each_had others (All-tail HadMemory calls others had))

@@ -25,16 +25,3 @@ mod UnowedCalls
 mod LoneWorks
 mod LoneSteps
 mod LonePlays
-mod Going
-mod Driving
-mod SharingOut
-mod Acting
-mod Each
-mod Phasing
-mod Between
-mod Newcomers
-mod Closing
-mod Courses
-mod WrittenOrder
-mod RightRuns
-mod Handing

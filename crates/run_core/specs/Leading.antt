@@ -1,7 +1,6 @@
 -- Calls that lead from one state of a mount to another.
 use Rattle.std.specs.Prelude.{◌≡◌, ℕ, List, [], ◌∷◌}
 use Rattle.std.specs.List.{AllByRecursion}
-use Rattle.turn_object.specs.declared.history.Ended.{Ended}
 use Rattle.mount_model.specs.declared.call.Ask.{Ask}
 use Rattle.mount_model.specs.declared.reply.Reply.{Reply}
 use Rattle.mount_model.specs.State.{State}
@@ -22,10 +21,6 @@ pub record GoesOn (old new : State) : Type 0 where
 -- one call leads there
 abbrev pub MadeCall : State → ℕ → Ask → Reply → State → Type 0
 MadeCall old caller ask reply new = Leads old (record { caller = caller; ask = ask; reply = reply; after = new } ∷ []) new
-
--- of the calls of one that ended none was refused memory
-abbrev pub EndedWithMemory : Ended Ask Reply State → Type 0
-EndedWithMemory gone = HadMemory gone.entries
 
 -- all of them are this caller's
 abbrev pub AreBy : ℕ → List Event → Type 0

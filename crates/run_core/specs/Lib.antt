@@ -10,11 +10,3 @@ pub mod Moving
 pub mod World
 pub mod Making
 pub mod Working
-pub mod Going
-pub mod Driving
-pub mod Runners
-pub mod Each
-pub mod Phases
-pub mod Running
-pub mod Collecting
-pub mod Closing

@@ -18,7 +18,7 @@ use Rattle.script_lang.specs.Ranges.{FitsStatement}
 use Rattle.actor_core.specs.declared.kept.Kept.{Kept}
 use Rattle.actor_core.specs.Progress.{Progress, idle, going, asked, handed, told}
 use Rattle.actor_core.specs.Standings.{progress_of}
-use Rattle.statement_laws.specs.Coming.{ComesToLine}
+pub use Rattle.statement_laws.specs.Coming.{ComesToLine}
 use Rattle.run_core.specs.declared.player.Player.{Player}
 use Rattle.run_core.specs.Course.{Course, then_line, one_by_one, own, through}
 

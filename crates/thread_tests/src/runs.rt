@@ -7,12 +7,12 @@ ghost use Rattle.run_core.specs.Conditions.{IsPlayable};
 use edge_io::{ClockList, Gate, ListClock, NoGate};
 use mount_core::Mount;
 use plfs_types::NoMemory;
-use run_core::{RunEnded, run};
 use script_lang::{Lines, Script};
 use std::alloc::Global;
 use std::sync::Wait;
 use std::thread::Threads;
 use store_memory::{FailList, MemoryStore};
+use thread_runs::{RunEnded, run};
 
 // The script that this text is.
 fn script_of(alloc: Global, text: &str) -> Result<Script, NoMemory>

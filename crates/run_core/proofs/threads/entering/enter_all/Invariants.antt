@@ -1,6 +1,0 @@
-use Rattle.std.proofs.Common.{take}
-use Rattle.run_core.specs.Running.{Enters}
-use Rattle.run_core.proofs.threads.entering.enter_all.Given as goal
-
-abbrev pub invariant-loop-declared : goal.invariant-loop-declared
-invariant-loop-declared g l = Enters l.turn (take l.declared-index l.actors) l.main l.players.items

@@ -1,8 +1,0 @@
-use Rattle.run_core.specs.Running.{Leaves}
-use Rattle.run_core.specs.Collecting.{lines_in}
-use Rattle.run_core.proofs.threads.leaving.leave_all.Given as goal
-
-abbrev pub invariant-loop-player : goal.invariant-loop-player
-invariant-loop-player g l =
-    (goal.iterator-loop-player g).can_next l.player-iterator × (goal.iterator-loop-player g).is_finite l.player-iterator
-    × Leaves l.turn l.fn.main l.main l.yielded (lines_in l.all.items) l.so_far

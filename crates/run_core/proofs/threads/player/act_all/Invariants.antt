@@ -1,7 +1,0 @@
-use Rattle.std.proofs.Common.{drop}
-use Rattle.share_workers.specs.Passes.{IsAfter}
-use Rattle.run_core.specs.Runners.{ActedSoFar}
-use Rattle.run_core.proofs.threads.player.act_all.Given as goal
-
-abbrev pub invariant-loop-statement : goal.invariant-loop-statement
-invariant-loop-statement g l = IsAfter l.turn l.fn.player.pass l.player.pass × ActedSoFar l.statements (drop l.statement-index l.statements) l.fn.player l.player

@@ -1,0 +1,159 @@
+-- One statement of an actor, and those of a phase.
+use Rattle.std.proofs.Common.{◌≡◌, ◌≢◌, ℕ, Bool, true, false, List, [], ◌∷◌, ◌++◌, Result, Ok, Err, refl, sym, ap, ◌∙◌, subst, append_assoc, append-nil, arith}
+use Rattle.std.specs.Prelude.{OnOk}
+use Rattle.std.specs.Result.{is_ok}
+use Rattle.turn_object.specs.History.{state_after}
+use Rattle.turn_object.specs.Pass.{start_of, front}
+use Rattle.script_lang.specs.declared.line.Line.{Line}
+use Rattle.script_lang.specs.declared.script.Numbered.{Numbered}
+use Rattle.script_lang.specs.declared.script.Statement.{Statement}
+use Rattle.actor_core.specs.declared.actor.Actor.{Actor}
+use Rattle.actor_core.specs.declared.kept.Kept.{Kept}
+use Rattle.actor_core.specs.Progress.{Progress, idle, going, begun, IsIdle}
+use Rattle.actor_core.specs.Standings.{progress_of}
+use Rattle.actor_core.specs.Statements.{work_of}
+use Rattle.run_core.specs.Course.{Course, then_line, one_by_one, own}
+use Rattle.run_core.proofs.Facts.{capacity, comes_to_line, own_no, own_yes, idle_kept, work_safe}
+use Rattle.share_workers.specs.Passes.{ThePass, TheTurn, IsAfter}
+use Rattle.thread_runs.specs.Going.{Goes}
+use Rattle.thread_runs.specs.Driving.{MayGoOn, ComesToIts}
+use Rattle.thread_runs.specs.Runners.{Runner, Acted, ActedSoFar, ActedAll, MayAct, Played}
+use Rattle.thread_runs.proofs.Going.{goes_none, goes_then}
+use Rattle.thread_runs.proofs.Driving.{fine_along}
+
+-- ---- a statement begins
+
+begins : (old began : Progress) (kept : Kept) (line : ℕ) (statement : Statement) → old ≡ idle kept → began ≡ begun old line statement → began ≡ going line (work_of kept statement)
+begins old began kept line statement rests is = is ∙ ap (λ z. begun z line statement) rests
+
+module _ {P : Type 0} (turn : TheTurn P) where
+  pub begun_may : (pass : ThePass) (actor : Actor) (began : Progress) (line : ℕ) (statement : Statement) → MayAct turn pass → IsIdle (progress_of actor) → began ≡ begun (progress_of actor) line statement → MayGoOn (start_of turn) (front pass) began
+  begun_may pass actor began line statement may rests is =
+      let kept = idle_kept (progress_of actor) rests in
+      let room = capacity actor kept.0 kept.1 in
+      let fine = fine_along (start_of turn) (front pass).seen may.known.legal.happens may.fine in
+      let Q : Progress → Type 0 = λ z. MayGoOn (start_of turn) (front pass) z in
+      subst Q (sym (begins (progress_of actor) began kept.0 line statement kept.1 is)) (λ caller can. (comes_to_line kept.0 statement, work_safe caller kept.0 statement (state_after (start_of turn) (front pass).seen) room.0 room.1 fine))
+
+  pub after_none : (pass : ThePass) → MayAct turn pass → IsAfter turn pass pass
+  after_none pass may = record { pass = may.pass_of; known = may.known; parts = refl }
+
+  pub after_both : (a b c : ThePass) → IsAfter turn a b → IsAfter turn b c → IsAfter turn a c
+  after_both a b c x y = record { pass = y.pass; known = y.known; parts = y.parts ∙ x.parts }
+
+  pub may_after : (a b : ThePass) → MayAct turn a → IsAfter turn a b → MayAct turn b
+  may_after a b may x = record { pass_of = x.pass; known = x.known; fine = may.fine; parts = (let p = x.parts in let few = may.parts in omega (arith, p, few)) }
+
+pub begun_busy : (old began : Progress) (line : ℕ) (statement : Statement) → IsIdle old → began ≡ begun old line statement → IsIdle began → ⊥
+begun_busy old began line statement rests is none =
+    let kept = idle_kept old rests in
+    let Q : Progress → Type 0 = λ z. IsIdle z in
+    subst Q (begins old began kept.0 line statement kept.1 is) none
+
+pub acted_by : (s : Numbered) (old new : Runner) (began : Progress) (copy : Statement) (line : Line) → IsIdle (progress_of old.actor) → began ≡ begun (progress_of old.actor) s.line copy → copy ≡ s.statement
+    → ComesToIts line (front old.pass) began (front new.pass) (progress_of new.actor) → new.told.lines.items ≡ old.told.lines.items ++ line ∷ [] → new.place ≡ old.place → Acted s old new
+acted_by s old new began copy line rests is same comes lines place =
+    let kept = idle_kept (progress_of old.actor) rests in
+    let at : began ≡ going s.line (work_of kept.0 s.statement) = begins (progress_of old.actor) began kept.0 s.line copy kept.1 is ∙ ap (λ z. going s.line (work_of kept.0 z)) same in
+    let Q : Progress → Type 0 = λ z. ComesToIts line (front old.pass) z (front new.pass) (progress_of new.actor) in
+    let c = subst Q at comes in
+    record {
+      kept = kept.0;
+      left = c.kept;
+      was = kept.1;
+      rests = c.rests;
+      line = line;
+      lines = lines;
+      goes = λ later. c.goes [] later;
+      place = place;
+    }
+
+-- ---- the statements of a phase
+
+pub acting_none : (statements : List Numbered) (player : Runner) → IsIdle (progress_of player.actor) → ActedSoFar statements statements player player
+acting_none statements player rests =
+    let kept = idle_kept (progress_of player.actor) rests in
+    record {
+      kept = kept.0;
+      left = kept.0;
+      was = kept.1;
+      rests = kept.1;
+      told = [];
+      lines = sym (append-nil player.told.lines.items);
+      goes = λ later. goes_none (front player.pass) (one_by_one (own player.place statements) later kept.0);
+      place = refl;
+    }
+
+same_kept : (a b : Kept) → idle a ≡ idle b → a ≡ b
+same_kept a b e = cc
+
+pub acting_idle : (statements rest : List Numbered) (old now : Runner) → ActedSoFar statements rest old now → IsIdle (progress_of now.actor)
+acting_idle statements rest old now a = let Q : Progress → Type 0 = λ z. IsIdle z in subst Q (sym a.rests) tt
+
+-- one more of its own
+pub acting_own : (statements rest more : List Numbered) (s : Numbered) (old now new : Runner) → ActedSoFar statements rest old now → rest ≡ s ∷ more → s.actor ≡ now.place → Acted s now new → ActedSoFar statements more old new
+acting_own statements rest more s old now new a split mine acted =
+    let same : acted.kept ≡ a.left = same_kept acted.kept a.left (sym acted.was ∙ a.rests) in
+    let next : own old.place rest ≡ s ∷ own old.place more = ap (own old.place) split ∙ own_yes old.place s more (mine ∙ a.place) in
+    record {
+      kept = a.kept;
+      left = acted.left;
+      was = a.was;
+      rests = acted.rests;
+      told = a.told ++ acted.line ∷ [];
+      lines = acted.lines ∙ (ap (λ z. z ++ acted.line ∷ []) a.lines ∙ append_assoc old.told.lines.items a.told (acted.line ∷ []));
+      goes = λ later.
+          let Sofar : Course → Type 0 = λ z. Goes (front old.pass) (one_by_one (own old.place statements) later a.kept) (front now.pass) z a.told in
+          let sofar = subst Sofar (ap (λ z. one_by_one z later a.left) next) (a.goes later) in
+          let rest_of : Kept → Course = λ kept. one_by_one (own old.place more) later kept in
+          let Here : Kept → Type 0 = λ z. Goes (front now.pass) (then_line s.line rest_of (work_of z s.statement)) (front new.pass) (rest_of acted.left) (acted.line ∷ []) in
+          let here = subst Here same (acted.goes rest_of) in
+          goes_then (front old.pass) (front now.pass) (front new.pass) (one_by_one (own old.place statements) later a.kept) (then_line s.line rest_of (work_of a.left s.statement)) (rest_of acted.left) a.told (acted.line ∷ []) sofar here;
+      place = acted.place ∙ a.place;
+    }
+
+-- one more that is another's
+pub acting_other : (statements rest more : List Numbered) (s : Numbered) (old now : Runner) → ActedSoFar statements rest old now → rest ≡ s ∷ more → s.actor ≢ now.place → ActedSoFar statements more old now
+acting_other statements rest more s old now a split other =
+    let next : own old.place rest ≡ own old.place more = ap (own old.place) split ∙ own_no old.place s more (λ is. other (is ∙ sym a.place)) in
+    record {
+      kept = a.kept;
+      left = a.left;
+      was = a.was;
+      rests = a.rests;
+      told = a.told;
+      lines = a.lines;
+      goes = λ later.
+          let Sofar : Course → Type 0 = λ z. Goes (front old.pass) (one_by_one (own old.place statements) later a.kept) (front now.pass) z a.told in
+          subst Sofar (ap (λ z. one_by_one z later a.left) next) (a.goes later);
+      place = a.place;
+    }
+
+pub acting_all : (statements rest : List Numbered) (old now : Runner) → rest ≡ [] → ActedSoFar statements rest old now → ActedAll statements old now
+acting_all statements rest old now none a = subst (λ z. ActedSoFar statements z old now) none a
+
+-- ---- a part of a phase
+
+module _ {P : Type 0} (turn : TheTurn P) where
+  pub played_none : (statements : List Numbered) (player : Runner) → MayAct turn player.pass → player.whole ≡ false → Played turn statements player player
+  played_none statements player may refused = record {
+    after = after_none turn player.pass may;
+    played = λ whole. absurd (true_false (sym whole ∙ refused));
+  }
+    where
+      true_false : true ≡ false → ⊥
+      true_false e = absurd (cc)
+
+  -- whether memory was refused to it is noted
+  pub played_acted : {E : Type 0} (statements : List Numbered) (old mid : Runner) (result : Result (Unit {0}) E) (whole : Bool) → IsAfter turn old.pass mid.pass → old.whole ≡ true → whole ≡ is_ok result → OnOk result (ActedAll statements old mid) → Played turn statements old (record mid { whole = whole })
+  played_acted {E} statements old mid result whole after was is acted = record {
+    after = record { pass = after.pass; known = after.known; parts = after.parts };
+    played = λ kept. (was, noted (by result (sym is ∙ kept) acted));
+  }
+    where
+      noted : ActedAll statements old mid → ActedAll statements old (record mid { whole = whole })
+      noted a = record { kept = a.kept; left = a.left; was = a.was; rests = a.rests; told = a.told; lines = a.lines; goes = a.goes; place = a.place }
+
+      by : (r : Result (Unit {0}) E) → is_ok r ≡ true → OnOk r (ActedAll statements old mid) → ActedAll statements old mid
+      by (Ok a) calm x = x
+      by (Err e) calm x = absurd (cc)

@@ -1,0 +1,14 @@
+mod Memory
+mod Going
+mod Driving
+mod SharingOut
+mod Acting
+mod Each
+mod Phasing
+mod Between
+mod Newcomers
+mod Closing
+mod Courses
+mod WrittenOrder
+mod RightRuns
+mod Handing

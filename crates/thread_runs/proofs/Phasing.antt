@@ -1,0 +1,180 @@
+-- One actor at the ends of a phase.
+use Rattle.std.proofs.Common.{◌≡◌, ℕ, ◌+◌, ◌<◌, List, [], ◌∷◌, ◌++◌, length, sym, refl, ap, ◌∙◌, subst, arith, append-nil}
+use mathlib.Core.Logic.{dite}
+use native.Mathlib.Decide.{ℕ_discrete}
+use Rattle.std.specs.Prelude.{◌≢◌, All, slice_index_or}
+use Rattle.turn_object.specs.History.{StartsWith, Happens, state_after}
+use Rattle.turn_object.specs.Front.{IsLegalFront}
+use Rattle.turn_object.specs.Pass.{start_of, front, mine_of, seen_of, ended_of}
+use Rattle.turn_object.proofs.Facts.{squeeze, longer_begins, longer_is, starts_after, legal_kept}
+use Rattle.story.specs.Program.{Program, done, ask}
+use Rattle.story.specs.Process.{ends, pauses, tells, asks, shares}
+use Rattle.story.specs.Safe.{IsSafe, IsSafeProcess, PassSafeProcess}
+use Rattle.story.specs.Players.{player, HasPlayed}
+use Rattle.story.proofs.Facts.{played_sees, played_phase}
+use Rattle.mount_model.specs.declared.call.Ask.{Ask}
+use Rattle.mount_model.specs.declared.reply.Reply.{Reply}
+use Rattle.mount_model.specs.State.{State}
+use Rattle.mount_model.specs.Step.{IsStep}
+use Rattle.mount_model.specs.History.{Event}
+use Rattle.mount_sound.specs.Owed.{Permits}
+use Rattle.mount_sound.specs.Sound.{IsFine}
+use Rattle.script_lang.specs.declared.line.Line.{Line}
+use Rattle.script_lang.specs.declared.script.ActorDecl.{ActorDecl}
+use Rattle.script_lang.specs.declared.script.Numbered.{Numbered}
+use Rattle.script_lang.specs.declared.script.Phase.{Phase}
+use Rattle.actor_core.specs.declared.kept.Kept.{Kept}
+use Rattle.actor_core.specs.Progress.{Progress, idle, IsIdle}
+use Rattle.run_core.specs.Course.{Course, course_of, own, one_by_one, through}
+use Rattle.share_workers.specs.Passes.{HadMemory, View, ThePass, TheTurn}
+use Rattle.run_core.specs.Players.{IsMade}
+use Rattle.share_workers.proofs.Facts.{memory_both}
+use Rattle.thread_runs.specs.Going.{EndedWithMemory, Goes}
+use Rattle.thread_runs.proofs.Memory.{all_both}
+use Rattle.thread_runs.specs.Runners.{Runner, ActedAll, IsReadyFor, Played}
+use Rattle.thread_runs.specs.Phases.{AnyCall, Keeps, OnlyPass, HasActed, IsFollower, IsLevel, IsPast, IsGathered, CaughtUp, HandedOver}
+use Rattle.thread_runs.proofs.Each.{any_default}
+
+-- ---- where every call is allowed
+
+free_program : {X : Type 0} (caller : ℕ) (p : Program Ask Reply X) (state : State) → IsSafe IsStep AnyCall caller p state
+free_program caller (done x) state = tt
+free_program caller (ask q k) state = λ others o. (tt, λ reply after step. free_program caller (k reply) after)
+
+free_process : (caller : ℕ) (p : Course) (state : State) → IsSafeProcess IsStep AnyCall caller p state
+free_process caller ends state = tt
+free_process caller (pauses p) state = free_process caller p state
+free_process caller (tells line p) state = free_process caller p state
+free_process caller (asks q k) state = λ others o. (tt, λ reply after step. free_process caller (k reply) after)
+free_process caller (shares ps k alone) state =
+    ((λ others o. ((λ i d lt who. free_program who (slice_index_or ps i d) (state_after state others)), λ calls results made. free_process caller (k results) (state_after state others))), free_process caller alone state)
+
+pub free : (start : State) (v : View) (p : Course) → PassSafeProcess IsStep AnyCall start v p
+free start v p caller can = free_process caller p (state_after start v.seen)
+
+happens_free : (start : State) (events : List Event) → Happens IsStep Permits start events → Happens IsStep AnyCall start events
+happens_free start [] happens = tt
+happens_free start (e ∷ es) happens = (tt, happens.1, happens_free e.after es happens.2)
+
+pub known_free : (start : State) (v : View) → IsLegalFront IsStep Permits start v → IsLegalFront IsStep AnyCall start v
+known_free start v known = record {
+  legal = record { happens = happens_free start v.seen known.legal.happens; numbered = known.legal.numbered };
+  own = known.own;
+  ended = known.ended;
+}
+
+-- ---- an actor and what others called
+
+pub starts_same : (xs ys : List Event) → xs ≡ ys → StartsWith xs ys
+starts_same xs ys e = ([], e ∙ sym (append-nil ys))
+
+-- its pass has only seen more
+acted_sees : (start : State) (phases left : List Phase) (history : List Event) (blocks : List (List Event)) (place : ℕ) (declared : ActorDecl) (old new : Runner) → HasActed start phases left history blocks place declared old → OnlyPass old new
+    → StartsWith (seen_of new.pass) (seen_of old.pass) → StartsWith history (seen_of new.pass) → mine_of new.pass ≡ mine_of old.pass → ended_of new.pass ≡ ended_of old.pass → IsLegalFront IsStep Permits start (front new.pass) → HasActed start phases left history blocks place declared new
+acted_sees start phases left history blocks place declared old new a only more behind mine ended known = record {
+  kept = a.kept;
+  rests = only.progress ∙ a.rests;
+  at = only.place ∙ a.at;
+  played =
+      let process = course_of place phases declared in
+      let p = played_sees IsStep AnyCall start process (through place left a.kept) old.told.lines.items (front old.pass) (front new.pass) history blocks a.played more behind mine ended (known_free start (front new.pass) known) in
+      let Q : List Line → Type 0 = λ z. HasPlayed IsStep AnyCall start history blocks (player process (front new.pass) (through place left a.kept) z) in
+      subst Q (sym only.lines) p;
+  memory = subst HadMemory (sym mine) a.memory;
+  workers_memory = subst (λ z. All EndedWithMemory z) (sym ended) a.workers_memory;
+}
+
+module _ {P : Type 0} (turn : TheTurn P) (phases left : List Phase) (history : List Event) (blocks : List (List Event)) (place : ℕ) (declared : ActorDecl) where
+  pub level_of : (old new : Runner) → IsFollower turn phases left history blocks place declared old → CaughtUp turn history old new → IsLevel turn phases left history blocks place declared new
+  level_of old new f t =
+      let same = starts_same history history refl in
+      let begins = longer_begins history (seen_of old.pass) history f.behind same in
+      let up : StartsWith history (seen_of new.pass) = subst (λ z. StartsWith history z) (sym t.seen) (longer_is (StartsWith history) (seen_of old.pass) history f.behind same) in
+      let down : StartsWith (seen_of new.pass) history = subst (λ z. StartsWith z history) (sym t.seen) begins.1 in
+      record {
+        pass = t.pass;
+        parts = let p = f.parts in let q = t.keeps.parts in omega (arith, p, q);
+        known = t.known;
+        level = squeeze history (seen_of new.pass) up down;
+        acted = λ whole. acted_sees (start_of turn) phases left history blocks place declared old new (f.acted (sym t.only.whole ∙ whole)) t.only t.more up t.keeps.mine t.keeps.ended t.known;
+      }
+
+  pub ready_level : (statements : List Numbered) (runner : Runner) → IsFine (start_of turn) → All IsMade statements → IsLevel turn phases left history blocks place declared runner → IsReadyFor turn statements runner
+  ready_level statements runner fine made l = record {
+    may = record { pass_of = l.pass; known = l.known; fine = fine; parts = (let p = l.parts in omega (arith, p)) };
+    made = made;
+    rests = λ whole. (let Q : Progress → Type 0 = λ z. IsIdle z in subst Q (sym (l.acted whole).rests) tt);
+  }
+
+  pub gathered_of : (now : List Event) (old new : Runner) → IsPast turn phases left history blocks place declared old → HandedOver turn old new → StartsWith now (seen_of old.pass) → IsGathered turn phases left history blocks place declared now new
+  gathered_of now old new p t behind =
+      let known : IsLegalFront IsStep Permits (start_of turn) (front new.pass) = legal_kept IsStep Permits (start_of turn) (front old.pass) (front new.pass) p.known t.seen t.keeps.mine t.keeps.ended in
+      record {
+        pass = t.pass;
+        parts = let q = p.parts in let k = t.keeps.parts in omega (arith, q, k);
+        known = known;
+        behind = subst (λ z. StartsWith now z) (sym t.seen) behind;
+        will = λ whole block after.
+            let after' : StartsWith (history ++ block) (seen_of old.pass) = subst (λ z. StartsWith (history ++ block) z) t.seen after in
+            acted_sees (start_of turn) phases left (history ++ block) (blocks ++ block ∷ []) place declared old new (p.will (sym t.only.whole ∙ whole) block after') t.only (starts_same (seen_of new.pass) (seen_of old.pass) t.seen) after t.keeps.mine t.keeps.ended known;
+      }
+
+  pub follower_of : (block : List Event) (runner : Runner) → IsGathered turn phases left history blocks place declared (history ++ block) runner → IsFollower turn phases left (history ++ block) (blocks ++ block ∷ []) place declared runner
+  follower_of block runner g = record {
+    pass = g.pass;
+    parts = g.parts;
+    known = g.known;
+    behind = g.behind;
+    acted = λ whole. g.will whole block g.behind;
+  }
+
+same_kept : (a b : Kept) → idle a ≡ idle b → a ≡ b
+same_kept a b e = cc
+
+-- it played its part of a phase
+acted_phase : (start : State) (phases left : List Phase) (phase : Phase) (history block : List Event) (blocks : List (List Event)) (place : ℕ) (declared : ActorDecl) (old new : Runner) → HasActed start phases (phase ∷ left) history blocks place declared old
+    → seen_of old.pass ≡ history → ActedAll phase.statements old new → IsLegalFront IsStep Permits start (front new.pass) → StartsWith (history ++ block) (seen_of new.pass) → HasActed start phases left (history ++ block) (blocks ++ block ∷ []) place declared new
+acted_phase start phases left phase history block blocks place declared old new a level acted known behind =
+    let process = course_of place phases declared in
+    let same : acted.kept ≡ a.kept = same_kept acted.kept a.kept (sym acted.was ∙ a.rests) in
+    let later : Kept → Course = λ kept. pauses (through place left kept) in
+    let Q : ℕ × Kept → Type 0 = λ z. Goes (front old.pass) (one_by_one (own z.0 phase.statements) later z.1) (front new.pass) (later acted.left) acted.told in
+    let goes : Goes (front old.pass) (through place (phase ∷ left) a.kept) (front new.pass) (pauses (through place left acted.left)) acted.told = subst Q (λ i. (a.at i, same i)) (acted.goes later) in
+    let P : List Line → Type 0 = λ z. HasPlayed IsStep AnyCall start (history ++ block) (blocks ++ block ∷ []) (player process (front new.pass) (through place left acted.left) z) in
+    record {
+      kept = acted.left;
+      rests = acted.rests;
+      at = acted.place ∙ a.at;
+      played = subst P (sym acted.lines)
+          (played_phase IsStep AnyCall start process (through place (phase ∷ left) a.kept) (through place left acted.left) old.told.lines.items acted.told (front old.pass) (front new.pass) history block blocks a.played level goes.gone
+          (known_free start (front new.pass) known) (free start (front new.pass) (through place left acted.left)) behind);
+      memory = subst HadMemory (sym goes.mine) (memory_both (mine_of old.pass) goes.calls a.memory goes.memory);
+      workers_memory = subst (λ z. All EndedWithMemory z) (sym goes.ended) (all_both EndedWithMemory (ended_of old.pass) goes.workers a.workers_memory goes.workers_memory);
+    }
+
+module _ {P : Type 0} (turn : TheTurn P) (phases left : List Phase) (phase : Phase) (history : List Event) (blocks : List (List Event)) (place : ℕ) (declared : ActorDecl) where
+  pub past_of : (old new : Runner) → IsLevel turn phases (phase ∷ left) history blocks place declared old → Played turn phase.statements old new → IsPast turn phases left history blocks place declared new
+  past_of old new l played = record {
+    pass = played.after.pass;
+    parts = played.after.parts ∙ l.parts;
+    known = played.after.known;
+    will = λ whole block behind.
+        let t = played.played whole in
+        acted_phase (start_of turn) phases left phase history block blocks place declared old new (l.acted t.0) l.level t.1 played.after.known behind;
+  }
+
+-- ---- the main pass
+
+pub keeps_then : (a : ℕ) (v u w : ThePass) → Keeps a 0 v u → Keeps 1 0 u w → Keeps (a + 1) 0 v w
+keeps_then a v u w x y = record { mine = y.mine ∙ x.mine; ended = y.ended ∙ x.ended; parts = let p = x.parts in let q = y.parts in omega (arith, p, q) }
+
+pub keeps_less : (a : ℕ) (v u w : ThePass) → Keeps 0 a v u → Keeps 0 1 u w → Keeps 0 (a + 1) v w
+keeps_less a v u w x y = record { mine = y.mine ∙ x.mine; ended = y.ended ∙ x.ended; parts = let p = x.parts in let q = y.parts in omega (arith, p, q) }
+
+-- what the main pass has seen begins with what one more actor had
+pub seen_more : (now later : List Event) (runners : List Runner) (i : ℕ) (p : Runner) → StartsWith later now → ((k : ℕ) (d : Runner) → k < i → StartsWith now (seen_of (slice_index_or runners k d).pass))
+    → slice_index_or runners i p ≡ p → i < length runners → StartsWith later (seen_of p.pass)
+    → (k : ℕ) (d : Runner) → k < i + 1 → StartsWith later (seen_of (slice_index_or runners k d).pass)
+seen_more now later runners i p more before is inside here k d lt = dite (ℕ_discrete k i)
+    (λ same. subst (λ (z : Runner). StartsWith later (seen_of z.pass)) (sym (ap (λ n. slice_index_or runners n d) same ∙ (any_default runners i d p inside ∙ is))) here)
+    (λ other. let below : k < i = let ne : k ≢ i = other in omega arith in starts_after later now (seen_of (slice_index_or runners k d).pass) more (before k d below))

@@ -1,0 +1,15 @@
+use Rattle.std.proofs.Common.{refl}
+use Rattle.actor_core.specs.Standings.{progress_of}
+use Rattle.thread_runs.proofs.Acting.{begun_may, begun_busy, acted_by}
+use Rattle.thread_runs.proofs.player.act.Goals as goal
+
+pub drive-requires-clause-may : goal.drive-requires-clause-may
+drive-requires-clause-may g c = λ κs lives.
+    begun_may c.args.turn.now c.args.player.now.pass c.args.player.now.actor (progress_of c.begin.new.self) c.args.statement.now.line c.in_ok-copy.copy c.requires.may c.requires.idle c.in_ok-begin.ensures
+
+pub drive-requires-clause-busy : goal.drive-requires-clause-busy
+drive-requires-clause-busy g c = λ κs lives. begun_busy (progress_of c.args.player.now.actor) (progress_of c.begin.new.self) c.args.statement.now.line c.in_ok-copy.copy c.requires.idle c.in_ok-begin.ensures
+
+pub returns-clause-acted : goal.returns-clause-acted
+returns-clause-acted g c =
+    acted_by c.args.statement.now c.args.player.now _ (progress_of c.begin.new.self) c.in_ok-copy.copy c.in_ok-line.line c.requires.idle c.in_ok-begin.ensures c.in_ok-copy.ensures c.in_ok-line.ensures.comes c.in_ok-push.ensures refl

@@ -1,0 +1,72 @@
+-- Actors before and after a phase.
+use Rattle.std.specs.Prelude.{◌≡◌, ℕ, ◌<◌, List, [], ◌∷◌, ◌++◌, true, All, length, slice_index_or}
+use Rattle.turn_object.specs.Front.{IsLegalFront}
+use Rattle.turn_object.specs.Pass.{start_of, front, parts_of, IsPassOf}
+use Rattle.mount_model.specs.Step.{IsStep}
+use Rattle.mount_sound.specs.Owed.{Permits}
+use Rattle.mount_sound.specs.Sound.{IsFine}
+use Rattle.script_lang.specs.declared.line.Line.{Line}
+use Rattle.script_lang.specs.declared.script.Numbered.{Numbered}
+use Rattle.actor_core.specs.declared.kept.Kept.{Kept}
+use Rattle.actor_core.specs.Progress.{idle, IsIdle}
+use Rattle.actor_core.specs.Standings.{progress_of}
+use Rattle.actor_core.specs.Statements.{work_of}
+use Rattle.run_core.specs.Course.{Course, then_line, one_by_one, own}
+use Rattle.run_core.specs.Players.{IsMade}
+use Rattle.thread_runs.specs.declared.player.Player.{Player}
+use Rattle.thread_runs.specs.declared.player.TheConstants.{TOO_MANY}
+use Rattle.share_workers.specs.Passes.{ThePass, TheTurn, IsAfter}
+use Rattle.thread_runs.specs.Going.{Goes}
+
+-- an actor with its pass
+abbrev pub Runner : Type 0
+Runner = Player ThePass
+
+-- the actor made this statement, whatever follows it
+pub record Acted (s : Numbered) (old new : Runner) : Type 0 where
+  pub kept : Kept
+  pub left : Kept
+  pub was : progress_of old.actor ≡ idle kept
+  pub rests : progress_of new.actor ≡ idle left
+  pub line : Line
+  pub lines : new.told.lines.items ≡ old.told.lines.items ++ line ∷ []
+  pub goes : (later : Kept → Course) → Goes (front old.pass) (then_line s.line later (work_of kept s.statement)) (front new.pass) (later left) (line ∷ [])
+  pub place : new.place ≡ old.place
+
+-- of these statements, it has made those of its own that are not among these others
+pub record ActedSoFar (statements rest : List Numbered) (old new : Runner) : Type 0 where
+  pub kept : Kept
+  pub left : Kept
+  pub was : progress_of old.actor ≡ idle kept
+  pub rests : progress_of new.actor ≡ idle left
+  pub told : List Line
+  pub lines : new.told.lines.items ≡ old.told.lines.items ++ told
+  pub goes : (later : Kept → Course) → Goes (front old.pass) (one_by_one (own old.place statements) later kept) (front new.pass) (one_by_one (own old.place rest) later left) told
+  pub place : new.place ≡ old.place
+
+-- it has made all of its own
+abbrev pub ActedAll : List Numbered → Runner → Runner → Type 0
+ActedAll statements old new = ActedSoFar statements [] old new
+
+module _ {P : Type 0} (turn : TheTurn P) where
+  -- calls may be made by the pass, which knows a history from a fine state
+  pub record MayAct (pass : ThePass) : Type 0 where
+    pub pass_of : IsPassOf turn pass
+    pub known : IsLegalFront IsStep Permits (start_of turn) (front pass)
+    pub fine : IsFine (start_of turn)
+    pub parts : TOO_MANY < parts_of pass
+
+  -- the actor may play its part of these statements; one that was refused memory has nothing to show
+  pub record IsReadyFor (statements : List Numbered) (player : Runner) : Type 0 where
+    pub may : MayAct player.pass
+    pub made : All IsMade statements
+    pub rests : player.whole ≡ true → IsIdle (progress_of player.actor)
+
+  -- it has played its part
+  pub record Played (statements : List Numbered) (old new : Runner) : Type 0 where
+    pub after : IsAfter turn old.pass new.pass
+    pub played : new.whole ≡ true → (old.whole ≡ true) × ActedAll statements old new
+
+  pub record EachPlayed (statements : List Numbered) (old new : List Runner) : Type 0 where
+    pub len : length new ≡ length old
+    pub each : (k : ℕ) (d : Runner) → k < length old → Played statements (slice_index_or old k d) (slice_index_or new k d)
