@@ -1,5 +1,5 @@
 //! What is done to one store, one thing after the other: runs, and changes from outside.
-use crate::runs::{Setup, Under, alone, ends, playing, run_on};
+use crate::runs::{Setup, Under, alone, empty, ends, playing, run_on};
 use plfs_types::{Name, NoMemory, Path};
 use spread_store::Backing;
 use std::alloc::Global;
@@ -11,8 +11,10 @@ use store_memory::{Fail as Planned, FailList, Keep, KeepList, MemoryStore};
 /// What is done to a store. Rooms have their numbers, folders and files their names.
 #[derive(Clone, Copy)]
 pub(crate) enum Deed {
+    /// The store is an empty one, of which this act faults and leaves so many bytes.
+    Faults(u64, u64),
     /// A run at the time 10: its words and its script, its status, and what it prints.
-    Run(&'static [&'static str], &'static str, u8, &'static str),
+    Run(&'static str, &'static str, u8, &'static str),
     Room(&'static str),
     Folder(u64, &'static str),
     NoFolder(u64, &'static str),
@@ -28,17 +30,17 @@ pub(crate) enum Deed {
     Has(u64, &'static str, &'static str, &'static [u8]),
 }
 
-/// The acts that fault, each with how many bytes it leaves, and what is done to an empty store.
-pub(crate) type Session = (&'static [(u64, u64)], &'static [Deed]);
+/// What is done to an empty store.
+pub(crate) type Session = &'static [Deed];
 
 fn name(text: &str) -> Name {
     Name::from_bytes(text.as_bytes()).unwrap_or(Name::empty())
 }
 
-// The step of a deed. A run and a loss have none of their own.
+// The step of a deed. Faults, a run and a loss have none of their own.
 fn step_of(deed: Deed) -> Step<'static> {
     match deed {
-        Deed::Run(..) | Deed::Loss(..) => Step::Rooms,
+        Deed::Faults(..) | Deed::Run(..) | Deed::Loss(..) => Step::Rooms,
         Deed::Room(room) => Step::MakeRoom {
             name: name(room),
             folders: &[],
@@ -131,6 +133,10 @@ fn lost(
 // The store once the deed is done, which is as it says.
 fn done(rt: &impl Abort, alloc: Global, mut store: Under, deed: Deed) -> Result<Under, Fail> {
     match deed {
+        Deed::Faults(act, part) => {
+            drop(store);
+            Ok(Backing::One(planned(alloc, act, part)?))
+        }
         Deed::Run(words, script, status, output) => {
             let setup = Setup {
                 words,
@@ -163,16 +169,10 @@ pub(crate) fn play_deeds(
     Ok(())
 }
 
-/// A store of which these acts fault, each of which leaves so many bytes.
-pub(crate) fn planned(alloc: Global, fails: &[(u64, u64)]) -> Result<MemoryStore, NoMemory> {
-    let mut planned = FailList::new(alloc);
-    for (act, part) in fails {
-        planned.push(Planned {
-            act: *act,
-            part: *part,
-        })?;
-    }
-    MemoryStore::new(alloc, planned)
+/// An empty store of which this act faults, and leaves so many bytes.
+pub(crate) fn planned(alloc: Global, act: u64, part: u64) -> Result<MemoryStore, NoMemory> {
+    let fails = FailList::from_vec(vec![in alloc; Planned { act, part }]?);
+    MemoryStore::new(alloc, fails)
 }
 
 /// In each of the sessions each run ends so, and each deed is done.
@@ -181,9 +181,8 @@ pub(crate) fn play_sessions(
     alloc: Global,
     sessions: &[Session],
 ) -> Result<(), Fail> {
-    for (fails, deeds) in sessions {
-        let store = planned(alloc, fails)?;
-        play_deeds(rt, alloc, Backing::One(store), deeds)?;
+    for deeds in sessions {
+        play_deeds(rt, alloc, empty(alloc)?, deeds)?;
     }
     Ok(())
 }

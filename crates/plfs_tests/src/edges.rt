@@ -8,13 +8,13 @@ use std::test::Fail;
 pub(crate) const USAGE: &str =
     "usage: plfs ROOT run|play|gen N|cat NAME|stat NAME|map NAME|flatten NAME|trunc NAME SIZE|rename OLD NEW|recover NAME|ls|migrate NAME\n";
 
-/// A run over an empty store: its words and its input, which calls of the source and of the sink fail, how many bytes the
+/// A run over an empty store: its words and its input, which call of the source and of the sink fails, how many bytes the
 /// sink takes at once, and its status, what is written, and how many acts the store has made.
 type Edge = (
-    &'static [&'static str],
+    &'static str,
     &'static [u8],
-    &'static [u64],
-    &'static [u64],
+    u64,
+    u64,
     usize,
     u8,
     &'static str,
@@ -24,7 +24,10 @@ type Edge = (
 // How many bytes a sink takes that breaks nothing up.
 const ALL: usize = 1 << 20;
 
-const PLAY: &[&str] = &["play"];
+const PLAY: &str = "play";
+
+// No call is the one of this number.
+const NEVER: u64 = u64::MAX;
 
 // Its acts are three of the mounting, six to open, one to write, three to sync, four to close, and nine of the reader.
 const HELLO: &[u8] =
@@ -32,39 +35,48 @@ const HELLO: &[u8] =
 
 const EDGES: &[Edge] = &[
     // Words that are no command, or of one that wants threads.
-    (&["run", "play"], b"", &[], &[], ALL, 2, USAGE, 0),
-    (&["run"], b"", &[], &[], ALL, 2, USAGE, 0),
-    (&["ls", "f"], b"", &[], &[], ALL, 2, USAGE, 0),
-    (&["map"], b"", &[], &[], ALL, 2, USAGE, 0),
-    (&["map", ".f"], b"", &[], &[], ALL, 2, USAGE, 0),
-    (&["migrate"], b"", &[], &[], ALL, 2, USAGE, 0),
-    (&["trunc", "f", "007"], b"", &[], &[], ALL, 2, USAGE, 0),
-    (&["cat", "--", "f"], b"", &[], &[], ALL, 2, USAGE, 0),
-    (&["gen", "0"], b"", &[], &[], ALL, 2, USAGE, 0),
-    (&[], b"", &[], &[], ALL, 2, USAGE, 0),
+    ("run play", b"", NEVER, NEVER, ALL, 2, USAGE, 0),
+    ("run", b"", NEVER, NEVER, ALL, 2, USAGE, 0),
+    ("ls f", b"", NEVER, NEVER, ALL, 2, USAGE, 0),
+    ("map", b"", NEVER, NEVER, ALL, 2, USAGE, 0),
+    ("map .f", b"", NEVER, NEVER, ALL, 2, USAGE, 0),
+    ("migrate", b"", NEVER, NEVER, ALL, 2, USAGE, 0),
+    ("trunc f 007", b"", NEVER, NEVER, ALL, 2, USAGE, 0),
+    ("cat -- f", b"", NEVER, NEVER, ALL, 2, USAGE, 0),
+    ("gen 0", b"", NEVER, NEVER, ALL, 2, USAGE, 0),
+    ("", b"", NEVER, NEVER, ALL, 2, USAGE, 0),
     // A read fails, and nothing is done or written.
-    (PLAY, HELLO, &[0], &[], ALL, 5, "", 0),
+    (PLAY, HELLO, 0, NEVER, ALL, 5, "", 0),
     // A write fails, which cuts the lines off, and the container is written all the same.
-    (PLAY, HELLO, &[], &[3], 1, 6, "2 o", 26),
+    (PLAY, HELLO, NEVER, 3, 1, 6, "2 o", 26),
     // The sink takes nothing.
-    (PLAY, b"actor a\na sync\n", &[], &[], 0, 6, "", 3),
+    (PLAY, b"actor a\na sync\n", NEVER, NEVER, 0, 6, "", 3),
     // The first fault of a script is said.
     (
         PLAY,
         b"actor a\na  open f\n",
-        &[],
-        &[],
+        NEVER,
+        NEVER,
         ALL,
         2,
         "script 2 spaces\n",
         0,
     ),
-    (PLAY, b"b open f\n", &[], &[], ALL, 2, "script 1 actor\n", 0),
+    (
+        PLAY,
+        b"b open f\n",
+        NEVER,
+        NEVER,
+        ALL,
+        2,
+        "script 1 actor\n",
+        0,
+    ),
     (
         PLAY,
         b"actor a\na open f\na fly\n",
-        &[],
-        &[],
+        NEVER,
+        NEVER,
         ALL,
         2,
         "script 3 word\n",
@@ -73,8 +85,8 @@ const EDGES: &[Edge] = &[
     (
         PLAY,
         b"actor a\na sync now\n",
-        &[],
-        &[],
+        NEVER,
+        NEVER,
         ALL,
         2,
         "script 2 count\n",
@@ -83,8 +95,8 @@ const EDGES: &[Edge] = &[
     (
         PLAY,
         b"actor a\n\n# far\na read 01 1\n",
-        &[],
-        &[],
+        NEVER,
+        NEVER,
         ALL,
         2,
         "script 4 number\n",
@@ -93,8 +105,8 @@ const EDGES: &[Edge] = &[
     (
         PLAY,
         b"actor a\na open .f\n",
-        &[],
-        &[],
+        NEVER,
+        NEVER,
         ALL,
         2,
         "script 2 name\n",
@@ -103,8 +115,8 @@ const EDGES: &[Edge] = &[
     (
         PLAY,
         b"actor a\na write 0 hex:0\n",
-        &[],
-        &[],
+        NEVER,
+        NEVER,
         ALL,
         2,
         "script 2 data\n",
@@ -113,8 +125,8 @@ const EDGES: &[Edge] = &[
     (
         PLAY,
         b"actor a\na\0open f\n",
-        &[],
-        &[],
+        NEVER,
+        NEVER,
         ALL,
         2,
         "script 2 actor\n",
@@ -123,8 +135,8 @@ const EDGES: &[Edge] = &[
     (
         PLAY,
         b"actor a\nactor b\na map\na fly\n",
-        &[],
-        &[],
+        NEVER,
+        NEVER,
         ALL,
         2,
         "script 4 word\n",
@@ -134,8 +146,8 @@ const EDGES: &[Edge] = &[
     (
         PLAY,
         b"actor a\na open f\xff\n",
-        &[],
-        &[],
+        NEVER,
+        NEVER,
         ALL,
         2,
         "script 2 name\n",
@@ -144,21 +156,21 @@ const EDGES: &[Edge] = &[
     (
         PLAY,
         b"\xff open f\n",
-        &[],
-        &[],
+        NEVER,
+        NEVER,
         ALL,
         2,
         "script 1 actor\n",
         0,
     ),
     // Scripts are played however they are laid out.
-    (PLAY, b"", &[], &[], ALL, 0, "", 3),
-    (PLAY, b"# nobody\n\n", &[], &[], ALL, 0, "", 3),
+    (PLAY, b"", NEVER, NEVER, ALL, 0, "", 3),
+    (PLAY, b"# nobody\n\n", NEVER, NEVER, ALL, 0, "", 3),
     (
         PLAY,
         b"actor b\nb open f\n",
-        &[],
-        &[],
+        NEVER,
+        NEVER,
         ALL,
         0,
         "2 open 4294967297\n",
@@ -167,8 +179,8 @@ const EDGES: &[Edge] = &[
     (
         PLAY,
         b"actor a\na open f",
-        &[],
-        &[],
+        NEVER,
+        NEVER,
         ALL,
         0,
         "2 open 4294967297\n",
@@ -177,8 +189,8 @@ const EDGES: &[Edge] = &[
     (
         PLAY,
         b"actor a 0 64\n\n# f\na open f\n",
-        &[],
-        &[],
+        NEVER,
+        NEVER,
         ALL,
         0,
         "4 open 4294967297\n",
@@ -187,8 +199,8 @@ const EDGES: &[Edge] = &[
     (
         PLAY,
         b"actor a\na open f\na write 8388608 hex:00ff\na close\na ropen f 1\na read 8388608 1048576\n",
-        &[],
-        &[],
+        NEVER,
+        NEVER,
         ALL,
         0,
         "2 open 4294967297\n3 wrote 8388608 2 10\n4 closed 1\n5 reader 8388610 cut 4294967297:1 trunc -\n6 read 8388608 00ff\n",
@@ -198,13 +210,13 @@ const EDGES: &[Edge] = &[
 
 #[test]
 fn words_inputs_and_outputs_break_so(rt: HostRuntime) -> Result<(), Fail> {
-    for (words, script, source_fails, sink_fails, sink_piece, status, output, acts) in EDGES {
+    for (words, script, source_fail, sink_fail, sink_piece, status, output, acts) in EDGES {
         let setup = Setup {
             words,
             script,
             times: &[10],
-            source_fails,
-            sink_fails,
+            source_fails: &[*source_fail],
+            sink_fails: &[*sink_fail],
             sink_piece: *sink_piece,
         };
         let run = run_on(rt.alloc(), empty(rt.alloc())?, setup)?;

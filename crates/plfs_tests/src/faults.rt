@@ -15,7 +15,7 @@ const STOPPED: &[u8] =
 const ACTS: u64 = 42;
 
 // A command over a store.
-fn command<'a>(words: &'a [&'a str]) -> Setup<'a> {
+fn command(words: &str) -> Setup<'_> {
     Setup {
         words,
         ..playing(b"")
@@ -25,10 +25,10 @@ fn command<'a>(words: &'a [&'a str]) -> Setup<'a> {
 // The statuses of the script of which this act faults and leaves so many bytes, of a recovery after it, and of what is
 // told of the file then.
 fn statuses(alloc: Global, act: u64, part: u64) -> Result<(u8, u8, u8), Fail> {
-    let store = planned(alloc, &[(act, part)])?;
+    let store = planned(alloc, act, part)?;
     let (first, _, store) = ended(alloc, store, playing(STOPPED))?;
-    let (recovered, _, store) = ended(alloc, store, command(&["recover", "f"]))?;
-    let (told, _, store) = ended(alloc, store, command(&["stat", "f"]))?;
+    let (recovered, _, store) = ended(alloc, store, command("recover f"))?;
+    let (told, _, store) = ended(alloc, store, command("stat f"))?;
     drop(store);
     Ok((first, recovered, told))
 }

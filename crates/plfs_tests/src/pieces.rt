@@ -1,6 +1,5 @@
 //! A file that is written out in pieces.
-use crate::deeds::planned;
-use crate::runs::{Setup, ended, playing};
+use crate::runs::{Setup, alone, empty, ended, playing};
 use std::alloc::Global;
 use std::test::Fail;
 use store_memory::MemoryStore;
@@ -18,7 +17,7 @@ fn read_out(
 ) -> Result<(MemoryStore, (u8, usize, u64)), Fail> {
     let before = store.acts();
     let setup = Setup {
-        words: &["cat", "f"],
+        words: "cat f",
         sink_fails,
         ..playing(b"")
     };
@@ -29,7 +28,11 @@ fn read_out(
 
 #[test]
 fn each_piece_is_written_before_the_next_is_read(rt: HostRuntime) -> Result<(), Fail> {
-    let (status, _, mut store) = ended(rt.alloc(), planned(rt.alloc(), &[])?, playing(TWO_PIECES))?;
+    let (status, _, mut store) = ended(
+        rt.alloc(),
+        alone(Some(empty(rt.alloc())?))?,
+        playing(TWO_PIECES),
+    )?;
     assert_eq!(rt; status, 0);
     // Three acts of the mounting, eight that open the reader, and one for each piece that is read.
     for (fails, told) in [

@@ -24,7 +24,7 @@ pub(crate) struct Run {
 /// What a run is set up with: its words, its input, the clock's times, and the calls that fail.
 #[derive(Clone, Copy)]
 pub struct Setup<'a> {
-    pub words: &'a [&'a str],
+    pub words: &'a str,
     pub script: &'a [u8],
     pub times: &'a [u64],
     pub source_fails: &'a [u64],
@@ -35,7 +35,7 @@ pub struct Setup<'a> {
 /// `play` of a script at the time 10, where nothing fails.
 pub(crate) fn playing(script: &[u8]) -> Setup<'_> {
     Setup {
-        words: &["play"],
+        words: "play",
         script,
         times: &[10],
         source_fails: &[],
@@ -59,7 +59,7 @@ struct Edge {
 
 fn edge_of(alloc: Global, setup: Setup<'_>) -> Result<Edge, NoMemory> {
     let mut words = Vec::new(alloc);
-    for word in setup.words {
+    for word in setup.words.split_whitespace() {
         words.push(Word::copy(alloc, word)?)?;
     }
     let script = Bytes::copy(alloc, setup.script)?;
