@@ -1,14 +1,27 @@
 //! Cases, and whether they hold.
-use crate::playing::Shown;
+use crate::keepers::logical;
+use crate::machines::Greeter;
+use crate::playing::{Shown, show};
+use crate::readers::{reading, sharing};
 use crate::replies::Told;
-use crate::{gathered, keepers, migrating, readers, writers};
+use crate::spelling::Line;
+use crate::writers::{handle_of, writing};
+use attr_flow::AttrFlow;
+use index_reader::{OpenRead, TruncRead};
+use migrate_core::MigrateFlow;
 use std::alloc::Global;
 use std::process::Abort;
 use std::test::Fail;
+use std::thread::Threads;
+use torn_tail::RecoverFlow;
+use trunc_rename::{RenameFlow, TruncFlow};
+use writer_flow::{CloseFlow, OpenWrite, SyncFlow};
 
 /// Which machine runs.
 #[derive(Clone, Copy)]
 pub(crate) enum Machine {
+    /// It greets once.
+    Greet,
     /// It truncates to 3 bytes.
     Truncate,
     Rename,
@@ -41,42 +54,63 @@ pub(crate) struct Case {
     pub(crate) ends: &'static str,
 }
 
-fn play(alloc: Global, case: &Case, shown: &mut Shown) -> Result<(), Fail> {
+// Takes the machine of the case through what it is told.
+fn play<R: Threads + Sync>(
+    rt: &R,
+    alloc: Global,
+    case: &Case,
+    shown: &mut Shown,
+) -> Result<(), Fail> {
+    let told = case.told;
+    let name = logical(b"a")?;
+    let other = logical(b"b")?;
     match case.machine {
-        Machine::Truncate => keepers::truncate(alloc, case.told, shown),
-        Machine::Rename => keepers::rename(alloc, case.told, shown),
-        Machine::Attr => keepers::attr(alloc, case.told, shown),
-        Machine::Recover => keepers::recover(alloc, case.told, shown),
-        Machine::Migrate => migrating::migrate(alloc, case.told, shown),
-        Machine::Find => readers::find(alloc, case.told, shown),
-        Machine::List => readers::list(alloc, case.told, shown),
-        Machine::Share { covered } => readers::share(alloc, covered, false, case.told, shown),
-        Machine::Packed { covered } => readers::share(alloc, covered, true, case.told, shown),
-        Machine::Truncates => readers::truncates(alloc, case.told, shown),
-        Machine::Read => gathered::read(alloc, case.told, shown),
-        Machine::Open => writers::open(alloc, case.told, shown),
-        Machine::Write { pending } => writers::write(alloc, pending, case.told, shown),
-        Machine::Sync { pending } => writers::sync(alloc, pending, case.told, shown),
-        Machine::Close { closing, landed } => writers::close(
-            alloc, closing, landed, case.told, shown,
+        Machine::Greet => show(alloc, Greeter { is_answered: false }, told, shown),
+        Machine::Truncate => show(alloc, TruncFlow::new(name, 3), told, shown),
+        Machine::Rename => show(alloc, RenameFlow::new(name, other), told, shown),
+        Machine::Attr => show(alloc, AttrFlow::new(alloc, name), told, shown),
+        Machine::Recover => show(alloc, RecoverFlow::new(alloc, name), told, shown),
+        Machine::Migrate => show(alloc, MigrateFlow::new(alloc, name), told, shown),
+        Machine::Find => show(alloc, OpenRead::new(alloc, name), told, shown),
+        Machine::List => show(alloc, OpenRead::at(alloc, 1), told, shown),
+        Machine::Share { covered } => show(alloc, sharing(alloc, false, covered)?, told, shown),
+        Machine::Packed { covered } => show(alloc, sharing(alloc, true, covered)?, told, shown),
+        Machine::Truncates => show(alloc, TruncRead::new(alloc, 1), told, shown),
+        Machine::Read => show(alloc, reading(rt, alloc)?, told, shown),
+        Machine::Open => show(alloc, OpenWrite::new(name, 7, 2), told, shown),
+        Machine::Write { pending } => show(alloc, writing(alloc, pending)?, told, shown),
+        Machine::Sync { pending } => show(
+            alloc,
+            SyncFlow::new(handle_of(pending, false, 5)),
+            told,
+            shown,
+        ),
+        Machine::Close { closing, landed } => show(
+            alloc,
+            CloseFlow::new(handle_of(0, closing, landed)),
+            told,
+            shown,
         ),
     }
+    Ok(())
 }
 
 /// Each of the cases holds.
-pub(crate) fn all_hold<R: Abort>(rt: &R, alloc: Global, cases: &[Case]) -> Result<(), Fail> {
+pub(crate) fn all_hold<R: Threads + Sync + Abort>(
+    rt: &R,
+    alloc: Global,
+    cases: &[Case],
+) -> Result<(), Fail> {
     for case in cases {
         let mut shown = Shown {
-            asks: String::new(alloc),
-            ends: String::new(alloc),
+            asks: Line::new(alloc),
+            ends: Line::new(alloc),
         };
-        play(alloc, case, &mut shown)?;
-        assert!(rt;
-            shown.asks.as_str() == case.asks && shown.ends.as_str() == case.ends,
-            "{}: {}",
-            shown.asks,
-            shown.ends
-        );
+        let played = play(rt, alloc, case, &mut shown);
+        let is_so = shown.asks.as_str() == case.asks && shown.ends.as_str() == case.ends;
+        assert!(rt; is_so, "{}: {}", shown.asks.as_str(), shown.ends.as_str());
+        drop(shown);
+        played?;
     }
     Ok(())
 }

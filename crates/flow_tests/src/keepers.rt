@@ -1,16 +1,13 @@
 //! The calls of who truncates, renames, looks at or recovers a file, and what comes of the replies to them.
 use crate::cases::{Case, Machine, all_hold};
-use crate::playing::{Shown, Tell, is_played, show};
+use crate::playing::Tell;
 use crate::replies::Told;
-use crate::spelling::{pair, say};
-use attr_flow::{Attr, AttrFlow, AttrOut};
-use flow::Flow;
+use crate::spelling::Line;
+use attr_flow::{Attr, AttrOut};
 use mount_model::Refusal;
-use plfs_types::{LogicalName, NoMemory};
-use std::alloc::Global;
+use plfs_types::LogicalName;
 use std::test::Fail;
-use torn_tail::{RecoverFlow, Recovered};
-use trunc_rename::{RenameFlow, TruncFlow};
+use torn_tail::Recovered;
 
 pub(crate) fn logical(bytes: &[u8]) -> Result<LogicalName, &'static str> {
     LogicalName::read(bytes).ok_or("no logical name")
@@ -18,71 +15,47 @@ pub(crate) fn logical(bytes: &[u8]) -> Result<LogicalName, &'static str> {
 
 // The stamp of a truncate.
 impl Tell for u64 {
-    fn tell(&self, line: &mut String) -> Result<(), NoMemory> {
-        say(line, "stamp", &[*self])
+    fn tell(&self, line: &mut Line) {
+        line.say("stamp", &[*self])
     }
 }
 
 impl Tell for () {
-    fn tell(&self, line: &mut String) -> Result<(), NoMemory> {
-        say(line, "renamed", &[])
+    fn tell(&self, line: &mut Line) {
+        line.say("renamed", &[])
     }
 }
 
 // The size of the file, the bytes that are stored, whose they are, and its truncates.
 impl Tell for Attr {
-    fn tell(&self, line: &mut String) -> Result<(), NoMemory> {
-        say(line, "size", &[self.size])?;
-        say(line, "stored", &[u64::try_from(self.stored).unwrap_or(0)])?;
+    fn tell(&self, line: &mut Line) {
+        line.say("size", &[self.size]);
+        line.say("stored", &[u64::try_from(self.stored).unwrap_or(0)]);
         for share in self.shares.as_slice() {
-            pair(line, share.writer, "=", share.bytes)?;
+            line.pair(share.writer, "=", share.bytes);
         }
         self.truncs.tell(line)
     }
 }
 
 impl Tell for AttrOut {
-    fn tell(&self, line: &mut String) -> Result<(), NoMemory> {
+    fn tell(&self, line: &mut Line) {
         match self {
-            AttrOut::MustMerge { room } => say(line, "merge", &[*room]),
+            AttrOut::MustMerge { room } => line.say("merge", &[*room]),
             AttrOut::Cached(attr) => attr.tell(line),
         }
     }
 }
 
 impl Tell for Recovered {
-    fn tell(&self, line: &mut String) -> Result<(), NoMemory> {
-        say(line, "buried", &[])?;
+    fn tell(&self, line: &mut Line) {
+        line.say("buried", &[]);
         for buried in self.buried.as_slice() {
-            pair(line, buried.writer, ":", buried.count)?;
+            line.pair(buried.writer, ":", buried.count);
         }
-        say(line, "alive", self.alive.as_slice())?;
-        say(line, if self.hold { "made" } else { "whole" }, &[])
+        line.say("alive", self.alive.as_slice());
+        line.say(if self.hold { "made" } else { "whole" }, &[])
     }
-}
-
-pub(crate) fn truncate(alloc: Global, told: &[Told], shown: &mut Shown) -> Result<(), Fail> {
-    let mut flow = TruncFlow::new(logical(b"a")?, 3);
-    if is_played(alloc, &mut flow, told, &mut shown.asks)? {
-        flow.out().tell(&mut shown.ends)?;
-    }
-    Ok(())
-}
-
-pub(crate) fn rename(alloc: Global, told: &[Told], shown: &mut Shown) -> Result<(), Fail> {
-    let mut flow = RenameFlow::new(logical(b"a")?, logical(b"b")?);
-    if is_played(alloc, &mut flow, told, &mut shown.asks)? {
-        flow.out().tell(&mut shown.ends)?;
-    }
-    Ok(())
-}
-
-pub(crate) fn attr(alloc: Global, told: &[Told], shown: &mut Shown) -> Result<(), Fail> {
-    show(alloc, AttrFlow::new(alloc, logical(b"a")?), told, shown)
-}
-
-pub(crate) fn recover(alloc: Global, told: &[Told], shown: &mut Shown) -> Result<(), Fail> {
-    show(alloc, RecoverFlow::new(alloc, logical(b"a")?), told, shown)
 }
 
 // ---- truncates

@@ -2,17 +2,22 @@
 ghost use Rattle.std.specs.Prelude.{if◌then◌else◌};
 ghost use Rattle.mount_model.specs.declared.call.Call.TheVariants.{Greet as AsksToGreet};
 ghost use Rattle.story.specs.Program.{done, ask};
-ghost use Rattle.flow.specs.Standing.{ready, IsFresh};
+ghost use Rattle.flow.specs.Standing.{ready};
 
+use crate::cases::{Case, Machine, all_hold};
+use crate::playing::Tell;
+use crate::replies::Told;
+use crate::spelling::Line;
 use flow::Flow;
 use mount_model::{Call, Reply};
 use plfs_types::NoMemory;
 use std::test::Fail;
+use writer_flow::{CloseFlow, OpenWrite, SyncFlow, WriteFlow};
 
 /// Greets once, and ends with a word.
 #[derive(Drop)]
-struct Greeter {
-    is_answered: bool,
+pub(crate) struct Greeter {
+    pub(crate) is_answered: bool,
 }
 
 impl Flow for Greeter {
@@ -45,21 +50,46 @@ impl Flow for Greeter {
     }
 }
 
-/// Answers each call of the machine with a fault, to its end.
-fn ended<F: Flow + Drop>(mut flow: F) -> Result<F::Out, NoMemory>
-    requires { IsFresh (F.standing flow) }
-{
-    while let Some(_) = flow.next()? {
-        flow.take(Reply::Fault)?;
+impl Tell for u8 {
+    fn tell(&self, line: &mut Line) {
+        line.say("answer", &[*self as u64])
     }
-    Ok(flow.out())
 }
+
+const CASES: [Case; 3] = [
+    Case {
+        machine: Machine::Greet,
+        told: &[Told::Fault],
+        asks: "greet",
+        ends: "answer 7",
+    },
+    // want of memory ends a machine
+    Case {
+        machine: Machine::Greet,
+        told: &[Told::NoMemory],
+        asks: "greet",
+        ends: "no-memory",
+    },
+    Case {
+        machine: Machine::Sync { pending: 0 },
+        told: &[Told::NoMemory],
+        asks: "sync-log 4294967297",
+        ends: "no-memory",
+    },
+];
 
 #[test]
 fn a_machine_is_driven_through_its_bound(rt: HostRuntime) -> Result<(), Fail> {
-    let mut greeter = Greeter { is_answered: false };
-    assert!(rt; matches!(greeter.next()?, Some(Call::Greet)));
-    assert!(rt; greeter.take(Reply::NoMemory).is_err());
-    assert!(rt; ended(greeter)? == 7);
+    all_hold(&rt, rt.alloc(), &CASES)
+}
+
+fn crosses<T: Send>() {}
+
+#[test]
+fn machines_cross_threads(_rt: HostRuntime) -> Result<(), Fail> {
+    crosses::<OpenWrite>();
+    crosses::<WriteFlow>();
+    crosses::<SyncFlow>();
+    crosses::<CloseFlow>();
     Ok(())
 }

@@ -1,26 +1,19 @@
 //! The calls of who packs the closed writers of a file, and what comes of the replies to them.
 use crate::cases::{Case, Machine, all_hold};
-use crate::keepers::logical;
-use crate::playing::{Shown, Tell, show};
+use crate::playing::Tell;
 use crate::replies::Told;
-use crate::spelling::say;
-use migrate_core::{MigrateFlow, Migrated};
+use crate::spelling::Line;
+use migrate_core::Migrated;
 use mount_model::Refusal;
-use plfs_types::NoMemory;
-use std::alloc::Global;
 use std::test::Fail;
 
 impl Tell for Migrated {
-    fn tell(&self, line: &mut String) -> Result<(), NoMemory> {
+    fn tell(&self, line: &mut Line) {
         let entries = u64::try_from(self.entries).unwrap_or(0);
         let runs = u64::try_from(self.runs).unwrap_or(0);
-        say(line, "migrated", &[self.writers, entries, runs])?;
-        say(line, "left", &[self.left])
+        line.say("migrated", &[self.writers, entries, runs]);
+        line.say("left", &[self.left])
     }
-}
-
-pub(crate) fn migrate(alloc: Global, told: &[Told], shown: &mut Shown) -> Result<(), Fail> {
-    show(alloc, MigrateFlow::new(alloc, logical(b"a")?), told, shown)
 }
 
 const TOP: Told = Told::Names(&["access", "flats", "hostdir.0", "metadata", "truncs"]);

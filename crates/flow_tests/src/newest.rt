@@ -1,5 +1,5 @@
 //! A reader's machines over sets of writes, against the newest write asked byte by byte.
-ghost use Rattle.std.specs.Prelude.{◌<◌, ◌≤◌, IfOk};
+ghost use Rattle.std.specs.Prelude.{IfOk};
 ghost use Rattle.flow.specs.Standing.{IsFresh};
 ghost use Rattle.index_reader.specs.Listing as listed;
 
@@ -32,26 +32,21 @@ fn ended<F: Flow + Drop>(alloc: Global, set: &Set, mut flow: F) -> Result<F::Out
     requires { IsFresh (F.standing flow) }
 {
     while let Some(call) = flow.next()? {
-        flow.take(replied(alloc, set, &call))?;
+        let reply = replied(alloc, set, &call);
+        drop(call);
+        flow.take(reply)?;
     }
     Ok(flow.out())
 }
 
-fn dropping(place: usize) -> Dropping
-    requires { place < 3 }
-{
-    let (writer, host) = WRITERS[place];
-    Dropping {
+fn dropping(letter: char) -> Result<Dropping, Fail> {
+    let place = "abc".find(letter).ok_or("no writer")?;
+    let (writer, host) = *WRITERS.get(place).ok_or("no writer")?;
+    Ok(Dropping {
         host,
         writer,
         packed: false,
-    }
-}
-
-fn share_of(alloc: Global, set: &Set, droppings: DroppingList) -> Result<Share, Fail> {
-    let flow = ShareRead::new(alloc, 1, droppings, CoverList::new(alloc));
-    let share = ended(alloc, set, flow)?.ok().ok_or("no share")?;
-    Ok(share)
+    })
 }
 
 fn listing(alloc: Global) -> Result<Listing, Fail>
@@ -59,12 +54,12 @@ fn listing(alloc: Global) -> Result<Listing, Fail>
 {
     let all = [
         Dropping {
-            host: 7,
+            host: 33,
             writer: 3,
             packed: false,
         },
         Dropping {
-            host: 33,
+            host: 7,
             writer: 9,
             packed: false,
         },
@@ -87,32 +82,35 @@ fn listing(alloc: Global) -> Result<Listing, Fail>
     })
 }
 
-fn add(
-    alloc: Global,
-    set: &Set,
-    shares: &mut ShareList,
-    droppings: Vec<Dropping>,
-) -> Result<(), Fail> {
-    let share = share_of(alloc, set, DroppingList::from_vec(droppings))?;
-    shares.push(share)?;
+// The share of a worker, to whom these writers are given.
+fn share_of(alloc: Global, set: &Set, letters: &str) -> Result<Share, Fail> {
+    let mut droppings = DroppingList::new(alloc);
+    for letter in letters.chars() {
+        droppings.push(dropping(letter)?)?;
+    }
+    let flow = ShareRead::new(alloc, 1, droppings, CoverList::new(alloc));
+    let share = ended(alloc, set, flow)?.ok().ok_or("no share")?;
+    Ok(share)
+}
+
+// The share of each of the workers.
+fn add_each(alloc: Global, set: &Set, workers: &str, shares: &mut ShareList) -> Result<(), Fail> {
+    for letters in workers.split_whitespace() {
+        let share = share_of(alloc, set, letters)?;
+        shares.push(share)?;
+    }
     Ok(())
 }
 
-// The shares of two workers.
-fn add_both(alloc: Global, set: &Set, shares: &mut ShareList) -> Result<(), Fail> {
-    add(alloc, set, shares, vec![in alloc; dropping(0)]?)?;
-    add(
-        alloc,
-        set,
-        shares,
-        vec![in alloc; dropping(1), dropping(2)]?,
-    )
-}
-
-// The shares of two workers as one.
-fn joined<R: Threads + Sync>(rt: &R, alloc: Global, set: &Set) -> Result<ShareList, Fail> {
+/// The shares of the workers, each a word of its writers, as one.
+pub(crate) fn joined<R: Threads + Sync>(
+    rt: &R,
+    alloc: Global,
+    set: &Set,
+    workers: &str,
+) -> Result<ShareList, Fail> {
     let mut shares = ShareList::new(alloc);
-    if let Err(fail) = add_both(alloc, set, &mut shares) {
+    if let Err(fail) = add_each(alloc, set, workers, &mut shares) {
         drop(shares);
         return Err(fail);
     }
@@ -120,14 +118,18 @@ fn joined<R: Threads + Sync>(rt: &R, alloc: Global, set: &Set) -> Result<ShareLi
     Ok(ShareList::from_vec(vec![in alloc; share]?))
 }
 
-// What two workers gather.
-fn gathered<R: Threads + Sync>(rt: &R, alloc: Global, set: &Set) -> Result<Gathered, Fail>
+/// What two workers gather.
+pub(crate) fn gathered<R: Threads + Sync>(
+    rt: &R,
+    alloc: Global,
+    set: &Set,
+) -> Result<Gathered, Fail>
     ensures { IfOk result (λ all. listed.AreByWriter all.droppings) }
 {
     let truncs = ended(alloc, set, TruncRead::new(alloc, 1))?
         .ok()
         .ok_or("no truncates")?;
-    let shares = match joined(rt, alloc, set) {
+    let shares = match joined(rt, alloc, set, "a bc") {
         Ok(shares) => shares,
         Err(fail) => {
             drop(truncs);
@@ -144,42 +146,45 @@ fn gathered<R: Threads + Sync>(rt: &R, alloc: Global, set: &Set) -> Result<Gathe
     Ok(gather(alloc, listing, shares, truncs)?)
 }
 
-// What is to be read there.
-fn bytes_of(alloc: Global, set: &Set, at: u64, len: u64) -> Result<Vec<u8>, NoMemory> {
-    let mut all = Vec::new(alloc);
-    for x in at..at.saturating_add(len).min(size(set)) {
-        all.push(newest(set, x))?;
+// Whether these are the bytes that are to be read there, up to the end of the file.
+fn are_newest(set: &Set, at: u64, len: u64, bytes: &[u8]) -> bool {
+    let end = at.saturating_add(len).min(size(set));
+    if bytes.len() as u64 != end.saturating_sub(at) {
+        return false;
     }
-    Ok(all)
+    let mut x = at;
+    for byte in bytes {
+        if *byte != newest(set, x) {
+            return false;
+        }
+        x = x.saturating_add(1);
+    }
+    true
 }
 
 // Whether a read of so many bytes gives them.
-fn reads(alloc: Global, set: &Set, reader: &OpenReader, at: u64, len: u64) -> Result<bool, Fail>
-    requires { len ≤ 64 }
-{
+fn reads(alloc: Global, set: &Set, reader: &OpenReader, at: u64, len: u64) -> Result<bool, Fail> {
     let at = set.from.saturating_add(at);
-    let flow = Reading::new(alloc, reader, at, len)?;
+    let flow = Reading::new(alloc, reader, at, len.min(64))?;
     let given = ended(alloc, set, flow)?.ok().ok_or("no bytes")?;
-    let want = bytes_of(alloc, set, at, len)?;
-    Ok(given.as_slice() == want.as_slice())
+    Ok(are_newest(set, at, len, given.as_slice()))
 }
 
-// Whether all of these reads do.
-fn reads_each(alloc: Global, set: &Set, reader: &OpenReader) -> Result<bool, Fail> {
-    Ok(
-        reads(alloc, set, reader, 0, 64)?
-            && reads(alloc, set, reader, 7, 20)?
-            && reads(alloc, set, reader, 31, 1)?,
-    )
+// Whether the file is as long as it should be, and all of these reads give its bytes.
+fn is_shown(alloc: Global, set: &Set, reader: &OpenReader) -> Result<bool, Fail> {
+    let mut is_so = reader.size() == size(set);
+    for (at, len) in [(0, 64), (7, 20), (31, 1)] {
+        is_so = is_so && reads(alloc, set, reader, at, len)?;
+    }
+    Ok(is_so)
 }
 
-fn shows<R: Threads + Sync>(rt: &R, alloc: Global, set: &Set) -> Result<bool, Fail> {
-    let reader = OpenReader::new(alloc, gathered(rt, alloc, set)?)?;
-    let is_long = reader.size() == size(set);
-    let shown = reads_each(alloc, set, &reader);
-    drop(reader);
-    let shown = shown?;
-    Ok(is_long && shown)
+fn shows<R: Threads + Sync>(rt: &R, alloc: Global, line: &str, from: u64) -> Result<bool, Fail> {
+    let set = read(alloc, line, from)?;
+    let reader = OpenReader::new(alloc, gathered(rt, alloc, &set)?)?;
+    let shown = is_shown(alloc, &set, &reader);
+    drop((reader, set));
+    shown
 }
 
 fn all_show<R: Threads + Sync + Abort>(
@@ -189,8 +194,8 @@ fn all_show<R: Threads + Sync + Abort>(
     from: u64,
 ) -> Result<(), Fail> {
     for line in sets.lines() {
-        let set = read(alloc, line, from)?;
-        assert!(rt; shows(rt, alloc, &set)?, "{line}");
+        let is_shown = shows(rt, alloc, line, from)?;
+        assert!(rt; is_shown, "{line}");
     }
     Ok(())
 }

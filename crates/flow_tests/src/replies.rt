@@ -21,6 +21,7 @@ pub(crate) enum Told {
     Refused(Refusal),
     Foreign,
     Fault,
+    NoMemory,
     /// A listing of these names.
     Names(&'static [&'static str]),
     /// The length of a file.
@@ -106,6 +107,7 @@ pub(crate) fn reply_of(alloc: Global, told: Told) -> Result<Reply, NoMemory> {
             file: Name::empty(),
         },
         Told::Fault => Reply::Fault,
+        Told::NoMemory => Reply::NoMemory,
         _ => Reply::Looked(answer(alloc, told)?),
     })
 }

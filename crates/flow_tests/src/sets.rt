@@ -59,29 +59,33 @@ a@5:20+8 b@7:38+2 @6:40
 @1:40
 ";
 
-fn number(text: &str) -> Result<u64, Fail> {
-    let number = text.parse::<u64>().ok().ok_or("not a number")?;
-    Ok(number)
+// The writer, the stamp, the place or the size, and the length of a word; 0 stands for a length that it hasn't.
+fn parts(word: &str) -> Option<(Option<usize>, u64, u64, u64)> {
+    let (letter, rest) = word.split_once('@')?;
+    let (stamp, what) = rest.split_once(':')?;
+    let (at, len) = what.split_once('+').unwrap_or((what, "0"));
+    let stamp = stamp.parse::<u64>().ok()?;
+    let at = at.parse::<u64>().ok()?;
+    let len = len.parse::<u64>().ok()?;
+    Some(("abc".find(letter), stamp, at, len))
 }
 
 fn add(set: &mut Set, word: &str) -> Result<(), Fail> {
-    let (letter, rest) = word.split_once('@').ok_or("no writer")?;
-    let (stamp, what) = rest.split_once(':').ok_or("no stamp")?;
-    let stamp = number(stamp)?;
-    let Some((at, len)) = what.split_once('+') else {
-        let size = set.from.saturating_add(number(what)?);
-        set.truncs.push((stamp, size))?;
+    let (writer, stamp, at, len) = parts(word).ok_or("no write and no truncate")?;
+    let at = set.from.saturating_add(at);
+    if len == 0 {
+        set.truncs.push((stamp, at))?;
         return Ok(());
-    };
-    let writer = "abc".find(letter).ok_or("no writer")?;
-    let write = Write {
+    }
+    let writer = writer.ok_or("no writer")?;
+    let place = logged(set, writer);
+    set.writes.push(Write {
         writer,
-        at: set.from.saturating_add(number(at)?),
-        len: number(len)?,
-        place: logged(set, writer),
+        at,
+        len,
+        place,
         stamp,
-    };
-    set.writes.push(write)?;
+    })?;
     Ok(())
 }
 

@@ -24,11 +24,11 @@ pub(crate) struct Set {
 }
 
 /// The writers, and their hosts.
-pub(crate) const WRITERS: [(u64, u32); 3] = [(3, 7), (9, 33), (20, 0)];
+pub(crate) const WRITERS: [(u64, u32); 3] = [(3, 33), (9, 7), (20, 0)];
 
 const FILES: [(&str, &str); 3] = [
-    ("index.7.3", "log.7.3"),
-    ("index.33.9", "log.33.9"),
+    ("index.33.3", "log.33.3"),
+    ("index.7.9", "log.7.9"),
     ("index.0.20", "log.0.20"),
 ];
 

@@ -2,7 +2,9 @@
 use crate::rows::{Row, play_rows};
 use std::test::Fail;
 
-const OVERLAPS: &[Row] = &[
+const ACTORS: &[Row] = &[
+    // ---- writers overlap
+
     // The later stamp wins.
     (
         "actor w1\nactor w2\nw1 open f\nw2 open f\nw1 write 0 text:AAAA\nw2 write 1 text:BB\nw1 close\nw2 close\nw1 ropen f 2\nw1 read 0 4\nw1 map\n",
@@ -31,14 +33,8 @@ const OVERLAPS: &[Row] = &[
         0,
         "3 open 4294967297\n4 open 4294967298\n5 wrote 0 4 20\n6 wrote 1 2 10\n7 closed 1\n8 closed 1\n9 reader 4 cut 4294967297:1,4294967298:1 trunc -\n10 read 0 41414141\n11 map 0+4=20.4294967297@0\n",
     ),
-];
+    // ---- turns are taken as they are written
 
-#[test]
-fn writers_overlap(rt: HostRuntime) -> Result<(), Fail> {
-    play_rows(&rt, rt.alloc(), OVERLAPS)
-}
-
-const TURNS: &[Row] = &[
     // Each turn is one call, after what needs none; a greeting takes no turn; what is left is carried on as it is written.
     (
         "actor a\nactor b\na open f\nb ropen f\nb read 0 1\nturn a 1\nturn b 3\n",
@@ -81,14 +77,8 @@ const TURNS: &[Row] = &[
         1,
         "2 open 4294967297\n3 wrote 3 2 10\n4 wrote 1099511627772 4 11\n5 refused too-far\n6 closed 2\n7 reader 1099511627776 cut 4294967297:2 trunc -\n8 read 0 0000005a5a00000000\n9 same\n10 differs 5\n11 same\n12 differs 1099511627776\n13 same\n14 rclosed\n15 refused not-open\n",
     ),
-];
+    // ---- stopped actors make no further call
 
-#[test]
-fn turns_are_taken_as_they_are_written(rt: HostRuntime) -> Result<(), Fail> {
-    play_rows(&rt, rt.alloc(), TURNS)
-}
-
-const STOPS: &[Row] = &[
     // Within a flush of three entries after 85 bytes: two of them have landed, and the writer never closes.
     (
         "actor a\nactor b\na open f\na write 0 text:A\na write 1 text:B\na write 2 text:C\na stop 2 85\na sync\na close\nb ropen f\nb read 0 9\n",
@@ -113,6 +103,6 @@ const STOPS: &[Row] = &[
 ];
 
 #[test]
-fn stopped_actors_make_no_further_call(rt: HostRuntime) -> Result<(), Fail> {
-    play_rows(&rt, rt.alloc(), STOPS)
+fn actors_overlap_take_turns_and_stop(rt: HostRuntime) -> Result<(), Fail> {
+    play_rows(&rt, rt.alloc(), ACTORS)
 }

@@ -1,6 +1,7 @@
 //! What is done to one store, one thing after the other: runs, and changes from outside.
-use crate::runs::{Setup, ends, playing, run_on};
+use crate::runs::{Setup, Under, alone, empty, ends, playing, run_on};
 use plfs_types::{Name, NoMemory, Path};
+use spread_store::Backing;
 use std::alloc::Global;
 use std::process::Abort;
 use std::test::Fail;
@@ -10,8 +11,10 @@ use store_memory::{Fail as Planned, FailList, Keep, KeepList, MemoryStore};
 /// What is done to a store. Rooms have their numbers, folders and files their names.
 #[derive(Clone, Copy)]
 pub(crate) enum Deed {
+    /// The store is an empty one, of which this act faults and leaves so many bytes.
+    Faults(u64, u64),
     /// A run at the time 10: its words and its script, its status, and what it prints.
-    Run(&'static [&'static str], &'static str, u8, &'static str),
+    Run(&'static str, &'static str, u8, &'static str),
     Room(&'static str),
     Folder(u64, &'static str),
     NoFolder(u64, &'static str),
@@ -27,17 +30,17 @@ pub(crate) enum Deed {
     Has(u64, &'static str, &'static str, &'static [u8]),
 }
 
-/// The acts that fault, each with how many bytes it leaves, and what is done to an empty store.
-pub(crate) type Session = (&'static [(u64, u64)], &'static [Deed]);
+/// What is done to an empty store.
+pub(crate) type Session = &'static [Deed];
 
 fn name(text: &str) -> Name {
     Name::from_bytes(text.as_bytes()).unwrap_or(Name::empty())
 }
 
-// The step of a deed. A run and a loss have none of their own.
+// The step of a deed. Faults, a run and a loss have none of their own.
 fn step_of(deed: Deed) -> Step<'static> {
     match deed {
-        Deed::Run(..) | Deed::Loss(..) => Step::Rooms,
+        Deed::Faults(..) | Deed::Run(..) | Deed::Loss(..) => Step::Rooms,
         Deed::Room(room) => Step::MakeRoom {
             name: name(room),
             folders: &[],
@@ -95,64 +98,81 @@ fn is_made(answer: &Answer) -> bool {
     matches!(answer, Answer::Made | Answer::Number { .. })
 }
 
-fn run(
-    rt: &impl Abort,
-    alloc: Global,
-    store: MemoryStore,
-    words: &[&str],
-    script: &str,
-    status: u8,
-    output: &str,
-) -> Result<MemoryStore, Fail> {
-    let run = run_on(
-        alloc,
-        store,
-        Setup {
-            words,
-            ..playing(script.as_bytes())
-        },
-    )?;
-    ends(rt, &run, status, output);
-    Ok(run.store.ok_or("no store")?)
-}
-
-fn act(rt: &impl Abort, store: &mut MemoryStore, deed: Deed) -> Result<(), Fail> {
-    let told = store.act(&step_of(deed));
-    let answer = told.ok().ok_or("a fault")?;
-    let is_done = match deed {
-        Deed::Has(_, _, _, bytes) => has(&answer, bytes),
-        _ => is_made(&answer),
-    };
-    assert!(rt; is_done);
-    Ok(())
+// Whether the step of the deed is done, and answered as it says.
+fn is_done(store: &mut Under, deed: Deed) -> bool {
+    match store.act(&step_of(deed)) {
+        Ok(answer) => {
+            let is_so = match deed {
+                Deed::Has(_, _, _, bytes) => has(&answer, bytes),
+                _ => is_made(&answer),
+            };
+            drop(answer);
+            is_so
+        }
+        Err(_) => false,
+    }
 }
 
 fn lost(
     alloc: Global,
-    store: MemoryStore,
+    store: Under,
     room: u64,
     folder: &str,
     file: &str,
     extra: u64,
-) -> Result<MemoryStore, NoMemory> {
+) -> Result<Under, Fail> {
+    let store = alone(Some(store))?;
     let path = Path {
         folder: name(folder),
         file: name(file),
     };
-    let mut keeps = KeepList::new(alloc);
-    keeps.push(Keep { room, path, extra })?;
-    Ok(store.lose(keeps))
+    let keeps = KeepList::from_vec(vec![in alloc; Keep { room, path, extra }]?);
+    Ok(Backing::One(store.lose(keeps)))
 }
 
-fn planned(alloc: Global, fails: &[(u64, u64)]) -> Result<MemoryStore, Fail> {
-    let mut planned = FailList::new(alloc);
-    for (act, part) in fails {
-        planned.push(Planned {
-            act: *act,
-            part: *part,
-        })?;
+// The store once the deed is done, which is as it says.
+fn done(rt: &impl Abort, alloc: Global, mut store: Under, deed: Deed) -> Result<Under, Fail> {
+    match deed {
+        Deed::Faults(act, part) => {
+            drop(store);
+            Ok(Backing::One(planned(alloc, act, part)?))
+        }
+        Deed::Run(words, script, status, output) => {
+            let setup = Setup {
+                words,
+                ..playing(script.as_bytes())
+            };
+            let run = run_on(alloc, store, setup)?;
+            ends(rt, run, status, output)
+        }
+        Deed::Loss(room, folder, file, extra) => lost(alloc, store, room, folder, file, extra),
+        other => {
+            let is_so = is_done(&mut store, other);
+            assert!(rt; is_so);
+            Ok(store)
+        }
     }
-    Ok(MemoryStore::new(alloc, planned)?)
+}
+
+/// Each of the deeds is done to this store, one after the other.
+pub(crate) fn play_deeds(
+    rt: &impl Abort,
+    alloc: Global,
+    store: Under,
+    deeds: &[Deed],
+) -> Result<(), Fail> {
+    let mut store = store;
+    for deed in deeds {
+        store = done(rt, alloc, store, *deed)?;
+    }
+    drop(store);
+    Ok(())
+}
+
+/// An empty store of which this act faults, and leaves so many bytes.
+pub(crate) fn planned(alloc: Global, act: u64, part: u64) -> Result<MemoryStore, NoMemory> {
+    let fails = FailList::from_vec(vec![in alloc; Planned { act, part }]?);
+    MemoryStore::new(alloc, fails)
 }
 
 /// In each of the sessions each run ends so, and each deed is done.
@@ -161,22 +181,8 @@ pub(crate) fn play_sessions(
     alloc: Global,
     sessions: &[Session],
 ) -> Result<(), Fail> {
-    for (fails, deeds) in sessions {
-        let mut store = planned(alloc, fails)?;
-        for deed in *deeds {
-            store = match *deed {
-                Deed::Run(words, script, status, output) => {
-                    run(rt, alloc, store, words, script, status, output)?
-                }
-                Deed::Loss(room, folder, file, extra) => {
-                    lost(alloc, store, room, folder, file, extra)?
-                }
-                other => {
-                    act(rt, &mut store, other)?;
-                    store
-                }
-            };
-        }
+    for deeds in sessions {
+        play_deeds(rt, alloc, empty(alloc)?, deeds)?;
     }
     Ok(())
 }

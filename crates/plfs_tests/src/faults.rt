@@ -1,11 +1,11 @@
 //! Scripts of which each act of the store faults in turn, or whose actor stops in each of its calls, and what a recovery
 //! makes of what they left.
-use crate::runs::{Setup, playing, run_on};
+use crate::deeds::planned;
+use crate::runs::{Setup, empty, ended, playing, run_on};
 use plfs_types::NoMemory;
 use std::alloc::Global;
 use std::str;
 use std::test::Fail;
-use store_memory::{Fail as Planned, FailList, MemoryStore};
 
 // A writer that stops in a flush, a reader beside it, and its recovery.
 const STOPPED: &[u8] =
@@ -14,42 +14,31 @@ const STOPPED: &[u8] =
 // The acts of the script.
 const ACTS: u64 = 42;
 
-fn failing(alloc: Global, act: u64, part: u64) -> Result<MemoryStore, Fail> {
-    let mut planned = FailList::new(alloc);
-    planned.push(Planned { act, part })?;
-    Ok(MemoryStore::new(alloc, planned)?)
+// A command over a store.
+fn command(words: &str) -> Setup<'_> {
+    Setup {
+        words,
+        ..playing(b"")
+    }
 }
 
-// The status of a command over this store, and the store.
-fn after(
-    alloc: Global,
-    store: MemoryStore,
-    words: &[&str],
-) -> Result<(u8, Option<MemoryStore>), Fail> {
-    let run = run_on(
-        alloc,
-        store,
-        Setup {
-            words,
-            ..playing(b"")
-        },
-    )?;
-    Ok((run.status, run.store))
+// The statuses of the script of which this act faults and leaves so many bytes, of a recovery after it, and of what is
+// told of the file then.
+fn statuses(alloc: Global, act: u64, part: u64) -> Result<(u8, u8, u8), Fail> {
+    let store = planned(alloc, act, part)?;
+    let (first, _, store) = ended(alloc, store, playing(STOPPED))?;
+    let (recovered, _, store) = ended(alloc, store, command("recover f"))?;
+    let (told, _, store) = ended(alloc, store, command("stat f"))?;
+    drop(store);
+    Ok((first, recovered, told))
 }
 
 #[test]
 fn no_fault_leaves_damage(rt: HostRuntime) -> Result<(), Fail> {
     for act in 0..ACTS {
         for part in [0, 20] {
-            let first = run_on(
-                rt.alloc(),
-                failing(rt.alloc(), act, part)?,
-                playing(STOPPED),
-            )?;
-            let store = first.store.ok_or("no store")?;
-            let (recovered, store) = after(rt.alloc(), store, &["recover", "f"])?;
-            let (told, _) = after(rt.alloc(), store.ok_or("no store")?, &["stat", "f"])?;
-            assert!(rt; first.status != 7 && recovered <= 1 && told <= 1);
+            let (first, recovered, told) = statuses(rt.alloc(), act, part)?;
+            assert!(rt; first != 7 && recovered <= 1 && told <= 1);
         }
     }
     Ok(())
@@ -104,16 +93,26 @@ fn is_recovered(lines: &str) -> bool {
         && lines.split_once("busy").is_none()
 }
 
+// Whether the script plays on, and the actor is buried.
+fn is_buried(alloc: Global, script: &str) -> Result<bool, NoMemory> {
+    let run = run_on(alloc, empty(alloc)?, playing(script.as_bytes()))?;
+    let is_so = run.status <= 1
+        && match str::from_utf8(run.output.as_slice()) {
+            Ok(lines) => is_recovered(lines),
+            Err(_) => false,
+        };
+    drop(run);
+    Ok(is_so)
+}
+
 #[test]
 fn whoever_stopped_is_buried_by_a_recovery(rt: HostRuntime) -> Result<(), Fail> {
     for (part, (_, calls)) in PARTS.iter().enumerate() {
         for call in 1..=*calls {
             for bytes in [0, 1, 41, 120] {
                 let script = stopping(rt.alloc(), part, call, bytes)?;
-                let store = MemoryStore::new(rt.alloc(), FailList::new(rt.alloc()))?;
-                let run = run_on(rt.alloc(), store, playing(script.as_bytes()))?;
-                let lines = str::from_utf8(run.output.as_slice()).ok().ok_or("no text")?;
-                assert!(rt; run.status <= 1 && is_recovered(lines), "{script}: {lines}");
+                let is_so = is_buried(rt.alloc(), script.as_str())?;
+                assert!(rt; is_so, "{script}");
             }
         }
     }

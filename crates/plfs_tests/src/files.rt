@@ -1,8 +1,10 @@
 //! Statements on whole files, with their lines.
-use crate::rows::{Row, play_rows};
+use crate::rows::{Row, play_row};
+use crate::runs::empty;
+use crate::several::as_one;
 use std::test::Fail;
 
-pub(crate) const FILES: &[Row] = &[
+const FILES: &[Row] = &[
     // A truncate hides what was written before it, a further one upward shows zeros, and later writes come after both.
     (
         "actor a\na open f\na write 0 text:ABCDEF\na close\na trunc f 2\na trunc f 4\na ropen f\na read 0 9\na rclose\na open f\na write 3 text:Z\na close\na ropen f\na read 0 9\n",
@@ -111,6 +113,12 @@ pub(crate) const FILES: &[Row] = &[
 ];
 
 #[test]
-fn files_are_cut_renamed_told_of_and_recovered(rt: HostRuntime) -> Result<(), Fail> {
-    play_rows(&rt, rt.alloc(), FILES)
+fn files_are_cut_renamed_told_of_and_recovered_also_over_three_stores(
+    rt: HostRuntime,
+) -> Result<(), Fail> {
+    for row in FILES {
+        play_row(&rt, rt.alloc(), empty(rt.alloc())?, row)?;
+        play_row(&rt, rt.alloc(), as_one(rt.alloc())?, row)?;
+    }
+    Ok(())
 }

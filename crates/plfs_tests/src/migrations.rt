@@ -1,5 +1,5 @@
 //! Containers whose closed writers are packed.
-use crate::deeds::Deed::{Has, Put, Run};
+use crate::deeds::Deed::{Faults, Has, Put, Run};
 use crate::deeds::{Session, play_sessions};
 use std::test::Fail;
 
@@ -28,79 +28,65 @@ const PACKED: &[u8] =
 
 const MIGRATED: &[Session] = &[
     // A checkpoint is told and read as before, also beside writers that are not packed.
-    (
-        &[],
-        &[
-            Run(&["gen", "2"], "", 0, SUMMARY),
-            Run(&["stat", "gen2"], "", 0, TOLD),
-            Run(&["migrate", "gen2"], "", 0, "migrated 2 64 2 left 0\n"),
-            Has(1, "hostdir.0", "index2.0.4294967297", PACKED),
-            Run(&["migrate", "gen2"], "", 0, "migrated 0 0 0 left 0\n"),
-            Run(&["stat", "gen2"], "", 0, TOLD),
-            Run(&["gen", "2"], "", 0, SUMMARY),
-        ],
-    ),
+    &[
+        Run("gen 2", "", 0, SUMMARY),
+        Run("stat gen2", "", 0, TOLD),
+        Run("migrate gen2", "", 0, "migrated 2 64 2 left 0\n"),
+        Has(1, "hostdir.0", "index2.0.4294967297", PACKED),
+        Run("migrate gen2", "", 0, "migrated 0 0 0 left 0\n"),
+        Run("stat gen2", "", 0, TOLD),
+        Run("gen 2", "", 0, SUMMARY),
+    ],
     // A writer that is open, or was left open, is packed once a recovery has closed it.
-    (
-        &[],
-        &[
-            Run(&["play"], THREE, 0, THREE_LINES),
-            Run(&["map", "f"], "", 0, MAP),
-            Run(&["migrate", "f"], "", 0, "migrated 2 6 3 left 0\n"),
-            Run(&["map", "f"], "", 0, MAP),
-            Run(&["cat", "f"], "", 0, "AADGBBFECC"),
-            Run(
-                &["recover", "f"],
-                "",
-                0,
-                "0 recovered 4294967299:1 alive - hold no\n",
-            ),
-            Run(&["migrate", "f"], "", 0, "migrated 1 1 1 left 0\n"),
-            Run(&["migrate", "f"], "", 0, "migrated 0 0 0 left 0\n"),
-            Run(&["map", "f"], "", 0, MAP),
-            Run(&["cat", "f"], "", 0, "AADGBBFECC"),
-        ],
-    ),
+    &[
+        Run("play", THREE, 0, THREE_LINES),
+        Run("map f", "", 0, MAP),
+        Run("migrate f", "", 0, "migrated 2 6 3 left 0\n"),
+        Run("map f", "", 0, MAP),
+        Run("cat f", "", 0, "AADGBBFECC"),
+        Run(
+            "recover f",
+            "",
+            0,
+            "0 recovered 4294967299:1 alive - hold no\n",
+        ),
+        Run("migrate f", "", 0, "migrated 1 1 1 left 0\n"),
+        Run("migrate f", "", 0, "migrated 0 0 0 left 0\n"),
+        Run("map f", "", 0, MAP),
+        Run("cat f", "", 0, "AADGBBFECC"),
+    ],
     // There is no such file, and one of no writers.
-    (
-        &[],
-        &[
-            Run(&["migrate", "f"], "", 1, "0 refused no-file\n"),
-            Run(
-                &["play"],
-                "actor a\na open f\na close\n",
-                0,
-                "2 open 8589934593\n3 closed 0\n",
-            ),
-            Run(&["migrate", "f"], "", 0, "migrated 0 0 0 left 0\n"),
-        ],
-    ),
+    &[
+        Run("migrate f", "", 1, "0 refused no-file\n"),
+        Run(
+            "play",
+            "actor a\na open f\na close\n",
+            0,
+            "2 open 8589934593\n3 closed 0\n",
+        ),
+        Run("migrate f", "", 0, "migrated 0 0 0 left 0\n"),
+    ],
     // The mounting broke off.
-    (&[(1, 0)], &[Run(&["migrate", "f"], "", 4, "0 fault\n")]),
+    &[Faults(1, 0), Run("migrate f", "", 4, "0 fault\n")],
     // The packed index is put, of which 10 bytes are left, and a later run makes another one.
-    (
-        &[(25, 10)],
-        &[
-            Run(&["play"], ONE, 0, ONE_LINES),
-            Run(&["migrate", "f"], "", 4, "0 fault\n"),
-            Run(&["migrate", "f"], "", 0, "migrated 1 1 1 left 0\n"),
-            Run(&["cat", "f"], "", 0, "hello"),
-        ],
-    ),
+    &[
+        Faults(25, 10),
+        Run("play", ONE, 0, ONE_LINES),
+        Run("migrate f", "", 4, "0 fault\n"),
+        Run("migrate f", "", 0, "migrated 1 1 1 left 0\n"),
+        Run("cat f", "", 0, "hello"),
+    ],
     // A damaged entry ends it.
-    (
-        &[],
-        &[
-            Run(&["play"], ONE, 0, ONE_LINES),
-            Put(1, "hostdir.0", "index.0.4294967297", 0, &[0; 40]),
-            Run(
-                &["migrate", "f"],
-                "",
-                7,
-                "0 damaged hostdir.0/index.0.4294967297 0\n",
-            ),
-        ],
-    ),
+    &[
+        Run("play", ONE, 0, ONE_LINES),
+        Put(1, "hostdir.0", "index.0.4294967297", 0, &[0; 40]),
+        Run(
+            "migrate f",
+            "",
+            7,
+            "0 damaged hostdir.0/index.0.4294967297 0\n",
+        ),
+    ],
 ];
 
 #[test]

@@ -1,5 +1,5 @@
 //! Scripts of one actor, each played over an empty store, with their lines.
-use crate::runs::{Setup, ends, playing, run_fresh};
+use crate::runs::{Setup, Under, empty, ends, playing, run_on};
 use std::alloc::Global;
 use std::process::Abort;
 use std::test::Fail;
@@ -7,17 +7,27 @@ use std::test::Fail;
 /// A script with the clock's times, its status, and the lines that it prints.
 pub(crate) type Row = (&'static str, &'static [u64], u8, &'static str);
 
-/// Each script prints its lines.
+/// The script of the row prints its lines over this store.
+pub(crate) fn play_row(
+    rt: &impl Abort,
+    alloc: Global,
+    store: Under,
+    row: &Row,
+) -> Result<(), Fail> {
+    let (script, times, status, output) = row;
+    let setup = Setup {
+        times,
+        ..playing(script.as_bytes())
+    };
+    let run = run_on(alloc, store, setup)?;
+    drop(ends(rt, run, *status, output)?);
+    Ok(())
+}
+
+/// Each script prints its lines over an empty store.
 pub(crate) fn play_rows(rt: &impl Abort, alloc: Global, rows: &[Row]) -> Result<(), Fail> {
-    for (script, times, status, output) in rows {
-        let run = run_fresh(
-            alloc,
-            Setup {
-                times,
-                ..playing(script.as_bytes())
-            },
-        )?;
-        ends(rt, &run, *status, output);
+    for row in rows {
+        play_row(rt, alloc, empty(alloc)?, row)?;
     }
     Ok(())
 }

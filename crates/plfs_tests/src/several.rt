@@ -2,10 +2,11 @@
 ghost use Rattle.std.specs.Prelude.{◌≡◌, All, IfOk, length};
 ghost use Rattle.plfs_tests.specs.Fresh.{IsFresh};
 
-use crate::files::FILES;
-use crate::runs::{Setup, ends, playing, run_on};
+use crate::deeds::Deed::Run;
+use crate::deeds::{Deed, play_deeds};
+use crate::runs::Under;
 use plfs_types::NoMemory;
-use spread_store::{Spread, StoreList};
+use spread_store::{Backing, Spread, StoreList};
 use std::alloc::Global;
 use std::test::Fail;
 use store_memory::{FailList, MemoryStore};
@@ -33,52 +34,30 @@ fn three(alloc: Global) -> Result<Spread<MemoryStore>, NoMemory> {
     }
 }
 
-#[test]
-fn files_over_three_stores_have_the_same_lines(rt: HostRuntime) -> Result<(), Fail> {
-    for (script, times, status, output) in FILES {
-        let setup = Setup {
-            times,
-            ..playing(script.as_bytes())
-        };
-        let run = run_on(rt.alloc(), three(rt.alloc())?, setup)?;
-        ends(&rt, &run, *status, output);
-    }
-    Ok(())
+/// Three stores in memory as one.
+pub(crate) fn as_one(alloc: Global) -> Result<Under, NoMemory> {
+    let spread = three(alloc)?;
+    Ok(Backing::Several(spread))
 }
+
+// The containers lie in stores by their names, and a later run finds them all.
+const CHECKPOINT: &[Deed] = &[
+    Run(
+        "gen 64",
+        "",
+        0,
+        "lines 4226\nrefused 0\nfaults 0\ndamaged 0\nsame 2048\ndiffers 0\nsize 96272384\n",
+    ),
+    Run(
+        "play",
+        "actor a\na open f\na close\na open g\na close\na open h\na close\n",
+        0,
+        "2 open 8589934593\n3 closed 0\n4 open 8589934594\n5 closed 0\n6 open 8589934595\n7 closed 0\n",
+    ),
+    Run("ls", "", 0, "0 ls f,g,gen64,h\n"),
+];
 
 #[test]
 fn a_checkpoint_over_three_stores_is_found_again(rt: HostRuntime) -> Result<(), Fail> {
-    let whole = Setup {
-        words: &["gen", "64"],
-        ..playing(b"")
-    };
-    let run = run_on(rt.alloc(), three(rt.alloc())?, whole)?;
-    ends(
-        &rt,
-        &run,
-        0,
-        "lines 4226\nrefused 0\nfaults 0\ndamaged 0\nsame 2048\ndiffers 0\nsize 96272384\n",
-    );
-    // The containers lie in stores by their names, and a later run finds them all.
-    let mut store = run.store.ok_or("no store")?;
-    for (words, script, output) in [
-        (
-            "play",
-            "actor a\na open f\na close\na open g\na close\na open h\na close\n",
-            "2 open 8589934593\n3 closed 0\n4 open 8589934594\n5 closed 0\n6 open 8589934595\n7 closed 0\n",
-        ),
-        ("ls", "", "0 ls f,g,gen64,h\n"),
-    ] {
-        let run = run_on(
-            rt.alloc(),
-            store,
-            Setup {
-                words: &[words],
-                ..playing(script.as_bytes())
-            },
-        )?;
-        ends(&rt, &run, 0, output);
-        store = run.store.ok_or("no store")?;
-    }
-    Ok(())
+    play_deeds(&rt, rt.alloc(), as_one(rt.alloc())?, CHECKPOINT)
 }
