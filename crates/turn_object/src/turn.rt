@@ -3,13 +3,14 @@ ghost use Rattle.std.specs.Prelude.{◌≡◌};
 
 mod calls;
 mod ends;
+mod gate;
 mod shares;
 
 use crate::rule::{FrontOf, InTurn, Slot};
+use crate::turn::gate::Gate;
 use atomic_table::{Seat, Table, TableRule};
 use std::alloc::Global;
 use std::snapshot::Snapshot;
-use std::sync::Mutex;
 
 /// An object that threads use in turn. It serves 2^63 calls.
 pub type Turn<O> = Lock<Slot<O>, FrontOf<O>, Snapshot<O>, InTurn<O>>;
@@ -19,7 +20,7 @@ pub type Turn<O> = Lock<Slot<O>, FrontOf<O>, Snapshot<O>, InTurn<O>>;
 #[derive(Drop)]
 pub struct Lock<S, V, K, P: TableRule<S, V, K>> {
     table: Table<S, V, K, P, Global>,
-    gate: Mutex<()>,
+    gate: Gate,
     ghost shape: { (table.shared.table_id.words ≡ 2) × (table.shared.table_id.slots ≡ 1) },
 }
 

@@ -111,12 +111,12 @@ impl<O: Object> Turn<O> {
         ensures legal { IsLegalFront O.step O.may (start_of self.now) seat.new.me.0 }
         ensures called { IsCalled O.step O.may (start_of self.now) seat.old.me.0 ask.now result.0 seat.new.me.0 }
     {
-        let entered = self.gate.lock(rt);
+        self.gate.enter(rt);
         let ticket = self.take_ticket(seat);
         self.wait_for_turn(rt, seat, ticket);
         let number = number.unwrap_or(ticket);
         let reply = self.serve(seat, ticket, number, ask);
-        drop(entered);
+        self.gate.leave();
         (reply, number)
     }
 

@@ -6,6 +6,7 @@ ghost use Rattle.turn_object.specs.Ended.{AreApart, as_ended};
 ghost use Rattle.turn_object.specs.Front.{IsLegalFront, IsWhole};
 ghost use Rattle.turn_object.specs.Pass.{start_of, front, seen_of, mine_of, ended_of, parts_of, IsPassOf};
 
+use super::gate::Gate;
 use super::{Lock, Numbered, Pass, Turn};
 use crate::object::Object;
 use crate::rule::Slot;
@@ -14,7 +15,6 @@ use atomic_table::{Refused, Table};
 use plfs_types::NoMemory;
 use std::alloc::{AllocFailed, Global};
 use std::snapshot::Snapshot;
-use std::sync::Mutex;
 
 // The object that lay in the slot.
 fn taken_out<O: Object>(resting: Slot<O>) -> O
@@ -43,7 +43,7 @@ impl<O: Object> Turn<O> {
         }
         match Table::new(alloc, &[0, 0], slots, &about) {
             Ok((table, seat)) => {
-                let gate = Mutex::new(());
+                let gate = Gate::new();
                 Ok((Lock { table, gate }, Numbered { seat, number: None }))
             }
             Err(Refused { mut slots }) => {
