@@ -3,11 +3,11 @@ ghost use Rattle.std.specs.Prelude.{◌≡◌};
 
 mod calls;
 mod ends;
-mod gate;
+mod entrance;
 mod shares;
 
 use crate::rule::{FrontOf, InTurn, Slot};
-use crate::turn::gate::Gate;
+use crate::turn::entrance::Entrance;
 use atomic_table::{Seat, Table, TableRule};
 use std::alloc::Global;
 use std::snapshot::Snapshot;
@@ -15,12 +15,12 @@ use std::snapshot::Snapshot;
 /// An object that threads use in turn. It serves 2^63 calls.
 pub type Turn<O> = Lock<Slot<O>, FrontOf<O>, Snapshot<O>, InTurn<O>>;
 
-/// The words and the slot of a `Turn`, and the gate where its callers sleep until they may take a ticket. Its types are bare parameters, since only so it is
+/// The words and the slot of a `Turn`, and the entrance where its callers wait until they may take a ticket. Its types are bare parameters, since only so it is
 /// seen to cross threads.
 #[derive(Drop)]
 pub struct Lock<S, V, K, P: TableRule<S, V, K>> {
     table: Table<S, V, K, P, Global>,
-    gate: Gate,
+    entrance: Entrance,
     ghost shape: { (table.shared.table_id.words ≡ 2) × (table.shared.table_id.slots ≡ 1) },
 }
 

@@ -40,7 +40,7 @@ impl<O: Object> Turn<O> {
         self.table.shared.load::<Looks<O>>(seat, 1) == ticket
     }
 
-    // At the gate no other ticket is out, so the first look finds its turn. A ticket of 2^63 or more waits for ever.
+    // Behind the entrance no other ticket is out, so the first look finds its turn. A ticket of 2^63 or more waits for ever.
     fn wait_for_turn<W: Wait>(&self, rt: &W, seat: &mut Seat<Slot<O>, FrontOf<O>>, ticket: u64)
         requires table { seat.old.table_id ≡ self.now.table.shared.table_id }
         requires waiting { (seat.old.me.1 ≡ []) × (seat.old.me.0.stage ≡ Waiting ticket) × (0 < seat.old.me.0.parts) }
@@ -93,7 +93,7 @@ impl<O: Object> Turn<O> {
         reply
     }
 
-    // The reply, and the caller's number. The gate is a matter of time alone: the turn comes by the ticket, and no proof rests on the gate.
+    // The reply, and the caller's number. The entrance is a matter of time alone: the turn comes by the ticket, and no proof rests on the entrance.
     fn take_turn<W: Wait>(
         &self,
         rt: &W,
@@ -111,12 +111,12 @@ impl<O: Object> Turn<O> {
         ensures legal { IsLegalFront O.step O.may (start_of self.now) seat.new.me.0 }
         ensures called { IsCalled O.step O.may (start_of self.now) seat.old.me.0 ask.now result.0 seat.new.me.0 }
     {
-        self.gate.enter(rt);
+        self.entrance.enter(rt);
         let ticket = self.take_ticket(seat);
         self.wait_for_turn(rt, seat, ticket);
         let number = number.unwrap_or(ticket);
         let reply = self.serve(seat, ticket, number, ask);
-        self.gate.leave();
+        self.entrance.leave();
         (reply, number)
     }
 

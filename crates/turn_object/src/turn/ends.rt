@@ -6,7 +6,7 @@ ghost use Rattle.turn_object.specs.Ended.{AreApart, as_ended};
 ghost use Rattle.turn_object.specs.Front.{IsLegalFront, IsWhole};
 ghost use Rattle.turn_object.specs.Pass.{start_of, front, seen_of, mine_of, ended_of, parts_of, IsPassOf};
 
-use super::gate::Gate;
+use super::entrance::Entrance;
 use super::{Lock, Numbered, Pass, Turn};
 use crate::object::Object;
 use crate::rule::Slot;
@@ -43,8 +43,8 @@ impl<O: Object> Turn<O> {
         }
         match Table::new(alloc, &[0, 0], slots, &about) {
             Ok((table, seat)) => {
-                let gate = Gate::new();
-                Ok((Lock { table, gate }, Numbered { seat, number: None }))
+                let entrance = Entrance::new();
+                Ok((Lock { table, entrance }, Numbered { seat, number: None }))
             }
             Err(Refused { mut slots }) => {
                 let Some(value) = slots.pop() else {
@@ -68,7 +68,7 @@ impl<O: Object> Turn<O> {
         ensures whole { IsWhole (front pass) }
         ensures apart { AreApart (as_ended (mine_of pass) ++ ended_of pass) }
     {
-        let Lock { table, gate: _ } = self;
+        let Lock { table, entrance: _ } = self;
         let Numbered { seat, number: _ } = pass;
         let mut closed = table.close_with(seat);
         let resting = closed.take(0);

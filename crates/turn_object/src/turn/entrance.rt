@@ -5,26 +5,26 @@ use std::sync::Wait;
 use std::sync::atomic::{AtomicBool, AtomicU64, Ordering};
 use std::thread;
 
-// A look takes 10 to 60 nanoseconds, so these last longer than most calls.
+// How often a caller looks before it sleeps. A look takes 10 to 60 nanoseconds, so all of them last longer than most calls.
 const LOOKS: u32 = 4000;
 
 const LOOKS_A_YIELD: u32 = 100;
 
-/// A gate that lets one caller in at a time. Of those that wait one looks, again and again, whether it is open; the others sleep. Nobody is woken while one looks, so
-/// that callers of short calls hand the gate on without the system; and who comes back soon may come in before who sleeps, since nobody would be inside until
-/// the sleeper is awake.
+/// Lets one caller in at a time. Of those that wait one looks, again and again, whether nobody is inside; the others sleep. Nobody is woken while one looks, so that
+/// callers of short calls come in one after the other without the system's help; and who comes back soon may be let in before one that sleeps, since nobody
+/// would be inside until the sleeper is awake.
 #[derive(Drop)]
-pub(crate) struct Gate {
+pub(crate) struct Entrance {
     is_taken: AtomicBool,
     is_watched: AtomicBool,
     sleepers: AtomicU64,
     wakes: AtomicU64,
 }
 
-impl Gate {
-    /// A gate with nobody inside.
-    pub(crate) fn new() -> Gate {
-        Gate {
+impl Entrance {
+    /// An entrance with nobody inside.
+    pub(crate) fn new() -> Entrance {
+        Entrance {
             is_taken: AtomicBool::new(false),
             is_watched: AtomicBool::new(false),
             sleepers: AtomicU64::new(0),
@@ -79,8 +79,8 @@ impl Gate {
         has_entered
     }
 
-    // Sleeps until one is woken. Who leaves after `sleepers` counts this caller either is seen here to have left, or ends its sleep, or another looks, who leaves
-    // later.
+    // Sleeps until it is woken. Whoever is inside once this caller counts as a sleeper wakes one as it leaves, or another looks, who comes in or counts itself and looks
+    // once more; and a wake after the count was read ends the sleep before it begins.
     fn sleep<W: Wait>(&self, rt: &W) {
         let wakes = self.wakes.load(Ordering::SeqCst);
         self.sleepers.fetch_add(1, Ordering::SeqCst);
