@@ -2,6 +2,7 @@
 ghost use Rattle.std.specs.Prelude.{IfSome};
 ghost use Rattle.mount_model.specs.Step.{OwedBy};
 
+use crate::spelling::parts;
 use mount_model::{Call, Look};
 use plfs_types::{Block, Bytes, Cover, LogicalName, Name, Path};
 use std::alloc::Global;
@@ -15,7 +16,7 @@ pub(crate) fn name(text: &str) -> Name {
 
 /// A folder and a file, with a slash between them.
 pub(crate) fn path(text: &str) -> Path {
-    let (folder, file) = text.split_once('/').unwrap_or(("", text));
+    let (folder, file) = parts(text, '/');
     Path {
         folder: name(folder),
         file: name(file),
@@ -47,12 +48,12 @@ fn look(verb: &str, at: &str) -> Look {
     }
 }
 
-/// The calls with a name. A `move` has the holder in front of it.
+/// The calls with a name. Behind that a `move` has the holder.
 fn of_name(verb: &str, words: &str) -> Option<Call>
     ensures { IfSome result (λ call. OwedBy call) }
 {
-    let (holder, text) = words.split_once(' ').unwrap_or(("0", words));
-    let holder = holder.parse::<u64>().ok()?;
+    let (text, holder) = parts(words, ' ');
+    let holder = holder.parse::<u64>().unwrap_or(0);
     let name = LogicalName::read(text.as_bytes())?;
     match verb {
         "find" => Some(Call::Find { name }),
@@ -183,7 +184,7 @@ fn of_numbers(alloc: Global, verb: &str, numbers: [u64; 3]) -> Option<Call>
 pub(crate) fn call_of(alloc: Global, text: &str) -> Option<Call>
     ensures { IfSome result (λ call. OwedBy call) }
 {
-    let (verb, words) = text.split_once(' ').unwrap_or((text, ""));
+    let (verb, words) = parts(text, ' ');
     match verb {
         "greet" => Some(Call::Greet),
         "rooms" => Some(Call::Rooms),

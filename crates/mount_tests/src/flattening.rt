@@ -1,6 +1,7 @@
 //! Containers are flattened, and index droppings are packed: each answer, each fault and each stop.
 use crate::playing::{Cast, SOUND, all_hold};
-use crate::trials::{Trial, all_tell};
+use crate::tables::{Table, all_tell};
+use crate::trials::Trial;
 
 const SESSIONS: &[&str] = &[
     // Each stage follows the one before. The first id is drawn in vain.
@@ -97,39 +98,47 @@ const FLATTENED: &str = "1 make f: room 1
     1 put 4294967298: done
     1 sync-flat 4294967298: done";
 
-const FLATTENINGS: &[Trial] = &[
-    Trial {
-        before: "after 4",
-        act: 7,
-        caller: 1,
-        call: "flatten 1",
-        look: "length flats/tmp.4294967298",
-        tells: STARTS,
-    },
-    Trial {
-        before: "after 5",
-        act: 8,
-        caller: 1,
-        call: "put 4294967298",
-        look: "length flats/tmp.4294967298",
-        tells: PUTS,
-    },
-    Trial {
-        before: "after 6",
-        act: 9,
-        caller: 1,
-        call: "sync-flat 4294967298",
-        look: "length flats/tmp.4294967298",
-        tells: SYNCS,
-    },
-    Trial {
-        before: "after 7",
-        act: 10,
-        caller: 1,
-        call: "install 4294967298",
-        look: "length flats/4294967298",
-        tells: INSTALLS,
-    },
+const FLATTENINGS: &[(Table, &str)] = &[
+    (
+        Table::Trial(Trial {
+            before: "after 4",
+            act: 7,
+            caller: 1,
+            call: "flatten 1",
+            look: "length flats/tmp.4294967298",
+        }),
+        STARTS,
+    ),
+    (
+        Table::Trial(Trial {
+            before: "after 5",
+            act: 8,
+            caller: 1,
+            call: "put 4294967298",
+            look: "length flats/tmp.4294967298",
+        }),
+        PUTS,
+    ),
+    (
+        Table::Trial(Trial {
+            before: "after 6",
+            act: 9,
+            caller: 1,
+            call: "sync-flat 4294967298",
+            look: "length flats/tmp.4294967298",
+        }),
+        SYNCS,
+    ),
+    (
+        Table::Trial(Trial {
+            before: "after 7",
+            act: 10,
+            caller: 1,
+            call: "install 4294967298",
+            look: "length flats/4294967298",
+        }),
+        INSTALLS,
+    ),
 ];
 
 const PACKED: &str = "1 make f: room 1
@@ -140,39 +149,47 @@ const PACKED: &str = "1 make f: room 1
     1 put 4294967298: done
     1 sync-flat 4294967298: done";
 
-const PACKINGS: &[Trial] = &[
-    Trial {
-        before: "after 4",
-        act: 7,
-        caller: 1,
-        call: "pack 1",
-        look: "length hostdir.7/tmp2.39.4294967298",
-        tells: STARTS,
-    },
-    Trial {
-        before: "after 5",
-        act: 8,
-        caller: 1,
-        call: "put 4294967298",
-        look: "length hostdir.7/tmp2.39.4294967298",
-        tells: PUTS,
-    },
-    Trial {
-        before: "after 6",
-        act: 9,
-        caller: 1,
-        call: "sync-flat 4294967298",
-        look: "length hostdir.7/tmp2.39.4294967298",
-        tells: SYNCS,
-    },
-    Trial {
-        before: "after 7",
-        act: 10,
-        caller: 1,
-        call: "install 4294967298",
-        look: "length hostdir.7/index2.39.4294967297",
-        tells: INSTALLS,
-    },
+const PACKINGS: &[(Table, &str)] = &[
+    (
+        Table::Trial(Trial {
+            before: "after 4",
+            act: 7,
+            caller: 1,
+            call: "pack 1",
+            look: "length hostdir.7/tmp2.39.4294967298",
+        }),
+        STARTS,
+    ),
+    (
+        Table::Trial(Trial {
+            before: "after 5",
+            act: 8,
+            caller: 1,
+            call: "put 4294967298",
+            look: "length hostdir.7/tmp2.39.4294967298",
+        }),
+        PUTS,
+    ),
+    (
+        Table::Trial(Trial {
+            before: "after 6",
+            act: 9,
+            caller: 1,
+            call: "sync-flat 4294967298",
+            look: "length hostdir.7/tmp2.39.4294967298",
+        }),
+        SYNCS,
+    ),
+    (
+        Table::Trial(Trial {
+            before: "after 7",
+            act: 10,
+            caller: 1,
+            call: "install 4294967298",
+            look: "length hostdir.7/index2.39.4294967297",
+        }),
+        INSTALLS,
+    ),
 ];
 
 #[test]

@@ -1,8 +1,8 @@
 //! Containers are held, truncated, renamed and let go: each answer, each fault and each stop.
-use crate::playing::{Beginning, Cast, SOUND, all_hold, begun, ends, fill, hold, mounted};
+use crate::playing::{Beginning, Cast, ONE, SOUND, all_hold, begun, fill, make, mounted};
 use crate::spelling::Line;
-use crate::trials::{Trial, all_tell};
-use std::alloc::Global;
+use crate::tables::{Table, all_tell};
+use crate::trials::Trial;
 
 const SESSIONS: &[&str] = &[
     // A container is held alone.
@@ -31,10 +31,10 @@ const SESSIONS: &[&str] = &[
     1 mark 4294967298 5 9: damaged truncs/10.5
     1 mark 4294967298 5 9223372036854775806: marked 9223372036854775807
     1 list truncs: names 10.5 41.5 9223372036854775807.5
-    2 move 4294967298 h: not holder
-    1 move 4294967298 g: exists
-    1 move 4294967298 f: exists
-    1 move 4294967298 h: done
+    2 move h 4294967298: not holder
+    1 move g 4294967298: exists
+    1 move f 4294967298: exists
+    1 move h 4294967298: done
     1 find f: no room
     1 find h: room 1",
     // Who left it open is named.
@@ -56,97 +56,98 @@ fn who_holds_a_container_alone_truncates_and_renames_it(rt: HostRuntime) {
     all_hold(&rt, &Cast::new(rt.alloc(), ""), &SOUND, SESSIONS)
 }
 
-// The entries in the folder of who has the container open, and the answer to a hold of it.
-const BESIDE: &str = "9.7 10.5: busy 10 5
-    x 9.7: busy 9 7
-    9.7 !: damaged openhosts/!
-    10.5 010.5: damaged openhosts/010.5";
-
-fn beside(alloc: Global, row: &str, wrong: &mut Line) -> Option<()> {
-    let cast = Cast::new(alloc, "");
-    let (entries, want) = row.split_once(": ").unwrap_or((row, ""));
-    let mut mount = begun(alloc, &SOUND)?;
-    hold(&cast, &mut mount, "1 make f: room 1", wrong);
+/// What comes of a hold, where the container is made and these entries are in the folder of who has it open.
+pub(crate) fn beside(cast: &Cast, entries: &str) -> Option<Line> {
+    let mut mount = begun(cast.alloc, &SOUND)?;
+    let mut line = Line::new(cast.alloc);
+    make(cast.alloc, &mut mount, ONE, "make f", &mut line);
     let mut store = mount.close();
     fill(&mut store, 1, "openhosts", entries);
-    let mut mount = mounted(alloc, store, &SOUND)?;
-    let mut line = Line::new(alloc);
-    line.push("1 hold 1: ");
-    line.push(want);
-    hold(&cast, &mut mount, line.as_str(), wrong);
-    drop((mount, line));
-    Some(())
+    let mut mount = mounted(cast.alloc, store, &SOUND)?;
+    make(cast.alloc, &mut mount, ONE, "hold 1", &mut line);
+    drop(mount);
+    Some(line)
 }
+
+const ENTRIES: &[(Table, &str)] = &[(
+    Table::Entries,
+    "9.7 10.5: room 1, busy 10 5
+    x 9.7: room 1, busy 9 7
+    9.7 !: room 1, damaged openhosts/!
+    10.5 010.5: room 1, damaged openhosts/010.5",
+)];
 
 #[test]
 fn the_least_entry_in_byte_order_is_named(rt: HostRuntime) {
-    let mut wrong = Line::new(rt.alloc());
-    for row in BESIDE.lines() {
-        if beside(rt.alloc(), row, &mut wrong).is_none() {
-            wrong.push("not mounted");
-        }
-    }
-    ends(&rt, wrong)
+    all_tell(&rt, &Cast::new(rt.alloc(), ""), ENTRIES)
 }
 
 const LIFE: &str = "1 make f: room 1
     1 hold 1: holding $
     1 mark $ 5 0: marked 10
-    1 move $ g: done";
+    1 move g $: done";
 
-const TRIALS: &[Trial] = &[
-    Trial {
-        before: "after 1",
-        act: 4,
-        caller: 1,
-        call: "hold 1",
-        look: "list openhosts",
-        tells: "fails 0: fault, names, holding 4294967298
+const TRIALS: &[(Table, &str)] = &[
+    (
+        Table::Trial(Trial {
+            before: "after 1",
+            act: 4,
+            caller: 1,
+            call: "hold 1",
+            look: "list openhosts",
+        }),
+        "fails 0: fault, names, holding 4294967298
             fails 20: fault, no folder, held
             fails all: fault, no folder, held
             stops 0: stopped, names, holding 4294967298
             stops 1: stopped, no folder, held
             stops 41: stopped, no folder, held",
-    },
-    Trial {
-        before: "after 2",
-        act: 5,
-        caller: 1,
-        call: "mark 4294967297 5 0",
-        look: "length truncs/10.5",
-        tells: "fails 0: fault, absent, marked 10
+    ),
+    (
+        Table::Trial(Trial {
+            before: "after 2",
+            act: 5,
+            caller: 1,
+            call: "mark 4294967297 5 0",
+            look: "length truncs/10.5",
+        }),
+        "fails 0: fault, absent, marked 10
             fails 20: fault, length 0, damaged truncs/10.5
             fails all: fault, length 0, damaged truncs/10.5
             stops 0: stopped, absent, not holder
             stops 1: stopped, length 0, not holder
             stops 41: stopped, length 0, not holder",
-    },
-    Trial {
-        before: "after 3",
-        act: 6,
-        caller: 1,
-        call: "move 4294967297 g",
-        look: "find g",
-        tells: "fails 0: fault, no room, done
+    ),
+    (
+        Table::Trial(Trial {
+            before: "after 3",
+            act: 6,
+            caller: 1,
+            call: "move g 4294967297",
+            look: "find g",
+        }),
+        "fails 0: fault, no room, done
             fails 20: fault, room 1, exists
             fails all: fault, room 1, exists
             stops 0: stopped, no room, not holder
             stops 1: stopped, room 1, not holder
             stops 41: stopped, room 1, not holder",
-    },
-    Trial {
-        before: "after 4",
-        act: 7,
-        caller: 1,
-        call: "release 4294967297",
-        look: "list openhosts",
-        tells: "fails 0: fault, no folder, not holder
+    ),
+    (
+        Table::Trial(Trial {
+            before: "after 4",
+            act: 7,
+            caller: 1,
+            call: "release 4294967297",
+            look: "list openhosts",
+        }),
+        "fails 0: fault, no folder, not holder
             fails 20: fault, names, not holder
             fails all: fault, names, not holder
             stops 0: stopped, no folder, not holder
             stops 1: stopped, names, not holder
             stops 41: stopped, names, not holder",
-    },
+    ),
 ];
 
 #[test]

@@ -35,4 +35,6 @@ mod spelling;
 #[cfg(test)]
 mod stopping;
 #[cfg(test)]
+mod tables;
+#[cfg(test)]
 mod trials;

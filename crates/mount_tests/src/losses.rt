@@ -1,8 +1,9 @@
 //! The power goes off in each act of a writer in turn, and what is kept is mounted again.
 use crate::calls::{numbers, path};
 use crate::lives::SYNCED;
-use crate::playing::{Beginning, By, Cast, SOUND, Tried, begun, ends, hold, live, make, mounted};
+use crate::playing::{Beginning, Cast, ONE, SOUND, Tried, begun, hold, live, make, mounted};
 use crate::spelling::Line;
+use crate::tables::{Table, all_tell};
 use plfs_types::NoMemory;
 use std::alloc::Global;
 use store_memory::{Keep, KeepList, MemoryStore};
@@ -48,102 +49,81 @@ const LOOKS: [&str; 4] = [
     "length metadata/4.4.10.0.4294967297",
 ];
 
-// Acts count from the first of the mounting: the act 3 makes the container, the act 9 writes, the act 10 syncs the log,
-// the act 11 flushes the entries, the act 12 syncs the index dropping, and by the act 14 the writer leaves. After the
-// power is off in an act each further call is in vain. What is seen after a loss that keeps no byte more, and after one
-// that keeps two more where they are there.
-const LOSSES: &str =
-    "3 0: names access flats metadata openhosts truncs, no folder, no folder, absent
-    3 2: names access flats metadata openhosts truncs, no folder, no folder, absent
-    4 0: names access flats metadata openhosts truncs, no folder, no folder, absent
-    4 2: names access flats metadata openhosts truncs, no folder, no folder, absent
-    5 0: names access flats metadata openhosts truncs, no folder, no folder, absent
-    5 2: names access flats metadata openhosts truncs, no folder, no folder, absent
-    6 0: names access flats hostdir.0 metadata openhosts truncs, absent, absent, absent
-    6 2: names access flats hostdir.0 metadata openhosts truncs, absent, absent, absent
-    7 0: names access flats hostdir.0 metadata openhosts truncs, absent, length 0, absent
-    7 2: names access flats hostdir.0 metadata openhosts truncs, absent, length 0, absent
-    8 0: names access flats hostdir.0 metadata openhosts truncs, length 0, length 0, absent
-    8 2: names access flats hostdir.0 metadata openhosts truncs, length 0, length 0, absent
-    9 0: names access flats hostdir.0 metadata openhosts truncs, length 0, length 0, absent
-    9 2: names access flats hostdir.0 metadata openhosts truncs, length 1, length 0, absent
-    10 0: names access flats hostdir.0 metadata openhosts truncs, length 4, length 0, absent
-    10 2: names access flats hostdir.0 metadata openhosts truncs, length 4, length 0, absent
-    11 0: names access flats hostdir.0 metadata openhosts truncs, length 4, length 0, absent
-    11 2: names access flats hostdir.0 metadata openhosts truncs, length 4, length 1, absent
-    12 0: names access flats hostdir.0 metadata openhosts truncs, length 4, length 40, absent
-    12 2: names access flats hostdir.0 metadata openhosts truncs, length 4, length 40, absent
-    13 0: names access flats hostdir.0 metadata openhosts truncs, length 4, length 40, length 0
-    13 2: names access flats hostdir.0 metadata openhosts truncs, length 4, length 40, length 0
-    14 0: names access flats hostdir.0 metadata openhosts truncs, length 4, length 40, length 0
-    14 2: names access flats hostdir.0 metadata openhosts truncs, length 4, length 40, length 0";
-
-const ONE: By = By {
-    caller: 1,
-    stop: None,
-};
-
-// What is seen after a loss in this act.
-fn left(alloc: Global, act: u64, extra: u64) -> Option<Line> {
-    let mut mount = off(alloc, act)?;
-    let mut line = Line::new(alloc);
-    live(&Cast::new(alloc, SYNCED), &mut mount, 12, &mut line);
+/// What is seen after a loss of power: the case is the act in which it goes off, and how many bytes more are left.
+pub(crate) fn left(cast: &Cast, case: &str) -> Option<Line> {
+    let [act, extra, _] = numbers(case)?;
+    let mut mount = off(cast.alloc, act)?;
+    let mut line = Line::new(cast.alloc);
+    live(cast, &mut mount, 12, &mut line);
     drop(line);
-    let mut mount = lost(alloc, mount, extra)?;
-    let mut line = Line::new(alloc);
+    let mut mount = lost(cast.alloc, mount, extra)?;
+    let mut line = Line::new(cast.alloc);
     for look in &LOOKS {
-        make(alloc, &mut mount, ONE, look, &mut line);
+        make(cast.alloc, &mut mount, ONE, look, &mut line);
     }
     drop(mount);
     Some(line)
 }
 
-// No entry is there whose bytes aren't in the log, and no metadata dropping without the entries that it tells of.
-#[test]
-fn a_loss_leaves_a_sound_container(rt: HostRuntime) {
-    let alloc = rt.alloc();
-    let mut wrong = Line::new(alloc);
-    for row in LOSSES.lines() {
-        let (when, want) = row.trim().split_once(": ").unwrap_or((row, ""));
-        let [act, extra, _] = numbers(when).unwrap_or([0; 3]);
-        match left(alloc, act, extra) {
-            Some(line) => wrong.expect(when, &line, want),
-            None => wrong.push("not mounted"),
-        }
-    }
-    ends(&rt, wrong)
+/// What is left of the index dropping after a loss of power behind these rows: the case is the act in which the store
+/// fails, and how many bytes that leaves.
+pub(crate) fn kept(cast: &Cast, rows: &str, case: &str) -> Option<Line> {
+    let [act, part, _] = numbers(case)?;
+    let fails = Some((act, part));
+    let mut mount = begun(cast.alloc, &Beginning { fails, ..SOUND })?;
+    let mut line = Line::new(cast.alloc);
+    hold(cast, &mut mount, rows, &mut line);
+    let mut mount = lost(cast.alloc, mount, 0)?;
+    make(cast.alloc, &mut mount, ONE, LOOKS[2], &mut line);
+    drop(mount);
+    Some(line)
 }
 
-// The flush fails and leaves 20 bytes, which are synced; it is made again, and the rest is not synced.
+// The flush fails and is made again.
 const FLUSHED: &str = "after 8
     1 flush $: fault
     1 sync-index $: synced 0
     1 flush $: flushed 1
     1 length hostdir.0/index.0.$: length 40";
 
-fn keeps(alloc: Global, wrong: &mut Line) -> Option<()> {
-    let beginning = Beginning {
-        fails: Some((11, 20)),
-        ..SOUND
-    };
-    let mut mount = begun(alloc, &beginning)?;
-    hold(&Cast::new(alloc, SYNCED), &mut mount, FLUSHED, wrong);
-    let mut mount = lost(alloc, mount, 0)?;
-    hold(
-        &Cast::new(alloc, SYNCED),
-        &mut mount,
-        "1 length hostdir.0/index.0.$: length 20",
-        wrong,
-    );
-    drop(mount);
-    Some(())
-}
+// Acts count from the first of the mounting: the act 3 makes the container, the act 9 writes, the act 10 syncs the log,
+// the act 11 flushes the entries, the act 12 syncs the index dropping, and by the act 14 the writer leaves. After the
+// power is off in an act each further call is in vain. What is seen after a loss that keeps no byte more, and after one
+// that keeps two more where they are there.
+const LOSSES: &[(Table, &str)] = &[
+    (
+        Table::Losses,
+        "3 0: names access flats metadata openhosts truncs, no folder, no folder, absent
+        3 2: names access flats metadata openhosts truncs, no folder, no folder, absent
+        4 0: names access flats metadata openhosts truncs, no folder, no folder, absent
+        4 2: names access flats metadata openhosts truncs, no folder, no folder, absent
+        5 0: names access flats metadata openhosts truncs, no folder, no folder, absent
+        5 2: names access flats metadata openhosts truncs, no folder, no folder, absent
+        6 0: names access flats hostdir.0 metadata openhosts truncs, absent, absent, absent
+        6 2: names access flats hostdir.0 metadata openhosts truncs, absent, absent, absent
+        7 0: names access flats hostdir.0 metadata openhosts truncs, absent, length 0, absent
+        7 2: names access flats hostdir.0 metadata openhosts truncs, absent, length 0, absent
+        8 0: names access flats hostdir.0 metadata openhosts truncs, length 0, length 0, absent
+        8 2: names access flats hostdir.0 metadata openhosts truncs, length 0, length 0, absent
+        9 0: names access flats hostdir.0 metadata openhosts truncs, length 0, length 0, absent
+        9 2: names access flats hostdir.0 metadata openhosts truncs, length 1, length 0, absent
+        10 0: names access flats hostdir.0 metadata openhosts truncs, length 4, length 0, absent
+        10 2: names access flats hostdir.0 metadata openhosts truncs, length 4, length 0, absent
+        11 0: names access flats hostdir.0 metadata openhosts truncs, length 4, length 0, absent
+        11 2: names access flats hostdir.0 metadata openhosts truncs, length 4, length 1, absent
+        12 0: names access flats hostdir.0 metadata openhosts truncs, length 4, length 40, absent
+        12 2: names access flats hostdir.0 metadata openhosts truncs, length 4, length 40, absent
+        13 0: names access flats hostdir.0 metadata openhosts truncs, length 4, length 40, length 0
+        13 2: names access flats hostdir.0 metadata openhosts truncs, length 4, length 40, length 0
+        14 0: names access flats hostdir.0 metadata openhosts truncs, length 4, length 40, length 0
+        14 2: names access flats hostdir.0 metadata openhosts truncs, length 4, length 40, length 0",
+    ),
+    // What the first flush left was synced before the second one, and the rest was not.
+    (Table::Kept(FLUSHED), "11 20: length 20"),
+];
 
+// No entry is there whose bytes aren't in the log, and no metadata dropping without the entries that it tells of.
 #[test]
-fn a_flush_made_again_keeps_what_was_kept(rt: HostRuntime) {
-    let mut wrong = Line::new(rt.alloc());
-    if keeps(rt.alloc(), &mut wrong).is_none() {
-        wrong.push("not mounted");
-    }
-    ends(&rt, wrong)
+fn a_loss_leaves_a_sound_container_and_what_was_kept(rt: HostRuntime) {
+    all_tell(&rt, &Cast::new(rt.alloc(), SYNCED), LOSSES)
 }

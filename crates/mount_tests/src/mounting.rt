@@ -1,7 +1,8 @@
 //! How a mount begins.
 use crate::calls::name;
-use crate::playing::{Beginning, Cast, SOUND, Tried, all_hold, clock, ends, fill, store};
+use crate::playing::{Beginning, Cast, SOUND, Tried, all_hold, clock, fill, store};
 use crate::spelling::Line;
+use crate::tables::{Table, all_tell};
 use mount_core::{Mount, MountTrouble};
 use plfs_types::{Name, NoMemory};
 use std::alloc::Global;
@@ -29,10 +30,10 @@ fn troubled(line: &mut Line, trouble: &MountTrouble) {
     }
 }
 
-// What a mounting comes to: the number that it draws, or its trouble.
-fn told(alloc: Global, folders: &[Name], marks: &str) -> Result<Line, NoMemory> {
-    let clock = clock(alloc, &[10])?;
-    let store = marked(alloc, folders, marks)?;
+/// What a mounting comes to: the number that it draws, or its trouble.
+pub(crate) fn drawn(alloc: Global, folders: &[Name], marks: &str) -> Option<Line> {
+    let clock = clock(alloc, &[10]).ok()?;
+    let store = marked(alloc, folders, marks).ok()?;
     let mut line = Line::new(alloc);
     match Mount::open(alloc, store, clock) {
         Ok(mount) => {
@@ -44,34 +45,26 @@ fn told(alloc: Global, folders: &[Name], marks: &str) -> Result<Line, NoMemory> 
             drop((store, trouble));
         }
     }
-    Ok(line)
+    Some(line)
 }
 
-// The names in the folder of marks. Of those that are no marks the least is told.
-const MARKS: &str = ": 1
-    9 10 2: 11
-    4294967294: 4294967295
-    1 4294967295: spent
-    x 7 07 4294967296: damaged 07
-    5 0: damaged 0";
-
-fn all_begin(alloc: Global, folders: &[Name], rows: &str, wrong: &mut Line) {
-    for row in rows.lines() {
-        let (marks, want) = row.split_once(": ").unwrap_or((row, ""));
-        match told(alloc, folders, marks) {
-            Ok(line) => wrong.expect(marks, &line, want),
-            Err(NoMemory) => wrong.push("no memory"),
-        }
-    }
-}
+// Of names that are no marks the least is told.
+const MARKS: &[(Table, &str)] = &[
+    (
+        Table::Marks,
+        ": 1
+        9 10 2: 11
+        4294967294: 4294967295
+        1 4294967295: spent
+        x 7 07 4294967296: damaged 07
+        5 0: damaged 0",
+    ),
+    (Table::NoMarks, ": no marks"),
+];
 
 #[test]
 fn the_next_mark_is_drawn_where_all_are_marks(rt: HostRuntime) {
-    let alloc = rt.alloc();
-    let mut wrong = Line::new(alloc);
-    all_begin(alloc, &[name("mounts")], MARKS, &mut wrong);
-    all_begin(alloc, &[], ": no marks", &mut wrong);
-    ends(&rt, wrong)
+    all_tell(&rt, &Cast::new(rt.alloc(), ""), MARKS)
 }
 
 fn crosses<T: Send + Sync + Drop>() {}

@@ -3,7 +3,7 @@
 //! In a row `1 hold 1: held` the caller 1 makes the call `hold 1`, which is answered `held`; by `1/41 hold 1: stopped` it
 //! breaks it off after 41 bytes. `after 4` stands for the first four rows of a life.
 use crate::calls::{FIRST, call_of, name};
-use crate::spelling::{Line, spell};
+use crate::spelling::{Line, parts, spell};
 use edge_io::{ClockList, ListClock};
 use mount_core::{Mount, MountTrouble};
 use mount_model::Ask;
@@ -63,6 +63,12 @@ pub(crate) struct By {
     pub(crate) caller: u64,
     pub(crate) stop: Option<u64>,
 }
+
+/// The caller 1 makes a whole call.
+pub(crate) const ONE: By = By {
+    caller: 1,
+    stop: None,
+};
 
 /// A store without rooms which fails in this act, and leaves so many bytes of a write.
 pub(crate) fn store(alloc: Global, fails: Option<(u64, u64)>) -> Result<MemoryStore, NoMemory> {
@@ -159,7 +165,7 @@ fn filled(cast: &Cast, row: &str) -> Line {
 
 // Who makes the call of a row, and after how many bytes it is broken off where a number behind a slash says so.
 fn by_of(word: &str) -> By {
-    let (caller, bytes) = word.split_once('/').unwrap_or((word, ""));
+    let (caller, bytes) = parts(word, '/');
     By {
         caller: caller.parse::<u64>().unwrap_or(0),
         stop: bytes.parse::<u64>().ok(),
@@ -169,8 +175,8 @@ fn by_of(word: &str) -> By {
 // Plays the row, and says behind `wrong` what comes of it otherwise.
 fn play(cast: &Cast, mount: &mut Tried, row: &str, wrong: &mut Line) {
     let row = filled(cast, row);
-    let (deed, want) = row.as_str().split_once(": ").unwrap_or((row.as_str(), ""));
-    let (word, call) = deed.split_once(' ').unwrap_or(("", deed));
+    let (deed, want) = parts(row.as_str(), ':');
+    let (word, call) = parts(deed, ' ');
     let mut line = Line::new(cast.alloc);
     make(cast.alloc, mount, by_of(word), call, &mut line);
     if cast.is_again && line.as_str() == "fault" {
@@ -184,16 +190,18 @@ fn play(cast: &Cast, mount: &mut Tried, row: &str, wrong: &mut Line) {
 /// Plays the first so many rows of the life.
 pub(crate) fn live(cast: &Cast, mount: &mut Tried, count: usize, wrong: &mut Line) {
     for row in cast.life.lines().take(count) {
-        play(cast, mount, row.trim(), wrong);
+        play(cast, mount, row, wrong);
     }
 }
 
 /// Plays the rows.
 pub(crate) fn hold(cast: &Cast, mount: &mut Tried, rows: &str, wrong: &mut Line) {
     for row in rows.lines() {
-        match row.trim().strip_prefix("after ") {
-            Some(count) => live(cast, mount, count.parse::<usize>().unwrap_or(0), wrong),
-            None => play(cast, mount, row.trim(), wrong),
+        let (word, count) = parts(row, ' ');
+        if word == "after" {
+            live(cast, mount, count.parse::<usize>().unwrap_or(0), wrong);
+        } else {
+            play(cast, mount, row, wrong);
         }
     }
 }

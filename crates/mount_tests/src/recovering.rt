@@ -1,7 +1,8 @@
 //! What a dead writer left is synced and mended, and it is buried: each answer, each fault and each stop.
 use crate::lives::ENDED;
 use crate::playing::{Cast, SOUND, all_hold};
-use crate::trials::{Trial, all_tell};
+use crate::tables::{Table, all_tell};
+use crate::trials::Trial;
 
 const SESSIONS: &[&str] = &[
     // A live writer is left alone.
@@ -52,79 +53,91 @@ fn a_live_writer_is_left_alone_and_what_is_dead_is_mended(rt: HostRuntime) {
 
 // Its log is synced, or its index dropping, which is cut to nothing; its metadata dropping is made, and it is buried;
 // and a hold that broke off is mended.
-const TRIALS: &[Trial] = &[
-    Trial {
-        before: "after 9",
-        act: 11,
-        caller: 2,
-        call: "left-log 1 0",
-        look: "length hostdir.0/log.0.4294967297",
-        tells: "fails 0: fault, length 4, done
+const TRIALS: &[(Table, &str)] = &[
+    (
+        Table::Trial(Trial {
+            before: "after 9",
+            act: 11,
+            caller: 2,
+            call: "left-log 1 0",
+            look: "length hostdir.0/log.0.4294967297",
+        }),
+        "fails 0: fault, length 4, done
             fails 20: fault, length 4, done
             fails all: fault, length 4, done",
-    },
-    Trial {
-        before: "after 9",
-        act: 11,
-        caller: 2,
-        call: "left-index 1 0",
-        look: "length hostdir.0/index.0.4294967297",
-        tells: "fails 0: fault, length 40, done
+    ),
+    (
+        Table::Trial(Trial {
+            before: "after 9",
+            act: 11,
+            caller: 2,
+            call: "left-index 1 0",
+            look: "length hostdir.0/index.0.4294967297",
+        }),
+        "fails 0: fault, length 40, done
             fails 20: fault, length 40, done
             fails all: fault, length 40, done",
-    },
-    Trial {
-        before: "after 9",
-        act: 11,
-        caller: 2,
-        call: "mend 1 0",
-        look: "length hostdir.0/index.0.4294967297",
-        tells: "fails 0: fault, length 40, done
+    ),
+    (
+        Table::Trial(Trial {
+            before: "after 9",
+            act: 11,
+            caller: 2,
+            call: "mend 1 0",
+            look: "length hostdir.0/index.0.4294967297",
+        }),
+        "fails 0: fault, length 40, done
             fails 20: fault, length 0, done
             fails all: fault, length 0, done
             stops 0: stopped, length 40, done
             stops 1: stopped, length 0, done
             stops 41: stopped, length 0, done",
-    },
-    Trial {
-        before: "after 9",
-        act: 11,
-        caller: 2,
-        call: "mend-meta 1",
-        look: "length metadata/4.4.10.0.4294967297",
-        tells: "fails 0: fault, absent, done
+    ),
+    (
+        Table::Trial(Trial {
+            before: "after 9",
+            act: 11,
+            caller: 2,
+            call: "mend-meta 1",
+            look: "length metadata/4.4.10.0.4294967297",
+        }),
+        "fails 0: fault, absent, done
             fails 20: fault, length 0, done
             fails all: fault, length 0, done
             stops 0: stopped, absent, done
             stops 1: stopped, length 0, done
             stops 41: stopped, length 0, done",
-    },
-    Trial {
-        before: "after 9",
-        act: 11,
-        caller: 2,
-        call: "bury 1",
-        look: "list openhosts",
-        tells: "fails 0: fault, names 0.4294967297, done
+    ),
+    (
+        Table::Trial(Trial {
+            before: "after 9",
+            act: 11,
+            caller: 2,
+            call: "bury 1",
+            look: "list openhosts",
+        }),
+        "fails 0: fault, names 0.4294967297, done
             fails 20: fault, names, done
             fails all: fault, names, done
             stops 0: stopped, names 0.4294967297, done
             stops 1: stopped, names, done
             stops 41: stopped, names, done",
-    },
-    Trial {
-        before: "after 12",
-        act: 13,
-        caller: 2,
-        call: "mend-hold 1",
-        look: "list openhosts",
-        tells: "fails 0: fault, no folder, made
+    ),
+    (
+        Table::Trial(Trial {
+            before: "after 12",
+            act: 13,
+            caller: 2,
+            call: "mend-hold 1",
+            look: "list openhosts",
+        }),
+        "fails 0: fault, no folder, made
             fails 20: fault, names, whole
             fails all: fault, names, whole
             stops 0: stopped, no folder, made
             stops 1: stopped, names, whole
             stops 41: stopped, names, whole",
-    },
+    ),
 ];
 
 #[test]

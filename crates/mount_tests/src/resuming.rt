@@ -1,7 +1,7 @@
 //! Each call of a writer's life is broken off in turn, and then another mount on the same store goes on.
 use crate::lives::SYNCED;
 use crate::playing::{Cast, SOUND, begun, ends, hold, live, mounted};
-use crate::spelling::Line;
+use crate::spelling::{Line, parts};
 use std::alloc::Global;
 
 // The id that the second mount draws first.
@@ -9,8 +9,8 @@ const NEXT: u64 = 8589934593;
 
 // The call of the row, broken off after so many bytes.
 fn broken_off(alloc: Global, row: &str, bytes: u64) -> Line {
-    let (deed, _) = row.split_once(": ").unwrap_or((row, ""));
-    let (_, call) = deed.split_once(' ').unwrap_or(("", deed));
+    let (deed, _) = parts(row, ':');
+    let (_, call) = parts(deed, ' ');
     let mut line = Line::new(alloc);
     line.say("1/", bytes);
     line.push(" ");
@@ -52,7 +52,7 @@ fn another_mount_goes_on_after_each_stop(rt: HostRuntime) {
     let mut wrong = Line::new(rt.alloc());
     for (place, row) in SYNCED.lines().enumerate() {
         for bytes in &[0, 1, 41, 120] {
-            goes_on(rt.alloc(), place, row.trim(), *bytes, &mut wrong);
+            goes_on(rt.alloc(), place, row, *bytes, &mut wrong);
         }
     }
     ends(&rt, wrong)

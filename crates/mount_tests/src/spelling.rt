@@ -5,6 +5,13 @@ use plfs_types::Name;
 use std::alloc::Global;
 use store_api::Answer;
 
+/// What stands before the first such sign and what stands behind it, or all of the text and nothing.
+pub(crate) fn parts(text: &str, sign: char) -> (&str, &str) {
+    let text = text.trim();
+    let (first, rest) = text.split_once(sign).unwrap_or((text, ""));
+    (first, rest.trim_start())
+}
+
 /// Text that grows. A line for which there was no memory is like no text.
 #[derive(Drop)]
 pub(crate) struct Line {

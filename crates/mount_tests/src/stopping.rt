@@ -1,39 +1,46 @@
 //! A call is broken off within its act: a part of that is there, and the caller's writers are dead.
 use crate::lives::ENDED;
 use crate::playing::{Cast, SOUND, all_hold};
-use crate::trials::{Trial, all_tell};
+use crate::tables::{Table, all_tell};
+use crate::trials::Trial;
 
-const STOPS: &[Trial] = &[
-    Trial {
-        before: "after 7",
-        act: 11,
-        caller: 1,
-        call: "flush 4294967297",
-        look: "length hostdir.0/index.0.4294967297",
-        tells: "stops 0: stopped, length 0, not open
+const STOPS: &[(Table, &str)] = &[
+    (
+        Table::Trial(Trial {
+            before: "after 7",
+            act: 11,
+            caller: 1,
+            call: "flush 4294967297",
+            look: "length hostdir.0/index.0.4294967297",
+        }),
+        "stops 0: stopped, length 0, not open
             stops 1: stopped, length 1, not open
             stops 39: stopped, length 39, not open
             stops 40: stopped, length 40, not open
             stops 120: stopped, length 40, not open",
-    },
-    Trial {
-        before: "after 6",
-        act: 9,
-        caller: 1,
-        call: "write 4294967297",
-        look: "length hostdir.0/log.0.4294967297",
-        tells: "stops 3: stopped, length 3, not open",
-    },
+    ),
+    (
+        Table::Trial(Trial {
+            before: "after 6",
+            act: 9,
+            caller: 1,
+            call: "write 4294967297",
+            look: "length hostdir.0/log.0.4294967297",
+        }),
+        "stops 3: stopped, length 3, not open",
+    ),
     // another act is made whole or not at all
-    Trial {
-        before: "after 5",
-        act: 8,
-        caller: 1,
-        call: "log 4294967297",
-        look: "length hostdir.0/log.0.4294967297",
-        tells: "stops 0: stopped, absent, not open
+    (
+        Table::Trial(Trial {
+            before: "after 5",
+            act: 8,
+            caller: 1,
+            call: "log 4294967297",
+            look: "length hostdir.0/log.0.4294967297",
+        }),
+        "stops 0: stopped, absent, not open
             stops 1: stopped, length 0, not open",
-    },
+    ),
 ];
 
 #[test]

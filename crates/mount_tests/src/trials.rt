@@ -1,9 +1,9 @@
 //! Calls in whose act the store fails, and calls that are broken off.
-use crate::playing::{Beginning, By, Cast, SOUND, begun, ends, hold, make};
-use crate::spelling::Line;
-use std::process::Abort;
+use crate::playing::{Beginning, By, Cast, SOUND, begun, hold, make};
+use crate::spelling::{Line, parts};
 
 /// A call that goes wrong.
+#[derive(Clone, Copy)]
 pub(crate) struct Trial {
     /// The rows that come before it.
     pub(crate) before: &'static str,
@@ -13,9 +13,6 @@ pub(crate) struct Trial {
     pub(crate) call: &'static str,
     /// What the ninth caller looks at then.
     pub(crate) look: &'static str,
-    /// What the call was answered, what is seen, and what the same call is answered then: where the store fails in its
-    /// act and leaves so many bytes of a write, or all, and where it is broken off after so many.
-    pub(crate) tells: &'static str,
 }
 
 const NINTH: By = By {
@@ -23,39 +20,25 @@ const NINTH: By = By {
     stop: None,
 };
 
-// Tries the call, and says behind `wrong` what comes of it otherwise.
-fn tries(cast: &Cast, trial: &Trial, how: &str, want: &str, wrong: &mut Line) {
-    let (word, bytes) = how.split_once(' ').unwrap_or((how, ""));
+/// What the call is answered, what is seen, and what the same call is answered then: where the store fails in its act and
+/// leaves so many bytes of a write, or all, and where it is broken off after so many.
+pub(crate) fn tried(cast: &Cast, trial: &Trial, how: &str) -> Option<Line> {
+    let (word, bytes) = parts(how, ' ');
     let bytes = bytes.parse::<u64>().unwrap_or(u64::MAX);
     let (fails, stop) = if word == "fails" {
         (Some((trial.act, bytes)), None)
     } else {
         (None, Some(bytes))
     };
-    let Some(mut mount) = begun(cast.alloc, &Beginning { fails, ..SOUND }) else {
-        wrong.push("not mounted");
-        return;
-    };
-    hold(cast, &mut mount, trial.before, wrong);
+    let mut mount = begun(cast.alloc, &Beginning { fails, ..SOUND })?;
+    let mut line = Line::new(cast.alloc);
+    hold(cast, &mut mount, trial.before, &mut line);
     let caller = trial.caller;
     let first = By { caller, stop };
     let then = By { caller, stop: None };
-    let mut line = Line::new(cast.alloc);
     make(cast.alloc, &mut mount, first, trial.call, &mut line);
     make(cast.alloc, &mut mount, NINTH, trial.look, &mut line);
     make(cast.alloc, &mut mount, then, trial.call, &mut line);
-    wrong.expect(how, &line, want);
-    drop((mount, line));
-}
-
-/// Each trial tells what it says.
-pub(crate) fn all_tell<R: Abort>(rt: &R, cast: &Cast, trials: &[Trial]) {
-    let mut wrong = Line::new(cast.alloc);
-    for trial in trials {
-        for row in trial.tells.lines() {
-            let (how, want) = row.trim().split_once(": ").unwrap_or((row, ""));
-            tries(cast, trial, how, want, &mut wrong);
-        }
-    }
-    ends(rt, wrong);
+    drop(mount);
+    Some(line)
 }
