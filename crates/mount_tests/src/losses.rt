@@ -24,45 +24,41 @@ fn extras(alloc: Global, extra: u64) -> Result<KeepList, NoMemory> {
     Ok(keeps)
 }
 
-// The power is lost, and what is left is mounted.
-fn lost(alloc: Global, mount: Tried, extra: u64) -> Option<Tried> {
-    let store = mount.close();
-    match extras(alloc, extra) {
-        Ok(keeps) => mounted(alloc, store.lose(keeps), &SOUND),
-        Err(NoMemory) => {
-            drop(store);
-            None
-        }
-    }
-}
-
-// A mount whose power goes off in this act, of which one byte is made.
-fn off(alloc: Global, act: u64) -> Option<Tried> {
-    mounted(alloc, MemoryStore::off(alloc, act, 1).ok()?, &SOUND)
-}
+const INDEX: &str = "length hostdir.0/index.0.4294967297";
 
 // What is seen of the container, of the log, the index dropping and the metadata dropping.
 const LOOKS: [&str; 4] = [
     "top 1",
     "length hostdir.0/log.0.4294967297",
-    "length hostdir.0/index.0.4294967297",
+    INDEX,
     "length metadata/4.4.10.0.4294967297",
 ];
 
-/// What is seen after a loss of power: the case is the act in which it goes off, and how many bytes more are left.
-pub(crate) fn left(cast: &Cast, case: &str) -> Option<Line> {
-    let [act, extra, _] = numbers(case)?;
-    let mut mount = off(cast.alloc, act)?;
-    let mut line = Line::new(cast.alloc);
-    live(cast, &mut mount, 12, &mut line);
-    drop(line);
-    let mut mount = lost(cast.alloc, mount, extra)?;
-    let mut line = Line::new(cast.alloc);
-    for look in &LOOKS {
+// What is seen after a loss of power that leaves so many bytes more, behind what the line has.
+fn seen(cast: &Cast, mount: Tried, extra: u64, looks: &[&str], mut line: Line) -> Option<Line> {
+    let Ok(keeps) = extras(cast.alloc, extra) else {
+        drop(mount);
+        return None;
+    };
+    let store = mount.close().lose(keeps);
+    let mut mount = mounted(cast.alloc, store, &SOUND)?;
+    for look in looks {
         make(cast.alloc, &mut mount, ONE, look, &mut line);
     }
     drop(mount);
     Some(line)
+}
+
+/// What is seen after a loss of power: the case is the act in which it goes off, of which one byte is made, and how many
+/// bytes more are left.
+pub(crate) fn left(cast: &Cast, case: &str) -> Option<Line> {
+    let [act, extra, _] = numbers(case)?;
+    let store = MemoryStore::off(cast.alloc, act, 1).ok()?;
+    let mut mount = mounted(cast.alloc, store, &SOUND)?;
+    let mut unread = Line::new(cast.alloc);
+    live(cast, &mut mount, 12, &mut unread);
+    drop(unread);
+    seen(cast, mount, extra, &LOOKS, Line::new(cast.alloc))
 }
 
 /// What is left of the index dropping after a loss of power behind these rows: the case is the act in which the store
@@ -73,10 +69,7 @@ pub(crate) fn kept(cast: &Cast, rows: &str, case: &str) -> Option<Line> {
     let mut mount = begun(cast.alloc, &Beginning { fails, ..SOUND })?;
     let mut line = Line::new(cast.alloc);
     hold(cast, &mut mount, rows, &mut line);
-    let mut mount = lost(cast.alloc, mount, 0)?;
-    make(cast.alloc, &mut mount, ONE, LOOKS[2], &mut line);
-    drop(mount);
-    Some(line)
+    seen(cast, mount, 0, &[INDEX], line)
 }
 
 // The flush fails and is made again.

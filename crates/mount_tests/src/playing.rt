@@ -96,7 +96,7 @@ pub(crate) fn fill(store: &mut MemoryStore, room: u64, folder: &str, names: &str
 }
 
 // The store, mounted so. Where it failed it is given back.
-fn tried(
+fn opened(
     alloc: Global,
     store: MemoryStore,
     beginning: &Beginning,
@@ -117,9 +117,9 @@ fn tried(
 
 /// The store, mounted so; it is tried once more where the store failed.
 pub(crate) fn mounted(alloc: Global, store: MemoryStore, beginning: &Beginning) -> Option<Tried> {
-    match tried(alloc, store, beginning) {
+    match opened(alloc, store, beginning) {
         Ok(mount) => Some(mount),
-        Err(Some(store)) => tried(alloc, store, beginning).ok(),
+        Err(Some(store)) => opened(alloc, store, beginning).ok(),
         Err(None) => None,
     }
 }
@@ -206,7 +206,7 @@ pub(crate) fn hold(cast: &Cast, mount: &mut Tried, rows: &str, wrong: &mut Line)
     }
 }
 
-/// Nothing came otherwise.
+/// Nothing came otherwise than the tables say.
 pub(crate) fn ends<R: Abort>(rt: &R, wrong: Line) {
     assert!(rt; wrong.as_str().is_empty(), "{}", wrong.as_str());
     drop(wrong);
