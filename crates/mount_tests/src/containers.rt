@@ -1,36 +1,22 @@
 //! Containers are found, named and looked at.
-use crate::calls::Does;
-use crate::playing::{ONE, Row, all_hold};
-use std::test::Fail;
+use crate::playing::{Cast, SOUND, all_hold};
 
-const FOUND: &[Row] = &[
-    (ONE, Does::Greet, "greeted"),
-    (ONE, Does::Find("f"), "no room"),
-    (ONE, Does::Make("f"), "room 1"),
-    (ONE, Does::Find("f"), "room 1"),
-    // the room of the marks is no container
-    (ONE, Does::Rooms, "rooms f"),
+const SESSIONS: &[&str] = &[
+    // A container is found and named. The room of the marks is none.
+    "1 greet: greeted
+    1 find f: no room
+    1 make f: room 1
+    1 find f: room 1
+    1 rooms: rooms f",
+    // A container is looked at. The room 0 is that of the marks.
+    "1 make f: room 1
+    1 top 1: names access flats metadata openhosts truncs
+    1 list openhosts: names
+    1 read /access: bytes=
+    1 top 0: no room",
 ];
 
 #[test]
-fn a_container_is_found_and_named(rt: HostRuntime) -> Result<(), Fail> {
-    all_hold(&rt, rt.alloc(), FOUND)
-}
-
-const LOOKED_AT: &[Row] = &[
-    (ONE, Does::Make("f"), "room 1"),
-    (
-        ONE,
-        Does::Top(1),
-        "names access flats metadata openhosts truncs",
-    ),
-    (ONE, Does::List("openhosts"), "names"),
-    (ONE, Does::Read("", "access"), "bytes "),
-    // the room of the marks
-    (ONE, Does::Top(0), "no room"),
-];
-
-#[test]
-fn a_container_is_looked_at(rt: HostRuntime) -> Result<(), Fail> {
-    all_hold(&rt, rt.alloc(), LOOKED_AT)
+fn a_container_is_found_named_and_looked_at(rt: HostRuntime) {
+    all_hold(&rt, &Cast::new(rt.alloc(), ""), &SOUND, SESSIONS)
 }

@@ -1,55 +1,21 @@
 //! The store fails at each of its acts in turn, and the same call is made again.
-use crate::calls::{Cast, Does, FIRST, ITS, SECOND};
-use crate::playing::{By, Row, failing, hold, mounted};
+use crate::calls::FIRST;
+use crate::lives::SYNCED;
+use crate::playing::{Beginning, Cast, SOUND, begun, ends, hold, live};
+use crate::spelling::Line;
 use std::alloc::Global;
-use std::process::Abort;
-use std::test::Fail;
+use store_api::Store;
 
-// A writer that has entered writes a block, and all of it is synced.
-const LIFE: &[Row] = &[
-    (By::Again, Does::Floor(ITS), "floored 0"),
-    (By::Again, Does::Hostdir(ITS), "done"),
-    (By::Again, Does::Index(ITS), "done"),
-    (By::Again, Does::Log(ITS), "done"),
-    (By::Again, Does::Write(ITS), "wrote 10"),
-    (By::Again, Does::SyncLog(ITS), "done"),
-    (By::Again, Does::Flush(ITS), "flushed 1"),
-    (By::Again, Does::SyncIndex(ITS), "synced 1"),
-    (By::Again, Does::Meta(ITS), "done"),
-];
-
-// Its entry, its bytes, and its metadata dropping.
-const LEFT: &[Row] = &[
-    (
-        By::Again,
-        Does::LengthOf("hostdir.0", "index.0."),
-        "length 40",
-    ),
-    (By::Again, Does::LengthOf("hostdir.0", "log.0."), "length 4"),
-    (
-        By::Again,
-        Does::LengthOf("metadata", "4.4.10.0."),
-        "length 0",
-    ),
-];
-
-const MADE: Row = (By::Again, Does::Make("f"), "room 1");
-
-const ENTERS: Does = Does::Enter(1, 0);
-
-const ENTERED: Row = (By::Again, ENTERS, "entered 4294967297");
-
-const LEAVES: &[Row] = &[(By::Again, Does::Exit(ITS), "done")];
-
-// Acts of which one fails and leaves such a part, the writer that enters then, and how it does and how it leaves.
+// Acts of which one fails and leaves such a part, the writer that enters then, and how it leaves.
 struct Case {
     first: u64,
     last: u64,
     parts: &'static [u64],
     writer: u64,
-    enters: &'static [Row],
-    leaves: &'static [Row],
+    leaves: &'static str,
 }
+
+const DONE: &str = "1 exit $: done";
 
 const CASES: [Case; 7] = [
     // in the mounting
@@ -58,16 +24,14 @@ const CASES: [Case; 7] = [
         last: 1,
         parts: &[0, 20, 40],
         writer: FIRST,
-        enters: &[MADE, ENTERED],
-        leaves: LEAVES,
+        leaves: DONE,
     },
     Case {
         first: 2,
         last: 2,
         parts: &[0],
         writer: FIRST,
-        enters: &[MADE, ENTERED],
-        leaves: LEAVES,
+        leaves: DONE,
     },
     // the mark was made, and the second try draws the next one
     Case {
@@ -75,33 +39,29 @@ const CASES: [Case; 7] = [
         last: 2,
         parts: &[20, 40],
         writer: 8589934593,
-        enters: &[MADE, (By::Again, ENTERS, "entered 8589934593")],
-        leaves: LEAVES,
+        leaves: DONE,
     },
     Case {
         first: 3,
         last: 3,
         parts: &[0, 20, 40],
         writer: FIRST,
-        enters: &[MADE, ENTERED],
-        leaves: LEAVES,
+        leaves: DONE,
     },
     // each entering draws an id
     Case {
         first: 4,
         last: 4,
         parts: &[0, 20, 40],
-        writer: SECOND,
-        enters: &[MADE, (By::Again, ENTERS, "entered 4294967298")],
-        leaves: LEAVES,
+        writer: 4294967298,
+        leaves: DONE,
     },
     Case {
         first: 5,
         last: 13,
         parts: &[0, 20, 40],
         writer: FIRST,
-        enters: &[MADE, ENTERED],
-        leaves: LEAVES,
+        leaves: DONE,
     },
     // a writer whose leaving failed is dead
     Case {
@@ -109,33 +69,50 @@ const CASES: [Case; 7] = [
         last: 14,
         parts: &[0, 20, 40],
         writer: FIRST,
-        enters: &[MADE, ENTERED],
-        leaves: &[(By::Again, Does::Exit(ITS), "not open")],
+        leaves: "1 exit $: not open",
     },
 ];
 
-// The faults that the store told.
-fn faults<R: Abort>(rt: &R, alloc: Global, case: &Case, act: u64, part: u64) -> Result<u64, Fail> {
+// Its entry, its bytes, and its metadata dropping.
+const LEFT: &str = "1 length hostdir.0/index.0.$: length 40
+    1 length hostdir.0/log.0.$: length 4
+    1 length metadata/4.4.10.0.$: length 0";
+
+// The store tells one fault, and else all is as if there were none.
+fn goes_on(alloc: Global, case: &Case, act: u64, part: u64, wrong: &mut Line) {
+    let beginning = Beginning {
+        fails: Some((act, part)),
+        ..SOUND
+    };
     let cast = Cast {
         alloc,
+        life: SYNCED,
         writer: case.writer,
+        is_again: true,
     };
-    let mut mount = mounted(alloc, failing(alloc, act, part)?)?;
-    hold(rt, &cast, &mut mount, case.enters)?;
-    hold(rt, &cast, &mut mount, LIFE)?;
-    hold(rt, &cast, &mut mount, case.leaves)?;
-    hold(rt, &cast, &mut mount, LEFT)?;
-    Ok(mount.close().faults())
+    let Some(mut mount) = begun(alloc, &beginning) else {
+        wrong.push("not mounted");
+        return;
+    };
+    live(&cast, &mut mount, 11, wrong);
+    hold(&cast, &mut mount, case.leaves, wrong);
+    hold(&cast, &mut mount, LEFT, wrong);
+    let store = mount.close();
+    if store.faults() != 1 {
+        wrong.say("faults ", store.faults());
+    }
+    drop(store);
 }
 
 #[test]
-fn a_writer_goes_on_after_each_fault(rt: HostRuntime) -> Result<(), Fail> {
+fn a_writer_goes_on_after_each_fault(rt: HostRuntime) {
+    let mut wrong = Line::new(rt.alloc());
     for case in &CASES {
         for act in case.first..=case.last {
             for part in case.parts {
-                assert!(rt; faults(&rt, rt.alloc(), case, act, *part)? == 1);
+                goes_on(rt.alloc(), case, act, *part, &mut wrong);
             }
         }
     }
-    Ok(())
+    ends(&rt, wrong)
 }

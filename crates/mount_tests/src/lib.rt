@@ -2,9 +2,10 @@
 //! leaves, that another mount goes on after it, and what each call on holds, flattenings and dead writers answers. They
 //! stand apart, so that the mount is not proved twice for them.
 //!
-//! A test is a table of rows, or of trials. A row says who makes which call and what it is answered, as text. A trial
-//! says what is answered where the store fails in the act of a call or the call is broken off, what is seen then, and
-//! what the same call is answered after it. One function each plays rows and trials, and compares.
+//! A test is a text of rows, or a table of cases. A row says who makes which call, and what it is answered. A case says
+//! what comes of it, most often how a call goes wrong: what is answered where the store fails in its act or it is broken
+//! off, what is seen then, and what the same call is answered after that. One function each plays rows and cases, and puts
+//! what comes otherwise into one line, which has to be empty in the end.
 #![tactic(auto)]
 
 #[cfg(test)]
@@ -17,6 +18,8 @@ mod faults;
 mod flattening;
 #[cfg(test)]
 mod holding;
+#[cfg(test)]
+mod lives;
 #[cfg(test)]
 mod losses;
 #[cfg(test)]
@@ -31,5 +34,7 @@ mod resuming;
 mod spelling;
 #[cfg(test)]
 mod stopping;
+#[cfg(test)]
+mod tables;
 #[cfg(test)]
 mod trials;

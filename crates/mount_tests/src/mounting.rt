@@ -1,155 +1,95 @@
 //! How a mount begins.
-use crate::calls::{Cast, Does, name};
-use crate::playing::{ONE, Row, Tried, clock, hold, mounted, sound};
-use edge_io::ListClock;
-use itoa::Buffer;
+use crate::calls::name;
+use crate::playing::{Beginning, Cast, SOUND, Tried, all_hold, clock, fill, store};
+use crate::spelling::Line;
+use crate::tables::{Table, all_tell};
 use mount_core::{Mount, MountTrouble};
 use plfs_types::{Name, NoMemory};
 use std::alloc::Global;
-use std::test::Fail;
 use store_api::{Step, Store};
 use store_memory::MemoryStore;
 
-/// A store whose room of marks has these folders and these names in the folder of marks; and what a mounting comes to.
-struct Case {
-    folders: &'static [&'static str],
-    marks: &'static [&'static str],
-    tells: &'static str,
-}
-
-fn marked(alloc: Global, case: &Case) -> Result<MemoryStore, NoMemory> {
-    let mut store = sound(alloc)?;
-    let all = [name("mounts")];
-    let folders: &[Name] = if case.folders.is_empty() { &[] } else { &all };
-    let _ = store.act(&Step::MakeRoom {
+// A store whose room of marks has these folders, and these names in the folder of marks.
+fn marked(alloc: Global, folders: &[Name], marks: &str) -> Result<MemoryStore, NoMemory> {
+    let mut store = store(alloc, None)?;
+    drop(store.act(&Step::MakeRoom {
         name: name(".plfs"),
         folders,
         files: &[],
-    });
-    for mark in case.marks {
-        let _ = store.act(&Step::Create {
-            room: 0,
-            folder: name("mounts"),
-            file: name(mark),
-        });
-    }
+    }));
+    fill(&mut store, 0, "mounts", marks);
     Ok(store)
 }
 
-fn troubled(line: &mut String, trouble: &MountTrouble) -> Result<(), NoMemory> {
+fn troubled(line: &mut Line, trouble: &MountTrouble) {
     match trouble {
-        MountTrouble::Damaged { file } => {
-            line.push_str("damaged ")?;
-            for byte in file.bytes() {
-                line.push(char::from(*byte))?;
-            }
-        }
-        MountTrouble::Spent => line.push_str("spent")?,
-        MountTrouble::NoMarks => line.push_str("no marks")?,
-        _ => line.push_str("another trouble")?,
+        MountTrouble::Damaged { file } => line.letters("damaged ", file.bytes()),
+        MountTrouble::Spent => line.push("spent"),
+        MountTrouble::NoMarks => line.push("no marks"),
+        _ => line.push("another trouble"),
     }
-    Ok(())
 }
 
-// The number that a mount of the store draws.
-fn drawn(alloc: Global, store: MemoryStore, clock: ListClock) -> Result<u32, MountTrouble> {
+/// What a mounting comes to: the number that it draws, or its trouble.
+pub(crate) fn drawn(alloc: Global, folders: &[Name], marks: &str) -> Option<Line> {
+    let clock = clock(alloc, &[10]).ok()?;
+    let store = marked(alloc, folders, marks).ok()?;
+    let mut line = Line::new(alloc);
     match Mount::open(alloc, store, clock) {
-        Ok(mount) => Ok(mount.number()),
-        Err((_store, trouble)) => Err(trouble),
+        Ok(mount) => {
+            line.say("", u64::from(mount.number()));
+            drop(mount);
+        }
+        Err((store, trouble)) => {
+            troubled(&mut line, &trouble);
+            drop((store, trouble));
+        }
     }
+    Some(line)
 }
 
-fn told(alloc: Global, case: &Case) -> Result<String, NoMemory> {
-    let mut line = String::new(alloc);
-    let store = marked(alloc, case)?;
-    match drawn(alloc, store, clock(alloc, &[10])?) {
-        Ok(number) => line.push_str(Buffer::new().format(number))?,
-        Err(trouble) => troubled(&mut line, &trouble)?,
-    }
-    Ok(line)
-}
-
-const MARKS: &[&str] = &["mounts"];
-
-const CASES: [Case; 7] = [
-    Case {
-        folders: MARKS,
-        marks: &[],
-        tells: "1",
-    },
-    Case {
-        folders: MARKS,
-        marks: &["9", "10", "2"],
-        tells: "11",
-    },
-    Case {
-        folders: MARKS,
-        marks: &["4294967294"],
-        tells: "4294967295",
-    },
-    Case {
-        folders: MARKS,
-        marks: &["1", "4294967295"],
-        tells: "spent",
-    },
-    // the least name that is no mark
-    Case {
-        folders: MARKS,
-        marks: &["x", "7", "07", "4294967296"],
-        tells: "damaged 07",
-    },
-    Case {
-        folders: MARKS,
-        marks: &["5", "0"],
-        tells: "damaged 0",
-    },
-    Case {
-        folders: &[],
-        marks: &[],
-        tells: "no marks",
-    },
+// Of names that are no marks the least is told.
+const MARKS: &[(Table, &str)] = &[
+    (
+        Table::Marks,
+        ": 1
+        9 10 2: 11
+        4294967294: 4294967295
+        1 4294967295: spent
+        x 7 07 4294967296: damaged 07
+        5 0: damaged 0",
+    ),
+    (Table::NoMarks, ": no marks"),
 ];
 
 #[test]
-fn the_next_mark_is_drawn_where_all_are_marks(rt: HostRuntime) -> Result<(), Fail> {
-    for case in &CASES {
-        let line = told(rt.alloc(), case)?;
-        assert!(rt; line.as_str() == case.tells, "{line}");
-    }
-    Ok(())
+fn the_next_mark_is_drawn_where_all_are_marks(rt: HostRuntime) {
+    all_tell(&rt, &Cast::new(rt.alloc(), ""), MARKS)
 }
 
-fn crosses<T: Send + Sync + Drop>(_value: T) {}
+fn crosses<T: Send + Sync + Drop>() {}
 
 #[test]
-fn a_mount_crosses_threads(rt: HostRuntime) -> Result<(), Fail> {
-    crosses(mounted(rt.alloc(), sound(rt.alloc())?)?);
-    Ok(())
+fn a_mount_crosses_threads(_rt: HostRuntime) {
+    crosses::<Tried>()
 }
 
-const SPENT: &[Row] = &[
-    (ONE, Does::Make("f"), "room 1"),
-    (ONE, Does::Enter(1, 0), "ids spent"),
-    (ONE, Does::Hold(0), "no room"),
-    (ONE, Does::Hold(1), "ids spent"),
-    (ONE, Does::StartFlat(0), "no room"),
-    (ONE, Does::StartFlat(1), "ids spent"),
-    (ONE, Does::StartPack(0), "no room"),
-    (ONE, Does::StartPack(1), "ids spent"),
-    (ONE, Does::List("openhosts"), "names"),
-    (ONE, Does::List("flats"), "names"),
-];
-
-// A mount that has drawn all serials.
-fn spent(alloc: Global) -> Result<Tried, Fail> {
-    let mount = Mount::open_at(alloc, sound(alloc)?, clock(alloc, &[10])?, u32::MAX)
-        .ok()
-        .ok_or("not mounted")?;
-    Ok(mount)
-}
+const SPENT: &str = "1 make f: room 1
+    1 enter 1 0: ids spent
+    1 hold 0: no room
+    1 hold 1: ids spent
+    1 flatten 0: no room
+    1 flatten 1: ids spent
+    1 pack 0: no room
+    1 pack 1: ids spent
+    1 list openhosts: names
+    1 list flats: names";
 
 #[test]
-fn the_last_serial_ends_writers_holds_and_flattenings(rt: HostRuntime) -> Result<(), Fail> {
-    let alloc = rt.alloc();
-    hold(&rt, &Cast { alloc, writer: 0 }, &mut spent(alloc)?, SPENT)
+fn the_last_serial_ends_writers_holds_and_flattenings(rt: HostRuntime) {
+    let beginning = Beginning {
+        drawn: u32::MAX,
+        ..SOUND
+    };
+    all_hold(&rt, &Cast::new(rt.alloc(), ""), &beginning, &[SPENT])
 }

@@ -1,54 +1,97 @@
-//! Replies as text.
+//! Lines of text, and replies as text.
 use itoa::Buffer;
 use mount_model::{Refusal, Reply};
-use plfs_types::{Name, NoMemory};
+use plfs_types::Name;
+use std::alloc::Global;
 use store_api::Answer;
 
-fn say(line: &mut String, word: &str, number: u64) -> Result<(), NoMemory> {
-    line.push_str(word)?;
-    line.push_str(Buffer::new().format(number))?;
-    Ok(())
+/// What stands before the first such sign and what stands behind it, or all of the text and nothing.
+pub(crate) fn parts(text: &str, sign: char) -> (&str, &str) {
+    let text = text.trim();
+    let (first, rest) = text.split_once(sign).unwrap_or((text, ""));
+    (first, rest.trim_start())
 }
 
-fn letters(line: &mut String, bytes: &[u8]) -> Result<(), NoMemory> {
-    for byte in bytes {
-        line.push(char::from(*byte))?;
-    }
-    Ok(())
+/// Text that grows. A line for which there was no memory is like no text.
+#[derive(Drop)]
+pub(crate) struct Line {
+    text: String,
+    is_cut: bool,
 }
 
-fn named(line: &mut String, word: &str, names: &[Name]) -> Result<(), NoMemory> {
-    line.push_str(word)?;
-    for name in names {
-        line.push_str(" ")?;
-        letters(line, name.bytes())?;
-    }
-    Ok(())
-}
-
-fn seen(line: &mut String, answer: &Answer) -> Result<(), NoMemory> {
-    match answer {
-        Answer::Names(names) => named(line, "names", names.as_slice())?,
-        Answer::Number { value } => say(line, "length ", *value)?,
-        Answer::Bytes(bytes) => {
-            line.push_str("bytes ")?;
-            letters(line, bytes.as_slice())?;
+impl Line {
+    pub(crate) fn new(alloc: Global) -> Self {
+        Line {
+            text: String::new(alloc),
+            is_cut: false,
         }
-        Answer::Absent => line.push_str("absent")?,
-        Answer::NoFolder => line.push_str("no folder")?,
-        _ => line.push_str("another answer")?,
     }
-    Ok(())
+
+    pub(crate) fn as_str(&self) -> &str {
+        if self.is_cut {
+            "no memory for this line"
+        } else {
+            self.text.as_str()
+        }
+    }
+
+    pub(crate) fn push(&mut self, text: &str) {
+        if self.text.push_str(text).is_err() {
+            self.is_cut = true;
+        }
+    }
+
+    /// A word, and this number behind it.
+    pub(crate) fn say(&mut self, word: &str, number: u64) {
+        self.push(word);
+        self.push(Buffer::new().format(number));
+    }
+
+    /// A word, and these bytes behind it, each a letter.
+    pub(crate) fn letters(&mut self, word: &str, bytes: &[u8]) {
+        self.push(word);
+        for byte in bytes {
+            if self.text.push(char::from(*byte)).is_err() {
+                self.is_cut = true;
+            }
+        }
+    }
+
+    fn named(&mut self, word: &str, names: &[Name]) {
+        self.push(word);
+        for name in names {
+            self.letters(" ", name.bytes());
+        }
+    }
+
+    /// Says what came of a deed, where that is other than what is wanted.
+    pub(crate) fn expect(&mut self, deed: &str, told: &Line, want: &str) {
+        if told.as_str() != want {
+            self.push(deed);
+            self.push(": ");
+            self.push(told.as_str());
+            self.push("\n");
+        }
+    }
 }
 
-fn refused(line: &mut String, why: Refusal) -> Result<(), NoMemory> {
-    let word = match why {
+fn seen(line: &mut Line, answer: &Answer) {
+    let word = match answer {
+        Answer::Names(names) => return line.named("names", names.as_slice()),
+        Answer::Number { value } => return line.say("length ", *value),
+        Answer::Bytes(bytes) => return line.letters("bytes=", bytes.as_slice()),
+        Answer::Absent => "absent",
+        Answer::NoFolder => "no folder",
+        _ => "another answer",
+    };
+    line.push(word);
+}
+
+fn word_of(why: Refusal) -> &'static str {
+    match why {
         Refusal::NoRoom => "no room",
         Refusal::Held => "held",
-        Refusal::Busy { host, id } => {
-            say(line, "busy ", host as u64)?;
-            return say(line, " ", id);
-        }
+        Refusal::Busy { .. } => "busy",
         Refusal::Exists => "exists",
         Refusal::Full => "full",
         Refusal::NotFlushed => "not flushed",
@@ -59,47 +102,48 @@ fn refused(line: &mut String, why: Refusal) -> Result<(), NoMemory> {
         Refusal::NotOpen => "not open",
         Refusal::NotHolder => "not holder",
         Refusal::Alive => "alive",
+    }
+}
+
+fn refused(line: &mut Line, why: Refusal) {
+    line.push(word_of(why));
+    if let Refusal::Busy { host, id } = why {
+        line.say(" ", u64::from(host));
+        line.say(" ", id);
+    }
+}
+
+fn numbered(line: &mut Line, reply: &Reply) {
+    let (word, number) = match reply {
+        Reply::Room { room } => ("room ", *room),
+        Reply::Entered { writer } => ("entered ", *writer),
+        Reply::Floored { floor } => ("floored ", *floor),
+        Reply::Wrote { stamp } => ("wrote ", *stamp),
+        Reply::Flushed { landed } => ("flushed ", *landed),
+        Reply::Synced { landed } => ("synced ", *landed),
+        Reply::Holding { holder } => ("holding ", *holder),
+        Reply::Marked { stamp } => ("marked ", *stamp),
+        Reply::Started { flat } => ("started ", *flat),
+        _ => ("another reply ", 0),
     };
-    line.push_str(word)?;
-    Ok(())
+    line.say(word, number);
 }
 
-fn numbered(line: &mut String, reply: &Reply) -> Result<(), NoMemory> {
+/// A reply behind what the line has.
+pub(crate) fn spell(line: &mut Line, reply: &Reply) {
     match reply {
-        Reply::Room { room } => say(line, "room ", *room),
-        Reply::Entered { writer } => say(line, "entered ", *writer),
-        Reply::Floored { floor } => say(line, "floored ", *floor),
-        Reply::Wrote { stamp } => say(line, "wrote ", *stamp),
-        Reply::Flushed { landed } => say(line, "flushed ", *landed),
-        Reply::Synced { landed } => say(line, "synced ", *landed),
-        Reply::Holding { holder } => say(line, "holding ", *holder),
-        Reply::Marked { stamp } => say(line, "marked ", *stamp),
-        Reply::Started { flat } => say(line, "started ", *flat),
-        _ => {
-            line.push_str("another reply")?;
-            Ok(())
-        }
-    }
-}
-
-/// Puts the reply behind the line.
-pub(crate) fn spell(line: &mut String, reply: &Reply) -> Result<(), NoMemory> {
-    match reply {
-        Reply::Greeted => line.push_str("greeted")?,
-        Reply::Rooms(names) => named(line, "rooms", names.as_slice())?,
-        Reply::Looked(answer) => seen(line, answer)?,
-        Reply::Done => line.push_str("done")?,
-        Reply::Mended { made } => line.push_str(if *made { "made" } else { "whole" })?,
-        Reply::Stopped => line.push_str("stopped")?,
-        Reply::Refused(why) => refused(line, *why)?,
+        Reply::Greeted => line.push("greeted"),
+        Reply::Rooms(names) => line.named("rooms", names.as_slice()),
+        Reply::Looked(answer) => seen(line, answer),
+        Reply::Done => line.push("done"),
+        Reply::Mended { made } => line.push(if *made { "made" } else { "whole" }),
+        Reply::Stopped => line.push("stopped"),
+        Reply::Refused(why) => refused(line, *why),
         Reply::Damaged { folder, file } => {
-            line.push_str("damaged ")?;
-            letters(line, folder.bytes())?;
-            line.push_str("/")?;
-            letters(line, file.bytes())?;
+            line.letters("damaged ", folder.bytes());
+            line.letters("/", file.bytes());
         }
-        Reply::Fault => line.push_str("fault")?,
-        _ => numbered(line, reply)?,
+        Reply::Fault => line.push("fault"),
+        _ => numbered(line, reply),
     }
-    Ok(())
 }

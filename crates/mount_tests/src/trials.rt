@@ -1,78 +1,44 @@
 //! Calls in whose act the store fails, and calls that are broken off.
-use crate::calls::{Cast, Does, FIRST};
-use crate::playing::{By, Row, failing, hold, make, mounted, sound};
-use plfs_types::NoMemory;
-use std::alloc::Global;
-use std::process::Abort;
-use std::test::Fail;
-use store_memory::MemoryStore;
-
-/// How a call goes wrong.
-#[derive(Clone, Copy)]
-pub(crate) enum How {
-    /// The store fails in its act, and leaves so many bytes of a write.
-    Fails(u64),
-    /// It is broken off after so many bytes of a write.
-    Stops(u64),
-}
+use crate::playing::{Beginning, By, Cast, SOUND, begun, hold, make};
+use crate::spelling::{Line, parts};
 
 /// A call that goes wrong.
+#[derive(Clone, Copy)]
 pub(crate) struct Trial {
-    /// What comes before it. The writer of these rows is the first.
-    pub(crate) before: &'static [Row],
+    /// The rows that come before it.
+    pub(crate) before: &'static str,
     /// The act that the call makes, counted from the first of the mounting.
     pub(crate) act: u64,
     pub(crate) caller: u64,
-    pub(crate) call: Does,
+    pub(crate) call: &'static str,
     /// What the ninth caller looks at then.
-    pub(crate) look: Does,
-    /// What the call was answered, what is seen, and what the same call is answered then.
-    pub(crate) tells: &'static [(How, &'static str)],
+    pub(crate) look: &'static str,
 }
 
-fn store_of(alloc: Global, trial: &Trial, how: How) -> Result<MemoryStore, NoMemory> {
-    match how {
-        How::Fails(part) => failing(alloc, trial.act, part),
-        How::Stops(_) => sound(alloc),
-    }
-}
+const NINTH: By = By {
+    caller: 9,
+    stop: None,
+};
 
-fn by(trial: &Trial, how: How) -> By {
-    match how {
-        How::Fails(_) => By::Caller(trial.caller),
-        How::Stops(bytes) => By::Stopped(trial.caller, bytes),
-    }
-}
-
-fn told<R: Abort>(rt: &R, alloc: Global, trial: &Trial, how: How) -> Result<String, Fail> {
-    let cast = Cast {
-        alloc,
-        writer: FIRST,
+/// What the call is answered, what is seen, and what the same call is answered then: where the store fails in its act and
+/// leaves so many bytes of a write, or all, and where it is broken off after so many.
+pub(crate) fn tried(cast: &Cast, trial: &Trial, how: &str) -> Option<Line> {
+    let (word, bytes) = parts(how, ' ');
+    let bytes = bytes.parse::<u64>().unwrap_or(u64::MAX);
+    let (fails, stop) = if word == "fails" {
+        (Some((trial.act, bytes)), None)
+    } else {
+        (None, Some(bytes))
     };
-    let mut mount = mounted(alloc, store_of(alloc, trial, how)?)?;
-    hold(rt, &cast, &mut mount, trial.before)?;
-    let mut line = String::new(alloc);
-    let makes = [
-        (by(trial, how), trial.call),
-        (By::Caller(9), trial.look),
-        (By::Caller(trial.caller), trial.call),
-    ];
-    for (by, does) in makes {
-        if !line.is_empty() {
-            line.push_str(", ")?;
-        }
-        make(&cast, &mut mount, by, does, &mut line)?;
-    }
-    Ok(line)
-}
-
-/// Each trial tells what it says.
-pub(crate) fn all_tell<R: Abort>(rt: &R, alloc: Global, trials: &[Trial]) -> Result<(), Fail> {
-    for trial in trials {
-        for (how, want) in trial.tells {
-            let line = told(rt, alloc, trial, *how)?;
-            assert!(rt; line.as_str() == *want, "{line}: {want}");
-        }
-    }
-    Ok(())
+    let mut mount = begun(cast.alloc, &Beginning { fails, ..SOUND })?;
+    let mut line = Line::new(cast.alloc);
+    hold(cast, &mut mount, trial.before, &mut line);
+    let caller = trial.caller;
+    let first = By { caller, stop };
+    let then = By { caller, stop: None };
+    make(cast.alloc, &mut mount, first, trial.call, &mut line);
+    make(cast.alloc, &mut mount, NINTH, trial.look, &mut line);
+    make(cast.alloc, &mut mount, then, trial.call, &mut line);
+    drop(mount);
+    Some(line)
 }
