@@ -1,6 +1,6 @@
 -- What an actor makes of its machine's calls and of their replies.
 use Rattle.std.proofs.Common.{◌≡◌, ℕ, List, length, nat_eq, arith, true, false, Option, Some, None, refl, sym, ap, ◌∙◌, subst}
-use Rattle.std.specs.Prelude.{option_map}
+use Rattle.std.specs.Prelude.{if◌then◌else◌, option_map}
 use Rattle.std.proofs.lemmas.Bool.Decides.{nat_tests}
 use Rattle.std.proofs.lemmas.Option.{none-some}
 use Rattle.story.specs.Program.{done, ask}
@@ -19,11 +19,14 @@ use Rattle.mount_model.specs.declared.reply.Reply.{Reply}
 use Rattle.actor_core.specs.declared.kept.Stop.{Stop}
 use Rattle.actor_core.specs.Stopping.{is_due, one_nearer, stoppable}
 use Rattle.actor_core.specs.Work.{Work, finishes}
-use Rattle.actor_core.specs.Progress.{Progress, going, IsReady, IsAsked, ask_of, given, with_reply}
+use Rattle.actor_core.specs.Progress.{Progress, idle, begun, IsIdle, going, IsReady, IsAsked, ask_of, given, with_reply}
 use Rattle.actor_core.specs.declared.kept.Kept.{Kept}
 use Rattle.actor_core.specs.declared.actor.Actor.{Actor}
 use Rattle.actor_core.specs.declared.actor.State.{State}
-use Rattle.actor_core.specs.Standings.{Underway, goes, waits, ready_of, asked_of, busy, greeting, progress_of, state_progress}
+use Rattle.actor_core.specs.Standings.{Underway, goes, waits, ready_of, asked_of, busy, greeting, greeting_out, doing_ready, doing_asked, progress_of, state_progress}
+use Rattle.actor_core.specs.declared.actor.State.TheVariants.{Idle, Told, Ready, Asked, HandedOut, Greeting, Greeted}
+use Rattle.script_lang.specs.declared.script.Statement.{Statement}
+use Rattle.actor_core.specs.Statements.{greeted, greeted_work}
 
 -- a machine that has no next call is at its end
 pub at_end : {R : Type 0} (number : ℕ) (old new : Standing Call Reply R) (stop : Option Stop) (next : Option Stop → R → Work) (halted : Work)
@@ -40,7 +43,7 @@ abbrev result_or : {R : Type 0} → R → Rest Call Reply R → R
 result_or other (over r) = r
 result_or other (awaits k) = other
 
-same_result : {R : Type 0} (a b : R) → over_of a ≡ over_of b → a ≡ b
+pub same_result : {R : Type 0} (a b : R) → over_of a ≡ over_of b → a ≡ b
 same_result a b e = ap (λ rest. result_or a rest) e
 
 -- its result leads on
@@ -107,8 +110,34 @@ greeting_same number (waits k) is_asked = refl
 pub asked_along : (a b : Progress) → a ≡ b → IsAsked a → IsAsked b
 asked_along a b e is_asked = let P : Progress → Type 0 = λ p. IsAsked p in subst P e is_asked
 
-pub greets_so : (number : ℕ) (u : Underway) (work : Work) → u ≡ goes work → greeting number u ≡ going number (asks (unbroken Greet) (λ reply. work))
-greets_so number u work is = ap (greeting number) is
+-- an idle actor begins a statement so, where it has greeted
+pub begins : (was : Progress) (kept : Kept) (number : ℕ) (statement : Statement) (u : Underway) → was ≡ idle kept → kept.greeted ≡ true → u ≡ goes (greeted_work (greeted kept) statement)
+    → busy number u ≡ begun was number statement
+begins was kept number statement u is_idle is_greeted is =
+    ap (busy number) is
+    ∙ ap (λ b. going number (greeted_work (record kept { greeted = b }) statement)) (sym is_greeted)
+    ∙ sym (ap (λ p. begun p number statement) is_idle ∙ ap (λ b. going number (if b then greeted_work kept statement else asks (unbroken Greet) (λ reply. greeted_work (greeted kept) statement))) is_greeted)
+
+not_idle : (number : ℕ) (u : Underway) → IsIdle (busy number u) → ⊥
+not_idle number (goes work) is = is
+not_idle number (waits k) is = is
+
+not_idle_greeting : (number : ℕ) (u : Underway) → IsIdle (greeting number u) → ⊥
+not_idle_greeting number (goes work) is = is
+not_idle_greeting number (waits k) is = is
+
+not_idle_greeted : (number : ℕ) (u : Underway) → IsIdle (greeting_out number u) → ⊥
+not_idle_greeted number (goes work) is = is
+not_idle_greeted number (waits k) is = is
+
+pub idle_so : (number : ℕ) (kept : Kept) (stop : Option Stop) (state : State) → IsIdle (state_progress number kept stop state) → state_progress number kept stop state ≡ idle kept
+idle_so number kept stop Idle is = refl
+idle_so number kept stop (Told line) is = absurd is
+idle_so number kept stop (Ready doing) is = absurd (not_idle number (doing_ready kept stop doing) is)
+idle_so number kept stop (Asked doing) is = absurd (not_idle number (doing_asked kept stop doing) is)
+idle_so number kept stop (HandedOut listed) is = absurd is
+idle_so number kept stop (Greeting doing) is = absurd (not_idle_greeting number (doing_ready kept stop doing) is)
+idle_so number kept stop (Greeted doing) is = absurd (not_idle_greeted number (doing_ready kept stop doing) is)
 
 -- a write of some bytes begins with its machine's program
 pub written : (kept : Kept) (stop : Option Stop) (at len : ℕ) (bytes : List ℕ) (handle : WriterHandle) (s : Standing Call Reply WriterOut) (writer : Option WriterHandle)

@@ -1,7 +1,8 @@
 -- What holds of each statement at work.
-use Rattle.std.proofs.Common.{◌≡◌, ◌<◌, ◌+◌, ℕ, arith, true, Option, Result, Ok, Err, sym, ap, ◌∙◌}
+use Rattle.std.proofs.Common.{◌≡◌, ◌<◌, ◌+◌, ℕ, arith, true, false, Option, Result, Ok, Err, sym, ap, ◌∙◌}
 use Rattle.std.specs.Prelude.{OnOk}
-use Rattle.flow.specs.Standing.{rest_of}
+use Rattle.flow.specs.Standing.{Standing, ready, Rest, rest_of, replied, Awaits}
+use Rattle.mount_model.specs.declared.call.Call.{Call}
 use Rattle.mount_model.specs.declared.reply.Reply.{Reply}
 use Rattle.writer_flow.specs.OpeningStages.{open_standing}
 use Rattle.writer_flow.specs.WritingStages.{write_standing}
@@ -27,10 +28,10 @@ use Rattle.actor_core.specs.Telling.{if_asked}
 use Rattle.actor_core.specs.Purposes.{if_listed_for, ended_for}
 use Rattle.actor_core.specs.Naming.{names_standing}
 use Rattle.gather_flow.specs.Gathering.{gather_rest}
-use Rattle.actor_core.specs.Work.{finishes}
+use Rattle.actor_core.specs.Work.{Work, finishes}
 use Rattle.actor_core.specs.Progress.{going, IsAsked, with_reply}
-use Rattle.actor_core.specs.Standings.{busy, doing_ready, doing_asked, doing_left, AwaitsReply}
-use Rattle.actor_core.proofs.Carrying.{awaited, stops_so, out_same}
+use Rattle.actor_core.specs.Standings.{busy, ready_of, asked_of, doing_ready, doing_asked, doing_left, AwaitsReply}
+use Rattle.actor_core.proofs.Carrying.{awaited, stops_so, out_same, replied_so}
 
 -- a statement whose call is out has its reply to come
 pub has_call_out : (number : ℕ) (kept : Kept) (stop : Option Stop) (doing : Doing) → IsAsked (busy number (doing_asked kept stop doing)) → AwaitsReply doing
@@ -116,9 +117,15 @@ pub more_left : {A E : Type 0} (result : Result A E) (calls bound : ℕ) → OnO
 more_left (Ok a) calls bound fewer = omega (arith, fewer)
 more_left (Err because) calls bound fewer = tt
 
--- what is so of a statement's machines before and after a reply is so of the statement
-pub taken_so : (number : ℕ) (kept : Kept) (stop : Option Stop) (doing old next new : Doing) (reply : Reply) → doing ≡ old → next ≡ new
-    → busy number (doing_ready kept (one_nearer stop) new) ≡ with_reply (busy number (doing_asked kept stop old)) reply
-    → busy number (doing_ready kept (one_nearer stop) next) ≡ with_reply (busy number (doing_asked kept stop doing)) reply
-taken_so number kept stop doing old next new reply was is goes =
-    ap (λ d. busy number (doing_ready kept (one_nearer stop) d)) is ∙ goes ∙ sym (ap (λ d. with_reply (busy number (doing_asked kept stop d)) reply) was)
+-- what is so of a statement's machine before and after it took a reply is so of the statement
+pub takes_so : {R E : Type 0} (rest : Rest Call Reply R) (new : Standing Call Reply R) (next : Kept → Option Stop → R → Work) (was before after : Doing) (result : Result (Unit {0}) E) (reply : Reply) → was ≡ before
+    → ((kept : Kept) (stop : Option Stop) → doing_asked kept stop before ≡ asked_of rest stop (next kept) (finishes (stopped kept)))
+    → ((kept : Kept) (stop : Option Stop) → doing_ready kept stop after ≡ ready_of new stop (next kept) (finishes (stopped kept)))
+    → Awaits rest → OnOk result (new ≡ ready (replied rest reply))
+    → OnOk result ((number : ℕ) (kept : Kept) (stop : Option Stop) → is_due stop ≡ false
+    → busy number (doing_ready kept (one_nearer stop) after) ≡ with_reply (busy number (doing_asked kept stop was)) reply)
+takes_so rest new next was before after (Err why) reply is as_before as_after awaits_it goes = tt
+takes_so rest new next was before after (Ok nothing) reply is as_before as_after awaits_it goes = λ number kept stop not_due.
+    ap (busy number) (as_after kept (one_nearer stop))
+    ∙ replied_so number rest new stop (next kept) (finishes (stopped kept)) reply awaits_it goes not_due
+    ∙ sym (ap (λ u. with_reply (busy number u) reply) (ap (doing_asked kept stop) is ∙ as_before kept stop))

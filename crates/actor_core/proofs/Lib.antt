@@ -1,6 +1,7 @@
 pub mod Facts
 mod Carrying
 mod Doings
+mod OneMachine
 mod Making
 mod Gatherings
 mod Handings

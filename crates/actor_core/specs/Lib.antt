@@ -14,5 +14,6 @@ pub mod Statements
 pub mod Progress
 pub mod Handing
 pub mod Standings
+pub mod Machines
 pub mod Owed
 pub mod Along

@@ -2,7 +2,6 @@
 ghost use Rattle.std.specs.Prelude.{◌≡◌, ◌≤◌, ◌+◌, List, None, Result as AResult, IfOk, OnOk};
 ghost use Rattle.flow.specs.declared.stuck.Stuck.{Stuck as AStuck};
 ghost use Rattle.index_reader.specs.declared.sharing.Share.{Share as AShare};
-ghost use Rattle.actor_core.specs.declared.actor.State.TheVariants.{Idle};
 ghost use Rattle.actor_core.specs.Progress.{IsReady, going};
 ghost use Rattle.actor_core.specs.Handing.{IsHandedOut, IsHanded, with_results};
 ghost use Rattle.gather_flow.specs.Workers.{IsOutcomeOf};
@@ -52,7 +51,6 @@ impl Actor {
 
 impl Actor {
     fn hand_out(&mut self, doing: Doing) -> Result<Option<WorkList>, NoMemory>
-        requires { self.old.state ≡ Idle }
         ensures handed { IfOk result (λ works. IsHandedOut (busy self.old.number (doing_ready self.old.kept self.old.stop doing)) works (progress_of self.new)) }
         ensures left { OnOk result (calls_left self.new ≤ doing_left doing) }
     {
@@ -70,7 +68,6 @@ impl Actor {
         flow: OpenRead,
         purpose: Purpose,
     ) -> Result<Option<WorkList>, NoMemory>
-        requires { self.old.state ≡ Idle }
         ensures handed { IfOk result (λ works. IsHandedOut (busy self.old.number (doing_ready self.old.kept self.old.stop (Doing.Listing flow purpose))) works (progress_of self.new)) }
         ensures left { OnOk result (calls_left self.new ≤ doing_left (Doing.Listing flow purpose)) }
     {
@@ -94,7 +91,6 @@ impl Actor {
         flow: OpenRead,
         workers: u32,
     ) -> Result<Option<WorkList>, NoMemory>
-        requires idle { self.old.state ≡ Idle }
         requires stop { self.old.stop ≡ None }
         ensures handed { IfOk result (λ works. IsHandedOut (busy self.old.number (doing_ready self.old.kept self.old.stop (Doing.Listing flow (Purpose.Opens workers)))) works (progress_of self.new)) }
         ensures left { OnOk result (calls_left self.new ≤ doing_left (Doing.Listing flow (Purpose.Opens workers))) }
@@ -116,9 +112,16 @@ impl Actor {
         match flow.out() {
             Ok(listing) => {
                 let listed = Listed::of(listing);
-                let list = works(self.alloc, &listed, workers)?;
-                self.set(State::HandedOut(listed));
-                Ok(Some(list))
+                match works(self.alloc, &listed, workers) {
+                    Ok(list) => {
+                        self.set(State::HandedOut(listed));
+                        Ok(Some(list))
+                    }
+                    Err(why) => {
+                        drop(listed);
+                        Err(why)
+                    }
+                }
             }
             Err(because) => {
                 let outcome = stuck_outcome(because);
@@ -129,7 +132,6 @@ impl Actor {
     }
 
     fn go_on_with(&mut self, listed: Listed, outcome: Result<Share, Stuck>) -> Result<(), NoMemory>
-        requires { self.old.state ≡ Idle }
         ensures goes_on { OnOk result ((results : List (AResult AShare AStuck)) → IsOutcomeOf results outcome
             → progress_of self.new ≡ going self.old.number (with_shares self.old.kept self.old.stop listed results)) }
         ensures left { OnOk result (calls_left self.new ≤ shares_bound 0 + 1) }

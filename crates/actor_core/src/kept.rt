@@ -3,7 +3,7 @@ use index_reader::OpenReader;
 use writer_flow::WriterHandle;
 
 /// A stop within the `call`-th call of a statement, from 1, after so many bytes of a write.
-#[derive(Clone, Copy, PartialEq, Eq)]
+#[derive(Clone, Copy)]
 pub struct Stop {
     pub call: u64,
     pub bytes: u64,

@@ -7,7 +7,6 @@
 #![tactic(auto)]
 
 mod actor;
-mod by_name;
 mod doing;
 mod handing;
 mod kept;
@@ -16,7 +15,6 @@ mod machines;
 mod names;
 mod opening;
 mod purpose;
-mod reading;
 mod starting;
 mod stepping;
 mod stopping;

@@ -1,23 +1,27 @@
 //! The machine of the statement at work.
 ghost use Rattle.std.specs.Prelude.{◌≡◌, ◌≤◌, IfOk, IfSome, OnOk, option_map};
-ghost use Rattle.mount_model.specs.Step.{IsOwed};
+ghost use Rattle.mount_model.specs.Step.{IsOwed, OwedBy};
 ghost use Rattle.flow.specs.Standing.{next_of, rest_of};
 ghost use Rattle.actor_core.specs.Stopping.{stoppable as stoppable_of};
-ghost use Rattle.actor_core.specs.declared.actor.State.TheVariants.{Idle};
 ghost use Rattle.actor_core.specs.Progress.{IsReady, ask_of, given, line_of, told};
-ghost use Rattle.actor_core.specs.Endings.{ending};
-ghost use Rattle.actor_core.specs.Standings.{progress_of, calls_left, busy, doing_ready, doing_left};
+ghost use Rattle.actor_core.specs.Endings.{ending, opened as opening_ends};
+ghost use Rattle.actor_core.specs.Work.{finishes};
+ghost use Rattle.actor_core.specs.Standings.{progress_of, calls_left, busy, goes, doing_ready, doing_left};
+ghost use Rattle.actor_core.specs.Machines.{IsOneMachine, IsAtEnd, GoesOn};
 
 use crate::actor::{Actor, State};
 use crate::doing::Doing;
 use crate::kept::Stop;
 use crate::stopping::stoppable;
-use flow::Flow;
-use mount_model::Ask;
-use outcomes::{close_outcome, stuck_outcome, sync_outcome, write_outcome};
+use flow::{Flow, Stuck};
+use mount_model::{Ask, Call};
+use outcomes::{
+    close_outcome, flatten_outcome, list_outcome, read_outcome, recover_outcome, rename_outcome,
+    stuck_outcome, sync_outcome, truncate_outcome, verify_outcome, write_outcome,
+};
 use plfs_types::NoMemory;
 use script_lang::{Line, Outcome};
-use writer_flow::{CloseFlow, OpenWrite, SyncFlow, WriteFlow};
+use writer_flow::WriterHandle;
 
 /// The machine once it was asked for its next call, and that call, broken off where the stop is within it.
 pub(crate) fn next_ask<F: Flow + Drop>(
@@ -39,7 +43,6 @@ pub(crate) fn next_ask<F: Flow + Drop>(
 impl Actor {
     /// The next call of the statement at work, or its end.
     pub(crate) fn next_call(&mut self, doing: Doing) -> Result<Option<Ask>, NoMemory>
-        requires idle { self.old.state ≡ Idle }
         requires ready { IsReady (busy self.old.number (doing_ready self.old.kept self.old.stop doing)) }
         ensures ask { IfOk result (λ ask. ask ≡ ask_of (busy self.old.number (doing_ready self.old.kept self.old.stop doing))) }
         ensures owed { IfOk result (λ ask. IfSome ask IsOwed) }
@@ -51,26 +54,15 @@ impl Actor {
                 self.tell(outcome);
                 Ok(None)
             }
-            Doing::Opening(flow) => self.next_opening(flow),
-            Doing::Writing { flow, at, len } => self.next_writing(flow, at, len),
-            Doing::Syncing(flow) => self.next_syncing(flow),
-            Doing::Closing(flow) => self.next_closing(flow),
             Doing::Listing { flow, purpose } => self.next_listing(flow, purpose),
             Doing::Gathering { flow, purpose } => self.next_gathering(flow, purpose),
-            Doing::Reading { flow, at } => self.next_reading(flow, at),
-            Doing::Verifying { flow, at, content } => self.next_verifying(flow, at, content),
             Doing::Telling(flow) => self.next_telling(flow),
-            Doing::Truncating(flow) => self.next_truncating(flow),
-            Doing::Flattening(flow) => self.next_flattening(flow),
-            Doing::Renaming(flow) => self.next_renaming(flow),
-            Doing::Recovering(flow) => self.next_recovering(flow),
-            Doing::Naming(flow) => self.next_naming(flow),
+            other => self.next_of(other),
         }
     }
 
     /// The statement is at its end.
     pub(crate) fn tell(&mut self, outcome: Outcome)
-        requires { self.old.state ≡ Idle }
         ensures told { progress_of self.new ≡ told (line_of self.old.number (ending outcome self.old.kept)) self.old.kept }
         ensures left { calls_left self.new ≡ 0 }
     {
@@ -78,98 +70,119 @@ impl Actor {
         self.set(State::Told(Line { number, outcome }));
     }
 
-    fn next_opening(&mut self, flow: OpenWrite) -> Result<Option<Ask>, NoMemory>
-        requires idle { self.old.state ≡ Idle }
-        requires ready { IsReady (busy self.old.number (doing_ready self.old.kept self.old.stop (Doing.Opening flow))) }
-        ensures ask { IfOk result (λ ask. ask ≡ ask_of (busy self.old.number (doing_ready self.old.kept self.old.stop (Doing.Opening flow)))) }
+    /// The next call of the one machine of a statement, or the statement's end.
+    fn next_of(&mut self, doing: Doing) -> Result<Option<Ask>, NoMemory>
+        requires one { IsOneMachine doing }
+        requires ready { IsReady (busy self.old.number (doing_ready self.old.kept self.old.stop doing)) }
+        ensures ask { IfOk result (λ ask. ask ≡ ask_of (busy self.old.number (doing_ready self.old.kept self.old.stop doing))) }
         ensures owed { IfOk result (λ ask. IfSome ask IsOwed) }
-        ensures goes_on { OnOk result (progress_of self.new ≡ given (busy self.old.number (doing_ready self.old.kept self.old.stop (Doing.Opening flow)))) }
-        ensures left { OnOk result (calls_left self.new ≤ doing_left (Doing.Opening flow)) }
+        ensures goes_on { OnOk result (progress_of self.new ≡ given (busy self.old.number (doing_ready self.old.kept self.old.stop doing))) }
+        ensures left { OnOk result (calls_left self.new ≤ doing_left doing) }
     {
-        let (next, asked) = next_ask(flow, self.stop)?;
-        if let Some(ask) = asked {
-            self.set(State::Asked(Doing::Opening(next)));
-            return Ok(Some(ask));
+        let mut next = doing;
+        match asked(&mut next) {
+            Ok(Some(call)) => {
+                let ask = stoppable(self.stop, call);
+                self.set(State::Asked(next));
+                Ok(Some(ask))
+            }
+            Ok(None) => {
+                let outcome = self.finished(next)?;
+                self.tell(outcome);
+                Ok(None)
+            }
+            Err(why) => {
+                drop(next);
+                Err(why)
+            }
         }
-        match next.out() {
+    }
+}
+
+/// Asks the one machine of a statement for its next call.
+fn asked(doing: &mut Doing) -> Result<Option<Call>, NoMemory>
+    requires { IsOneMachine doing.old }
+    ensures goes_on { IfOk result (λ call. GoesOn doing.old call doing.new) }
+    ensures owed { IfOk result (λ call. IfSome call OwedBy) }
+    ensures left { OnOk result (doing_left doing.new ≡ doing_left doing.old) }
+{
+    match doing {
+        Doing::Opening(flow) => flow.next(),
+        Doing::Writing { flow, .. } => flow.next(),
+        Doing::Syncing(flow) => flow.next(),
+        Doing::Closing(flow) => flow.next(),
+        Doing::Reading { flow, .. } => flow.next(),
+        Doing::Verifying { flow, .. } => flow.next(),
+        Doing::Truncating(flow) => flow.next(),
+        Doing::Flattening(flow) => flow.next(),
+        Doing::Renaming(flow) => flow.next(),
+        Doing::Recovering(flow) => flow.next(),
+        Doing::Naming(flow) => flow.next(),
+        Doing::Known(_) | Doing::Listing { .. } | Doing::Gathering { .. } | Doing::Telling(_) => {
+            unreachable!()
+        }
+    }
+}
+
+impl Actor {
+    /// What the end of the one machine of a statement comes to. The actor keeps its writer as the machine left it.
+    fn finished(&mut self, doing: Doing) -> Result<Outcome, NoMemory>
+        requires { IsAtEnd doing }
+        ensures comes_to { IfOk result (λ outcome. doing_ready self.old.kept self.old.stop doing ≡ goes (finishes (ending outcome self.new.kept))) }
+        ensures number { OnOk result (self.new.number ≡ self.old.number) }
+    {
+        match doing {
+            Doing::Opening(flow) => {
+                let made = flow.out();
+                Ok(self.opened(made))
+            }
+            Doing::Writing { flow, at, len } => {
+                let out = flow.out();
+                self.kept.writer = out.handle;
+                Ok(write_outcome(at, len, out.result))
+            }
+            Doing::Syncing(flow) => {
+                let out = flow.out();
+                self.kept.writer = out.handle;
+                Ok(sync_outcome(out.result))
+            }
+            Doing::Closing(flow) => {
+                let out = flow.out();
+                self.kept.writer = out.handle;
+                Ok(close_outcome(out.result))
+            }
+            Doing::Reading { flow, at } => Ok(read_outcome(at, flow.out())),
+            Doing::Verifying { flow, at, content } => {
+                let outcome = verify_outcome(at, &content, flow.out());
+                drop(content);
+                Ok(outcome)
+            }
+            Doing::Truncating(flow) => Ok(truncate_outcome(flow.out())),
+            Doing::Flattening(flow) => flatten_outcome(self.alloc, flow.out()),
+            Doing::Renaming(flow) => Ok(rename_outcome(flow.out())),
+            Doing::Recovering(flow) => Ok(recover_outcome(flow.out())),
+            Doing::Naming(flow) => Ok(list_outcome(flow.out())),
+            Doing::Known(_) | Doing::Listing { .. } | Doing::Gathering { .. } | Doing::Telling(_) =>
+                unreachable!(),
+        }
+    }
+
+    /// What the opening of a writer comes to. The actor keeps the writer.
+    fn opened(&mut self, made: Result<WriterHandle, Stuck>) -> Outcome
+        ensures comes_to { ending result self.new.kept ≡ opening_ends self.old.kept made }
+        ensures number { self.new.number ≡ self.old.number }
+    {
+        match made {
             Ok(handle) => {
                 self.kept.writer = Some(handle);
-                self.tell(Outcome::Opened {
+                Outcome::Opened {
                     writer: handle.writer,
-                });
+                }
             }
             Err(because) => {
                 self.kept.writer = None;
-                self.tell(stuck_outcome(because));
+                stuck_outcome(because)
             }
         }
-        Ok(None)
-    }
-}
-
-impl Actor {
-    fn next_writing(&mut self, flow: WriteFlow, at: u64, len: u64) -> Result<Option<Ask>, NoMemory>
-        requires idle { self.old.state ≡ Idle }
-        requires ready { IsReady (busy self.old.number (doing_ready self.old.kept self.old.stop (Doing.Writing flow at len))) }
-        ensures ask { IfOk result (λ ask. ask ≡ ask_of (busy self.old.number (doing_ready self.old.kept self.old.stop (Doing.Writing flow at len)))) }
-        ensures owed { IfOk result (λ ask. IfSome ask IsOwed) }
-        ensures goes_on { OnOk result (progress_of self.new ≡ given (busy self.old.number (doing_ready self.old.kept self.old.stop (Doing.Writing flow at len)))) }
-        ensures left { OnOk result (calls_left self.new ≤ doing_left (Doing.Writing flow at len)) }
-    {
-        let (next, asked) = next_ask(flow, self.stop)?;
-        if let Some(ask) = asked {
-            self.set(State::Asked(Doing::Writing {
-                flow: next,
-                at,
-                len,
-            }));
-            return Ok(Some(ask));
-        }
-        let out = next.out();
-        self.kept.writer = out.handle;
-        self.tell(write_outcome(at, len, out.result));
-        Ok(None)
-    }
-}
-
-impl Actor {
-    fn next_syncing(&mut self, flow: SyncFlow) -> Result<Option<Ask>, NoMemory>
-        requires idle { self.old.state ≡ Idle }
-        requires ready { IsReady (busy self.old.number (doing_ready self.old.kept self.old.stop (Doing.Syncing flow))) }
-        ensures ask { IfOk result (λ ask. ask ≡ ask_of (busy self.old.number (doing_ready self.old.kept self.old.stop (Doing.Syncing flow)))) }
-        ensures owed { IfOk result (λ ask. IfSome ask IsOwed) }
-        ensures goes_on { OnOk result (progress_of self.new ≡ given (busy self.old.number (doing_ready self.old.kept self.old.stop (Doing.Syncing flow)))) }
-        ensures left { OnOk result (calls_left self.new ≤ doing_left (Doing.Syncing flow)) }
-    {
-        let (next, asked) = next_ask(flow, self.stop)?;
-        if let Some(ask) = asked {
-            self.set(State::Asked(Doing::Syncing(next)));
-            return Ok(Some(ask));
-        }
-        let out = next.out();
-        self.kept.writer = out.handle;
-        self.tell(sync_outcome(out.result));
-        Ok(None)
-    }
-}
-
-impl Actor {
-    fn next_closing(&mut self, flow: CloseFlow) -> Result<Option<Ask>, NoMemory>
-        requires idle { self.old.state ≡ Idle }
-        requires ready { IsReady (busy self.old.number (doing_ready self.old.kept self.old.stop (Doing.Closing flow))) }
-        ensures ask { IfOk result (λ ask. ask ≡ ask_of (busy self.old.number (doing_ready self.old.kept self.old.stop (Doing.Closing flow)))) }
-        ensures owed { IfOk result (λ ask. IfSome ask IsOwed) }
-        ensures goes_on { OnOk result (progress_of self.new ≡ given (busy self.old.number (doing_ready self.old.kept self.old.stop (Doing.Closing flow)))) }
-        ensures left { OnOk result (calls_left self.new ≤ doing_left (Doing.Closing flow)) }
-    {
-        let (next, asked) = next_ask(flow, self.stop)?;
-        if let Some(ask) = asked {
-            self.set(State::Asked(Doing::Closing(next)));
-            return Ok(Some(ask));
-        }
-        let out = next.out();
-        self.kept.writer = out.handle;
-        self.tell(close_outcome(out.result));
-        Ok(None)
     }
 }

@@ -7,6 +7,7 @@ ghost use Rattle.actor_core.specs.Naming.{names_standing, names_left};
 use flow::{Flow, Stuck, failure};
 use mount_model::{Call, Reply};
 use plfs_types::{LogicalName, Name, NameList, NoMemory};
+use std::mem;
 
 /// Names all files by one call.
 #[derive(Drop)]
@@ -37,7 +38,11 @@ fn told(reply: Reply) -> Result<NameList, Stuck>
 {
     match reply {
         Reply::Rooms(names) => Ok(logical(names)),
-        other => Err(failure(&other)),
+        other => {
+            let why = failure(&other);
+            drop(other);
+            Err(why)
+        }
     }
 }
 
@@ -66,9 +71,10 @@ impl Flow for NamesRead {
 
     fn take(&mut self, reply: Reply) -> Result<(), NoMemory> {
         if let Reply::NoMemory = reply {
+            drop(reply);
             return Err(NoMemory);
         }
-        *self = NamesRead::Told(told(reply));
+        drop(mem::replace(self, NamesRead::Told(told(reply))));
         Ok(())
     }
 

@@ -1,7 +1,6 @@
 //! The machines of a container that is gathered.
 ghost use Rattle.std.specs.Prelude.{◌≡◌, ◌≤◌, IfOk, IfSome, OnOk, Ok};
 ghost use Rattle.mount_model.specs.Step.{IsOwed};
-ghost use Rattle.actor_core.specs.declared.actor.State.TheVariants.{Idle};
 ghost use Rattle.actor_core.specs.Progress.{IsReady, going, ask_of, given};
 ghost use Rattle.actor_core.specs.Purposes.{ended_for};
 ghost use Rattle.actor_core.specs.Work.{finishes};
@@ -18,6 +17,7 @@ use index_reader::OpenRead;
 use mount_model::Ask;
 use outcomes::{reader_outcome, stat_outcome, stuck_outcome};
 use plfs_types::NoMemory;
+use std::mem;
 
 impl Actor {
     pub(crate) fn next_listing(
@@ -25,7 +25,6 @@ impl Actor {
         flow: OpenRead,
         purpose: Purpose,
     ) -> Result<Option<Ask>, NoMemory>
-        requires idle { self.old.state ≡ Idle }
         requires ready { IsReady (busy self.old.number (doing_ready self.old.kept self.old.stop (Doing.Listing flow purpose))) }
         ensures ask { IfOk result (λ ask. ask ≡ ask_of (busy self.old.number (doing_ready self.old.kept self.old.stop (Doing.Listing flow purpose)))) }
         ensures owed { IfOk result (λ ask. IfSome ask IsOwed) }
@@ -57,7 +56,6 @@ impl Actor {
         flow: Gathering,
         purpose: Purpose,
     ) -> Result<Option<Ask>, NoMemory>
-        requires { self.old.state ≡ Idle }
         ensures ask { IfOk result (λ ask. ask ≡ ask_of (busy self.old.number (doing_ready self.old.kept self.old.stop (Doing.Gathering flow purpose)))) }
         ensures owed { IfOk result (λ ask. IfSome ask IsOwed) }
         ensures goes_on { OnOk result (progress_of self.new ≡ given (busy self.old.number (doing_ready self.old.kept self.old.stop (Doing.Gathering flow purpose)))) }
@@ -84,16 +82,15 @@ impl Actor {
 
     /// All is read, and the statement is at its end.
     fn conclude(&mut self, all: AllRead, purpose: Purpose) -> Result<(), NoMemory>
-        requires { self.old.state ≡ Idle }
         ensures told { OnOk result (progress_of self.new ≡ given (going self.old.number (finishes (ended_for purpose self.old.kept (Ok all))))) }
         ensures left { OnOk result (calls_left self.new ≡ 0) }
     {
         match purpose {
             Purpose::Opens { .. } => {
                 let reader = all.opened(self.alloc)?;
-                let outcome = reader_outcome(self.alloc, &reader)?;
-                self.kept.reader = Some(reader);
-                self.tell(outcome);
+                let outcome = reader_outcome(self.alloc, &reader);
+                drop(mem::replace(&mut self.kept.reader, Some(reader)));
+                self.tell(outcome?);
             }
             Purpose::Tells => {
                 let attr = all.told(self.alloc)?;

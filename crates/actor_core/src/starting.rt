@@ -35,10 +35,9 @@ impl Actor {
     pub(crate) fn start(&mut self, statement: Statement) -> Result<Doing, NoMemory>
         requires fits { FitsStatement statement }
         ensures goes { IfOk result (λ doing. doing_ready self.new.kept self.new.stop doing ≡ goes (greeted_work self.old.kept statement)) }
-        ensures number { self.new.number ≡ self.old.number }
-        ensures state { self.new.state ≡ self.old.state }
     {
         if self.kept.gone {
+            drop(statement);
             return Ok(Doing::Known(Outcome::Gone));
         }
         self.stop = self.kept.armed;
@@ -82,13 +81,16 @@ impl Actor {
             ≡ goes (writes self.now.kept self.now.stop at (bytes_of content) self.now.kept.writer)) }
     {
         let Some(handle) = self.kept.writer else {
+            drop(content);
             return Ok(refuse(Why::NotOpen));
         };
         if handle.closing {
+            drop(content);
             return Ok(refuse(Why::NotOpen));
         }
         let len = length(&content);
         if len == 0 {
+            drop(content);
             return Ok(Doing::Known(Outcome::Wrote {
                 at,
                 len: 0,
@@ -157,10 +159,16 @@ impl Actor {
             ≡ goes (verifies self.now.kept self.now.stop at content self.now.kept.reader)) }
     {
         let Some(reader) = &self.kept.reader else {
+            drop(content);
             return Ok(refuse(Why::NotOpen));
         };
-        let flow = Reading::new(self.alloc, reader, at, length(&content))?;
-        Ok(Doing::Verifying { flow, at, content })
+        match Reading::new(self.alloc, reader, at, length(&content)) {
+            Ok(flow) => Ok(Doing::Verifying { flow, at, content }),
+            Err(why) => {
+                drop(content);
+                Err(why)
+            }
+        }
     }
 
     fn map(&self) -> Result<Doing, NoMemory>
@@ -175,19 +183,18 @@ impl Actor {
 
     fn close_reader(&mut self) -> Doing
         ensures goes { doing_ready self.new.kept self.new.stop result ≡ goes (closes_reader self.old.kept self.old.kept.reader) }
-        ensures number { self.new.number ≡ self.old.number }
-        ensures state { self.new.state ≡ self.old.state }
     {
         match self.kept.reader.take() {
             None => refuse(Why::NotOpen),
-            Some(_) => Doing::Known(Outcome::ReaderClosed),
+            Some(reader) => {
+                drop(reader);
+                Doing::Known(Outcome::ReaderClosed)
+            }
         }
     }
 
     fn arm(&mut self, call: u64, bytes: u64) -> Doing
         ensures goes { doing_ready self.new.kept self.new.stop result ≡ goes (finishes (armed self.old.kept (record { call = call; bytes = bytes }))) }
-        ensures number { self.new.number ≡ self.old.number }
-        ensures state { self.new.state ≡ self.old.state }
     {
         self.kept.armed = Some(Stop { call, bytes });
         Doing::Known(Outcome::Armed)

@@ -3,12 +3,8 @@ ghost use Rattle.std.specs.Prelude.{◌≡◌, ◌<◌, ◌≤◌, ◌↔◌, If
 ghost use Rattle.mount_model.specs.declared.reply.Reply.TheVariants.{NoMemory as WantsMemory};
 ghost use Rattle.mount_model.specs.Step.{IsOwed};
 ghost use Rattle.script_lang.specs.Ranges.{FitsActor, FitsStatement};
-ghost use Rattle.story.specs.Process.{asks};
-ghost use Rattle.flow.specs.Running.{unbroken};
-ghost use Rattle.mount_model.specs.declared.call.Call.TheVariants.{Greet};
 ghost use Rattle.actor_core.specs.declared.actor.State.TheVariants.{Idle};
-ghost use Rattle.actor_core.specs.Statements.{greeted_work};
-ghost use Rattle.actor_core.specs.Progress.{idle, going, fresh, IsIdle, IsReady, IsAsked, begun, ask_of, given, with_reply, waiting_line, line_taken};
+ghost use Rattle.actor_core.specs.Progress.{idle, fresh, IsIdle, IsReady, IsAsked, begun, ask_of, given, with_reply, waiting_line, line_taken};
 ghost use Rattle.actor_core.specs.Standings.{progress_of, calls_left};
 
 use crate::actor::{Actor, State};
@@ -48,47 +44,26 @@ impl Actor {
         requires fits { FitsStatement statement }
         ensures { OnOk result (progress_of self.new ≡ begun (progress_of self.old) number statement) }
     {
+        let greeted = self.kept.greeted;
+        self.kept.greeted = true;
+        let doing = self.start(statement)?;
         self.number = number;
-        if self.kept.greeted {
-            self.enter(statement)
+        if greeted {
+            self.set(State::Ready(doing));
         } else {
-            self.kept.greeted = true;
-            self.enter_greeting(statement)
+            self.set(State::Greeting(doing));
         }
-    }
-
-    fn enter(&mut self, statement: Statement) -> Result<(), NoMemory>
-        requires fits { FitsStatement statement }
-        requires idle { self.old.state ≡ Idle }
-        ensures { OnOk result (progress_of self.new ≡ going self.old.number (greeted_work self.old.kept statement)) }
-    {
-        let doing = self.start(statement)?;
-        self.set(State::Ready(doing));
         Ok(())
     }
 
-    fn enter_greeting(&mut self, statement: Statement) -> Result<(), NoMemory>
-        requires fits { FitsStatement statement }
-        requires idle { self.old.state ≡ Idle }
-        ensures { OnOk result (progress_of self.new ≡ going self.old.number (asks (unbroken Greet) (λ reply. greeted_work self.old.kept statement))) }
-    {
-        let doing = self.start(statement)?;
-        self.set(State::Greeting(doing));
-        Ok(())
-    }
-
-    /// Puts the actor in this state, where its state was taken out.
+    /// Puts the actor in this state.
     pub(crate) fn set(&mut self, state: State)
-        requires { self.old.state ≡ Idle }
         ensures state { self.new.state ≡ state }
         ensures kept { self.new.kept ≡ self.old.kept }
         ensures number { self.new.number ≡ self.old.number }
         ensures stop { self.new.stop ≡ self.old.stop }
     {
-        match mem::replace(&mut self.state, state) {
-            State::Idle => {}
-            _ => unreachable!(),
-        }
+        drop(mem::replace(&mut self.state, state));
     }
 
     /// Takes the state out, and leaves the idle one.
@@ -152,6 +127,7 @@ impl Actor {
         ensures no_memory { reply ≡ WantsMemory → IsErr result }
     {
         if let Reply::NoMemory = reply {
+            drop(reply);
             return Err(NoMemory);
         }
         match self.state_taken() {
@@ -160,6 +136,7 @@ impl Actor {
             State::Ready(doing) => self.take_reply(doing, reply),
             State::Greeting(doing) => self.take_reply(doing, reply),
             State::Greeted(doing) => {
+                drop(reply);
                 self.set(State::Ready(doing));
                 Ok(())
             }

@@ -1,7 +1,6 @@
 //! The machine that tells of a file.
 ghost use Rattle.std.specs.Prelude.{◌≡◌, ◌≤◌, IfOk, IfSome, OnOk};
 ghost use Rattle.mount_model.specs.Step.{IsOwed};
-ghost use Rattle.actor_core.specs.declared.actor.State.TheVariants.{Idle};
 ghost use Rattle.actor_core.specs.Progress.{IsReady, ask_of, given};
 ghost use Rattle.actor_core.specs.Standings.{progress_of, calls_left, busy, doing_ready, doing_left};
 
@@ -18,7 +17,6 @@ use plfs_types::NoMemory;
 
 impl Actor {
     pub(crate) fn next_telling(&mut self, flow: AttrFlow) -> Result<Option<Ask>, NoMemory>
-        requires idle { self.old.state ≡ Idle }
         requires ready { IsReady (busy self.old.number (doing_ready self.old.kept self.old.stop (Doing.Telling flow))) }
         ensures ask { IfOk result (λ ask. ask ≡ ask_of (busy self.old.number (doing_ready self.old.kept self.old.stop (Doing.Telling flow)))) }
         ensures owed { IfOk result (λ ask. IfSome ask IsOwed) }

@@ -9,12 +9,12 @@ use Rattle.actor_core.proofs.Carrying.{placed}
 use Rattle.actor_core.proofs.Handings.{hands_shares}
 use Rattle.actor_core.proofs.actor.Actor.hand_out_shares.Goals as goal
 
-pub returns-in_ok-list-in-Ok-out-clause-handed : goal.returns-in_ok-list-in-Ok-out-clause-handed
-returns-in_ok-list-in-Ok-out-clause-handed c =
+pub returns-in-Ok-works-clause-handed : goal.returns-in-Ok-works-clause-handed
+returns-in-Ok-works-clause-handed c =
     let me = c.args.self.now in
-    let after = c.set-in-Ok-out in
-    hands_shares me.number me.kept me.stop c.args.workers c.args.flow c.next.new.self c.in-Ok-out.listing c.in_ok-list-in-Ok-out.list (progress_of after.new.self)
+    let after = c.set-in-Ok-works in
+    hands_shares me.number me.kept me.stop c.args.workers c.args.flow c.next.new.self c.in-Ok-out.listing c.in-Ok-works.list (progress_of after.new.self)
     (sym c.in_default.is ∙ c.in-Ok.ensures.call) c.in-Ok.ensures.rest c.in-Ok-out.ensures.is c.requires.stop
-    (c.in_ok-list-in-Ok-out.ensures ∙ ap (λ (l : Listing). map (λ program. ready program) (programs_from c.args.workers l 0)) c.of-listed.ensures)
+    (c.in-Ok-works.ensures ∙ ap (λ (l : Listing). map (λ program. ready program) (programs_from c.args.workers l 0)) c.of-listed.ensures)
     (placed after.new.self me.number me.kept me.stop (HandedOut c.of-listed.result) after.ensures.state after.ensures.kept after.ensures.number after.ensures.stop
     ∙ ap (λ (l : Listing). handed me.number (with_shares me.kept me.stop l)) c.of-listed.ensures)
