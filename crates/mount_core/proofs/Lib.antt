@@ -6,3 +6,4 @@ pub mod Mounts
 pub mod Settled
 pub mod Stopped
 pub mod Truncating
+pub mod WholeCalls

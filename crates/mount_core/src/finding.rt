@@ -1,10 +1,10 @@
 //! Calls that find, make and name containers.
-ghost use Rattle.std.specs.Prelude.{◌≡◌, ◌↔◌, [], IsTrue, codes};
+ghost use Rattle.std.specs.Prelude.{◌≡◌, ◌↔◌, IsTrue, codes};
 ghost use Rattle.plfs_types.specs.Names.{IsLogicalName};
-ghost use Rattle.mount_model.specs.Making.{MakesAct};
-ghost use Rattle.mount_model.specs.Finding.{Finds, MakesContainer, make_outcome, AreLogicalOf, RoomsReply, NamesRooms};
+ghost use Rattle.mount_model.specs.Finding.{Finds, MakesContainer, AreLogicalOf, RoomsReply, NamesRooms};
 ghost use Rattle.mount_model.specs.Paths.{new_folders, new_files};
 ghost use Rattle.store_api.specs.Step.{make_room};
+ghost use Rattle.store_api.specs.Acts.{Acts};
 
 use crate::mount::Mount;
 use container_layout::{flats, metadata, openhosts, truncs};
@@ -48,6 +48,17 @@ fn named(told: Result<Answer, Trouble>) -> Reply
     }
 }
 
+/// Makes the room of a new container.
+fn add_room<S: Store>(store: &mut S, name: Name) -> Result<Answer, Trouble>
+    ensures { Acts (make_room name new_folders new_files) (S.stored store.old) (S.stored store.new) result }
+{
+    store.act(&Step::MakeRoom {
+        name,
+        folders: &[openhosts(), metadata(), truncs(), flats()],
+        files: &[access()],
+    })
+}
+
 impl<S: Store + Drop, C: Clock + Drop> Mount<S, C> {
     /// Finds the container of this name.
     pub(crate) fn find(&mut self, name: &LogicalName) -> Reply
@@ -66,17 +77,7 @@ impl<S: Store + Drop, C: Clock + Drop> Mount<S, C> {
     pub(crate) fn make_container(&mut self, name: &LogicalName) -> Reply
         ensures { MakesContainer name.now self.old result self.new }
     {
-        self.make_room(name.name())
-    }
-
-    fn make_room(&mut self, name: Name) -> Reply
-        ensures { MakesAct (make_room name new_folders new_files) (make_outcome self.old.table) self.old result self.new }
-    {
-        let told = self.store.act(&Step::MakeRoom {
-            name,
-            folders: &[openhosts(), metadata(), truncs(), flats()],
-            files: &[access()],
-        });
+        let told = add_room(&mut self.store, name.name());
         match told {
             Ok(Answer::Number { value }) => Reply::Room { room: value },
             Ok(Answer::Old { room }) => Reply::Room { room },

@@ -1,11 +1,10 @@
 //! A container is flattened, or a writer's index dropping is packed: a temporary file is made, written and synced, and
 //! then gets the name of a flattened index, or of the writer's packed index.
-ghost use Rattle.std.specs.Prelude.{◌≡◌, List, [], ◌∷◌, ◌++◌, Some};
+ghost use Rattle.std.specs.Prelude.{◌≡◌, List, [], ◌∷◌, ◌++◌};
 ghost use Rattle.mount_model.specs.declared.row.Flattening.{Flattening};
-ghost use Rattle.mount_model.specs.Table.{flattening_at};
 ghost use Rattle.mount_model.specs.Making.{MakesAct, UnlessRefused};
 ghost use Rattle.mount_model.specs.Entering.{draw_check as draw_refusal};
-ghost use Rattle.mount_model.specs.Flattening.{Starts, StartsPack, start_step, start_outcome, PutsFlat, put_flat_step, put_flat_outcome, SyncsFlat, sync_flat_step, sync_flat_outcome, InstallsFlat, install_step, install_outcome};
+ghost use Rattle.mount_model.specs.Flattening.{Starts, StartsPack, start_step, start_outcome, PutsFlat, SyncsFlat, InstallsFlat, install_step, install_outcome};
 
 use crate::mount::Mount;
 use edge_io::Clock;
@@ -51,24 +50,19 @@ impl<S: Store + Drop, C: Clock + Drop> Mount<S, C> {
         ensures { PutsFlat caller flat bytes.now self.old result self.new }
     {
         match self.roster.flattening_of(caller, FlatStage::Begun, flat) {
-            Some(flattening) => self.put_flat_bytes(flattening, bytes),
+            Some(flattening) => {
+                let at = temporary_path(&flattening);
+                let told = self.store.act(&Step::WriteAt {
+                    room: flattening.room,
+                    folder: at.folder,
+                    file: at.file,
+                    at: 0,
+                    bytes,
+                });
+                self.roster.flat_put(flattening, &at, told)
+            }
             None => Reply::Refused(Refusal::NotOpen),
         }
-    }
-
-    fn put_flat_bytes(&mut self, flattening: Flattening, bytes: &[u8]) -> Reply
-        requires { flattening_at flattening.id self.old.table.flattenings ≡ Some flattening }
-        ensures { MakesAct (put_flat_step flattening bytes.now) (put_flat_outcome flattening self.old.table) self.old result self.new }
-    {
-        let at = temporary_path(&flattening);
-        let told = self.store.act(&Step::WriteAt {
-            room: flattening.room,
-            folder: at.folder,
-            file: at.file,
-            at: 0,
-            bytes,
-        });
-        self.roster.flat_put(flattening, &at, told)
     }
 
     /// Syncs the temporary file of the caller's flattening, which was written.
@@ -76,22 +70,17 @@ impl<S: Store + Drop, C: Clock + Drop> Mount<S, C> {
         ensures { SyncsFlat caller flat self.old result self.new }
     {
         match self.roster.flattening_of(caller, FlatStage::Put, flat) {
-            Some(flattening) => self.sync_flat_file(flattening),
+            Some(flattening) => {
+                let at = temporary_path(&flattening);
+                let told = self.store.act(&Step::Sync {
+                    room: flattening.room,
+                    folder: at.folder,
+                    file: at.file,
+                });
+                self.roster.flat_synced(flattening, &at, told)
+            }
             None => Reply::Refused(Refusal::NotOpen),
         }
-    }
-
-    fn sync_flat_file(&mut self, flattening: Flattening) -> Reply
-        requires { flattening_at flattening.id self.old.table.flattenings ≡ Some flattening }
-        ensures { MakesAct (sync_flat_step flattening) (sync_flat_outcome flattening self.old.table) self.old result self.new }
-    {
-        let at = temporary_path(&flattening);
-        let told = self.store.act(&Step::Sync {
-            room: flattening.room,
-            folder: at.folder,
-            file: at.file,
-        });
-        self.roster.flat_synced(flattening, &at, told)
     }
 
     /// Gives the temporary file of the caller's flattening, which was synced, the name of what it was begun for.

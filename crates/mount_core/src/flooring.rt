@@ -1,7 +1,5 @@
 //! A writer's floor is found: its stamps will be above those of the truncates that are there.
-ghost use Rattle.std.specs.Prelude.{◌<◌, length};
-ghost use Rattle.mount_model.specs.Flooring.{FloorsRow, Floors};
-ghost use Rattle.mount_table.specs.Standing.{AtPlace};
+ghost use Rattle.mount_model.specs.Flooring.{Floors};
 
 use crate::mount::Mount;
 use container_layout::truncs;
@@ -19,20 +17,15 @@ impl<S: Store + Drop, C: Clock + Drop> Mount<S, C> {
             .roster
             .find(caller, Stages::Only(Stage::Entered), writer)
         {
-            Some(place) => self.floor_at(place),
+            Some(place) => {
+                let room = self.roster.row(place).room;
+                let told = self.store.act(&Step::List {
+                    room,
+                    folder: truncs(),
+                });
+                self.roster.floored(place, told)
+            }
             None => Reply::Refused(Refusal::NotOpen),
         }
-    }
-
-    fn floor_at(&mut self, place: usize) -> Reply
-        requires { place < length self.old.table.writers }
-        ensures { AtPlace self.old.table place (λ row. FloorsRow row self.old result self.new) }
-    {
-        let room = self.roster.row(place).room;
-        let told = self.store.act(&Step::List {
-            room,
-            folder: truncs(),
-        });
-        self.roster.floored(place, told)
     }
 }

@@ -1,7 +1,7 @@
 //! A writer's pending entries go to its index dropping, and its droppings are synced.
-ghost use Rattle.std.specs.Prelude.{◌≡◌, ◌<◌, length};
+ghost use Rattle.std.specs.Prelude.{◌<◌, length};
 ghost use Rattle.mount_model.specs.Making.{MakesAct};
-ghost use Rattle.mount_model.specs.Flushing.{FlushesRow, Flushes, flush_step, flush_outcome, SyncsLog, sync_log_step, sync_log_outcome, SyncsIndex, sync_index_step, sync_index_outcome};
+ghost use Rattle.mount_model.specs.Flushing.{Flushes, flush_step, flush_outcome, SyncsLog, SyncsIndex};
 ghost use Rattle.mount_table.specs.Standing.{AtPlace};
 
 use crate::mount::Mount;
@@ -17,20 +17,15 @@ impl<S: Store + Drop, C: Clock + Drop> Mount<S, C> {
         ensures { Flushes caller writer self.old result self.new }
     {
         match self.roster.find(caller, Stages::Only(Stage::Open), writer) {
-            Some(place) => self.flush_at(place),
+            Some(place) => {
+                let row = self.roster.row(place);
+                if row.pending.pending() == 0 {
+                    return Reply::Flushed { landed: row.landed };
+                }
+                self.flush_pending(place)
+            }
             None => Reply::Refused(Refusal::NotOpen),
         }
-    }
-
-    fn flush_at(&mut self, place: usize) -> Reply
-        requires { place < length self.old.table.writers }
-        ensures { AtPlace self.old.table place (λ row. FlushesRow row row.pending.entries self.old result self.new) }
-    {
-        let row = self.roster.row(place);
-        if row.pending.pending() == 0 {
-            return Reply::Flushed { landed: row.landed };
-        }
-        self.flush_pending(place)
     }
 
     fn flush_pending(&mut self, place: usize) -> Reply
@@ -54,23 +49,18 @@ impl<S: Store + Drop, C: Clock + Drop> Mount<S, C> {
         ensures { SyncsLog caller writer self.old result self.new }
     {
         match self.roster.find(caller, Stages::Only(Stage::Open), writer) {
-            Some(place) => self.sync_log_at(place),
+            Some(place) => {
+                let row = self.roster.row(place);
+                let at = log_path(row.host, row.id);
+                let told = self.store.act(&Step::Sync {
+                    room: row.room,
+                    folder: at.folder,
+                    file: at.file,
+                });
+                self.roster.synced_log(place, &at, told)
+            }
             None => Reply::Refused(Refusal::NotOpen),
         }
-    }
-
-    fn sync_log_at(&mut self, place: usize) -> Reply
-        requires { place < length self.old.table.writers }
-        ensures { AtPlace self.old.table place (λ row. MakesAct (sync_log_step row) (sync_log_outcome row self.old.table) self.old result self.new) }
-    {
-        let row = self.roster.row(place);
-        let at = log_path(row.host, row.id);
-        let told = self.store.act(&Step::Sync {
-            room: row.room,
-            folder: at.folder,
-            file: at.file,
-        });
-        self.roster.synced_log(place, &at, told)
     }
 
     /// Syncs the index dropping of the caller's open writer.
@@ -78,22 +68,17 @@ impl<S: Store + Drop, C: Clock + Drop> Mount<S, C> {
         ensures { SyncsIndex caller writer self.old result self.new }
     {
         match self.roster.find(caller, Stages::Only(Stage::Open), writer) {
-            Some(place) => self.sync_index_at(place),
+            Some(place) => {
+                let row = self.roster.row(place);
+                let at = index_path(row.host, row.id);
+                let told = self.store.act(&Step::Sync {
+                    room: row.room,
+                    folder: at.folder,
+                    file: at.file,
+                });
+                self.roster.synced_index(place, &at, told)
+            }
             None => Reply::Refused(Refusal::NotOpen),
         }
-    }
-
-    fn sync_index_at(&mut self, place: usize) -> Reply
-        requires { place < length self.old.table.writers }
-        ensures { AtPlace self.old.table place (λ row. MakesAct (sync_index_step row) (sync_index_outcome row self.old.table) self.old result self.new) }
-    {
-        let row = self.roster.row(place);
-        let at = index_path(row.host, row.id);
-        let told = self.store.act(&Step::Sync {
-            room: row.room,
-            folder: at.folder,
-            file: at.file,
-        });
-        self.roster.synced_index(place, &at, told)
     }
 }

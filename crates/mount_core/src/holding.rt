@@ -2,8 +2,8 @@
 ghost use Rattle.std.specs.Prelude.{◌≡◌, ◌≤◌, ◌<◌, List, [], ◌∷◌, ◌++◌};
 ghost use Rattle.plfs_types.specs.declared.limits.TheConstants.{MAX_SIZE, MAX_STAMP};
 ghost use Rattle.mount_model.specs.declared.row.Holder.{Holder};
-ghost use Rattle.mount_model.specs.Making.{MakesAct, UnlessRefused};
-ghost use Rattle.mount_model.specs.Holding.{HoldsContainer, truncate_check as truncate_refusal, truncate_stamp as truncate_stamp_of, truncate_step, truncate_outcome, TruncatesAt, Truncates, RenamesRoom, rename_step, rename_outcome, Renames, release_step, release_outcome, Releases};
+ghost use Rattle.mount_model.specs.Making.{MakesAct};
+ghost use Rattle.mount_model.specs.Holding.{HoldsContainer, truncate_stamp as truncate_stamp_of, truncate_step, truncate_outcome, TruncatesAt, Truncates, rename_step, rename_outcome, Renames, release_step, release_outcome, Releases};
 ghost use Rattle.mount_core.specs.Holding.{HoldsAs};
 
 use crate::mount::Mount;
@@ -42,17 +42,11 @@ impl<S: Store + Drop, C: Clock + Drop> Mount<S, C> {
         ensures { Truncates caller holder size top self.old result self.new }
     {
         match self.roster.holder_of(caller, holder) {
-            Some(holder) => self.truncate_held(holder, size, top),
+            Some(holder) => match truncate_check(size, top) {
+                Some(why) => Reply::Refused(why),
+                None => self.truncate_now(holder, size, top),
+            },
             None => Reply::Refused(Refusal::NotHolder),
-        }
-    }
-
-    fn truncate_held(&mut self, holder: Holder, size: u64, top: u64) -> Reply
-        ensures { UnlessRefused (truncate_refusal size top) self.old result self.new (TruncatesAt holder size top self.old result self.new) }
-    {
-        match truncate_check(size, top) {
-            Some(why) => Reply::Refused(why),
-            None => self.truncate_now(holder, size, top),
         }
     }
 
@@ -90,15 +84,9 @@ impl<S: Store + Drop, C: Clock + Drop> Mount<S, C> {
         ensures { Renames caller holder to.now self.old result self.new }
     {
         match self.roster.holder_of(caller, holder) {
-            Some(holder) => self.rename_held(holder, to),
+            Some(holder) => self.rename_room(holder, to.name()),
             None => Reply::Refused(Refusal::NotHolder),
         }
-    }
-
-    fn rename_held(&mut self, holder: Holder, to: &LogicalName) -> Reply
-        ensures { RenamesRoom holder to.now self.old result self.new }
-    {
-        self.rename_room(holder, to.name())
     }
 
     fn rename_room(&mut self, holder: Holder, to: Name) -> Reply

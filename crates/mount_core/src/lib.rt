@@ -18,6 +18,7 @@ mod leaving;
 mod looking;
 mod mount;
 mod opening;
+mod parting;
 mod recovering;
 mod shared;
 mod stopping;

@@ -1,8 +1,8 @@
 //! A look at a container: the reply is what the store answered, where that is an answer to such a step.
-ghost use Rattle.std.specs.Prelude.{◌≡◌, []};
+ghost use Rattle.std.specs.Prelude.{◌≡◌};
 ghost use Rattle.store_api.specs.Step.{list_folder, length_of, read_at};
 ghost use Rattle.mount_model.specs.Making.{MakesAct, says};
-ghost use Rattle.mount_model.specs.Looking.{listing_reply, length_reply, read_reply, look_step, look_outcome, LooksAt};
+ghost use Rattle.mount_model.specs.Looking.{listing_reply, length_reply, read_reply, LooksAt};
 
 use crate::mount::Mount;
 use edge_io::Clock;
@@ -70,12 +70,6 @@ impl<S: Store + Drop, C: Clock + Drop> Mount<S, C> {
         if room == self.roster.marks() {
             return Reply::Refused(Refusal::NoRoom);
         }
-        self.look_in(room, look)
-    }
-
-    fn look_in(&mut self, room: u64, look: &Look) -> Reply
-        ensures { MakesAct (look_step room look.now) (look_outcome look.now self.old) self.old result self.new }
-    {
         match *look {
             Look::Top => self.list(room, Name::empty()),
             Look::List { folder } => self.list(room, folder),

@@ -5,7 +5,7 @@ ghost use Rattle.container_layout.specs.Items.{IsMetaRange};
 ghost use Rattle.store_api.specs.Step.{create, sync};
 ghost use Rattle.mount_model.specs.Making.{MakesAct};
 ghost use Rattle.mount_model.specs.Paths.{metadata as metadata_name};
-ghost use Rattle.mount_model.specs.Recovering.{done_outcome, mend_meta_outcome, SyncsIt, SyncsDropping, Inspects, MendsIt, Mends, MendsItsMeta, MendsMeta, BuriesIt, Buries, mend_hold_step, mend_hold_outcome, MendsHold};
+ghost use Rattle.mount_model.specs.Recovering.{done_outcome, mend_meta_outcome, SyncsDropping, Inspects, Mends, MendsMeta, BuriesIt, Buries, MendsHold};
 
 use crate::mount::Mount;
 use container_layout::{metadata, openhosts};
@@ -22,14 +22,8 @@ impl<S: Store + Drop, C: Clock + Drop> Mount<S, C> {
     {
         match self.roster.room_check(room) {
             Some(why) => Reply::Refused(why),
-            None => self.sync_dropping_in(room, host, writer, log),
+            None => self.sync_file(room, &dropping_path(log, host, writer)),
         }
-    }
-
-    fn sync_dropping_in(&mut self, room: u64, host: u32, writer: u64, log: bool) -> Reply
-        ensures { SyncsIt room host writer log self.old result self.new }
-    {
-        self.sync_file(room, &dropping_path(log, host, writer))
     }
 
     fn sync_file(&mut self, room: u64, at: &Path) -> Reply
@@ -64,25 +58,20 @@ impl<S: Store + Drop, C: Clock + Drop> Mount<S, C> {
     {
         match self.roster.mend_check(room, writer) {
             Some(why) => Reply::Refused(why),
-            None => self.mend_in(room, host, writer, whole),
-        }
-    }
-
-    fn mend_in(&mut self, room: u64, host: u32, writer: u64, whole: u64) -> Reply
-        requires { ENTRY_SIZE * whole < 2 ^ 64 }
-        ensures { MendsIt room host writer whole self.old result self.new }
-    {
-        let at = index_path(host, writer);
-        let told = self.store.act(&Step::Cut {
-            room,
-            folder: at.folder,
-            file: at.file,
-            len: ENTRY_SIZE as u64 * whole,
-        });
-        match told {
-            Ok(Answer::Made) => Reply::Done,
-            Ok(answer) => otherwise(&at, Ok(answer)),
-            Err(trouble) => otherwise(&at, Err(trouble)),
+            None => {
+                let at = index_path(host, writer);
+                let told = self.store.act(&Step::Cut {
+                    room,
+                    folder: at.folder,
+                    file: at.file,
+                    len: ENTRY_SIZE as u64 * whole,
+                });
+                match told {
+                    Ok(Answer::Made) => Reply::Done,
+                    Ok(answer) => otherwise(&at, Ok(answer)),
+                    Err(trouble) => otherwise(&at, Err(trouble)),
+                }
+            }
         }
     }
 
@@ -93,16 +82,11 @@ impl<S: Store + Drop, C: Clock + Drop> Mount<S, C> {
     {
         match self.roster.mend_check(room, cover.writer) {
             Some(why) => Reply::Refused(why),
-            None => self.mend_meta_in(room, host, cover, last),
+            None => {
+                let at = metadata_path(last, cover.bytes, cover.stamp, host, cover.writer);
+                self.make_mended(room, at.file)
+            }
         }
-    }
-
-    fn mend_meta_in(&mut self, room: u64, host: u32, cover: &Cover, last: u64) -> Reply
-        requires { IsMetaRange last cover.now.bytes cover.now.stamp }
-        ensures { MendsItsMeta room host cover.now last self.old result self.new }
-    {
-        let at = metadata_path(last, cover.bytes, cover.stamp, host, cover.writer);
-        self.make_mended(room, at.file)
     }
 
     fn make_mended(&mut self, room: u64, file: Name) -> Reply
@@ -156,26 +140,22 @@ impl<S: Store + Drop, C: Clock + Drop> Mount<S, C> {
     {
         match self.roster.mend_hold_check(room) {
             Some(why) => Reply::Refused(why),
-            None => self.mend_hold_in(room),
-        }
-    }
-
-    fn mend_hold_in(&mut self, room: u64) -> Reply
-        ensures { MakesAct (mend_hold_step room) (mend_hold_outcome self.old.table) self.old result self.new }
-    {
-        let at = Path {
-            folder: openhosts(),
-            file: Name::empty(),
-        };
-        let told = self.store.act(&Step::MakeFolder {
-            room,
-            folder: at.folder,
-        });
-        match told {
-            Ok(Answer::Made) => Reply::Mended { made: true },
-            Ok(Answer::Old { .. }) => Reply::Mended { made: false },
-            Ok(answer) => otherwise(&at, Ok(answer)),
-            Err(trouble) => otherwise(&at, Err(trouble)),
+            None => {
+                let at = Path {
+                    folder: openhosts(),
+                    file: Name::empty(),
+                };
+                let told = self.store.act(&Step::MakeFolder {
+                    room,
+                    folder: at.folder,
+                });
+                match told {
+                    Ok(Answer::Made) => Reply::Mended { made: true },
+                    Ok(Answer::Old { .. }) => Reply::Mended { made: false },
+                    Ok(answer) => otherwise(&at, Ok(answer)),
+                    Err(trouble) => otherwise(&at, Err(trouble)),
+                }
+            }
         }
     }
 }

@@ -1,5 +1,5 @@
 //! A call that is broken off within its act: a part of that is made, and then the caller is at its end.
-ghost use Rattle.std.specs.Prelude.{◌≡◌, ◌≤◌, ◌<◌, ◌^◌, length, take, option_and_then};
+ghost use Rattle.std.specs.Prelude.{◌≤◌, ◌<◌, ◌^◌, length, option_and_then};
 ghost use Rattle.plfs_types.specs.Names.{IsLogicalName};
 ghost use Rattle.store_api.specs.Step.{step_of};
 ghost use Rattle.mount_model.specs.Acting.{unless};
@@ -13,23 +13,13 @@ ghost use Rattle.mount_core.specs.Breaking.{BreaksOff, BreaksCall, all_or_none};
 
 use crate::finding::access;
 use crate::mount::Mount;
+use crate::parting::WholeCall;
 use container_layout::{flats, metadata, openhosts, truncs};
 use edge_io::Clock;
-use mount_model::{Call, Look, Making, Reply};
-use mount_table::open_path;
+use mount_model::{Call, Look, Making, Reply, Stage};
+use mount_table::{Stages, open_path};
 use plfs_types::{Block, LogicalName, Name};
 use store_api::{Answer, Step, Store, Trouble};
-
-/// The first so many bytes.
-pub(crate) fn first(bytes: &[u8], count: u64) -> &[u8]
-    ensures { result.now ≡ take count bytes.now }
-{
-    if count < bytes.len() as u64 {
-        &bytes[..count as usize]
-    } else {
-        bytes
-    }
-}
 
 /// The name is that of a container.
 fn logical(name: &LogicalName)
@@ -133,18 +123,66 @@ impl<S: Store + Drop, C: Clock + Drop> Mount<S, C> {
             Call::Rooms => self.make_if(k, &Step::Rooms),
             Call::Look { room, look } => self.break_look(k, *room, look),
             Call::Enter { room, host, .. } => self.break_enter(k, *room, *host),
-            Call::Floor { writer } => self.break_floor(caller, k, *writer),
-            Call::MakeHostdir { writer } => self.break_hostdir(caller, k, *writer),
-            Call::MakeIndex { writer } => self.break_index(caller, k, *writer),
-            Call::MakeLog { writer } => self.break_log(caller, k, *writer),
+            Call::Floor { writer } => self.break_writer(
+                caller,
+                k,
+                Stages::Only(Stage::Entered),
+                *writer,
+                WholeCall::Floor,
+            ),
+            Call::MakeHostdir { writer } => self.break_writer(
+                caller,
+                k,
+                Stages::Only(Stage::Floored),
+                *writer,
+                WholeCall::Hostdir,
+            ),
+            Call::MakeIndex { writer } => self.break_writer(
+                caller,
+                k,
+                Stages::Only(Stage::Housed),
+                *writer,
+                WholeCall::Index,
+            ),
+            Call::MakeLog { writer } => self.break_writer(
+                caller,
+                k,
+                Stages::Only(Stage::Indexed),
+                *writer,
+                WholeCall::Log,
+            ),
             Call::Write { writer, at, block } => {
                 self.break_write(caller, k, *writer, *at, block.as_slice())
             }
             Call::Flush { writer } => self.break_flush(caller, k, *writer),
-            Call::SyncLog { writer } => self.break_sync_log(caller, k, *writer),
-            Call::SyncIndex { writer } => self.break_sync_index(caller, k, *writer),
-            Call::PutMeta { writer } => self.break_meta(caller, k, *writer),
-            Call::Exit { writer } => self.break_exit(caller, k, *writer),
+            Call::SyncLog { writer } => self.break_writer(
+                caller,
+                k,
+                Stages::Only(Stage::Open),
+                *writer,
+                WholeCall::SyncLog,
+            ),
+            Call::SyncIndex { writer } => self.break_writer(
+                caller,
+                k,
+                Stages::Only(Stage::Open),
+                *writer,
+                WholeCall::SyncIndex,
+            ),
+            Call::PutMeta { writer } => self.break_writer(
+                caller,
+                k,
+                Stages::Closable,
+                *writer,
+                WholeCall::Meta,
+            ),
+            Call::Exit { writer } => self.break_writer(
+                caller,
+                k,
+                Stages::Live,
+                *writer,
+                WholeCall::Exit,
+            ),
             Call::Hold { room } => self.break_hold(k, *room),
             Call::Mark { holder, size, top } => {
                 self.break_truncate(caller, k, *holder, *size, *top)
@@ -194,12 +232,6 @@ impl<S: Store + Drop, C: Clock + Drop> Mount<S, C> {
         if room == self.roster.marks() {
             return Ok(Answer::Made);
         }
-        self.break_look_in(k, room, look)
-    }
-
-    fn break_look_in(&mut self, k: u64, room: u64, look: &Look) -> Result<Answer, Trouble>
-        ensures { BreaksOff (all_or_none k (look_step room look.now)) self.old result self.new }
-    {
         match *look {
             Look::Top => self.make_if(
                 k,

@@ -3,12 +3,12 @@ ghost use Rattle.std.specs.Prelude.{option_and_then};
 ghost use Rattle.mount_model.specs.declared.call.Call.TheVariants.{PutFlat, SyncFlat, InstallFlat};
 ghost use Rattle.mount_model.specs.Acting.{unless};
 ghost use Rattle.mount_model.specs.Entering.{draw_check as draw_refusal};
-ghost use Rattle.mount_model.specs.Flattening.{begun_flat, start_step, put_flat_step};
+ghost use Rattle.mount_model.specs.Flattening.{begun_flat, start_step};
 ghost use Rattle.mount_model.specs.Stopping.{part_of, part_made, drawn_unless};
 ghost use Rattle.mount_core.specs.Breaking.{BreaksOff};
 
 use crate::mount::Mount;
-use crate::stopping::first;
+use crate::parting::first;
 use edge_io::Clock;
 use mount_model::{FlatStage, Flattening, Making};
 use mount_table::{installed_path, temporary_path};
@@ -56,27 +56,18 @@ impl<S: Store + Drop, C: Clock + Drop> Mount<S, C> {
         ensures { BreaksOff (part_made k 0 self.old caller (PutFlat flat bytes.now)) self.old result self.new }
     {
         match self.roster.flattening_of(caller, FlatStage::Begun, flat) {
-            Some(flattening) => self.break_put_flat_bytes(k, flattening, bytes),
+            Some(flattening) => {
+                let at = temporary_path(&flattening);
+                self.store.act(&Step::WriteAt {
+                    room: flattening.room,
+                    folder: at.folder,
+                    file: at.file,
+                    at: 0,
+                    bytes: first(bytes, k),
+                })
+            }
             None => Ok(Answer::Made),
         }
-    }
-
-    fn break_put_flat_bytes(
-        &mut self,
-        k: u64,
-        flattening: Flattening,
-        bytes: &[u8],
-    ) -> Result<Answer, Trouble>
-        ensures { BreaksOff (part_of k (put_flat_step flattening bytes.now)) self.old result self.new }
-    {
-        let at = temporary_path(&flattening);
-        self.store.act(&Step::WriteAt {
-            room: flattening.room,
-            folder: at.folder,
-            file: at.file,
-            at: 0,
-            bytes: first(bytes, k),
-        })
     }
 
     pub(crate) fn break_sync_flat(

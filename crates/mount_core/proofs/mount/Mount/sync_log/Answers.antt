@@ -1,0 +1,13 @@
+use Rattle.mount_model.specs.declared.row.Row.{Row}
+use Rattle.mount_model.specs.Flushing.{sync_log_outcome}
+use Rattle.mount_table.specs.Settling.{IsSettled}
+use Rattle.mount_core.proofs.Settled.{settled, of_row, of_writer}
+use Rattle.mount_core.proofs.mount.Mount.sync_log.Goals as goal
+
+pub returns-in-Some : goal.returns-in-Some
+returns-in-Some g c =
+    let roll = c.self.inside.roster in
+    let is = of_row _ c.row-row.result.now (λ (row : Row). IsSettled (sync_log_outcome row roll.table c.act-told.result) roll c.synced_log.result c.synced_log.new.self) c.row-row.ensures.same c.synced_log.ensures in
+    rw (← c.self.view_is)
+    (of_writer _ _ _ c.row-row.result.now _ c.in-Some.ensures.some c.row-row.ensures.same
+    (settled _ _ _ _ _ _ _ _ c.act-told.result _ (rw c.log_path-at.ensures at c.act-told.ensures) is))
