@@ -1,15 +1,15 @@
 //! What the rows do to a store, as the tables spell it.
-use plfs_types::{Name, NameList, NoMemory};
-use std::alloc::Global;
-use store_api::{Answer, Step, Store, Trouble};
+use crate::telling::Line;
+use plfs_types::Name;
+use store_api::{Step, Store};
 
 /// An act. Files are named by their folder and their name, and lie in the first room.
 #[derive(Clone, Copy)]
 pub(crate) enum Act {
     Rooms,
     FindRoom(&'static str),
-    /// Its name, its folders and its top files.
-    MakeRoom(&'static str, &'static [&'static str], &'static [&'static str]),
+    /// Its name, its folder and its top file, each empty where it has none.
+    MakeRoom(&'static str, &'static str, &'static str),
     RenameRoom(u64, &'static str),
     MakeFolder(u64, &'static str),
     RemoveFolder(&'static str),
@@ -33,8 +33,8 @@ pub(crate) enum Act {
     Failing(&'static [(u64, u64)]),
     /// A new store whose power goes off in this act, of which a part is made.
     Off(u64, u64),
-    /// A new store of one room with these folders and top files, each with its bytes and how many of them are kept.
-    Given(&'static [&'static str], &'static [(&'static str, &'static str, u64)]),
+    /// A new store of one room with this folder and these top files, each with its bytes and how many of them are kept.
+    Given(&'static str, &'static [(&'static str, &'static str, u64)]),
     /// What is left after a loss of power that keeps so many more bytes of these top files, each with its room.
     Lose(&'static [(u64, &'static str, u64)]),
     /// From now on each step also tells what it left.
@@ -58,14 +58,6 @@ pub(crate) enum Act {
 
 pub(crate) fn name(text: &str) -> Name {
     Name::from_bytes(text.as_bytes()).unwrap_or(Name::empty())
-}
-
-pub(crate) fn names(alloc: Global, of: &[&str]) -> Result<NameList, NoMemory> {
-    let mut names = NameList::new(alloc);
-    for text in of {
-        names.push(name(text))?;
-    }
-    Ok(names)
 }
 
 fn step_in_file(act: Act) -> Step<'static> {
@@ -141,22 +133,25 @@ fn step_of(act: Act) -> Step<'static> {
     }
 }
 
-/// What a store answers to the step.
-pub(crate) fn answer<S: Store>(
-    alloc: Global,
-    store: &mut S,
-    act: Act,
-) -> Result<Result<Answer, Trouble>, NoMemory> {
-    match act {
-        Act::MakeRoom(room, folders, files) => {
-            let folders = names(alloc, folders)?;
-            let files = names(alloc, files)?;
-            Ok(store.act(&Step::MakeRoom {
+// None where the name is empty.
+fn if_named(one: &[Name; 1]) -> &[Name] {
+    if one[0] == Name::empty() { &[] } else { one }
+}
+
+/// Makes the step, and tells what the store answers.
+pub(crate) fn act_on<S: Store>(store: &mut S, act: Act, line: &mut Line) {
+    let told = match act {
+        Act::MakeRoom(room, folder, file) => {
+            let folders = [name(folder)];
+            let files = [name(file)];
+            store.act(&Step::MakeRoom {
                 name: name(room),
-                folders: folders.as_slice(),
-                files: files.as_slice(),
-            }))
+                folders: if_named(&folders),
+                files: if_named(&files),
+            })
         }
-        _ => Ok(store.act(&step_of(act))),
-    }
+        _ => store.act(&step_of(act)),
+    };
+    line.tell(&told);
+    drop(told);
 }

@@ -1,8 +1,8 @@
 //! A store in memory: its answers, and its planned faults.
-use crate::acts::{Act, answer, name, names};
+use crate::acts::{Act, act_on, name};
 use crate::playing::{Row, Site, holds};
-use crate::telling::{count, tell};
-use plfs_types::{Bytes, Name, NoMemory, Path};
+use crate::telling::Line;
+use plfs_types::{Bytes, Name, NameList, NoMemory, Path};
 use std::alloc::Global;
 use std::mem;
 use std::process::Abort;
@@ -42,12 +42,7 @@ fn at_top(file: &str) -> Path {
     }
 }
 
-// A store of the room `r`.
-fn given(
-    alloc: Global,
-    folders: &[&str],
-    of: &[(&str, &str, u64)],
-) -> Result<MemoryStore, NoMemory> {
+fn given_files(alloc: Global, of: &[(&str, &str, u64)]) -> Result<FileList, NoMemory> {
     let mut files = FileList::new(alloc);
     for (file, text, kept) in of {
         files.push(File {
@@ -56,12 +51,25 @@ fn given(
             kept: *kept,
         })?;
     }
-    let mut rooms = RoomList::new(alloc);
-    rooms.push(Room {
+    Ok(files)
+}
+
+// A store of the room `r`.
+fn given(
+    alloc: Global,
+    folder: &str,
+    files: &[(&str, &str, u64)],
+) -> Result<MemoryStore, NoMemory> {
+    let mut folders = NameList::new(alloc);
+    if !folder.is_empty() {
+        folders.push(name(folder))?;
+    }
+    let room = Room {
         name: name("r"),
-        folders: names(alloc, folders)?,
-        files,
-    })?;
+        folders,
+        files: given_files(alloc, files)?,
+    };
+    let rooms = RoomList::from_vec(Vec::from_array(alloc, [room])?);
     Ok(MemoryStore::with_tree(alloc, Tree { rooms }, FailList::new(alloc)))
 }
 
@@ -77,176 +85,155 @@ fn keeping(alloc: Global, of: &[(u64, &str, u64)]) -> Result<KeepList, NoMemory>
     Ok(keeps)
 }
 
-fn counts(line: &mut String, store: &MemoryStore) -> Result<(), NoMemory> {
-    count(line, store.acts(), " acts, ")?;
-    count(line, store.faults(), " faults")
+fn counts(line: &mut Line, store: &MemoryStore) {
+    line.count("", store.acts(), " acts, ");
+    line.count("", store.faults(), " faults");
 }
 
 // How many bytes the first room's first file has, and how many of them are kept; and the counts.
-fn left(line: &mut String, store: &MemoryStore) -> Result<(), NoMemory> {
+fn left(line: &mut Line, store: &MemoryStore) {
     if let Some(room) = store.tree().rooms.as_slice().first() {
         if let Some(file) = room.files.as_slice().first() {
-            line.push_str("; ")?;
-            count(line, file.bytes.as_slice().len() as u64, " bytes, ")?;
-            count(line, file.kept, " kept")?;
+            line.count("; ", file.bytes.as_slice().len() as u64, " bytes, ");
+            line.count("", file.kept, " kept");
         }
     }
-    line.push_str("; ")?;
-    counts(line, store)
+    line.push("; ");
+    counts(line, store);
 }
 
 impl InMemory {
-    fn step(&mut self, act: Act, line: &mut String) -> Result<(), NoMemory> {
-        let told = answer(self.alloc, &mut self.store, act)?;
-        tell(line, &told)?;
-        if self.shows {
-            left(line, &self.store)?;
+    fn put(&mut self, made: Result<MemoryStore, NoMemory>, line: &mut Line) {
+        match made {
+            Ok(store) => drop(mem::replace(&mut self.store, store)),
+            Err(NoMemory) => line.note(false),
         }
-        Ok(())
     }
 
-    fn lose(&mut self, of: &[(u64, &str, u64)]) -> Result<(), NoMemory> {
-        let keeps = keeping(self.alloc, of)?;
+    fn lose(&mut self, of: &[(u64, &str, u64)]) -> Result<MemoryStore, NoMemory> {
         let empty = new_store(self.alloc, &[])?;
-        self.store = mem::replace(&mut self.store, empty).lose(keeps);
-        Ok(())
+        let store = mem::replace(&mut self.store, empty);
+        match keeping(self.alloc, of) {
+            Ok(keeps) => Ok(store.lose(keeps)),
+            Err(why) => {
+                drop(store);
+                Err(why)
+            }
+        }
     }
 }
 
 impl Site for InMemory {
-    fn play(&mut self, act: Act, line: &mut String) -> Result<(), Failure> {
+    fn play(&mut self, act: Act, line: &mut Line) {
         match act {
-            Act::Failing(faults) => self.store = new_store(self.alloc, faults)?,
-            Act::Off(act, part) => self.store = MemoryStore::off(self.alloc, act, part)?,
-            Act::Given(folders, files) => self.store = given(self.alloc, folders, files)?,
-            Act::Lose(keeps) => self.lose(keeps)?,
+            Act::Failing(faults) => self.put(new_store(self.alloc, faults), line),
+            Act::Off(act, part) => self.put(MemoryStore::off(self.alloc, act, part), line),
+            Act::Given(folder, files) => self.put(given(self.alloc, folder, files), line),
+            Act::Lose(keeps) => {
+                let left = self.lose(keeps);
+                self.put(left, line);
+            }
             Act::Show => self.shows = true,
-            Act::Counts => counts(line, &self.store)?,
-            _ => self.step(act, line)?,
+            Act::Counts => counts(line, &self.store),
+            _ => {
+                act_on(&mut self.store, act, line);
+                if self.shows {
+                    left(line, &self.store);
+                }
+            }
         }
-        Ok(())
     }
 }
 
-/// Each row holds of a store in memory.
-pub(crate) fn in_memory<R: Abort>(rt: &R, alloc: Global, rows: &[Row]) -> Result<(), Failure> {
-    let mut site = InMemory {
-        alloc,
-        store: new_store(alloc, &[])?,
-        shows: false,
-    };
-    holds(rt, alloc, &mut site, rows)
-}
-
-const BROKEN: &[Row] = &[
-    (Act::Failing(&[(3, 3)]), ""),
-    (Act::MakeRoom("f", &[], &[]), "number 0"),
-    (Act::MakeFolder(0, "hostdir.0"), "made"),
-    (Act::Create("hostdir.0", "log.0.7"), "made"),
-    (Act::Write("hostdir.0", "log.0.7", 0, "hello"), "fault"),
-    (Act::Read("hostdir.0", "log.0.7", 1, 9), "bytes el"),
-    (Act::Write("hostdir.0", "log.0.7", 0, "hello"), "made"),
-    (Act::Read("hostdir.0", "log.0.7", 1, 3), "bytes ell"),
-    (Act::Counts, "7 acts, 1 faults"),
-];
-
-#[test]
-fn a_broken_write_keeps_its_first_bytes_and_a_retry_makes_it_whole(
-    rt: HostRuntime,
-) -> Result<(), Failure> {
-    in_memory(&rt, rt.alloc(), BROKEN)
-}
-
-const FIRST_FAULT: &[Row] = &[
-    (Act::Failing(&[(1, 1), (0, 0), (0, 1)]), ""),
-    (Act::MakeRoom("f", &[], &[]), "fault"),
-    (Act::MakeRoom("f", &[], &[]), "fault"),
-    (Act::FindRoom("f"), "number 0"),
-    (Act::Counts, "3 acts, 2 faults"),
-    // part 0 makes nothing
-    (Act::Failing(&[(0, 0), (0, 1)]), ""),
-    (Act::MakeRoom("f", &[], &[]), "fault"),
-    (Act::Rooms, "names"),
-];
-
-#[test]
-fn the_first_fault_of_an_act_counts_and_part_0_makes_nothing(
-    rt: HostRuntime,
-) -> Result<(), Failure> {
-    in_memory(&rt, rt.alloc(), FIRST_FAULT)
-}
-
-const ORDER: &[Row] = &[
-    (Act::MakeRoom("9.1", &[], &["f"]), "number 0"),
-    (Act::MakeRoom("10.1", &[], &[]), "number 1"),
-    (Act::Rooms, "names 10.1 9.1"),
-    (Act::MakeFolder(0, "openhosts"), "made"),
-    (Act::List(""), "names f openhosts"),
-    (Act::Create("openhosts", "9.1"), "made"),
-    (Act::Create("openhosts", "10.1"), "made"),
-    (Act::RemoveFolder("openhosts"), "not empty 10.1"),
-];
-
-#[test]
-fn names_come_in_byte_order(rt: HostRuntime) -> Result<(), Failure> {
-    in_memory(&rt, rt.alloc(), ORDER)
-}
-
-const TAKEN: &[Row] = &[
-    (Act::MakeRoom("f", &[], &[]), "number 0"),
-    (Act::MakeRoom("g", &[], &[]), "number 1"),
-    (Act::MakeRoom("g", &[], &["f"]), "old 1"),
-    (Act::RenameRoom(0, "g"), "target there"),
-    (Act::RenameRoom(0, "h"), "made"),
-    (Act::FindRoom("h"), "number 0"),
-    (Act::FindRoom("f"), "absent"),
-];
-
-#[test]
-fn a_taken_room_is_old_with_its_number(rt: HostRuntime) -> Result<(), Failure> {
-    in_memory(&rt, rt.alloc(), TAKEN)
-}
-
-const REPLACED: &[Row] = &[
-    (
-        Act::Given(&["empty"], &[("1", "old", 3), ("tmp.1", "new", 3)]),
-        "",
-    ),
-    (Act::Replace("", "tmp.1", "1"), "made"),
-    (Act::Read("", "1", 0, 9), "bytes new"),
-    (Act::RemoveFolder("empty"), "made"),
-    (Act::List(""), "names 1"),
-    (Act::Remove("", "1"), "made"),
-    (Act::Remove("", "1"), "absent"),
-];
-
-#[test]
-fn replace_removes_the_file_that_had_the_name(rt: HostRuntime) -> Result<(), Failure> {
-    in_memory(&rt, rt.alloc(), REPLACED)
-}
-
-const GAPS: &[Row] = &[
-    (Act::MakeRoom("f", &[], &["index"]), "number 0"),
-    (Act::Write("", "index", 0, "abcd"), "made"),
-    (Act::Cut("", "index", 5), "beyond"),
-    (Act::Cut("", "index", 2), "made"),
-    (Act::Write("", "index", 3, "x"), "beyond"),
-    (Act::Write("", "index", 1, "xy"), "made"),
-    (Act::Read("", "index", 0, 9), "bytes axy"),
-    (Act::Length("", "index"), "number 3"),
-    (Act::Sync("", "index"), "made"),
-    (Act::MakeFolder(1, ""), "no room"),
-];
-
-#[test]
-fn no_cut_or_write_leaves_a_gap(rt: HostRuntime) -> Result<(), Failure> {
-    in_memory(&rt, rt.alloc(), GAPS)
-}
-
-fn crosses<T: Send + Sync>(_value: &T) {}
-
-#[test]
-fn a_store_in_memory_crosses_threads(rt: HostRuntime) -> Result<(), Failure> {
-    crosses(&new_store(rt.alloc(), &[])?);
+/// The rows of each of the tables hold of a new store in memory.
+pub(crate) fn in_memory<R: Abort>(rt: &R, alloc: Global, tables: &[&[Row]]) -> Result<(), Failure> {
+    for rows in tables {
+        let mut site = InMemory {
+            alloc,
+            store: new_store(alloc, &[])?,
+            shows: false,
+        };
+        holds(rt, alloc, &mut site, rows);
+        drop(site);
+    }
     Ok(())
+}
+
+const TABLES: &[&[Row]] = &[
+    // A broken write keeps its first bytes, and a retry makes it whole.
+    &[
+        (Act::Failing(&[(3, 3)]), ""),
+        (Act::MakeRoom("f", "", ""), "number 0"),
+        (Act::MakeFolder(0, "hostdir.0"), "made"),
+        (Act::Create("hostdir.0", "log.0.7"), "made"),
+        (Act::Write("hostdir.0", "log.0.7", 0, "hello"), "fault"),
+        (Act::Read("hostdir.0", "log.0.7", 1, 9), "bytes el"),
+        (Act::Write("hostdir.0", "log.0.7", 0, "hello"), "made"),
+        (Act::Read("hostdir.0", "log.0.7", 1, 3), "bytes ell"),
+        (Act::Counts, "7 acts, 1 faults"),
+    ],
+    // The first fault of an act counts.
+    &[
+        (Act::Failing(&[(1, 1), (0, 0), (0, 1)]), ""),
+        (Act::MakeRoom("f", "", ""), "fault"),
+        (Act::MakeRoom("f", "", ""), "fault"),
+        (Act::FindRoom("f"), "number 0"),
+        (Act::Counts, "3 acts, 2 faults"),
+        // part 0 makes nothing
+        (Act::Failing(&[(0, 0), (0, 1)]), ""),
+        (Act::MakeRoom("f", "", ""), "fault"),
+        (Act::Rooms, "names"),
+    ],
+    // Names come in byte order.
+    &[
+        (Act::MakeRoom("9.1", "", "f"), "number 0"),
+        (Act::MakeRoom("10.1", "", ""), "number 1"),
+        (Act::Rooms, "names 10.1 9.1"),
+        (Act::MakeFolder(0, "openhosts"), "made"),
+        (Act::List(""), "names f openhosts"),
+        (Act::Create("openhosts", "9.1"), "made"),
+        (Act::Create("openhosts", "10.1"), "made"),
+        (Act::RemoveFolder("openhosts"), "not empty 10.1"),
+    ],
+    // A taken room is old with its number.
+    &[
+        (Act::MakeRoom("f", "", ""), "number 0"),
+        (Act::MakeRoom("g", "", ""), "number 1"),
+        (Act::MakeRoom("g", "", "f"), "old 1"),
+        (Act::RenameRoom(0, "g"), "target there"),
+        (Act::RenameRoom(0, "h"), "made"),
+        (Act::FindRoom("h"), "number 0"),
+        (Act::FindRoom("f"), "absent"),
+    ],
+    // A replacement removes the file that had the name.
+    &[
+        (
+            Act::Given("empty", &[("1", "old", 3), ("tmp.1", "new", 3)]),
+            "",
+        ),
+        (Act::Replace("", "tmp.1", "1"), "made"),
+        (Act::Read("", "1", 0, 9), "bytes new"),
+        (Act::RemoveFolder("empty"), "made"),
+        (Act::List(""), "names 1"),
+        (Act::Remove("", "1"), "made"),
+        (Act::Remove("", "1"), "absent"),
+    ],
+    // No cut or write leaves a gap.
+    &[
+        (Act::MakeRoom("f", "", "index"), "number 0"),
+        (Act::Write("", "index", 0, "abcd"), "made"),
+        (Act::Cut("", "index", 5), "beyond"),
+        (Act::Cut("", "index", 2), "made"),
+        (Act::Write("", "index", 3, "x"), "beyond"),
+        (Act::Write("", "index", 1, "xy"), "made"),
+        (Act::Read("", "index", 0, 9), "bytes axy"),
+        (Act::Length("", "index"), "number 3"),
+        (Act::Sync("", "index"), "made"),
+        (Act::MakeFolder(1, ""), "no room"),
+    ],
+];
+
+#[test]
+fn a_store_in_memory_answers_and_fails_as_planned(rt: HostRuntime) -> Result<(), Failure> {
+    in_memory(&rt, rt.alloc(), TABLES)
 }

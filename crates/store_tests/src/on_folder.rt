@@ -1,12 +1,12 @@
 //! A store on a folder of the system, and what is made beside it there.
-use crate::acts::{Act, answer};
+use crate::acts::{Act, act_on};
 use crate::playing::{Row, Site, holds};
-use crate::telling::{count, letters, tell};
+use crate::telling::Line;
 use plfs_types::{NoMemory, Word};
-use std::fs;
 use std::os::unix::fs::symlink;
 use std::process::Abort;
 use std::test::Fail;
+use std::{fs, mem};
 use store_folder::FolderStore;
 
 #[derive(Drop)]
@@ -21,70 +21,77 @@ pub(crate) fn open(rt: HostRuntime, root: &str) -> Result<FolderStore<HostRuntim
 }
 
 // What stands at the path, where links are followed.
-fn kind_of(rt: HostRuntime, path: &str) -> Result<&'static str, Fail> {
-    if !fs::exists(&rt, path)? {
-        return Ok("nothing");
+fn kind_of(rt: HostRuntime, path: &str) -> &'static str {
+    match (fs::exists(&rt, path), fs::metadata(&rt, path)) {
+        (Ok(false), _) => "nothing",
+        (_, Ok(found)) => if found.is_dir() { "folder" } else { "file" },
+        _ => "not told",
     }
-    let found = fs::metadata(&rt, path)?;
-    Ok(if found.is_dir() { "folder" } else { "file" })
 }
 
 impl OnFolder {
-    fn step(&mut self, act: Act, line: &mut String) -> Result<(), NoMemory> {
-        let told = answer(self.rt.alloc(), &mut self.store, act)?;
-        tell(line, &told)
+    fn open(&mut self, root: &str, line: &mut Line) {
+        match open(self.rt, root) {
+            Ok(store) => drop(mem::replace(&mut self.store, store)),
+            Err(NoMemory) => line.note(false),
+        }
     }
 
-    fn cause(&self, line: &mut String) -> Result<(), Fail> {
+    fn cause(&self, line: &mut Line) {
         if let Some(cause) = self.store.cause() {
-            line.push_str(format!(in self.rt.alloc(); "{cause}")?.as_str())?;
+            match format!(in self.rt.alloc(); "{cause}") {
+                Ok(text) => line.push(text.as_str()),
+                Err(_) => line.note(false),
+            }
         }
-        Ok(())
     }
 
-    // What is done to the store, and what is asked of it beside its steps.
-    fn with_store(&mut self, act: Act, line: &mut String) -> Result<(), Fail> {
-        match act {
-            Act::Open(root) => self.store = open(self.rt, root)?,
-            Act::Cause => self.cause(line)?,
-            Act::Counts => {
-                count(line, self.store.acts(), " acts, ")?;
-                count(line, self.store.faults(), " faults")?;
-            }
-            _ => self.step(act, line)?,
+    fn read(&self, path: &str, line: &mut Line) {
+        match fs::read(&self.rt, path) {
+            Ok(bytes) => line.letters(bytes.as_slice()),
+            Err(_) => line.note(false),
         }
-        Ok(())
     }
 }
 
 impl Site for OnFolder {
-    fn play(&mut self, act: Act, line: &mut String) -> Result<(), Fail> {
+    fn play(&mut self, act: Act, line: &mut Line) {
         match act {
-            Act::MakeDir(path) => fs::create_dir(&self.rt, path)?,
-            Act::RemoveDir(path) => fs::remove_dir_all(&self.rt, path)?,
-            Act::WriteFile(path, text) => fs::write(&self.rt, path, text.as_bytes())?,
-            Act::RemoveFile(path) => fs::remove_file(&self.rt, path)?,
-            Act::ReadFile(path) => letters(line, fs::read(&self.rt, path)?.as_slice())?,
-            Act::Link(to, at) => symlink(&self.rt, to, at)?,
-            Act::Kind(path) => line.push_str(kind_of(self.rt, path)?)?,
-            _ => self.with_store(act, line)?,
+            Act::MakeDir(path) => line.note(fs::create_dir(&self.rt, path).is_ok()),
+            Act::RemoveDir(path) => line.note(fs::remove_dir_all(&self.rt, path).is_ok()),
+            Act::WriteFile(path, text) => {
+                line.note(fs::write(&self.rt, path, text.as_bytes()).is_ok())
+            }
+            Act::RemoveFile(path) => line.note(fs::remove_file(&self.rt, path).is_ok()),
+            Act::ReadFile(path) => self.read(path, line),
+            Act::Link(to, at) => line.note(symlink(&self.rt, to, at).is_ok()),
+            Act::Kind(path) => line.push(kind_of(self.rt, path)),
+            Act::Open(root) => self.open(root, line),
+            Act::Cause => self.cause(line),
+            Act::Counts => {
+                line.count("", self.store.acts(), " acts, ");
+                line.count("", self.store.faults(), " faults");
+            }
+            _ => act_on(&mut self.store, act, line),
         }
-        Ok(())
     }
 }
 
-/// Each row holds of a store on the folder `root`, which is empty, and is gone at the end.
-pub(crate) fn on_folder<R: Abort>(
+/// The rows of each of the tables hold of a store on the folder that is named with them, which is empty, and is gone at
+/// the end.
+pub(crate) fn on_folders<R: Abort>(
     abort: &R,
     rt: HostRuntime,
-    root: &str,
-    rows: &[Row],
+    tables: &[(&str, &[Row])],
 ) -> Result<(), Fail> {
-    let _ = fs::remove_dir_all(&rt, root);
-    fs::create_dir(&rt, root)?;
-    let store = open(rt, root)?;
-    let mut site = OnFolder { rt, store };
-    holds(abort, rt.alloc(), &mut site, rows)?;
-    fs::remove_dir_all(&rt, root)?;
+    for (root, rows) in tables {
+        let _ = fs::remove_dir_all(&rt, root);
+        fs::create_dir(&rt, root)?;
+        let store = open(rt, root)?;
+        let mut site = OnFolder { rt, store };
+        holds(abort, rt.alloc(), &mut site, rows);
+        drop(site);
+        fs::remove_dir_all(&rt, root)?;
+    }
     Ok(())
 }

@@ -1,8 +1,8 @@
 //! One table is played on a store of any kind.
 use crate::acts::Act;
+use crate::telling::Line;
 use std::alloc::Global;
 use std::process::Abort;
-use std::test::Fail;
 
 /// What is done, and what is told of it.
 pub(crate) type Row = (Act, &'static str);
@@ -10,20 +10,14 @@ pub(crate) type Row = (Act, &'static str);
 /// A store on which the acts are made.
 pub(crate) trait Site {
     /// Makes the act, and puts what is told of it behind the line.
-    fn play(&mut self, act: Act, line: &mut String) -> Result<(), Fail>;
+    fn play(&mut self, act: Act, line: &mut Line);
 }
 
 /// Each row tells what it says.
-pub(crate) fn holds<R: Abort, T: Site>(
-    rt: &R,
-    alloc: Global,
-    site: &mut T,
-    rows: &[Row],
-) -> Result<(), Fail> {
+pub(crate) fn holds<R: Abort, T: Site>(rt: &R, alloc: Global, site: &mut T, rows: &[Row]) {
     for (act, want) in rows {
-        let mut line = String::new(alloc);
-        site.play(*act, &mut line)?;
-        assert!(rt; line.as_str() == *want, "{line}: {want}");
+        let mut line = Line::new(alloc);
+        site.play(*act, &mut line);
+        assert!(rt; line.as_str() == *want, "{}: {want}", line.as_str());
     }
-    Ok(())
 }

@@ -1,14 +1,13 @@
 //! Several stores in memory as one: where rooms lie, names that two stores have, and a room that may have been made.
-use crate::acts::{Act, answer};
+use crate::acts::{Act, act_on};
 use crate::memory::new_store;
 use crate::opening::open;
 use crate::playing::{Row, Site, holds};
-use crate::telling::{letters, tell};
+use crate::telling::Line;
 use plfs_types::NoMemory;
 use spread_store::{Spread, SpreadTrouble, StoreList};
 use std::alloc::Global;
 use std::process::Abort;
-use std::test::Fail;
 use store_memory::MemoryStore;
 
 /// Two stores, and what they tell as one.
@@ -22,17 +21,9 @@ struct Case {
     ends: &'static str,
 }
 
-#[derive(Drop)]
-struct Several {
-    alloc: Global,
-    spread: Spread<MemoryStore>,
-}
-
-impl Site for Several {
-    fn play(&mut self, act: Act, line: &mut String) -> Result<(), Fail> {
-        let told = answer(self.alloc, &mut self.spread, act)?;
-        tell(line, &told)?;
-        Ok(())
+impl Site for Spread<MemoryStore> {
+    fn play(&mut self, act: Act, line: &mut Line) {
+        act_on(self, act, line);
     }
 }
 
@@ -43,8 +34,9 @@ fn one(
     rooms: &[&'static str],
 ) -> Result<MemoryStore, NoMemory> {
     let mut store = new_store(alloc, faults)?;
+    let mut line = Line::new(alloc);
     for room in rooms {
-        let _ = answer(alloc, &mut store, Act::MakeRoom(room, &[], &[]))?;
+        act_on(&mut store, Act::MakeRoom(room, "", ""), &mut line);
     }
     Ok(store)
 }
@@ -52,97 +44,88 @@ fn one(
 // Two stores that have these rooms, the second of which has these planned faults.
 fn two(alloc: Global, case: &Case) -> Result<StoreList<MemoryStore>, NoMemory> {
     let mut stores = StoreList::new(alloc);
-    stores.push(one(alloc, &[], case.before)?)?;
-    stores.push(one(alloc, case.faults, case.before)?)?;
+    for faults in [&[], case.faults] {
+        let added = match one(alloc, faults, case.before) {
+            Ok(store) => stores.push(store),
+            Err(why) => Err(why),
+        };
+        if added.is_err() {
+            drop(stores);
+            return Err(NoMemory);
+        }
+    }
     Ok(stores)
 }
 
 // What each of the stores names.
-fn named(alloc: Global, mut stores: StoreList<MemoryStore>) -> Result<String, NoMemory> {
-    let mut line = String::new(alloc);
+fn named(mut stores: StoreList<MemoryStore>, line: &mut Line) {
     for store in stores.as_mut_slice().iter_mut() {
-        let told = answer(alloc, store, Act::Rooms)?;
-        tell(&mut line, &told)?;
-        line.push_str("; ")?;
+        act_on(store, Act::Rooms, line);
+        line.push("; ");
     }
-    Ok(line)
+    drop(stores);
 }
 
-fn troubled(alloc: Global, trouble: &SpreadTrouble) -> Result<String, NoMemory> {
-    let mut line = String::new(alloc);
+fn troubled(trouble: &SpreadTrouble, line: &mut Line) {
     match trouble {
         SpreadTrouble::Doubled { name } => {
-            line.push_str("doubled ")?;
-            letters(&mut line, name.bytes())?;
+            line.push("doubled ");
+            line.letters(name.bytes());
         }
-        SpreadTrouble::Fault => line.push_str("fault")?,
-        SpreadTrouble::NoMemory => line.push_str("no memory")?,
+        SpreadTrouble::Fault => line.push("fault"),
+        SpreadTrouble::NoMemory => line.push("no memory"),
     }
-    Ok(line)
 }
 
-fn ended<R: Abort>(rt: &R, alloc: Global, case: &Case) -> Result<String, Fail> {
-    match open(rt, alloc, two(alloc, case)?) {
-        Ok(spread) => {
-            let mut site = Several { alloc, spread };
-            holds(rt, alloc, &mut site, case.rows)?;
-            Ok(named(alloc, site.spread.close())?)
+fn ended<R: Abort>(rt: &R, alloc: Global, case: &Case, line: &mut Line) {
+    let Ok(stores) = two(alloc, case) else {
+        return line.note(false);
+    };
+    match open(rt, alloc, stores) {
+        Ok(mut spread) => {
+            holds(rt, alloc, &mut spread, case.rows);
+            named(spread.close(), line);
         }
-        Err((_stores, trouble)) => Ok(troubled(alloc, &trouble)?),
+        Err((stores, trouble)) => {
+            drop(stores);
+            troubled(&trouble, line);
+        }
     }
 }
 
-fn all_hold<R: Abort>(rt: &R, alloc: Global, cases: &[Case]) -> Result<(), Fail> {
-    for case in cases {
-        let line = ended(rt, alloc, case)?;
-        assert!(rt; line.as_str() == case.ends, "{line}");
-    }
-    Ok(())
-}
-
-// The bytes of f sum to 102, those of g to 103, and those of i to 105.
-const LYING: [Case; 1] = [Case {
-    faults: &[],
-    before: &[],
-    rows: &[
-        (Act::MakeRoom(".plfs", &[], &[]), "number 0"),
-        (Act::MakeRoom("f", &[], &[]), "number 1"),
-        (Act::MakeRoom("g", &[], &[]), "number 2"),
-        (Act::MakeRoom("f", &[], &[]), "old 1"),
-        (Act::FindRoom("g"), "number 2"),
-        (Act::RenameRoom(1, "i"), "made"),
-        (Act::RenameRoom(1, "g"), "target there"),
-        (Act::Rooms, "names .plfs g i"),
-    ],
-    ends: "names .plfs i; names g; ",
-}];
-
-#[test]
-fn rooms_lie_where_their_names_say(rt: HostRuntime) -> Result<(), Fail> {
-    all_hold(&rt, rt.alloc(), &LYING)
-}
-
-const DOUBLED: [Case; 1] = [Case {
-    faults: &[],
-    before: &["h", "f"],
-    rows: &[],
-    ends: "doubled f",
-}];
-
-#[test]
-fn the_least_name_of_two_stores_is_doubled(rt: HostRuntime) -> Result<(), Fail> {
-    all_hold(&rt, rt.alloc(), &DOUBLED)
-}
-
-// The second store's act 1 is its listing, act 2 its search, act 3 makes the room or not, and act 4 asks for it.
-const DOUBTFUL: [Case; 2] = [
+const CASES: [Case; 5] = [
+    // Rooms lie where their names say. The bytes of f sum to 102, those of g to 103, and those of i to 105.
+    Case {
+        faults: &[],
+        before: &[],
+        rows: &[
+            (Act::MakeRoom(".plfs", "", ""), "number 0"),
+            (Act::MakeRoom("f", "", ""), "number 1"),
+            (Act::MakeRoom("g", "", ""), "number 2"),
+            (Act::MakeRoom("f", "", ""), "old 1"),
+            (Act::FindRoom("g"), "number 2"),
+            (Act::RenameRoom(1, "i"), "made"),
+            (Act::RenameRoom(1, "g"), "target there"),
+            (Act::Rooms, "names .plfs g i"),
+        ],
+        ends: "names .plfs i; names g; ",
+    },
+    // The least name of two stores is doubled.
+    Case {
+        faults: &[],
+        before: &["h", "f"],
+        rows: &[],
+        ends: "doubled f",
+    },
+    // A room that may have been made is asked for. The second store's act 1 is its listing, act 2 its search, act 3 makes
+    // the room or not, and act 4 asks for it.
     Case {
         faults: &[(2, 0), (3, 0)],
         before: &[],
         rows: &[
-            (Act::MakeRoom("g", &[], &[]), "fault"),
+            (Act::MakeRoom("g", "", ""), "fault"),
             (Act::Rooms, "fault"),
-            (Act::MakeRoom("g", &[], &[]), "number 0"),
+            (Act::MakeRoom("g", "", ""), "number 0"),
             (Act::Rooms, "names g"),
         ],
         ends: "names; names g; ",
@@ -151,28 +134,27 @@ const DOUBTFUL: [Case; 2] = [
         faults: &[(2, 1), (3, 0)],
         before: &[],
         rows: &[
-            (Act::MakeRoom("g", &[], &[]), "fault"),
+            (Act::MakeRoom("g", "", ""), "fault"),
             (Act::Rooms, "fault"),
-            (Act::MakeRoom("g", &[], &[]), "old 0"),
+            (Act::MakeRoom("g", "", ""), "old 0"),
             (Act::Rooms, "names g"),
         ],
         ends: "names; names g; ",
     },
+    // A store that fails as it is listed opens none.
+    Case {
+        faults: &[(0, 0)],
+        before: &[],
+        rows: &[],
+        ends: "fault",
+    },
 ];
 
 #[test]
-fn a_room_that_may_have_been_made_is_asked_for(rt: HostRuntime) -> Result<(), Fail> {
-    all_hold(&rt, rt.alloc(), &DOUBTFUL)
-}
-
-const FAILING: [Case; 1] = [Case {
-    faults: &[(0, 0)],
-    before: &[],
-    rows: &[],
-    ends: "fault",
-}];
-
-#[test]
-fn a_store_that_fails_as_it_is_listed_opens_none(rt: HostRuntime) -> Result<(), Fail> {
-    all_hold(&rt, rt.alloc(), &FAILING)
+fn several_stores_are_as_one(rt: HostRuntime) {
+    for case in &CASES {
+        let mut line = Line::new(rt.alloc());
+        ended(&rt, rt.alloc(), case, &mut line);
+        assert!(rt; line.as_str() == case.ends, "{}", line.as_str());
+    }
 }

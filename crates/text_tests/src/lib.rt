@@ -7,6 +7,8 @@ mod commands;
 #[cfg(test)]
 mod generated;
 #[cfg(test)]
+mod lines;
+#[cfg(test)]
 mod reports;
 #[cfg(test)]
 mod scripts;

@@ -1,33 +1,13 @@
 //! One line of each outcome and of each refusal.
-ghost use Rattle.std.specs.Prelude.{IfOk};
-ghost use Rattle.report_text.specs.Text.{ListsLogicalNames, HaveText};
-
-use plfs_types::{
-    Bytes, CountList, Entry, IdList, LogicalName, Name, NameList, NoMemory, ShareBytes,
-    ShareBytesList, Trunc, TruncList, WriterCount,
-};
+use crate::lines::Line;
+use plfs_types::{Trunc, WriterCount};
 use report_text::{ReportTrouble, print, read};
-use script_lang::{Line, Lines, MapText, Outcome, Why};
+use script_lang::{Outcome, Why};
 use std::alloc::Global;
 use std::test::Fail;
 
-const REASONS: [Why; 10] = [
-    Why::NoFile,
-    Why::Held,
-    Why::Busy {
-        host: 4294967295,
-        writer: 18446744073709551615,
-    },
-    Why::Exists,
-    Why::TooFar,
-    Why::StampsSpent,
-    Why::IdsSpent,
-    Why::NotOpen,
-    Why::AlreadyOpen,
-    Why::MountsSpent,
-];
-
-const TEXT: &str = "0 open 4294967297
+const TEXT: &str = "\
+0 open 4294967297
 1 wrote 0 5 7
 2 wrote 3 0 -
 3 synced 1
@@ -66,237 +46,238 @@ const TEXT: &str = "0 open 4294967297
 9 refused mounts-spent
 ";
 
-fn counts(alloc: Global, items: &[WriterCount]) -> Result<CountList, NoMemory> {
-    Ok(CountList::from_vec(items.to_vec(alloc)?))
+// What the lines of the text mean.
+const MEANING: &str = "\
+0: Opened, writer 4294967297
+1: Wrote, at 0, len 5, stamp 7
+2: Wrote, at 3, len 0, no stamp
+3: Synced, landed 1
+4: Closed, landed 2
+5: Reader, size 10, writer 1 count 2, writer 3 count 4, stamp 5 size 6
+6: Read, at 0, byte 104, byte 105, byte 195, byte 191
+7: Read, at 5
+8: Same
+9: Differs, place 3
+10: Map, at 0 len 5 physical 0 stamp 7 writer 1, at 5 len 2 physical 8 stamp 9 writer 2
+11: Map
+12: ReaderClosed
+13: Stat, size 10, stored most, writer 1 bytes 2
+14: Truncated, stamp 9
+15: Renamed
+16: Flattened, flat 3, pieces 2, writer 1 count 1
+17: Recovered, writer 1 count 0, hold 0
+18: Recovered, writer 2, writer 3, hold 1
+19: Listed, name a.b
+20: Listed
+21: Armed
+22: Stopped
+23: Gone
+24: Fault
+25: Damaged, folder hostdir.1, file a/b \u{7f}, place 40
+26: Damaged, folder , file access, place 0
+0: Refused, NoFile
+1: Refused, Held
+2: Refused, Busy, host 4294967295, writer 18446744073709551615
+3: Refused, Exists
+4: Refused, TooFar
+5: Refused, StampsSpent
+6: Refused, IdsSpent
+7: Refused, NotOpen
+8: Refused, AlreadyOpen
+9: Refused, MountsSpent
+";
+
+fn counts(line: &mut Line, of: &[WriterCount]) {
+    for item in of {
+        line.fill(", writer % count %", &[item.writer, item.count]);
+    }
 }
 
-fn truncs(alloc: Global, items: &[Trunc]) -> Result<TruncList, NoMemory> {
-    Ok(TruncList::from_vec(items.to_vec(alloc)?))
+fn truncs(line: &mut Line, of: &[Trunc]) {
+    for item in of {
+        line.fill(", stamp % size %", &[item.stamp, item.size]);
+    }
 }
 
-fn name(text: &str) -> Name {
-    Name::from_bytes(text.as_bytes()).unwrap_or(Name::empty())
-}
-
-// The outcomes of writers and readers, and those without fields.
-fn of_files(alloc: Global, which: u64) -> Result<Outcome, NoMemory>
-    ensures { IfOk result ListsLogicalNames }
-{
-    Ok(match which {
-        0 => Outcome::Opened { writer: 4294967297 },
-        1 => Outcome::Wrote {
-            at: 0,
-            len: 5,
-            stamp: Some(7),
-        },
-        2 => Outcome::Wrote {
-            at: 3,
-            len: 0,
-            stamp: None,
-        },
-        3 => Outcome::Synced { landed: 1 },
-        4 => Outcome::Closed { landed: 2 },
-        5 => Outcome::Reader {
-            size: 10,
-            cut: counts(
-                alloc,
-                &[
-                    WriterCount {
-                        writer: 1,
-                        count: 2,
-                    },
-                    WriterCount {
-                        writer: 3,
-                        count: 4,
-                    },
-                ],
-            )?,
-            truncs: truncs(alloc, &[Trunc { stamp: 5, size: 6 }])?,
-        },
-        6 => Outcome::Read {
-            at: 0,
-            content: Bytes::copy(alloc, "hi\u{ff}".as_bytes())?,
-        },
-        7 => Outcome::Read {
-            at: 5,
-            content: Bytes::new(alloc),
-        },
-        8 => Outcome::Same,
-        9 => Outcome::Differs { place: 3 },
-        10 => Outcome::Map {
-            pieces: two_pieces(alloc)?,
-        },
-        11 => Outcome::Map {
-            pieces: MapText::new(alloc),
-        },
-        12 => Outcome::ReaderClosed,
-        21 => Outcome::Armed,
-        22 => Outcome::Stopped,
-        23 => Outcome::Gone,
-        _ => Outcome::Fault,
-    })
-}
-
-fn two_pieces(alloc: Global) -> Result<MapText, NoMemory> {
-    let mut pieces = MapText::new(alloc);
-    pieces.push(Entry {
-        at: 0,
-        len: 5,
-        physical: 0,
-        stamp: 7,
-        writer: 1,
-    })?;
-    pieces.push(Entry {
-        at: 5,
-        len: 2,
-        physical: 8,
-        stamp: 9,
-        writer: 2,
-    })?;
-    Ok(pieces)
+fn why(line: &mut Line, why: Why) {
+    match why {
+        Why::NoFile => line.push("NoFile"),
+        Why::Held => line.push("Held"),
+        Why::Busy { host, writer } => line.fill(
+            "Busy, host %, writer %",
+            &[u64::from(host), writer],
+        ),
+        Why::Exists => line.push("Exists"),
+        Why::TooFar => line.push("TooFar"),
+        Why::StampsSpent => line.push("StampsSpent"),
+        Why::IdsSpent => line.push("IdsSpent"),
+        Why::NotOpen => line.push("NotOpen"),
+        Why::AlreadyOpen => line.push("AlreadyOpen"),
+        Why::MountsSpent => line.push("MountsSpent"),
+    }
 }
 
 // The outcomes of what concerns a container.
-fn of_containers(alloc: Global, which: u64) -> Result<Outcome, NoMemory>
-    ensures { IfOk result ListsLogicalNames }
-{
-    let one = WriterCount {
-        writer: 1,
-        count: 1,
-    };
-    Ok(match which {
-        13 => Outcome::Stat {
-            size: 10,
-            stored: u128::MAX,
-            shares: ShareBytesList::from_vec([ShareBytes {
-                writer: 1,
-                bytes: 2,
-            }]
-            .to_vec(alloc)?),
-            truncs: truncs(alloc, &[])?,
-        },
-        14 => Outcome::Truncated { stamp: 9 },
-        15 => Outcome::Renamed,
-        16 => Outcome::Flattened {
-            flat: 3,
-            pieces: 2,
-            cut: counts(alloc, &[one])?,
-        },
-        17 => Outcome::Recovered {
-            buried: counts(
-                alloc,
-                &[WriterCount {
-                    writer: 1,
-                    count: 0,
-                }],
-            )?,
-            alive: IdList::new(alloc),
-            hold: false,
-        },
-        18 => Outcome::Recovered {
-            buried: counts(alloc, &[])?,
-            alive: IdList::from_vec([2, 3].to_vec(alloc)?),
-            hold: true,
-        },
-        25 => Outcome::Damaged {
-            folder: name("hostdir.1"),
-            file: name("a/b \u{7f}"),
-            place: 40,
-        },
-        _ => Outcome::Damaged {
-            folder: Name::empty(),
-            file: name("access"),
-            place: 0,
-        },
-    })
-}
-
-fn listed(alloc: Global, which: u64) -> Result<Outcome, NoMemory>
-    ensures { IfOk result ListsLogicalNames }
-{
-    let mut names = NameList::new(alloc);
-    if which == 19 {
-        if let Some(first) = LogicalName::read(b"a.b") {
-            names.push(first.name())?;
+fn of_containers(line: &mut Line, outcome: &Outcome) {
+    match outcome {
+        Outcome::Stat {
+            size,
+            stored,
+            shares,
+            truncs: of,
+        } => {
+            line.fill("Stat, size %, stored ", &[*size]);
+            line.push(if *stored == u128::MAX { "most" } else { "less" });
+            for item in shares.as_slice() {
+                line.fill(", writer % bytes %", &[item.writer, item.bytes]);
+            }
+            truncs(line, of.as_slice());
         }
+        Outcome::Truncated { stamp } => line.fill("Truncated, stamp %", &[*stamp]),
+        Outcome::Renamed => line.push("Renamed"),
+        Outcome::Flattened { flat, pieces, cut } => {
+            line.fill("Flattened, flat %, pieces %", &[*flat, *pieces]);
+            counts(line, cut.as_slice());
+        }
+        Outcome::Recovered {
+            buried,
+            alive,
+            hold,
+        } => {
+            line.push("Recovered");
+            counts(line, buried.as_slice());
+            for writer in alive.as_slice() {
+                line.fill(", writer %", &[*writer]);
+            }
+            line.fill(", hold %", &[u64::from(*hold)]);
+        }
+        Outcome::Listed { names } => {
+            line.push("Listed");
+            for name in names.as_slice() {
+                line.name(", name ", name);
+            }
+        }
+        Outcome::Armed => line.push("Armed"),
+        Outcome::Stopped => line.push("Stopped"),
+        Outcome::Gone => line.push("Gone"),
+        Outcome::Refused { why: of } => {
+            line.push("Refused, ");
+            why(line, *of);
+        }
+        Outcome::Damaged {
+            folder,
+            file,
+            place,
+        } => {
+            line.name("Damaged, folder ", folder);
+            line.name(", file ", file);
+            line.fill(", place %", &[*place]);
+        }
+        _ => line.push("Fault"),
     }
-    Ok(Outcome::Listed { names })
 }
 
-fn outcome_of(alloc: Global, which: u64) -> Result<Outcome, NoMemory>
-    ensures { IfOk result ListsLogicalNames }
-{
-    match which {
-        0..=12 | 21..=24 => of_files(alloc, which),
-        19 | 20 => listed(alloc, which),
-        _ => of_containers(alloc, which),
+fn tell(line: &mut Line, outcome: &Outcome) {
+    match outcome {
+        Outcome::Opened { writer } => line.fill("Opened, writer %", &[*writer]),
+        Outcome::Wrote { at, len, stamp } => {
+            line.fill("Wrote, at %, len %, ", &[*at, *len]);
+            match stamp {
+                Some(stamp) => line.fill("stamp %", &[*stamp]),
+                None => line.push("no stamp"),
+            }
+        }
+        Outcome::Synced { landed } => line.fill("Synced, landed %", &[*landed]),
+        Outcome::Closed { landed } => line.fill("Closed, landed %", &[*landed]),
+        Outcome::Reader {
+            size,
+            cut,
+            truncs: of,
+        } => {
+            line.fill("Reader, size %", &[*size]);
+            counts(line, cut.as_slice());
+            truncs(line, of.as_slice());
+        }
+        Outcome::Read { at, content } => {
+            line.fill("Read, at %", &[*at]);
+            for byte in content.as_slice() {
+                line.fill(", byte %", &[u64::from(*byte)]);
+            }
+        }
+        Outcome::Same => line.push("Same"),
+        Outcome::Differs { place } => line.fill("Differs, place %", &[*place]),
+        Outcome::Map { pieces } => {
+            line.push("Map");
+            for e in pieces.as_slice() {
+                line.fill(
+                    ", at % len % physical % stamp % writer %",
+                    &[e.at, e.len, e.physical, e.stamp, e.writer],
+                );
+            }
+        }
+        Outcome::ReaderClosed => line.push("ReaderClosed"),
+        _ => of_containers(line, outcome),
     }
-}
-
-fn all_lines(alloc: Global) -> Result<Lines, NoMemory>
-    ensures { IfOk result HaveText }
-{
-    let mut lines = Lines::new(alloc);
-    for number in 0..27 {
-        let outcome = outcome_of(alloc, number)?;
-        lines.push(Line { number, outcome })?;
-    }
-    for (number, why) in (0..10).zip(REASONS) {
-        let outcome = Outcome::Refused { why };
-        lines.push(Line { number, outcome })?;
-    }
-    Ok(lines)
 }
 
 #[test]
-fn each_outcome_has_its_line(rt: HostRuntime) -> Result<(), Fail> {
-    let text = print(rt.alloc(), &all_lines(rt.alloc())?)?;
-    assert!(rt; text.as_slice() == TEXT.as_bytes());
-    Ok(())
-}
-
-#[test]
-fn each_line_is_read_back(rt: HostRuntime) -> Result<(), Fail> {
+fn each_outcome_has_its_line_and_is_read_back(rt: HostRuntime) -> Result<(), Fail> {
     let lines = read(rt.alloc(), TEXT.as_bytes())?;
-    assert!(rt; lines.as_slice().len() == 37);
-    let text = print(rt.alloc(), &lines)?;
-    assert!(rt; text.as_slice() == TEXT.as_bytes());
+    let mut told = Line::new(rt.alloc());
+    for line in lines.as_slice() {
+        told.fill("%: ", &[line.number]);
+        tell(&mut told, &line.outcome);
+        told.push("\n");
+    }
+    let text = print(rt.alloc(), &lines);
+    drop(lines);
+    assert!(rt; told.as_str() == MEANING);
+    assert!(rt; text?.as_slice() == TEXT.as_bytes());
     Ok(())
 }
 
-fn bad_line(alloc: Global, text: &str) -> Option<u64> {
+fn bad_line(alloc: Global, line: &mut Line, text: &str) {
     match read(alloc, text.as_bytes()) {
-        Err(ReportTrouble::Bad { line }) => Some(line),
-        _ => None,
+        Ok(lines) => {
+            drop(lines);
+            line.push("lines");
+        }
+        Err(ReportTrouble::Bad { line: number }) => line.fill("bad %", &[number]),
+        Err(ReportTrouble::NoMemory) => line.push("no memory"),
     }
 }
 
+const BAD: &str = "\
+bad 1: 0 same|\
+bad 1: \n|\
+bad 1: 0  same\n|\
+bad 1: 00 same\n|\
+bad 1: 0 Same\n|\
+bad 1: 0 read 0\n|\
+bad 1: 0 read 0 616\n|\
+bad 1: 0 read 0 6A\n|\
+bad 1: 0 wrote 3 0 \n|\
+bad 1: 0 ls a,\n|\
+bad 1: 0 ls -f\n|\
+bad 1: 0 map\n|\
+bad 1: 0 damaged a%2f 0\n|\
+bad 1: 0 damaged a,b 0\n|\
+bad 1: 0 damaged %41 0\n|\
+bad 1: 0 damaged /a 0\n|\
+bad 1: 0 refused busy 4294967296 1\n|\
+bad 3: 0 same\n1 same\n2 sam\n3 same\n|\
+lines: |\
+lines: 9 ls b,a\n|\
+lines: 0 reader 1 cut 3:0,1:2 trunc -\n";
+
 #[test]
-fn the_first_bad_line_is_named(rt: HostRuntime) {
-    for text in [
-        "0 same",
-        "\n",
-        "0  same\n",
-        "00 same\n",
-        "0 Same\n",
-        "0 read 0\n",
-        "0 read 0 616\n",
-        "0 read 0 6A\n",
-        "0 wrote 3 0 \n",
-        "0 ls a,\n",
-        "0 ls -f\n",
-        "0 map\n",
-        "0 damaged a%2f 0\n",
-        "0 damaged a,b 0\n",
-        "0 damaged %41 0\n",
-        "0 damaged /a 0\n",
-        "0 refused busy 4294967296 1\n",
-    ] {
-        assert!(rt; bad_line(rt.alloc(), text) == Some(1), "{text}");
-    }
-    assert!(rt; bad_line(rt.alloc(), "0 same\n1 same\n2 sam\n3 same\n") == Some(3));
+fn the_first_bad_line_is_named(rt: HostRuntime) -> Result<(), Fail> {
     // What a run orders or leaves out is still a line.
-    for text in ["", "9 ls b,a\n", "0 reader 1 cut 3:0,1:2 trunc -\n"] {
-        assert!(rt; bad_line(rt.alloc(), text) == None, "{text}");
+    for row in BAD.split('|') {
+        let (want, text) = row.split_once(": ").ok_or("a row")?;
+        let mut line = Line::new(rt.alloc());
+        bad_line(rt.alloc(), &mut line, text);
+        assert!(rt; line.as_str() == want, "{row}");
     }
+    Ok(())
 }
