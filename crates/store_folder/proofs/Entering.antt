@@ -1,11 +1,10 @@
--- Folders that can't be entered, and files that can't be opened.
-use Rattle.std.proofs.Common.{◌≡◌, ℕ, List, [], ◌∷◌, Result, Ok, Err, subst, ap, ◌∙◌}
+-- Folders that can't be entered.
+use Rattle.std.proofs.Common.{◌≡◌, ℕ, List, [], ◌∷◌, Result, Ok, Err, ap, ◌∙◌}
 use Rattle.std.specs.Prelude.{OnErr}
 use Rattle.folder_calls.specs.declared.failure.Failure.{Failure}
 use Rattle.folder_calls.specs.declared.reason.Kind.{Kind}
 use Rattle.folder_calls.specs.declared.reason.Kind.TheVariants.{Folder}
 use Rattle.folder_calls.specs.Calls.{Log, Makes, with_call, looked_at}
-use Rattle.store_folder.specs.Files.{FailsToOpen, entering}
 use Rattle.store_folder.specs.Folders.{FailsToEnter, IsNoEntry, at_folder}
 
 -- what holds anyway holds where a call failed
@@ -23,11 +22,3 @@ module _ {F : Type 0} (log between later : Log F) (room folder : List ℕ) where
   pub stops_at_folder : (shown : List ℕ) (end : Result Kind Failure) → shown ≡ folder → Makes (looked_at room (Ok Folder) ∷ []) log between → IsNoEntry end → Makes (looked_at shown end ∷ []) between later → FailsToEnter log later room folder
   stops_at_folder shown end same there none looks =
       at_folder end none (looks ∙ (ap (λ path. with_call between (looked_at path end)) same ∙ ap (λ before. with_call before (looked_at folder end)) there))
-
-module _ {F : Type 0} (log later : Log F) (room folder : List ℕ) where
-  -- where the folder isn't entered no file in it is opened
-  pub fails_entering : (in_room in_folder file : List ℕ) → in_room ≡ room → in_folder ≡ folder → FailsToEnter log later in_room in_folder → FailsToOpen log later room folder file
-  fails_entering in_room in_folder file same_room same_folder fails =
-      let AtFolder : List ℕ → Type 0 = λ path. FailsToEnter log later in_room path in
-      let AtRoom : List ℕ → Type 0 = λ path. FailsToEnter log later path folder in
-      entering (subst AtRoom same_room (subst AtFolder same_folder fails))

@@ -1,13 +1,14 @@
 //! How a room is made: it is built in a folder of ROOT that is no room, and then that folder gets the room's name.
-ghost use Rattle.std.specs.Prelude.{◌≡◌, ◌∷◌, [], ◌++◌, ◌⊎◌, None, Ok, Err, IfOk, OnOk, OnErr, string_bytes};
+ghost use Rattle.std.specs.Prelude.{◌≡◌, ◌∷◌, [], ◌++◌, ◌⊎◌, None, Ok, Err, Option, IfOk, OnOk, OnErr, string_bytes};
 ghost use Rattle.folder_calls.specs.Calls.{failed_calls};
 ghost use Rattle.store_folder.specs.ForEach.{ForEach};
 ghost use Rattle.store_folder.specs.Paths.{item_of};
-ghost use Rattle.store_folder.specs.NewRooms.{BuildsFolder, BuildsFile, TakesPlace, Fills, BuildsRoom, MakesRoom};
+ghost use Rattle.store_folder.specs.NewRooms.{BuildsFolder, PutsFile, BuildsFile, TakesPlace, Fills, BuildsRoom, MakesRoom};
 ghost use Rattle.store_folder.specs.Rooms.{IsStill, AddsRoom};
 
 use crate::disk::Disk;
-use folder_calls::{Calls, Failure, is_room_name, join, part};
+use crate::folders::item_path;
+use folder_calls::{Calls, Failure, is_room_name, part};
 use plfs_types::Name;
 use store_api::Answer;
 
@@ -33,7 +34,7 @@ impl<C: Calls<File = F>, F: Drop> Disk<C, F> {
         if !is_room_name(name.bytes()) {
             return Err(Failure::Failed);
         }
-        let path = join(self.alloc, self.root.as_str(), part(name)?)?;
+        let path = item_path(self.alloc, self.root.as_str(), name)?;
         let value = self.rooms.len() as u64;
         self.rooms.push(*name)?;
         let built = self.build_room(path.as_str(), folders, files);
@@ -98,7 +99,7 @@ impl<C: Calls<File = F>, F: Drop> Disk<C, F> {
         ensures still { IsStill self.old self.new }
         ensures well { IfOk result (λ _. failed_calls (C.log self.new.calls) ≡ failed_calls (C.log self.old.calls)) }
     {
-        let path = join(self.alloc, new, part(folder)?)?;
+        let path = item_path(self.alloc, new, folder)?;
         self.calls.make_folder(path.as_str())?;
         self.calls.sync_folder(path.as_str())
     }
@@ -120,10 +121,20 @@ impl<C: Calls<File = F>, F: Drop> Disk<C, F> {
         ensures still { IsStill self.old self.new }
         ensures well { IfOk result (λ _. failed_calls (C.log self.new.calls) ≡ failed_calls (C.log self.old.calls)) }
     {
-        let path = join(self.alloc, new, part(file)?)?;
-        match self.calls.create(path.as_str())? {
+        let path = item_path(self.alloc, new, file)?;
+        let put = self.put_file(path.as_str());
+        drop(path);
+        put
+    }
+
+    fn put_file(&mut self, path: &str) -> Result<(), Failure>
+        ensures put { OnOk result ((made : Option F) × PutsFile path.now made (C.log self.old.calls) (C.log self.new.calls)) }
+        ensures still { IsStill self.old self.new }
+        ensures well { IfOk result (λ _. failed_calls (C.log self.new.calls) ≡ failed_calls (C.log self.old.calls)) }
+    {
+        match self.calls.create(path)? {
             Some(file) => self.calls.sync(&file),
-            None => self.old_file(path.as_str()),
+            None => self.old_file(path),
         }
     }
 }

@@ -11,8 +11,8 @@ ghost use Rattle.store_folder.specs.Places.{FindsFile, ActsAt, ActsOnFile};
 ghost use Rattle.store_folder.specs.Rooms.{IsStill, HasRooms, InRoom};
 
 use crate::disk::Disk;
-use crate::folders::Spot;
-use folder_calls::{Calls, Failure, FileKey, Held, Kind, join, part};
+use crate::folders::{Spot, item_path};
+use folder_calls::{Calls, Failure, FileKey, Held, Kind};
 use plfs_types::Name;
 use store_api::{Answer, Step};
 
@@ -36,30 +36,36 @@ impl<C: Calls<File = F>, F: Drop> Disk<C, F> {
         let Some(spot) = self.spot(key.room, &key.folder)? else {
             return Ok(Answer::NoRoom);
         };
-        let answer = self.create_in(&spot, key);
-        drop(spot);
+        let path = item_path(self.alloc, spot.folder.as_str(), &key.file)?;
+        let answer = self.create_in(&spot, key, path.as_str());
+        drop((path, spot));
         answer
     }
 
-    // Adds the file to this folder.
-    fn create_in(&mut self, spot: &Spot, key: &FileKey) -> Result<Answer, Failure>
+    // Adds the file to this folder, at this path.
+    fn create_in(&mut self, spot: &Spot, key: &FileKey, path: &str) -> Result<Answer, Failure>
+        requires path { path.now ≡ item_of (string_bytes spot.now.folder) key.now.file }
         ensures creates { IfOk result (CreatesFile (C.log self.old.calls) (C.log self.new.calls) (string_bytes spot.now.room) (string_bytes spot.now.folder) key.now.file) }
         ensures rooms { HasRooms self.old self.new }
         ensures open { OnErr result (self.new.open ≡ self.old.open) }
         ensures well { IfOk result (λ _. failed_calls (C.log self.new.calls) ≡ failed_calls (C.log self.old.calls)) }
     {
-        let path = join(self.alloc, spot.folder.as_str(), part(&key.file)?)?;
         if !self.enter(spot)? {
             return Ok(Answer::NoFolder);
         }
-        match self.calls.create(path.as_str())? {
-            Some(file) => {
-                self.calls.sync_folder(spot.folder.as_str())?;
-                self.open.keep(*key, Held::empty(file));
-                Ok(Answer::Made)
-            }
+        match self.calls.create(path)? {
+            Some(file) => match self.calls.sync_folder(spot.folder.as_str()) {
+                Ok(()) => {
+                    self.open.keep(*key, Held::empty(file));
+                    Ok(Answer::Made)
+                }
+                Err(failure) => {
+                    drop(file);
+                    Err(failure)
+                }
+            },
             None => {
-                self.old_file(path.as_str())?;
+                self.old_file(path)?;
                 Ok(Answer::Old { room: 0 })
             }
         }
@@ -89,22 +95,23 @@ impl<C: Calls<File = F>, F: Drop> Disk<C, F> {
         let Some(spot) = self.spot(key.room, &key.folder)? else {
             return Ok(Answer::NoRoom);
         };
-        let answer = self.remove_in(&spot, &key.file);
-        drop(spot);
+        let path = item_path(self.alloc, spot.folder.as_str(), &key.file)?;
+        let answer = self.remove_in(&spot, &key.file, path.as_str());
+        drop((path, spot));
         answer
     }
 
-    // Removes a file of this folder.
-    fn remove_in(&mut self, spot: &Spot, file: &Name) -> Result<Answer, Failure>
+    // Removes the file of this folder that has this path.
+    fn remove_in(&mut self, spot: &Spot, file: &Name, path: &str) -> Result<Answer, Failure>
+        requires path { path.now ≡ item_of (string_bytes spot.now.folder) file.now }
         ensures removes { IfOk result (RemovesFile (C.log self.old.calls) (C.log self.new.calls) (string_bytes spot.now.room) (string_bytes spot.now.folder) file.now) }
         ensures still { IsStill self.old self.new }
         ensures well { IfOk result (λ _. failed_calls (C.log self.new.calls) ≡ failed_calls (C.log self.old.calls)) }
     {
-        let path = join(self.alloc, spot.folder.as_str(), part(file)?)?;
         if !self.enter(spot)? {
             return Ok(Answer::NoFolder);
         }
-        if self.calls.remove_file(path.as_str())? {
+        if self.calls.remove_file(path)? {
             self.calls.sync_folder(spot.folder.as_str())?;
             Ok(Answer::Made)
         } else {
@@ -143,8 +150,8 @@ impl<C: Calls<File = F>, F: Drop> Disk<C, F> {
         ensures still { IsStill self.old self.new }
         ensures well { IfOk result (λ _. failed_calls (C.log self.new.calls) ≡ failed_calls (C.log self.old.calls)) }
     {
-        let old = join(self.alloc, spot.folder.as_str(), part(from)?)?;
-        let new = join(self.alloc, spot.folder.as_str(), part(to)?)?;
+        let old = item_path(self.alloc, spot.folder.as_str(), from)?;
+        let new = item_path(self.alloc, spot.folder.as_str(), to)?;
         let answer = self.rename_in(spot, from, to, old.as_str(), new.as_str());
         drop((old, new));
         answer
@@ -212,11 +219,24 @@ impl<C: Calls<File = F>, F: Drop> Disk<C, F> {
         let Some(spot) = self.spot(key.room, &key.folder)? else {
             return Ok(Found::Not(Answer::NoRoom));
         };
-        let path = join(self.alloc, spot.folder.as_str(), part(&key.file)?)?;
-        if !self.enter(&spot)? {
+        let path = item_path(self.alloc, spot.folder.as_str(), &key.file)?;
+        let found = self.open_in(&spot, &key.file, path.as_str());
+        drop((path, spot));
+        found
+    }
+
+    // Opens the file of this folder that has this path.
+    fn open_in(&mut self, spot: &Spot, file: &Name, path: &str) -> Result<Found<F>, Failure>
+        requires path { path.now ≡ item_of (string_bytes spot.now.folder) file.now }
+        ensures opens { IfOk result (OpensFile (C.log self.old.calls) (C.log self.new.calls) (string_bytes spot.now.room) (string_bytes spot.now.folder) file.now) }
+        ensures still { IsStill self.old self.new }
+        ensures fails { OnErr result (FailsToOpen (C.log self.old.calls) (C.log self.new.calls) (string_bytes spot.now.room) (string_bytes spot.now.folder) file.now) }
+        ensures well { IfOk result (λ _. failed_calls (C.log self.new.calls) ≡ failed_calls (C.log self.old.calls)) }
+    {
+        if !self.enter(spot)? {
             return Ok(Found::Not(Answer::NoFolder));
         }
-        match self.calls.open(path.as_str())? {
+        match self.calls.open(path)? {
             Some(file) => Ok(Found::There(Held::new(&mut self.calls, file)?)),
             None => Ok(Found::Not(Answer::Absent)),
         }

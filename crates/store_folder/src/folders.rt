@@ -3,12 +3,13 @@ ghost use Rattle.std.specs.Prelude.{◌≡◌, ◌==◌, ◌≤◌, ◌<◌, ◌
 ghost use Rattle.folder_calls.specs.Calls.{Makes, looked_at, listed_folder, failed_calls};
 ghost use Rattle.store_folder.specs.Folders.{IsNoFolder, IsNoEntry, EntersFolder, FindsNoFolder, FailsToEnter, MakesFolder, RemovesTop, RemovesItem, RemovesFolder, TellsFolder};
 ghost use Rattle.store_folder.specs.Listings.{IsSortedListing, IsLeast};
-ghost use Rattle.store_folder.specs.Paths.{room_path, folder_path};
+ghost use Rattle.store_folder.specs.Paths.{item_of, room_path, folder_path};
 ghost use Rattle.store_folder.specs.Rooms.{IsStill, InRoom};
 
 use crate::disk::Disk;
 use folder_calls::{Calls, Failure, Kind, Removal, join, part};
 use plfs_types::{Name, NameList};
+use std::alloc::Global;
 use store_api::Answer;
 
 /// A folder of a room by its paths. At the top both are one.
@@ -17,6 +18,13 @@ pub struct Spot {
     pub room: String,
     pub folder: String,
     pub is_top: bool,
+}
+
+/// The path of an item of a folder. It fails where the name can't stand in a path.
+pub fn item_path(alloc: Global, folder: &str, name: &Name) -> Result<String, Failure>
+    ensures { IfOk result (λ path. string_bytes path ≡ item_of folder.now name.now) }
+{
+    join(alloc, folder, part(name)?)
 }
 
 impl<C: Calls<File = F>, F: Drop> Disk<C, F> {
@@ -46,7 +54,7 @@ impl<C: Calls<File = F>, F: Drop> Disk<C, F> {
     {
         match folder.bytes() {
             [] => Ok(String::from_str(self.alloc, room)?),
-            [_, ..] => join(self.alloc, room, part(folder)?),
+            [_, ..] => item_path(self.alloc, room, folder),
         }
     }
 
@@ -207,7 +215,18 @@ impl<C: Calls<File = F>, F: Drop> Disk<C, F> {
         let Some(spot) = self.spot(room, folder)? else {
             return Ok(Answer::NoRoom);
         };
-        if !self.enter(&spot)? {
+        let answer = self.list_in(&spot);
+        drop(spot);
+        answer
+    }
+
+    // Names what is in this folder.
+    fn list_in(&mut self, spot: &Spot) -> Result<Answer, Failure>
+        ensures lists { IfOk result (TellsFolder (C.log self.old.calls) (C.log self.new.calls) (string_bytes spot.now.room) (string_bytes spot.now.folder)) }
+        ensures still { IsStill self.old self.new }
+        ensures well { IfOk result (λ _. failed_calls (C.log self.new.calls) ≡ failed_calls (C.log self.old.calls)) }
+    {
+        if !self.enter(spot)? {
             return Ok(Answer::NoFolder);
         }
         let names = self.names_in(spot.folder.as_str())?;

@@ -1,13 +1,14 @@
 //! What the making of a room leaves where it is broken off: folders of ROOT that are no rooms, which are used again.
-ghost use Rattle.std.specs.Prelude.{◌≡◌, IfOk, OnOk, string_bytes};
-ghost use Rattle.folder_calls.specs.Calls.{failed_calls};
+ghost use Rattle.std.specs.Prelude.{◌≡◌, ◌∷◌, [], Ok, IfOk, OnOk, string_bytes};
+ghost use Rattle.folder_calls.specs.Calls.{Log, Makes, looked_at, failed_calls};
 ghost use Rattle.store_folder.specs.ForEach.{ForEach};
 ghost use Rattle.store_folder.specs.Leftovers.{RemovesLeftover, ClearsItem, Empties, Clears, Tries};
 ghost use Rattle.store_folder.specs.NewRooms.{TakesPlace};
 ghost use Rattle.store_folder.specs.Rooms.{IsStill};
 
 use crate::disk::Disk;
-use folder_calls::{Calls, Failure, Kind, Removal, join, part};
+use crate::folders::item_path;
+use folder_calls::{Calls, Failure, Kind, Removal};
 use plfs_types::Name;
 
 impl<C: Calls<File = F>, F: Drop> Disk<C, F> {
@@ -63,7 +64,9 @@ impl<C: Calls<File = F>, F: Drop> Disk<C, F> {
         ensures well { IfOk result (λ _. failed_calls (C.log self.new.calls) ≡ failed_calls (C.log self.old.calls)) }
     {
         let names = self.calls.list(self.alloc, path)?;
-        self.clear_items(path, names.as_slice())?;
+        let cleared = self.clear_items(path, names.as_slice());
+        drop(names);
+        cleared?;
         let end = self.calls.remove_folder(path)?;
         Ok(matches!(end, Removal::Removed))
     }
@@ -84,17 +87,18 @@ impl<C: Calls<File = F>, F: Drop> Disk<C, F> {
         ensures still { IsStill self.old self.new }
         ensures well { IfOk result (λ _. failed_calls (C.log self.new.calls) ≡ failed_calls (C.log self.old.calls)) }
     {
-        let path = join(self.alloc, folder, part(name)?)?;
-        let kind = self.calls.look(path.as_str())?;
-        self.remove_leftover(path.as_str(), kind)
+        let path = item_path(self.alloc, folder, name)?;
+        let cleared = self.remove_leftover(path.as_str());
+        drop(path);
+        cleared
     }
 
-    fn remove_leftover(&mut self, path: &str, kind: Kind) -> Result<(), Failure>
-        ensures removed { OnOk result (RemovesLeftover path.now kind (C.log self.old.calls) (C.log self.new.calls)) }
+    fn remove_leftover(&mut self, path: &str) -> Result<(), Failure>
+        ensures removed { OnOk result ((kind : Kind) × (between : Log F) × Makes (looked_at path.now (Ok kind) ∷ []) (C.log self.old.calls) between × RemovesLeftover path.now kind between (C.log self.new.calls)) }
         ensures still { IsStill self.old self.new }
         ensures well { IfOk result (λ _. failed_calls (C.log self.new.calls) ≡ failed_calls (C.log self.old.calls)) }
     {
-        match kind {
+        match self.calls.look(path)? {
             Kind::Folder => {
                 self.calls.remove_folder(path)?;
                 Ok(())

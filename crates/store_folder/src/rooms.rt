@@ -1,14 +1,15 @@
 //! The rooms: which items of ROOT they are, and the steps that name, find and rename them.
-ghost use Rattle.std.specs.Prelude.{◌≡◌, ◌≤◌, ◌<◌, ◌++◌, ◌⊎◌, length, position, true, false, None, Ok, Err, IsSome, IfSome, IfOk, IfErr, OnErr, OnOk, slice_set, string_bytes};
-ghost use Rattle.store_folder.specs.Paths.{room_path};
+ghost use Rattle.std.specs.Prelude.{◌≡◌, ◌≤◌, ◌<◌, ◌∷◌, [], ◌++◌, ◌⊎◌, length, position, true, false, None, Ok, Err, IsSome, IfSome, IfOk, IfErr, OnErr, OnOk, slice_set, string_bytes};
+ghost use Rattle.store_folder.specs.Paths.{item_of, room_path};
 ghost use Rattle.store_folder.specs.Rooms.{if_room, LooksForRoom, FindsRooms, ListsRooms, IsStill, InRoom, MovesRoom, RenamesRoom};
 ghost use Rattle.store_folder.specs.Listings.{TellsNames};
-ghost use Rattle.folder_calls.specs.Calls.{failed_calls};
+ghost use Rattle.folder_calls.specs.Calls.{Makes, renamed_item, failed_calls};
 ghost use Rattle.store_api.specs.Names.{same_name};
 ghost use Rattle.store_api.specs.Effect.{number_or_absent};
 
 use crate::disk::Disk;
-use folder_calls::{Calls, Failure, is_room_name, join, part};
+use crate::folders::item_path;
+use folder_calls::{Calls, Failure, is_room_name};
 use plfs_types::{Name, NameList};
 use store_api::Answer;
 
@@ -83,9 +84,10 @@ impl<C: Calls<File = F>, F: Drop> Disk<C, F> {
         if !is_room_name(name.bytes()) {
             return Ok(false);
         }
-        let path = join(self.alloc, self.root.as_str(), part(name)?)?;
-        let kind = self.calls.look(path.as_str())?;
-        Ok(kind.is_folder())
+        let path = item_path(self.alloc, self.root.as_str(), name)?;
+        let kind = self.calls.look(path.as_str());
+        drop(path);
+        Ok(kind?.is_folder())
     }
 
     /// Names all rooms in byte order.
@@ -138,13 +140,24 @@ impl<C: Calls<File = F>, F: Drop> Disk<C, F> {
             drop(old);
             return Err(Failure::Failed);
         }
-        let new = join(self.alloc, self.root.as_str(), part(to)?)?;
-        let renamed = self.calls.rename(old.as_str(), new.as_str());
-        drop((old, new));
+        let renamed = self.move_to(old.as_str(), to);
+        drop(old);
         renamed?;
         self.call_room(room, to);
         self.calls.sync_folder(self.root.as_str())?;
         Ok(Answer::Made)
+    }
+
+    // Gives an item of ROOT another name.
+    fn move_to(&mut self, old: &str, to: &Name) -> Result<(), Failure>
+        ensures moved { OnOk result (Makes (renamed_item old.now (item_of (string_bytes self.old.root) to.now) (Ok tt) ∷ []) (C.log self.old.calls) (C.log self.new.calls)) }
+        ensures still { IsStill self.old self.new }
+        ensures well { IfOk result (λ _. failed_calls (C.log self.new.calls) ≡ failed_calls (C.log self.old.calls)) }
+    {
+        let new = item_path(self.alloc, self.root.as_str(), to)?;
+        let renamed = self.calls.rename(old, new.as_str());
+        drop(new);
+        renamed
     }
 
     // Gives a room its new name.
@@ -168,7 +181,7 @@ impl<C: Calls<File = F>, F: Drop> Disk<C, F> {
         ensures path { IfOk result (λ path. IfSome path (λ path. string_bytes path ≡ room_path self.now room)) }
     {
         match self.rooms.get(room as usize) {
-            Some(name) => Ok(Some(join(self.alloc, self.root.as_str(), part(name)?)?)),
+            Some(name) => Ok(Some(item_path(self.alloc, self.root.as_str(), name)?)),
             None => Ok(None),
         }
     }
