@@ -16,4 +16,6 @@ mod Ranges
 mod Replying
 mod Rows
 mod Stopping
+mod Striking
 mod Tables
+mod Telling

@@ -34,8 +34,10 @@ mod OpenWriters
 mod Recovered
 mod Recoveries
 mod Makings
+mod Covering
 mod Flattened
 mod Changed
+mod StuckLines
 mod WriterLines
 mod Statements
 mod Actors

@@ -2,7 +2,6 @@
 use Rattle.std.proofs.Common.{◌≡◌, ℕ, ◌+◌, Bool, true, false, inl, inr, List, [], ◌∷◌, ◌++◌, length, nat_eq, Option, Some, None, Result, Ok, Err, refl, sym, ap, ◌∙◌, subst, arith, append_assoc}
 use Rattle.std.specs.Prelude.{if◌then◌else◌}
 use Rattle.std.proofs.lemmas.List.{append-nil}
-use Rattle.std.proofs.lemmas.Bool.Decides.{nat_tests}
 use Rattle.turn_object.specs.Callers.{made_by}
 use Rattle.story.specs.Program.{Program}
 use Rattle.story.specs.Process.{ends}
@@ -18,7 +17,6 @@ use Rattle.mount_model.specs.State.{State}
 use Rattle.mount_model.specs.Table.{row_of}
 use Rattle.mount_sound.specs.Owed.{IsLawful}
 use Rattle.flow.specs.declared.stuck.Stuck.{Stuck}
-use Rattle.flow.specs.declared.stuck.Stuck.TheVariants as stuck
 use Rattle.flow.specs.Running.{Runs, unbroken}
 use Rattle.writer_flow.specs.declared.handle.WriterHandle.{WriterHandle}
 use Rattle.writer_flow.specs.declared.handle.WriterOut.{WriterOut}
@@ -51,13 +49,14 @@ use Rattle.play_laws.specs.OneFile.{OneFile}
 use Rattle.play_laws.specs.Opening.{Stretch}
 use Rattle.play_laws.specs.Showing.{Shows}
 use Rattle.play_laws.specs.OneWriter.{OneWriter, WritesNone, one_more}
-use Rattle.play_laws.specs.Writing.{ShowsClosed, ShowsSynced, ShowsWriterOpened, ShowsWriting, ShowsWritten}
+use Rattle.play_laws.specs.Writing.{ShowsClosed, ShowsWriting}
 use Rattle.play_laws.proofs.Carrying.{CourseOf, EndsSo, carried_on, ended, ended_behind, then_told}
 use Rattle.play_laws.proofs.Finding.{name_made}
 use Rattle.play_laws.proofs.Opened.{Good, Keeps, keeps_later}
 use Rattle.play_laws.proofs.OneWriters.{KeepsWriter, OfWriter, Writes, any_back, any_front, any_here, synced_there}
 use Rattle.play_laws.proofs.Others.{LeavesReader, or_shows_none}
 use Rattle.play_laws.proofs.Standing.{Both, Next, up_to}
+use Rattle.play_laws.proofs.StuckLines.{gone_not, stuck_written, stuck_synced, stuck_closed, stuck_opened, no_bytes, tested}
 
 -- ---- what is owed of a statement
 
@@ -69,37 +68,6 @@ GoodWriting start n before greeting writer statement mine ending = (new : Option
 abbrev pub GoodBoth : Moment → ℕ → List Event → List Event → Option OneFile → Option OneWriter → Statement → List Event → Ending → Type 0
 GoodBoth start n before greeting file writer statement mine ending = Good start n before greeting file statement mine ending × GoodWriting start n before greeting writer statement mine ending
 
-gone_not : (kept : Kept) → true ≡ false → ⊥
-gone_not kept e = cc
-
--- ---- the lines of an open writer
-
-stuck_written : (n : ℕ) (stretch : Stretch) (writer : OneWriter) (at : ℕ) (bytes : List ℕ) (why : Stuck) → WritesNone (Some writer) stretch.events → ShowsWritten n stretch writer at bytes (stuck_outcome why) (Some writer)
-stuck_written n stretch writer at bytes stuck.Fault none = (tt, (refl, none))
-stuck_written n stretch writer at bytes (stuck.Damaged folder file place) none = (tt, (refl, none))
-stuck_written n stretch writer at bytes (stuck.Refused because) none = (tt, (refl, none))
-
-stuck_synced : (stretch : Stretch) (writer : OneWriter) (why : Stuck) → WritesNone (Some writer) stretch.events → ShowsSynced stretch writer (stuck_outcome why) (Some writer)
-stuck_synced stretch writer stuck.Fault none = (tt, (refl, none))
-stuck_synced stretch writer (stuck.Damaged folder file place) none = (tt, (refl, none))
-stuck_synced stretch writer (stuck.Refused because) none = (tt, (refl, none))
-
-stuck_closed : (stretch : Stretch) (writer : OneWriter) (why : Stuck) → WritesNone (Some writer) stretch.events → ShowsClosed stretch writer (stuck_outcome why) (Some writer)
-stuck_closed stretch writer stuck.Fault none = (none, inl refl)
-stuck_closed stretch writer (stuck.Damaged folder file place) none = (tt, (refl, none))
-stuck_closed stretch writer (stuck.Refused because) none = (tt, (refl, none))
-
-stuck_opened : (start : Moment) (n : ℕ) (stretch : Stretch) (name : Name) (why : Stuck) → ShowsWriterOpened start n stretch name (stuck_outcome why) None
-stuck_opened start n stretch name stuck.Fault = (tt, refl)
-stuck_opened start n stretch name (stuck.Damaged folder file place) = (tt, refl)
-stuck_opened start n stretch name (stuck.Refused because) = (tt, refl)
-
-no_bytes : (bytes : List ℕ) → length bytes ≡ 0 → bytes ≡ []
-no_bytes [] none = refl
-no_bytes (b ∷ bytes) none = absurd (omega (arith, none))
-
-tested : (k : ℕ) → nat_eq k 0 ≡ true → k ≡ 0
-tested k e = grind (arith, nat_tests)
 
 abbrev IsPlainOut : WriterOut → Type 0
 IsPlainOut out = IsUndamaged out.result

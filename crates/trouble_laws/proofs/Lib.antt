@@ -4,9 +4,11 @@ mod Writers
 mod Listed
 mod Naming
 mod Checks
+mod OneWriter
 mod Recovering
 mod Flattening
 mod PackChecks
 mod Stamped
+mod Sighting
 mod Migrating
 pub mod Facts
