@@ -1,186 +1,141 @@
-//! A run over a store in memory, or over several as one.
-use edge_io::{CallList, ClockList, ListClock, MemorySink, MemorySource, NoGate};
+//! Runs of a command over the store.
+use crate::spelling::{Line, letters, numbers, parts};
+use crate::stages::{Stage, Under};
+use edge_io::{ListClock, MemorySink, MemorySource, NoGate};
 use plfs_program::{Ended, plfs, single};
-use plfs_types::{Bytes, NoMemory, Word};
-use spread_store::Backing;
+use plfs_types::{Bytes, Word};
 use std::alloc::Global;
-use std::process::Abort;
 use std::sync::Wait;
-use std::test::Fail;
 use std::thread::Threads;
-use store_memory::{FailList, MemoryStore};
+use std::{mem, str};
 
-/// What a run is made over.
-pub(crate) type Under = Backing<MemoryStore>;
-
-/// What a run left.
-#[derive(Drop)]
-pub(crate) struct Run {
-    pub(crate) status: u8,
-    pub(crate) output: Bytes,
-    pub(crate) store: Option<Under>,
-}
-
-/// What a run is set up with: its words, its input, the clock's times, and the calls that fail.
-#[derive(Clone, Copy)]
-pub struct Setup<'a> {
-    pub words: &'a str,
-    pub script: &'a [u8],
-    pub times: &'a [u64],
-    pub source_fails: &'a [u64],
-    pub sink_fails: &'a [u64],
-    pub sink_piece: usize,
-}
-
-/// `play` of a script at the time 10, where nothing fails.
-pub(crate) fn playing(script: &[u8]) -> Setup<'_> {
-    Setup {
-        words: "play",
-        script,
-        times: &[10],
-        source_fails: &[],
-        sink_fails: &[],
-        sink_piece: 1 << 20,
-    }
-}
-
-fn numbers(alloc: Global, of: &[u64]) -> Result<CallList, NoMemory> {
-    Ok(ClockList::from_vec(Vec::from_slice(alloc, of)?))
-}
-
-// The words, the streams and the clock of a run.
-#[derive(Drop)]
-struct Edge {
-    words: Vec<Word>,
-    input: MemorySource,
-    out: MemorySink,
-    clock: ListClock,
-}
-
-fn edge_of(alloc: Global, setup: Setup<'_>) -> Result<Edge, NoMemory> {
+fn words(alloc: Global, text: &str) -> Vec<Word> {
     let mut words = Vec::new(alloc);
-    for word in setup.words.split_whitespace() {
-        words.push(Word::copy(alloc, word)?)?;
-    }
-    let script = Bytes::copy(alloc, setup.script)?;
-    let source_fails = numbers(alloc, setup.source_fails)?;
-    let sink_fails = numbers(alloc, setup.sink_fails)?;
-    let times = numbers(alloc, setup.times)?;
-    Ok(Edge {
-        words,
-        input: MemorySource::new(script, 7, source_fails),
-        out: MemorySink::new(alloc, setup.sink_piece, sink_fails),
-        clock: ListClock::new(times),
-    })
-}
-
-// What is left of a run with this sink.
-fn left(alloc: Global, out: &MemorySink, ended: Ended<Under>) -> Result<Run, NoMemory> {
-    let Ended { status, store } = ended;
-    match Bytes::copy(alloc, out.taken()) {
-        Ok(output) => Ok(Run {
-            status,
-            output,
-            store,
-        }),
-        Err(why) => {
-            drop(store);
-            Err(why)
+    for word in text.split_whitespace() {
+        if let Ok(word) = Word::copy(alloc, word) {
+            let _ = words.push(word);
         }
     }
+    words
 }
 
-/// Runs it over this store.
-pub(crate) fn run_on(alloc: Global, store: Under, setup: Setup<'_>) -> Result<Run, NoMemory> {
-    let Edge {
-        words,
-        mut input,
-        mut out,
-        clock,
-    } = match edge_of(alloc, setup) {
-        Ok(edge) => edge,
-        Err(why) => {
-            drop(store);
-            return Err(why);
+// What stands behind this word of the head, or else this.
+fn setting<'a>(head: &'a str, word: &str, otherwise: &'a str) -> &'a str {
+    for setting in head.split(", ") {
+        let (first, rest) = parts(setting, " ");
+        if first == word {
+            return rest;
         }
-    };
-    let ended = single(alloc, &words, &mut input, &mut out, store, clock);
-    let run = left(alloc, &out, ended);
-    drop((words, input, out));
-    run
+    }
+    otherwise
 }
 
-/// Runs it over this store, with threads.
-pub(crate) fn run_with_threads<R: Threads + Wait + Sync>(
+// Runs the words of the head with this input over the store. Gives what the run left, and what it printed.
+fn run_on<R: Threads + Wait + Sync>(
     rt: &R,
     alloc: Global,
     store: Under,
-    setup: Setup<'_>,
-) -> Result<Run, NoMemory> {
-    let Edge {
-        words,
-        mut input,
-        mut out,
-        clock,
-    } = match edge_of(alloc, setup) {
-        Ok(edge) => edge,
-        Err(why) => {
-            drop(store);
-            return Err(why);
-        }
+    head: &str,
+    input: Bytes,
+) -> (Ended<Under>, MemorySink) {
+    let words = words(alloc, parts(head, ",").0);
+    let piece = setting(head, "sink-piece", "1048576")
+        .parse::<usize>()
+        .unwrap_or(0);
+    let source_fails = numbers(alloc, setting(head, "source-fault", ""));
+    let sink_fails = numbers(alloc, setting(head, "sink-fault", ""));
+    let clock = ListClock::new(numbers(alloc, setting(head, "at", "10")));
+    let mut input = MemorySource::new(input, 7, source_fails);
+    let mut out = MemorySink::new(alloc, piece, sink_fails);
+    let ended = if setting(head, "threads", "no").is_empty() {
+        plfs(
+            rt, alloc, &words, &mut input, &mut out, store, clock, &NoGate,
+        )
+    } else {
+        single(alloc, &words, &mut input, &mut out, store, clock)
     };
-    let ended = plfs(
-        rt, alloc, &words, &mut input, &mut out, store, clock, &NoGate,
-    );
-    let run = left(alloc, &out, ended);
-    drop((words, input, out));
-    run
+    drop((words, input));
+    (ended, out)
 }
 
-/// An empty store.
-pub(crate) fn empty(alloc: Global) -> Result<Under, NoMemory> {
-    let store = MemoryStore::new(alloc, FailList::new(alloc))?;
-    Ok(Backing::One(store))
-}
-
-/// The run ends so. What it was made over is given back.
-pub(crate) fn ends(rt: &impl Abort, run: Run, status: u8, output: &str) -> Result<Under, Fail> {
-    assert_eq!(rt; run.status, status);
-    assert_eq!(rt; run.output.as_slice(), output.as_bytes());
-    let Run {
-        output: given,
-        store,
-        ..
-    } = run;
-    drop(given);
-    Ok(store.ok_or("no store")?)
-}
-
-/// The one store in memory that a run was made over.
-pub(crate) fn alone(store: Option<Under>) -> Result<MemoryStore, Fail> {
-    match store {
-        Some(Backing::One(store)) => Ok(store),
-        Some(Backing::Several(several)) => {
-            drop(several);
-            Err("several stores")?
+// Runs it over the stage's store. Gives the status, or none of a run's.
+fn status_of<R: Threads + Wait + Sync>(rt: &R, stage: &mut Stage, head: &str, input: Bytes) -> u8 {
+    match stage.store.take() {
+        Some(store) => {
+            let (ended, out) = run_on(rt, stage.alloc, store, head, input);
+            let Ended { status, store } = ended;
+            drop(mem::replace(&mut stage.store, store));
+            drop(mem::replace(&mut stage.out, out));
+            status
         }
-        None => Err("no store")?,
+        None => {
+            drop(input);
+            u8::MAX
+        }
     }
 }
 
-/// The status and the count of bytes that a run over this store ends with, and the store.
-pub(crate) fn ended(
-    alloc: Global,
-    store: MemoryStore,
-    setup: Setup<'_>,
-) -> Result<(u8, usize, MemoryStore), Fail> {
-    let Run {
-        status,
-        output,
-        store,
-    } = run_on(alloc, Backing::One(store), setup)?;
-    let length = output.as_slice().len();
-    drop(output);
-    let store = alone(store)?;
-    Ok((status, length, store))
+// The lines of an input, and what is printed of them.
+fn tell_apart(body: &str, input: &mut Line, printed: &mut Line) {
+    let mut number: u64 = 0;
+    for line in body.lines() {
+        number = number.saturating_add(1);
+        if let Some(text) = line.strip_prefix("= ") {
+            printed.end(text);
+        } else {
+            let (statement, outcome) = parts(line, " -> ");
+            input.end(statement);
+            if !outcome.is_empty() {
+                printed.say(number);
+                printed.push(" ");
+                printed.end(outcome);
+            }
+        }
+    }
+}
+
+// The bytes of the input, of which the last line may have no line feed.
+fn input_of(alloc: Global, head: &str, input: &str) -> Bytes {
+    if setting(head, "unended", "no").is_empty() {
+        letters(alloc, input.trim_end())
+    } else {
+        letters(alloc, input)
+    }
+}
+
+// Says where a run ended otherwise.
+fn judge(stage: &mut Stage, head: &str, status: u8, want: &str, printed: &str) {
+    let mut told = Line::new(stage.alloc);
+    told.say(u64::from(status));
+    let (statuses, front) = parts(want, " ");
+    let is_printed = front == ".." || stage.out.taken() == printed.as_bytes();
+    if !is_printed || !statuses.contains(told.as_str()) {
+        stage.wrong.push(head);
+        stage.wrong.push(": ");
+        stage.wrong.end(told.as_str());
+        stage
+            .wrong
+            .end(str::from_utf8(stage.out.taken()).unwrap_or("no text"));
+    }
+    drop(told);
+}
+
+/// Runs the words of the head with the input that the body tells.
+pub(crate) fn run<R: Threads + Wait + Sync>(
+    rt: &R,
+    stage: &mut Stage,
+    head: &str,
+    want: &str,
+    body: &str,
+) {
+    let alloc = stage.alloc;
+    let mut input = Line::new(alloc);
+    let mut printed = Line::new(alloc);
+    printed.push(parts(want, " ").1);
+    tell_apart(body, &mut input, &mut printed);
+    let bytes = input_of(alloc, head, input.as_str());
+    stage.input = bytes.as_slice().len() as u64;
+    let status = status_of(rt, stage, head, bytes);
+    judge(stage, head, status, want, printed.as_str());
+    drop((input, printed));
 }
