@@ -25,17 +25,17 @@ module _ {F : Type 0} where
   item_cleared : (folder name : List ℕ) (log later : Log F) → ClearsItem folder name log later → NoneFailed log later
   item_cleared folder name log later made = leftover_removed (item_of folder name) made.0 made.1 later made.3 ∙ one _ _ _ made.2 refl
 
-  folder_emptied : (path : List ℕ) (log later : Log F) → Empties path log later → NoneFailed log later
-  folder_emptied path log later made = one _ _ _ made.removes refl ∙ (each (ClearsItem path) (item_cleared path) made.names made.told made.cleared made.clears ∙ one _ _ _ made.lists refl)
+  folder_emptied : (path : List ℕ) (log later : Log F) (is_gone : Bool) → Empties path log later is_gone → NoneFailed log later
+  folder_emptied path log later is_gone made = one _ _ _ made.removes refl ∙ (each (ClearsItem path) (item_cleared path) made.names made.told made.cleared made.clears ∙ one _ _ _ made.lists refl)
 
-  place_cleared : (path : List ℕ) (log later : Log F) → Clears path log later → NoneFailed log later
-  place_cleared path log later (emptied seen looks empties) = folder_emptied path seen later empties ∙ one _ _ _ looks refl
-  place_cleared path log later (left kind is looks) = one _ _ _ looks refl
+  place_cleared : (path : List ℕ) (log later : Log F) (is_gone : Bool) → Clears path log later is_gone → NoneFailed log later
+  place_cleared path log later is_gone (emptied seen looks empties) = folder_emptied path seen later is_gone empties ∙ one _ _ _ looks refl
+  place_cleared path log later is_gone (left kind stays is looks) = one _ _ _ looks refl
 
   place_tried : (path : List ℕ) (log later : Log F) (is_made : Bool) → Tries path log later is_made → NoneFailed log later
   place_tried path log later is_made (at_once is made) = one _ _ _ made refl
-  place_tried path log later is_made (after_clearing taken cleared was_taken clears made) = one _ _ _ made refl ∙ (place_cleared path taken cleared clears ∙ one _ _ _ was_taken refl)
-  place_tried path log later is_made (never taken is was_taken clears) = place_cleared path taken later clears ∙ one _ _ _ was_taken refl
+  place_tried path log later is_made (after_clearing taken cleared was_taken clears made) = one _ _ _ made refl ∙ (place_cleared path taken cleared true clears ∙ one _ _ _ was_taken refl)
+  place_tried path log later is_made (never taken is was_taken clears) = place_cleared path taken later false clears ∙ one _ _ _ was_taken refl
 
   places_passed : (root : List ℕ) (k : ℕ) (log later : Log F) → PassesBy root k log later → NoneFailed log later
   places_passed root zero log later made = unchanged made

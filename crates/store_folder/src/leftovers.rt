@@ -51,7 +51,7 @@ pub fn clear<C: Calls<File = F>, F: Drop>(
     alloc: Global,
     path: &str,
 ) -> Result<bool, Failure>
-    ensures cleared { OnOk result (Clears path.now (C.log calls.old) (C.log calls.new)) }
+    ensures cleared { IfOk result (Clears path.now (C.log calls.old) (C.log calls.new)) }
 {
     match calls.look(path)? {
         Kind::Folder => empty(calls, alloc, path),
@@ -67,7 +67,7 @@ fn empty<C: Calls<File = F>, F: Drop>(
     alloc: Global,
     path: &str,
 ) -> Result<bool, Failure>
-    ensures emptied { OnOk result (Empties path.now (C.log calls.old) (C.log calls.new)) }
+    ensures emptied { IfOk result (Empties path.now (C.log calls.old) (C.log calls.new)) }
 {
     let names = calls.list(alloc, path)?;
     let cleared = clear_items(calls, alloc, path, names.as_slice());

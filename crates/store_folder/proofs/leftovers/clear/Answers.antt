@@ -14,14 +14,14 @@ returns-in-Folder g c =
 pub returns-in-Absent : goal.returns-in-Absent
 returns-in-Absent g c =
     let Looks : Kind → Type 0 = λ kind. Makes (looked_at c.args.path.now (Ok kind) ∷ []) (g.C.Calls.log c.args.calls.now) (g.C.Calls.log c.look.new.self) in
-    record { cleared = left Absent refl (subst Looks c.in-Absent.is c.in_ok-look.ensures.call) }
+    record { cleared = left Absent refl refl (subst Looks c.in-Absent.is c.in_ok-look.ensures.call) }
 
 pub returns-in-File : goal.returns-in-File
 returns-in-File g c =
     let Looks : Kind → Type 0 = λ kind. Makes (looked_at c.args.path.now (Ok kind) ∷ []) (g.C.Calls.log c.args.calls.now) (g.C.Calls.log c.look.new.self) in
-    record { cleared = left (File c.in-File.len) refl (subst Looks c.in-File.is c.in_ok-look.ensures.call) }
+    record { cleared = left (File c.in-File.len) refl refl (subst Looks c.in-File.is c.in_ok-look.ensures.call) }
 
 pub returns-in-Other : goal.returns-in-Other
 returns-in-Other g c =
     let Looks : Kind → Type 0 = λ kind. Makes (looked_at c.args.path.now (Ok kind) ∷ []) (g.C.Calls.log c.args.calls.now) (g.C.Calls.log c.look.new.self) in
-    record { cleared = left Other refl (subst Looks c.in-Other.is c.in_ok-look.ensures.call) }
+    record { cleared = left Other refl refl (subst Looks c.in-Other.is c.in_ok-look.ensures.call) }
