@@ -41,6 +41,19 @@ fn and_one<'a>(
     command.subcommand(with_one(alloc, name)?)
 }
 
+// The same with two.
+fn and_two<'a>(
+    alloc: Global,
+    command: Command<'a>,
+    first: &'a str,
+    second: &'a str,
+) -> Result<Command<'a>, AllocError>
+    ensures { IfOk result (λ all. app_of all ≡ app_of command.entry or with_one first.entry.now or with_one second.entry.now) }
+{
+    let command = and_one(alloc, command, first)?;
+    and_one(alloc, command, second)
+}
+
 fn with_scripts<'a>(alloc: Global, command: Command<'a>) -> Result<Command<'a>, AllocError>
     ensures { IfOk result (λ all. app_of all ≡ with_scripts (app_of command.entry)) }
 {
@@ -54,12 +67,9 @@ fn with_scripts<'a>(alloc: Global, command: Command<'a>) -> Result<Command<'a>, 
 fn with_files<'a>(alloc: Global, command: Command<'a>) -> Result<Command<'a>, AllocError>
     ensures { IfOk result (λ all. app_of all ≡ with_files (app_of command.entry)) }
 {
-    let command = and_one(alloc, command, "cat")?;
-    let command = and_one(alloc, command, "stat")?;
-    let command = and_one(alloc, command, "map")?;
-    let command = and_one(alloc, command, "flatten")?;
-    let command = and_one(alloc, command, "recover")?;
-    and_one(alloc, command, "migrate")
+    let command = and_two(alloc, command, "cat", "stat")?;
+    let command = and_two(alloc, command, "map", "flatten")?;
+    and_two(alloc, command, "recover", "migrate")
 }
 
 fn with_changes<'a>(alloc: Global, command: Command<'a>) -> Result<Command<'a>, AllocError>

@@ -1,7 +1,6 @@
 -- How what was left of a room is cleared.
-use Rattle.std.proofs.Common.{◌≡◌, ℕ, ◌+◌, List, [], ◌∷◌, ◌++◌, Bool, false, Result, Ok, Err, ap, subst, sym, ◌∙◌, add-one}
-use Rattle.std.specs.Fmt.{decimal}
-use Rattle.std.specs.Prelude.{OnOk, IfOk}
+use Rattle.std.proofs.Common.{ℕ, ◌+◌, List, [], ◌∷◌, Bool, true, false, Result, Ok, Err, subst, sym, add-one}
+use Rattle.std.specs.Prelude.{IfOk}
 use Rattle.folder_calls.specs.declared.failure.Failure.{Failure}
 use Rattle.folder_calls.specs.declared.reason.Kind.TheVariants.{Folder}
 use Rattle.folder_calls.specs.Calls.{Log, Makes, looked_at, made_folder}
@@ -10,18 +9,14 @@ use Rattle.store_folder.specs.Paths.{building_path}
 
 module _ {F : Type 0} (path : List ℕ) (log between later : Log F) where
   -- a folder is emptied after the look at it
-  pub clears : (result : Result Bool Failure) → Makes (looked_at path (Ok Folder) ∷ []) log between → OnOk result (Empties path between later) → OnOk result (Clears path log later)
+  pub clears : (result : Result Bool Failure) → Makes (looked_at path (Ok Folder) ∷ []) log between → IfOk result (Empties path between later) → IfOk result (Clears path log later)
   clears (Ok is_gone) looks empties = emptied between looks empties
   clears (Err failure) looks empties = tt
 
   -- a folder is made after the place was cleared
-  pub tries : (cleared : Log F) (result : Result Bool Failure) → Makes (made_folder path (Ok false) ∷ []) log between → Clears path between cleared → Makes (made_folder path result ∷ []) cleared later → IfOk result (Tries path log later)
+  pub tries : (cleared : Log F) (result : Result Bool Failure) → Makes (made_folder path (Ok false) ∷ []) log between → Clears path between cleared true → Makes (made_folder path result ∷ []) cleared later → IfOk result (Tries path log later)
   tries cleared (Ok is_made) taken clears made = after_clearing between cleared taken clears made
   tries cleared (Err failure) taken clears made = tt
-
--- the path of the k-th place, as it is printed
-pub at_place : (root shown text : List ℕ) (k : ℕ) → shown ≡ root → text ≡ shown ++ 47 ∷ 46 ∷ 110 ∷ 101 ∷ 119 ∷ 46 ∷ decimal k → text ≡ building_path root k
-at_place root shown text k same is = is ∙ ap (λ r. building_path r k) same
 
 -- one place more that isn't free
 pub passes_more : {F : Type 0} (root : List ℕ) (k : ℕ) (log between later : Log F) → PassesBy root k log between → Tries (building_path root k) between later false → PassesBy root (k + 1) log later

@@ -1,7 +1,11 @@
 mod Listed
 pub mod ForEach
 pub mod Finding
-pub mod Still
+pub mod Answered
+mod AnsweredFolders
+mod AnsweredRooms
+pub mod AnsweredSteps
 pub mod Clearing
 pub mod Acting
 pub mod Entering
+pub mod InRooms

@@ -1,15 +1,25 @@
 -- What a step on a file's name asks of the system and answers. There is a line for each answer.
-use Rattle.std.specs.Prelude.{◌≡◌, ℕ, List, [], ◌∷◌, nat_eq, if◌then◌else◌, true, false, Some, None, Ok, Err}
+use Rattle.std.specs.Prelude.{◌≡◌, ℕ, List, [], ◌∷◌, nat_eq, if◌then◌else◌, true, false, Some, None, Result, Ok, Err}
 use Rattle.std.specs.Cmp.Lexicographic.{pointwise}
 use Rattle.store_api.specs.declared.step.Answer.{Answer}
 use Rattle.store_api.specs.declared.step.Answer.TheVariants.{Made, Old, Absent, NoFolder}
 use Rattle.folder_calls.specs.declared.failure.Failure.{Failure}
+use Rattle.folder_calls.specs.declared.failure.Failure.TheVariants.{NoMemory}
 use Rattle.store_folder.specs.declared.files.Found.{Found}
 use Rattle.store_folder.specs.declared.files.Found.TheVariants.{There, Not}
-use Rattle.folder_calls.specs.declared.reason.Kind.TheVariants.{Absent as Nothing, File, Folder}
+use Rattle.folder_calls.specs.declared.reason.Kind.{Kind}
+use Rattle.folder_calls.specs.declared.reason.Kind.TheVariants.{Absent as Nothing, File, Folder, Other}
 use Rattle.folder_calls.specs.Calls.{Call, Log, Makes, looked_at, opened_file, measured_file, created_file, synced_folder, removed_file, renamed_item}
 use Rattle.store_folder.specs.Folders.{FindsNoFolder, FailsToEnter}
 use Rattle.store_folder.specs.Paths.{item_of}
+
+-- a look that found no plain file, or failed
+abbrev pub IsNoFile : Result Kind Failure → Type 0
+IsNoFile (Ok Nothing) = Unit {0}
+IsNoFile (Ok (File len)) = ⊥
+IsNoFile (Ok Folder) = Unit {0}
+IsNoFile (Ok Other) = Unit {0}
+IsNoFile (Err failure) = Unit {0}
 
 -- the calls that give a file another name, none where it has the name
 abbrev pub renaming : {F : Type 0} → List ℕ → List ℕ → List ℕ → List (Call F)
@@ -47,12 +57,13 @@ module _ {F : Type 0} (log later : Log F) where
   FindsNoFile room folder file NoFolder = FindsNoFolder log later room folder
   FindsNoFile room folder file other = ⊥
 
-  -- how far the opening of a file came that failed: before its first call, or with that of these calls which failed
-  pub data FailsToOpen (room folder file : List ℕ) : Type 0 where
-    uncalled : later ≡ log → FailsToOpen room folder file
-    entering : FailsToEnter log later room folder → FailsToOpen room folder file
-    opening : (failure : Failure) → Makes (looked_at room (Ok Folder) ∷ looked_at folder (Ok Folder) ∷ opened_file (item_of folder file) (Err failure) ∷ []) log later → FailsToOpen room folder file
-    measuring : (made : F) (failure : Failure) → Makes (looked_at room (Ok Folder) ∷ looked_at folder (Ok Folder) ∷ opened_file (item_of folder file) (Ok (Some made)) ∷ measured_file made (Err failure) ∷ []) log later → FailsToOpen room folder file
+  -- How far the opening of a file came that ended with this failure: with that of these calls which failed, or before
+  -- the first. If the file's names can stand in a path that was want of memory.
+  pub data FailsToOpen (named : Type 0) (room folder file : List ℕ) (failure : Failure) : Type 0 where
+    uncalled : (named → failure ≡ NoMemory) → later ≡ log → FailsToOpen named room folder file failure
+    entering : FailsToEnter log later room folder → FailsToOpen named room folder file failure
+    opening : Makes (looked_at room (Ok Folder) ∷ looked_at folder (Ok Folder) ∷ opened_file (item_of folder file) (Err failure) ∷ []) log later → FailsToOpen named room folder file failure
+    measuring : (made : F) → Makes (looked_at room (Ok Folder) ∷ looked_at folder (Ok Folder) ∷ opened_file (item_of folder file) (Ok (Some made)) ∷ measured_file made (Err failure) ∷ []) log later → FailsToOpen named room folder file failure
 
   -- a file was opened by its path in a folder that is there, and measured, or it isn't there
   abbrev pub OpensFile : List ℕ → List ℕ → List ℕ → Found F → Type 0

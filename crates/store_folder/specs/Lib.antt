@@ -6,8 +6,8 @@ pub mod Files
 pub mod Leftovers
 pub mod NewRooms
 pub mod Rooms
+pub mod StepPlaces
 pub mod Places
 pub mod Steps
-pub mod StepPlaces
 pub mod Counting
 pub mod Stored

@@ -1,7 +1,18 @@
 -- The paths of what lies below ROOT.
 use Rattle.std.specs.Prelude.{ℕ, List, [], ◌∷◌, ◌++◌, codes, slice_get, unwrap_or, string_bytes}
 use Rattle.std.specs.Fmt.{decimal}
+use Rattle.std.specs.Str.{IsUtf8}
+use Rattle.folder_calls.specs.Parts.{IsPart}
 use Rattle.store_folder.specs.declared.disk.Disk.{Disk}
+
+-- a name that can stand in a path
+abbrev pub IsNameable : List ℕ → Type 0
+IsNameable name = IsPart name × IsUtf8 name
+
+-- a folder's name that can stand in a path: at the top, where it is empty, it stands in none
+abbrev pub IsNameableFolder : List ℕ → Type 0
+IsNameableFolder [] = Unit {0}
+IsNameableFolder (byte ∷ rest) = IsNameable (byte ∷ rest)
 
 -- the path of an item of a folder
 abbrev pub item_of : List ℕ → List ℕ → List ℕ

@@ -11,7 +11,8 @@ use Rattle.folder_calls.specs.declared.held.Held.{Held}
 use Rattle.folder_calls.specs.Opened.{held_at}
 use Rattle.folder_calls.specs.Calls.{Log}
 use Rattle.store_folder.specs.Files.{FindsNoFile, FailsToOpen, OpensFile}
-use Rattle.store_folder.specs.Paths.{room_path, folder_path}
+use Rattle.store_folder.specs.Paths.{IsNameable, IsNameableFolder, room_path, folder_path}
+use Rattle.store_folder.specs.StepPlaces.{room_name}
 use Rattle.folder_calls.specs.OpenFiles.{ActsOpen}
 
 -- the file of a step that is made on an open one
@@ -31,18 +32,22 @@ module _ {F : Type 0} where
 
   -- A step on a file that isn't open: it is opened by its path, and the step's calls are made on it. Or it isn't
   -- there, or can't be opened, and no call is made on any file.
-  pub data ActsClosed (log later : Log F) (room folder file : List ℕ) (step : Step) (result : Result Answer Failure) : Type 0 where
-    once_opened : (held : Held F) (between : Log F) → OpensFile log between room folder file (There held) → ActsOpen held between later step result → ActsClosed log later room folder file step result
-    not_there : (answer : Answer) → result ≡ Ok answer → FindsNoFile log later room folder file answer → ActsClosed log later room folder file step result
-    unopened : (failure : Failure) → result ≡ Err failure → FailsToOpen log later room folder file → ActsClosed log later room folder file step result
+  pub data ActsClosed (log later : Log F) (named : Type 0) (room folder file : List ℕ) (step : Step) (result : Result Answer Failure) : Type 0 where
+    once_opened : (held : Held F) (between : Log F) → OpensFile log between room folder file (There held) → ActsOpen held between later step result → ActsClosed log later named room folder file step result
+    not_there : (answer : Answer) → result ≡ Ok answer → FindsNoFile log later room folder file answer → ActsClosed log later named room folder file step result
+    unopened : (failure : Failure) → result ≡ Err failure → FailsToOpen log later named room folder file failure → ActsClosed log later named room folder file step result
 
   -- a step on a file, which is open or not
-  abbrev pub ActsAt : Option (Held F) → Log F → Log F → List ℕ → List ℕ → List ℕ → Step → Result Answer Failure → Type 0
-  ActsAt (Some held) log later room folder file step result = ActsOpen held log later step result
-  ActsAt None log later room folder file step result = ActsClosed log later room folder file step result
+  abbrev pub ActsAt : Option (Held F) → Log F → Log F → Type 0 → List ℕ → List ℕ → List ℕ → Step → Result Answer Failure → Type 0
+  ActsAt (Some held) log later named room folder file step result = ActsOpen held log later step result
+  ActsAt None log later named room folder file step result = ActsClosed log later named room folder file step result
+
+-- the names of this file, its folder and its room can stand in a path
+unfoldable pub IsNamed : {C F : Type 0} → Disk C F → FileKey → Type 0
+IsNamed disk key = IsNameable (room_name disk key.room) × IsNameableFolder key.folder × IsNameable key.file
 
 -- a step on the file of this key, in a room that is there
 abbrev pub ActsOnFile : {C F : Type 0} → Disk C F → FileKey → Log F → Log F → Step → Result Answer Failure → Type 0
 ActsOnFile disk key log later step result =
     let room = room_path disk key.room in
-    key.room < length disk.rooms.items → ActsAt (held_at disk.open key) log later room (folder_path room key.folder) key.file step result
+    key.room < length disk.rooms.items → ActsAt (held_at disk.open key) log later (IsNamed disk key) room (folder_path room key.folder) key.file step result

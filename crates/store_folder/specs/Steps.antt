@@ -12,7 +12,7 @@ use Rattle.store_folder.specs.Folders.{MakesFolder, RemovesFolder, TellsFolder}
 use Rattle.store_folder.specs.Listings.{TellsNames}
 use Rattle.store_folder.specs.Paths.{folder_path}
 use Rattle.folder_calls.specs.Opened.{held_at}
-use Rattle.store_folder.specs.Places.{ActsAt}
+use Rattle.store_folder.specs.Places.{ActsAt, IsNamed}
 use Rattle.store_folder.specs.Rooms.{ListsRooms, HasFiles, HasRooms, IsStill, InRoom, AddsRoom, RenamesRoom}
 
 module _ {C F : Type 0} where
@@ -28,7 +28,7 @@ module _ {C F : Type 0} where
     -- a step on a file, by its key
     abbrev pub PerformsOnFile : FileKey → Step → Answer → Type 0
     PerformsOnFile key step answer =
-        HasRooms old new × InRoom old key.room answer log later (λ path. ActsAt (held_at old.open key) log later path (folder_path path key.folder) key.file step (Ok answer))
+        HasRooms old new × InRoom old key.room answer log later (λ path. ActsAt (held_at old.open key) log later (IsNamed old key) path (folder_path path key.folder) key.file step (Ok answer))
 
     -- one line for each step
     abbrev pub Performs : Step → Answer → Type 0

@@ -56,7 +56,6 @@ impl<C: Calls<File = F> + Drop, F: Drop> Disk<C, F> {
     fn perform(&mut self, step: &Step<'_>) -> Result<Answer, Failure>
         ensures performs { IfOk result (Performs self.old self.new (C.log self.old.calls) (C.log self.new.calls) (step_of step.now)) }
         ensures on_file { IfSome (file_of (step_of step.now)) (λ key. ActsOnFile self.old key (C.log self.old.calls) (C.log self.new.calls) (step_of step.now) result) }
-        ensures well { IfOk result (λ _. failed_calls (C.log self.new.calls) ≡ failed_calls (C.log self.old.calls)) }
     {
         match *step {
             Step::Rooms => self.room_names(),

@@ -1,19 +1,20 @@
 //! The steps of files.
-ghost use Rattle.std.specs.Prelude.{◌≡◌, ◌≤◌, ◌<◌, ◌∷◌, [], ℕ, length, None, Ok, IfOk, IfSome, OnOk, OnErr, string_bytes};
+ghost use Rattle.std.specs.Prelude.{◌≡◌, ◌≤◌, ◌<◌, ◌∷◌, [], ℕ, length, None, Ok, IfOk, IfErr, IfSome, OnOk, OnErr, Result, string_bytes, ⊤};
 ghost use Rattle.store_api.specs.Step.{step_of};
 ghost use Rattle.std.specs.Map.{remove_entry};
-ghost use Rattle.folder_calls.specs.Calls.{Makes, looked_at, failed_calls};
-ghost use Rattle.store_folder.specs.Files.{CreatesFile, RemovesFile, ReplacesFile, FailsToOpen, OpensFile};
+ghost use Rattle.folder_calls.specs.Calls.{Makes, looked_at};
+ghost use Rattle.store_folder.specs.Files.{IsNoFile, CreatesFile, RemovesFile, ReplacesFile, FailsToOpen, OpensFile};
 ghost use Rattle.folder_calls.specs.Keys.{same_file, with_name};
 ghost use Rattle.store_folder.specs.Paths.{room_path, folder_path, item_of};
 ghost use Rattle.folder_calls.specs.Opened.{held_at};
-ghost use Rattle.store_folder.specs.Places.{FindsFile, ActsAt, ActsOnFile};
+ghost use Rattle.store_folder.specs.Places.{FindsFile, IsNamed, ActsAt, ActsOnFile};
 ghost use Rattle.store_folder.specs.Rooms.{IsStill, HasRooms, InRoom};
 
 use crate::disk::Disk;
-use crate::folders::{Spot, item_path};
-use folder_calls::{Calls, Failure, FileKey, Held, Kind};
+use crate::folders::{Spot, enter, item_path};
+use folder_calls::{Calls, Failure, FileKey, Held, Kind, OpenFiles};
 use plfs_types::Name;
+use std::alloc::Global;
 use store_api::{Answer, Step};
 
 /// A file that a step asks for: open, or what is answered where it isn't there.
@@ -30,57 +31,15 @@ impl<C: Calls<File = F>, F: Drop> Disk<C, F> {
         ensures rooms { HasRooms self.old self.new }
         ensures closed { OnErr result (self.new.open.files.entries ≡ remove_entry (same_file key.now) self.old.open.files.entries) }
         ensures gone { OnErr result (held_at self.new.open key.now ≡ None) }
-        ensures well { IfOk result (λ _. failed_calls (C.log self.new.calls) ≡ failed_calls (C.log self.old.calls)) }
     {
         drop(self.open.take(key));
         let Some(spot) = self.spot(key.room, &key.folder)? else {
             return Ok(Answer::NoRoom);
         };
         let path = item_path(self.alloc, spot.folder.as_str(), &key.file)?;
-        let answer = self.create_in(&spot, key, path.as_str());
+        let answer = create_in(&mut self.calls, &mut self.open, &spot, key, path.as_str());
         drop((path, spot));
         answer
-    }
-
-    // Adds the file to this folder, at this path.
-    fn create_in(&mut self, spot: &Spot, key: &FileKey, path: &str) -> Result<Answer, Failure>
-        requires path { path.now ≡ item_of (string_bytes spot.now.folder) key.now.file }
-        ensures creates { IfOk result (CreatesFile (C.log self.old.calls) (C.log self.new.calls) (string_bytes spot.now.room) (string_bytes spot.now.folder) key.now.file) }
-        ensures rooms { HasRooms self.old self.new }
-        ensures open { OnErr result (self.new.open ≡ self.old.open) }
-        ensures well { IfOk result (λ _. failed_calls (C.log self.new.calls) ≡ failed_calls (C.log self.old.calls)) }
-    {
-        if !self.enter(spot)? {
-            return Ok(Answer::NoFolder);
-        }
-        match self.calls.create(path)? {
-            Some(file) => match self.calls.sync_folder(spot.folder.as_str()) {
-                Ok(()) => {
-                    self.open.keep(*key, Held::empty(file));
-                    Ok(Answer::Made)
-                }
-                Err(failure) => {
-                    drop(file);
-                    Err(failure)
-                }
-            },
-            None => {
-                self.old_file(path)?;
-                Ok(Answer::Old { room: 0 })
-            }
-        }
-    }
-
-    // Fails where what has the path of a new file is no plain file.
-    pub(crate) fn old_file(&mut self, path: &str) -> Result<(), Failure>
-        ensures looked { OnOk result ((len : ℕ) × Makes (looked_at path.now (Ok (Kind.File len)) ∷ []) (C.log self.old.calls) (C.log self.new.calls)) }
-        ensures still { IsStill self.old self.new }
-        ensures well { IfOk result (λ _. failed_calls (C.log self.new.calls) ≡ failed_calls (C.log self.old.calls)) }
-    {
-        match self.calls.look(path)? {
-            Kind::File { .. } => Ok(()),
-            Kind::Absent | Kind::Folder | Kind::Other => Err(Failure::Failed),
-        }
     }
 
     /// Removes a file, and syncs that its name is gone.
@@ -89,34 +48,15 @@ impl<C: Calls<File = F>, F: Drop> Disk<C, F> {
         ensures rooms { HasRooms self.old self.new }
         ensures closed { self.new.open.files.entries ≡ remove_entry (same_file key.now) self.old.open.files.entries }
         ensures gone { held_at self.new.open key.now ≡ None }
-        ensures well { IfOk result (λ _. failed_calls (C.log self.new.calls) ≡ failed_calls (C.log self.old.calls)) }
     {
         drop(self.open.take(key));
         let Some(spot) = self.spot(key.room, &key.folder)? else {
             return Ok(Answer::NoRoom);
         };
         let path = item_path(self.alloc, spot.folder.as_str(), &key.file)?;
-        let answer = self.remove_in(&spot, &key.file, path.as_str());
+        let answer = remove_in(&mut self.calls, &spot, &key.file, path.as_str());
         drop((path, spot));
         answer
-    }
-
-    // Removes the file of this folder that has this path.
-    fn remove_in(&mut self, spot: &Spot, file: &Name, path: &str) -> Result<Answer, Failure>
-        requires path { path.now ≡ item_of (string_bytes spot.now.folder) file.now }
-        ensures removes { IfOk result (RemovesFile (C.log self.old.calls) (C.log self.new.calls) (string_bytes spot.now.room) (string_bytes spot.now.folder) file.now) }
-        ensures still { IsStill self.old self.new }
-        ensures well { IfOk result (λ _. failed_calls (C.log self.new.calls) ≡ failed_calls (C.log self.old.calls)) }
-    {
-        if !self.enter(spot)? {
-            return Ok(Answer::NoFolder);
-        }
-        if self.calls.remove_file(path)? {
-            self.calls.sync_folder(spot.folder.as_str())?;
-            Ok(Answer::Made)
-        } else {
-            Ok(Answer::Absent)
-        }
     }
 
     /// Gives the file `from` the name `to`, whose old file is gone, and syncs the names. A file that has the name
@@ -126,7 +66,6 @@ impl<C: Calls<File = F>, F: Drop> Disk<C, F> {
         ensures rooms { HasRooms self.old self.new }
         ensures closed { self.new.open.files.entries ≡ remove_entry (same_file (with_name from.now to.now)) (remove_entry (same_file from.now) self.old.open.files.entries) }
         ensures gone { (held_at self.new.open from.now ≡ None) × (held_at self.new.open (with_name from.now to.now) ≡ None) }
-        ensures well { IfOk result (λ _. failed_calls (C.log self.new.calls) ≡ failed_calls (C.log self.old.calls)) }
     {
         drop(self.open.take(from));
         drop(
@@ -139,53 +78,9 @@ impl<C: Calls<File = F>, F: Drop> Disk<C, F> {
         let Some(spot) = self.spot(from.room, &from.folder)? else {
             return Ok(Answer::NoRoom);
         };
-        let answer = self.replace_in(&spot, &from.file, to);
+        let answer = replace_in(&mut self.calls, self.alloc, &spot, &from.file, to);
         drop(spot);
         answer
-    }
-
-    // Gives a file of this folder another name.
-    fn replace_in(&mut self, spot: &Spot, from: &Name, to: &Name) -> Result<Answer, Failure>
-        ensures replaces { IfOk result (ReplacesFile (C.log self.old.calls) (C.log self.new.calls) (string_bytes spot.now.room) (string_bytes spot.now.folder) from.now to.now) }
-        ensures still { IsStill self.old self.new }
-        ensures well { IfOk result (λ _. failed_calls (C.log self.new.calls) ≡ failed_calls (C.log self.old.calls)) }
-    {
-        let old = item_path(self.alloc, spot.folder.as_str(), from)?;
-        let new = item_path(self.alloc, spot.folder.as_str(), to)?;
-        let answer = self.rename_in(spot, from, to, old.as_str(), new.as_str());
-        drop((old, new));
-        answer
-    }
-
-    // The same, by the paths of both names.
-    fn rename_in(
-        &mut self,
-        spot: &Spot,
-        from: &Name,
-        to: &Name,
-        old: &str,
-        new: &str,
-    ) -> Result<Answer, Failure>
-        requires old { old.now ≡ item_of (string_bytes spot.now.folder) from.now }
-        requires new { new.now ≡ item_of (string_bytes spot.now.folder) to.now }
-        ensures replaces { IfOk result (ReplacesFile (C.log self.old.calls) (C.log self.new.calls) (string_bytes spot.now.room) (string_bytes spot.now.folder) from.now to.now) }
-        ensures still { IsStill self.old self.new }
-        ensures well { IfOk result (λ _. failed_calls (C.log self.new.calls) ≡ failed_calls (C.log self.old.calls)) }
-    {
-        if !self.enter(spot)? {
-            return Ok(Answer::NoFolder);
-        }
-        match self.calls.look(old)? {
-            Kind::File { .. } => {}
-            Kind::Absent => return Ok(Answer::Absent),
-            Kind::Folder | Kind::Other => return Err(Failure::Failed),
-        }
-        if *from == *to {
-            return Ok(Answer::Made);
-        }
-        self.calls.rename(old, new)?;
-        self.calls.sync_folder(spot.folder.as_str())?;
-        Ok(Answer::Made)
     }
 
     // The file, from among the open ones where it is.
@@ -196,8 +91,7 @@ impl<C: Calls<File = F>, F: Drop> Disk<C, F> {
         ensures rooms { HasRooms self.old self.new }
         ensures closed { self.new.open.files.entries ≡ remove_entry (same_file key.now) self.old.open.files.entries }
         ensures gone { held_at self.new.open key.now ≡ None }
-        ensures fails { let room = room_path self.old key.now.room in OnErr result (FailsToOpen (C.log self.old.calls) (C.log self.new.calls) room (folder_path room key.now.folder) key.now.file) }
-        ensures well { IfOk result (λ _. failed_calls (C.log self.new.calls) ≡ failed_calls (C.log self.old.calls)) }
+        ensures fails { let room = room_path self.old key.now.room in IfErr result (FailsToOpen (C.log self.old.calls) (C.log self.new.calls) (IsNamed self.old key.now) room (folder_path room key.now.folder) key.now.file) }
     {
         let open = self.open.take(key);
         if key.room as usize >= self.rooms.len() {
@@ -213,43 +107,24 @@ impl<C: Calls<File = F>, F: Drop> Disk<C, F> {
     fn open_file(&mut self, key: &FileKey) -> Result<Found<F>, Failure>
         ensures opens { let room = room_path self.old key.now.room in key.now.room < length self.old.rooms.items → IfOk result (OpensFile (C.log self.old.calls) (C.log self.new.calls) room (folder_path room key.now.folder) key.now.file) }
         ensures still { IsStill self.old self.new }
-        ensures fails { let room = room_path self.old key.now.room in OnErr result (FailsToOpen (C.log self.old.calls) (C.log self.new.calls) room (folder_path room key.now.folder) key.now.file) }
-        ensures well { IfOk result (λ _. failed_calls (C.log self.new.calls) ≡ failed_calls (C.log self.old.calls)) }
+        ensures fails { let room = room_path self.old key.now.room in IfErr result (FailsToOpen (C.log self.old.calls) (C.log self.new.calls) (IsNamed self.old key.now) room (folder_path room key.now.folder) key.now.file) }
     {
         let Some(spot) = self.spot(key.room, &key.folder)? else {
             return Ok(Found::Not(Answer::NoRoom));
         };
         let path = item_path(self.alloc, spot.folder.as_str(), &key.file)?;
-        let found = self.open_in(&spot, &key.file, path.as_str());
+        let found = open_in(&mut self.calls, &spot, &key.file, path.as_str());
         drop((path, spot));
         found
     }
 
-    // Opens the file of this folder that has this path.
-    fn open_in(&mut self, spot: &Spot, file: &Name, path: &str) -> Result<Found<F>, Failure>
-        requires path { path.now ≡ item_of (string_bytes spot.now.folder) file.now }
-        ensures opens { IfOk result (OpensFile (C.log self.old.calls) (C.log self.new.calls) (string_bytes spot.now.room) (string_bytes spot.now.folder) file.now) }
-        ensures still { IsStill self.old self.new }
-        ensures fails { OnErr result (FailsToOpen (C.log self.old.calls) (C.log self.new.calls) (string_bytes spot.now.room) (string_bytes spot.now.folder) file.now) }
-        ensures well { IfOk result (λ _. failed_calls (C.log self.new.calls) ≡ failed_calls (C.log self.old.calls)) }
-    {
-        if !self.enter(spot)? {
-            return Ok(Found::Not(Answer::NoFolder));
-        }
-        match self.calls.open(path)? {
-            Some(file) => Ok(Found::There(Held::new(&mut self.calls, file)?)),
-            None => Ok(Found::Not(Answer::Absent)),
-        }
-    }
-
     /// Makes a step on an open file. After a failure the file is closed, so that its length is asked again.
     pub fn act_at(&mut self, key: &FileKey, step: &Step<'_>) -> Result<Answer, Failure>
-        ensures acts { IfOk result (λ answer. InRoom self.old key.now.room answer (C.log self.old.calls) (C.log self.new.calls) (λ room. ActsAt (held_at self.old.open key.now) (C.log self.old.calls) (C.log self.new.calls) room (folder_path room key.now.folder) key.now.file (step_of step.now) (Ok answer))) }
+        ensures acts { IfOk result (λ answer. InRoom self.old key.now.room answer (C.log self.old.calls) (C.log self.new.calls) (λ room. ActsAt (held_at self.old.open key.now) (C.log self.old.calls) (C.log self.new.calls) (IsNamed self.old key.now) room (folder_path room key.now.folder) key.now.file (step_of step.now) (Ok answer))) }
         ensures on_file { ActsOnFile self.old key.now (C.log self.old.calls) (C.log self.new.calls) (step_of step.now) result }
         ensures rooms { HasRooms self.old self.new }
         ensures closed { OnErr result (self.new.open.files.entries ≡ remove_entry (same_file key.now) self.old.open.files.entries) }
         ensures gone { OnErr result (held_at self.new.open key.now ≡ None) }
-        ensures well { IfOk result (λ _. failed_calls (C.log self.new.calls) ≡ failed_calls (C.log self.old.calls)) }
     {
         let found = match self.find(key) {
             Ok(found) => found,
@@ -263,5 +138,139 @@ impl<C: Calls<File = F>, F: Drop> Disk<C, F> {
                 Ok(answer)
             }
         }
+    }
+}
+
+// Adds the file to this folder, at this path.
+fn create_in<C: Calls<File = F>, F: Drop>(
+    calls: &mut C,
+    open_files: &mut OpenFiles<F>,
+    spot: &Spot,
+    key: &FileKey,
+    path: &str,
+) -> Result<Answer, Failure>
+    requires path { path.now ≡ item_of (string_bytes spot.now.folder) key.now.file }
+    ensures creates { IfOk result (CreatesFile (C.log calls.old) (C.log calls.new) (string_bytes spot.now.room) (string_bytes spot.now.folder) key.now.file) }
+    ensures open { OnErr result (open_files.new ≡ open_files.old) }
+{
+    if !enter(calls, spot)? {
+        return Ok(Answer::NoFolder);
+    }
+    match calls.create(path)? {
+        Some(file) => match calls.sync_folder(spot.folder.as_str()) {
+            Ok(()) => {
+                open_files.keep(*key, Held::empty(file));
+                Ok(Answer::Made)
+            }
+            Err(failure) => {
+                drop(file);
+                Err(failure)
+            }
+        },
+        None => {
+            old_file(calls, path)?;
+            Ok(Answer::Old { room: 0 })
+        }
+    }
+}
+
+// Fails where what has the path of a new file is no plain file.
+pub(crate) fn old_file<C: Calls<File = F>, F: Drop>(
+    calls: &mut C,
+    path: &str,
+) -> Result<(), Failure>
+    ensures looked { OnOk result ((len : ℕ) × Makes (looked_at path.now (Ok (Kind.File len)) ∷ []) (C.log calls.old) (C.log calls.new)) }
+    ensures fails { OnErr result ((end : Result Kind Failure) × IsNoFile end × Makes (looked_at path.now end ∷ []) (C.log calls.old) (C.log calls.new)) }
+{
+    match calls.look(path)? {
+        Kind::File { .. } => Ok(()),
+        Kind::Absent | Kind::Folder | Kind::Other => Err(Failure::Failed),
+    }
+}
+
+// Removes the file of this folder that has this path.
+fn remove_in<C: Calls<File = F>, F: Drop>(
+    calls: &mut C,
+    spot: &Spot,
+    file: &Name,
+    path: &str,
+) -> Result<Answer, Failure>
+    requires path { path.now ≡ item_of (string_bytes spot.now.folder) file.now }
+    ensures removes { IfOk result (RemovesFile (C.log calls.old) (C.log calls.new) (string_bytes spot.now.room) (string_bytes spot.now.folder) file.now) }
+{
+    if !enter(calls, spot)? {
+        return Ok(Answer::NoFolder);
+    }
+    if calls.remove_file(path)? {
+        calls.sync_folder(spot.folder.as_str())?;
+        Ok(Answer::Made)
+    } else {
+        Ok(Answer::Absent)
+    }
+}
+
+// Gives a file of this folder another name.
+fn replace_in<C: Calls<File = F>, F: Drop>(
+    calls: &mut C,
+    alloc: Global,
+    spot: &Spot,
+    from: &Name,
+    to: &Name,
+) -> Result<Answer, Failure>
+    ensures replaces { IfOk result (ReplacesFile (C.log calls.old) (C.log calls.new) (string_bytes spot.now.room) (string_bytes spot.now.folder) from.now to.now) }
+{
+    let old = item_path(alloc, spot.folder.as_str(), from)?;
+    let new = item_path(alloc, spot.folder.as_str(), to)?;
+    let answer = rename_in(calls, spot, from, to, old.as_str(), new.as_str());
+    drop((old, new));
+    answer
+}
+
+// The same, by the paths of both names.
+fn rename_in<C: Calls<File = F>, F: Drop>(
+    calls: &mut C,
+    spot: &Spot,
+    from: &Name,
+    to: &Name,
+    old: &str,
+    new: &str,
+) -> Result<Answer, Failure>
+    requires old { old.now ≡ item_of (string_bytes spot.now.folder) from.now }
+    requires new { new.now ≡ item_of (string_bytes spot.now.folder) to.now }
+    ensures replaces { IfOk result (ReplacesFile (C.log calls.old) (C.log calls.new) (string_bytes spot.now.room) (string_bytes spot.now.folder) from.now to.now) }
+{
+    if !enter(calls, spot)? {
+        return Ok(Answer::NoFolder);
+    }
+    match calls.look(old)? {
+        Kind::File { .. } => {}
+        Kind::Absent => return Ok(Answer::Absent),
+        Kind::Folder | Kind::Other => return Err(Failure::Failed),
+    }
+    if *from == *to {
+        return Ok(Answer::Made);
+    }
+    calls.rename(old, new)?;
+    calls.sync_folder(spot.folder.as_str())?;
+    Ok(Answer::Made)
+}
+
+// Opens the file of this folder that has this path.
+fn open_in<C: Calls<File = F>, F: Drop>(
+    calls: &mut C,
+    spot: &Spot,
+    file: &Name,
+    path: &str,
+) -> Result<Found<F>, Failure>
+    requires path { path.now ≡ item_of (string_bytes spot.now.folder) file.now }
+    ensures opens { IfOk result (OpensFile (C.log calls.old) (C.log calls.new) (string_bytes spot.now.room) (string_bytes spot.now.folder) file.now) }
+    ensures fails { IfErr result (FailsToOpen (C.log calls.old) (C.log calls.new) ⊤ (string_bytes spot.now.room) (string_bytes spot.now.folder) file.now) }
+{
+    if !enter(calls, spot)? {
+        return Ok(Found::Not(Answer::NoFolder));
+    }
+    match calls.open(path)? {
+        Some(file) => Ok(Found::There(Held::new(calls, file)?)),
+        None => Ok(Found::Not(Answer::Absent)),
     }
 }

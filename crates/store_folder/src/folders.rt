@@ -1,9 +1,11 @@
 //! The steps of folders.
 ghost use Rattle.std.specs.Prelude.{◌≡◌, ◌==◌, ◌≤◌, ◌<◌, ◌∷◌, [], List, ℕ, length, true, false, None, Ok, Err, IsSome, IfSome, Result, IfOk, IfErr, OnOk, OnErr, string_bytes};
-ghost use Rattle.folder_calls.specs.Calls.{Makes, looked_at, listed_folder, failed_calls};
+ghost use Rattle.folder_calls.specs.Calls.{Makes, looked_at, listed_folder};
+ghost use Rattle.folder_calls.specs.Parts.{IsPart};
 ghost use Rattle.store_folder.specs.Folders.{IsNoFolder, IsNoEntry, EntersFolder, FindsNoFolder, FailsToEnter, MakesFolder, RemovesTop, RemovesItem, RemovesFolder, TellsFolder};
 ghost use Rattle.store_folder.specs.Listings.{IsSortedListing, IsLeast};
-ghost use Rattle.store_folder.specs.Paths.{item_of, room_path, folder_path};
+ghost use Rattle.store_folder.specs.Paths.{IsNameable, IsNameableFolder, item_of, room_path, folder_path};
+ghost use Rattle.store_folder.specs.StepPlaces.{room_name};
 ghost use Rattle.store_folder.specs.Rooms.{IsStill, InRoom};
 
 use crate::disk::Disk;
@@ -22,12 +24,25 @@ pub struct Spot {
 
 /// The path of an item of a folder. It fails where the name can't stand in a path.
 pub fn item_path(alloc: Global, folder: &str, name: &Name) -> Result<String, Failure>
-    ensures { IfOk result (λ path. string_bytes path ≡ item_of folder.now name.now) }
+    ensures path { IfOk result (λ path. string_bytes path ≡ item_of folder.now name.now) }
+    ensures part { ¬ IsPart name.now → result ≡ Err Failure.Failed }
+    ensures memory { IsNameable name.now → IfErr result (λ failure. failure ≡ Failure.NoMemory) }
 {
     join(alloc, folder, part(name)?)
 }
 
-impl<C: Calls<File = F>, F: Drop> Disk<C, F> {
+// The path of a folder in the room of this path.
+fn folder_path(alloc: Global, room: &str, folder: &Name) -> Result<String, Failure>
+    ensures path { IfOk result (λ path. string_bytes path ≡ folder_path room.now folder.now) }
+    ensures memory { IsNameableFolder folder.now → IfErr result (λ failure. failure ≡ Failure.NoMemory) }
+{
+    match folder.bytes() {
+        [] => Ok(String::from_str(alloc, room)?),
+        [_, ..] => item_path(alloc, room, folder),
+    }
+}
+
+impl<C, F> Disk<C, F> {
     /// The folder's paths, or None where there is no room of this number.
     pub fn spot(&self, room: u64, folder: &Name) -> Result<Option<Spot>, Failure>
         ensures absent { length self.now.rooms.items ≤ room → result ≡ Ok None }
@@ -35,201 +50,193 @@ impl<C: Calls<File = F>, F: Drop> Disk<C, F> {
         ensures room { IfOk result (λ spot. IfSome spot (λ spot. string_bytes spot.room ≡ room_path self.now room)) }
         ensures folder { IfOk result (λ spot. IfSome spot (λ spot. string_bytes spot.folder ≡ folder_path (room_path self.now room) folder.now)) }
         ensures top { IfOk result (λ spot. IfSome spot (λ spot. spot.is_top ≡ (length folder.now == 0))) }
+        ensures memory { IsNameable (room_name self.now room) → IsNameableFolder folder.now → IfErr result (λ failure. failure ≡ Failure.NoMemory) }
     {
         let Some(room) = self.room_path(room)? else {
             return Ok(None);
         };
         let is_top = folder.bytes().is_empty();
-        let folder = self.folder_path(room.as_str(), folder)?;
+        let folder = folder_path(self.alloc, room.as_str(), folder)?;
         Ok(Some(Spot {
             room,
             folder,
             is_top,
         }))
     }
+}
 
-    // The path of a folder in the room of this path.
-    fn folder_path(&self, room: &str, folder: &Name) -> Result<String, Failure>
-        ensures { IfOk result (λ path. string_bytes path ≡ folder_path room.now folder.now) }
-    {
-        match folder.bytes() {
-            [] => Ok(String::from_str(self.alloc, room)?),
-            [_, ..] => item_path(self.alloc, room, folder),
-        }
-    }
-
-    // Whether a folder is there. It fails where a link or the like is.
-    fn is_folder(&mut self, path: &str) -> Result<bool, Failure>
-        ensures there { result ≡ Ok true → Makes (looked_at path.now (Ok Kind.Folder) ∷ []) (C.log self.old.calls) (C.log self.new.calls) }
-        ensures fails { OnErr result ((end : Result Kind Failure) × IsNoEntry end × Makes (looked_at path.now end ∷ []) (C.log self.old.calls) (C.log self.new.calls)) }
-        ensures lacking { result ≡ Ok false → (kind : Kind) × IsNoFolder kind × Makes (looked_at path.now (Ok kind) ∷ []) (C.log self.old.calls) (C.log self.new.calls) }
-        ensures still { IsStill self.old self.new }
-        ensures well { IfOk result (λ _. failed_calls (C.log self.new.calls) ≡ failed_calls (C.log self.old.calls)) }
-    {
-        match self.calls.look(path)? {
-            Kind::Folder => Ok(true),
-            Kind::Absent => Ok(false),
-            Kind::File { .. } => Ok(false),
-            Kind::Other => Err(Failure::Failed),
-        }
-    }
-
-    // Fails where the room isn't there.
-    fn enter_room(&mut self, spot: &Spot) -> Result<(), Failure>
-        ensures there { OnOk result (Makes (looked_at (string_bytes spot.now.room) (Ok Kind.Folder) ∷ []) (C.log self.old.calls) (C.log self.new.calls)) }
-        ensures fails { OnErr result ((end : Result Kind Failure) × IsNoEntry end × Makes (looked_at (string_bytes spot.now.room) end ∷ []) (C.log self.old.calls) (C.log self.new.calls)) }
-        ensures still { IsStill self.old self.new }
-        ensures well { IfOk result (λ _. failed_calls (C.log self.new.calls) ≡ failed_calls (C.log self.old.calls)) }
-    {
-        if self.is_folder(spot.room.as_str())? {
-            Ok(())
-        } else {
-            Err(Failure::Failed)
-        }
-    }
-
-    /// Whether the folder is there, in a room that is: what comes after goes through no link.
-    pub fn enter(&mut self, spot: &Spot) -> Result<bool, Failure>
-        ensures there { result ≡ Ok true → EntersFolder (C.log self.old.calls) (C.log self.new.calls) (string_bytes spot.now.room) (string_bytes spot.now.folder) }
-        ensures lacking { result ≡ Ok false → FindsNoFolder (C.log self.old.calls) (C.log self.new.calls) (string_bytes spot.now.room) (string_bytes spot.now.folder) }
-        ensures fails { OnErr result (FailsToEnter (C.log self.old.calls) (C.log self.new.calls) (string_bytes spot.now.room) (string_bytes spot.now.folder)) }
-        ensures still { IsStill self.old self.new }
-        ensures well { IfOk result (λ _. failed_calls (C.log self.new.calls) ≡ failed_calls (C.log self.old.calls)) }
-    {
-        self.enter_room(spot)?;
-        self.is_folder(spot.folder.as_str())
-    }
-
+impl<C: Calls<File = F>, F: Drop> Disk<C, F> {
     /// Adds a folder, and syncs its name. The top is always there.
     pub fn make_folder(&mut self, room: u64, folder: &Name) -> Result<Answer, Failure>
         ensures makes { IfOk result (λ answer. InRoom self.old room answer (C.log self.old.calls) (C.log self.new.calls) (λ path. MakesFolder (C.log self.old.calls) (C.log self.new.calls) path (folder_path path folder.now) answer)) }
         ensures still { IsStill self.old self.new }
-        ensures well { IfOk result (λ _. failed_calls (C.log self.new.calls) ≡ failed_calls (C.log self.old.calls)) }
     {
         let Some(spot) = self.spot(room, folder)? else {
             return Ok(Answer::NoRoom);
         };
-        let answer = self.add_folder(&spot);
+        let answer = add_folder(&mut self.calls, &spot);
         drop(spot);
         answer
-    }
-
-    fn add_folder(&mut self, spot: &Spot) -> Result<Answer, Failure>
-        ensures makes { IfOk result (MakesFolder (C.log self.old.calls) (C.log self.new.calls) (string_bytes spot.now.room) (string_bytes spot.now.folder)) }
-        ensures still { IsStill self.old self.new }
-        ensures well { IfOk result (λ _. failed_calls (C.log self.new.calls) ≡ failed_calls (C.log self.old.calls)) }
-    {
-        self.enter_room(spot)?;
-        if self.calls.make_folder(spot.folder.as_str())? {
-            self.calls.sync_folder(spot.room.as_str())?;
-            return Ok(Answer::Made);
-        }
-        if self.is_folder(spot.folder.as_str())? {
-            Ok(Answer::Old { room: 0 })
-        } else {
-            Err(Failure::Failed)
-        }
     }
 
     /// Removes an empty folder, and syncs that its name is gone. The top stays where it is.
     pub fn remove_folder(&mut self, room: u64, folder: &Name) -> Result<Answer, Failure>
         ensures removes { IfOk result (λ answer. InRoom self.old room answer (C.log self.old.calls) (C.log self.new.calls) (λ path. RemovesFolder (C.log self.old.calls) (C.log self.new.calls) path folder.now answer)) }
         ensures still { IsStill self.old self.new }
-        ensures well { IfOk result (λ _. failed_calls (C.log self.new.calls) ≡ failed_calls (C.log self.old.calls)) }
     {
         let Some(spot) = self.spot(room, folder)? else {
             return Ok(Answer::NoRoom);
         };
         let answer = if spot.is_top {
-            self.remove_top(&spot)
+            remove_top(&mut self.calls, self.alloc, &spot)
         } else {
-            self.remove_item(&spot)
+            remove_item(&mut self.calls, self.alloc, &spot)
         };
         answer
-    }
-
-    // The top is never removed: what is in it is told.
-    fn remove_top(&mut self, spot: &Spot) -> Result<Answer, Failure>
-        ensures removes { IfOk result (RemovesTop (C.log self.old.calls) (C.log self.new.calls) (string_bytes spot.now.room)) }
-        ensures still { IsStill self.old self.new }
-        ensures well { IfOk result (λ _. failed_calls (C.log self.new.calls) ≡ failed_calls (C.log self.old.calls)) }
-    {
-        self.enter_room(spot)?;
-        match self.least_name(spot.room.as_str())? {
-            Some(least) => Ok(Answer::NotEmpty { least }),
-            None => Ok(Answer::Made),
-        }
-    }
-
-    fn remove_item(&mut self, spot: &Spot) -> Result<Answer, Failure>
-        ensures removes { IfOk result (RemovesItem (C.log self.old.calls) (C.log self.new.calls) (string_bytes spot.now.room) (string_bytes spot.now.folder)) }
-        ensures still { IsStill self.old self.new }
-        ensures well { IfOk result (λ _. failed_calls (C.log self.new.calls) ≡ failed_calls (C.log self.old.calls)) }
-    {
-        self.enter_room(spot)?;
-        match self.calls.remove_folder(spot.folder.as_str())? {
-            Removal::Removed => {
-                self.calls.sync_folder(spot.room.as_str())?;
-                Ok(Answer::Made)
-            }
-            Removal::Absent => Ok(Answer::NoFolder),
-            Removal::NotEmpty => match self.least_name(spot.folder.as_str())? {
-                Some(least) => Ok(Answer::NotEmpty { least }),
-                None => Err(Failure::Failed),
-            },
-        }
-    }
-
-    // The least name in a folder, or None where it is empty.
-    fn least_name(&mut self, path: &str) -> Result<Option<Name>, Failure>
-        ensures empty { result ≡ Ok None → Makes (listed_folder path.now (Ok []) ∷ []) (C.log self.old.calls) (C.log self.new.calls) }
-        ensures least { IfOk result (λ least. IfSome least (λ least. (names : List (List ℕ)) × Makes (listed_folder path.now (Ok names) ∷ []) (C.log self.old.calls) (C.log self.new.calls) × IsLeast names least)) }
-        ensures still { IsStill self.old self.new }
-        ensures well { IfOk result (λ _. failed_calls (C.log self.new.calls) ≡ failed_calls (C.log self.old.calls)) }
-    {
-        let names = self.names_in(path)?;
-        let Some(least) = names.first() else {
-            return Ok(None);
-        };
-        Ok(Some(*least))
-    }
-
-    /// The names in a folder, in byte order.
-    pub fn names_in(&mut self, path: &str) -> Result<Vec<Name>, Failure>
-        ensures told { IfOk result (λ names. (listing : List (List ℕ)) × Makes (listed_folder path.now (Ok listing) ∷ []) (C.log self.old.calls) (C.log self.new.calls) × IsSortedListing listing names.items) }
-        ensures fails { IfErr result (λ failure. Makes (listed_folder path.now (Err failure) ∷ []) (C.log self.old.calls) (C.log self.new.calls)) }
-        ensures still { IsStill self.old self.new }
-        ensures well { IfOk result (λ _. failed_calls (C.log self.new.calls) ≡ failed_calls (C.log self.old.calls)) }
-    {
-        let mut names = self.calls.list(self.alloc, path)?.into_vec();
-        names.sort_unstable();
-        Ok(names)
     }
 
     /// Names what is in a folder, in byte order.
     pub fn list(&mut self, room: u64, folder: &Name) -> Result<Answer, Failure>
         ensures lists { IfOk result (λ answer. InRoom self.old room answer (C.log self.old.calls) (C.log self.new.calls) (λ path. TellsFolder (C.log self.old.calls) (C.log self.new.calls) path (folder_path path folder.now) answer)) }
         ensures still { IsStill self.old self.new }
-        ensures well { IfOk result (λ _. failed_calls (C.log self.new.calls) ≡ failed_calls (C.log self.old.calls)) }
     {
         let Some(spot) = self.spot(room, folder)? else {
             return Ok(Answer::NoRoom);
         };
-        let answer = self.list_in(&spot);
+        let answer = list_in(&mut self.calls, self.alloc, &spot);
         drop(spot);
         answer
     }
+}
 
-    // Names what is in this folder.
-    fn list_in(&mut self, spot: &Spot) -> Result<Answer, Failure>
-        ensures lists { IfOk result (TellsFolder (C.log self.old.calls) (C.log self.new.calls) (string_bytes spot.now.room) (string_bytes spot.now.folder)) }
-        ensures still { IsStill self.old self.new }
-        ensures well { IfOk result (λ _. failed_calls (C.log self.new.calls) ≡ failed_calls (C.log self.old.calls)) }
-    {
-        if !self.enter(spot)? {
-            return Ok(Answer::NoFolder);
-        }
-        let names = self.names_in(spot.folder.as_str())?;
-        Ok(Answer::Names(NameList::from_vec(names)))
+// Whether a folder is there. It fails where a link or the like is.
+fn is_folder<C: Calls<File = F>, F: Drop>(calls: &mut C, path: &str) -> Result<bool, Failure>
+    ensures there { result ≡ Ok true → Makes (looked_at path.now (Ok Kind.Folder) ∷ []) (C.log calls.old) (C.log calls.new) }
+    ensures fails { OnErr result ((end : Result Kind Failure) × IsNoEntry end × Makes (looked_at path.now end ∷ []) (C.log calls.old) (C.log calls.new)) }
+    ensures lacking { result ≡ Ok false → (kind : Kind) × IsNoFolder kind × Makes (looked_at path.now (Ok kind) ∷ []) (C.log calls.old) (C.log calls.new) }
+{
+    match calls.look(path)? {
+        Kind::Folder => Ok(true),
+        Kind::Absent => Ok(false),
+        Kind::File { .. } => Ok(false),
+        Kind::Other => Err(Failure::Failed),
     }
+}
+
+// Fails where the room isn't there.
+fn enter_room<C: Calls<File = F>, F: Drop>(calls: &mut C, spot: &Spot) -> Result<(), Failure>
+    ensures there { OnOk result (Makes (looked_at (string_bytes spot.now.room) (Ok Kind.Folder) ∷ []) (C.log calls.old) (C.log calls.new)) }
+    ensures fails { OnErr result ((end : Result Kind Failure) × IsNoEntry end × Makes (looked_at (string_bytes spot.now.room) end ∷ []) (C.log calls.old) (C.log calls.new)) }
+{
+    if is_folder(calls, spot.room.as_str())? {
+        Ok(())
+    } else {
+        Err(Failure::Failed)
+    }
+}
+
+/// Whether the folder is there, in a room that is: what comes after goes through no link.
+pub fn enter<C: Calls<File = F>, F: Drop>(calls: &mut C, spot: &Spot) -> Result<bool, Failure>
+    ensures there { result ≡ Ok true → EntersFolder (C.log calls.old) (C.log calls.new) (string_bytes spot.now.room) (string_bytes spot.now.folder) }
+    ensures lacking { result ≡ Ok false → FindsNoFolder (C.log calls.old) (C.log calls.new) (string_bytes spot.now.room) (string_bytes spot.now.folder) }
+    ensures fails { OnErr result (FailsToEnter (C.log calls.old) (C.log calls.new) (string_bytes spot.now.room) (string_bytes spot.now.folder)) }
+{
+    enter_room(calls, spot)?;
+    is_folder(calls, spot.folder.as_str())
+}
+
+fn add_folder<C: Calls<File = F>, F: Drop>(calls: &mut C, spot: &Spot) -> Result<Answer, Failure>
+    ensures makes { IfOk result (MakesFolder (C.log calls.old) (C.log calls.new) (string_bytes spot.now.room) (string_bytes spot.now.folder)) }
+{
+    enter_room(calls, spot)?;
+    if calls.make_folder(spot.folder.as_str())? {
+        calls.sync_folder(spot.room.as_str())?;
+        return Ok(Answer::Made);
+    }
+    if is_folder(calls, spot.folder.as_str())? {
+        Ok(Answer::Old { room: 0 })
+    } else {
+        Err(Failure::Failed)
+    }
+}
+
+// The top is never removed: what is in it is told.
+fn remove_top<C: Calls<File = F>, F: Drop>(
+    calls: &mut C,
+    alloc: Global,
+    spot: &Spot,
+) -> Result<Answer, Failure>
+    ensures removes { IfOk result (RemovesTop (C.log calls.old) (C.log calls.new) (string_bytes spot.now.room)) }
+{
+    enter_room(calls, spot)?;
+    match least_name(calls, alloc, spot.room.as_str())? {
+        Some(least) => Ok(Answer::NotEmpty { least }),
+        None => Ok(Answer::Made),
+    }
+}
+
+fn remove_item<C: Calls<File = F>, F: Drop>(
+    calls: &mut C,
+    alloc: Global,
+    spot: &Spot,
+) -> Result<Answer, Failure>
+    ensures removes { IfOk result (RemovesItem (C.log calls.old) (C.log calls.new) (string_bytes spot.now.room) (string_bytes spot.now.folder)) }
+{
+    enter_room(calls, spot)?;
+    match calls.remove_folder(spot.folder.as_str())? {
+        Removal::Removed => {
+            calls.sync_folder(spot.room.as_str())?;
+            Ok(Answer::Made)
+        }
+        Removal::Absent => Ok(Answer::NoFolder),
+        Removal::NotEmpty => match least_name(calls, alloc, spot.folder.as_str())? {
+            Some(least) => Ok(Answer::NotEmpty { least }),
+            None => Err(Failure::Failed),
+        },
+    }
+}
+
+// The least name in a folder, or None where it is empty.
+fn least_name<C: Calls<File = F>, F: Drop>(
+    calls: &mut C,
+    alloc: Global,
+    path: &str,
+) -> Result<Option<Name>, Failure>
+    ensures empty { result ≡ Ok None → Makes (listed_folder path.now (Ok []) ∷ []) (C.log calls.old) (C.log calls.new) }
+    ensures least { IfOk result (λ least. IfSome least (λ least. (names : List (List ℕ)) × Makes (listed_folder path.now (Ok names) ∷ []) (C.log calls.old) (C.log calls.new) × IsLeast names least)) }
+{
+    let names = names_in(calls, alloc, path)?;
+    let Some(least) = names.first() else {
+        return Ok(None);
+    };
+    Ok(Some(*least))
+}
+
+/// The names in a folder, in byte order.
+pub fn names_in<C: Calls<File = F>, F: Drop>(
+    calls: &mut C,
+    alloc: Global,
+    path: &str,
+) -> Result<Vec<Name>, Failure>
+    ensures told { IfOk result (λ names. (listing : List (List ℕ)) × Makes (listed_folder path.now (Ok listing) ∷ []) (C.log calls.old) (C.log calls.new) × IsSortedListing listing names.items) }
+    ensures fails { IfErr result (λ failure. Makes (listed_folder path.now (Err failure) ∷ []) (C.log calls.old) (C.log calls.new)) }
+{
+    let mut names = calls.list(alloc, path)?.into_vec();
+    names.sort_unstable();
+    Ok(names)
+}
+
+// Names what is in this folder.
+fn list_in<C: Calls<File = F>, F: Drop>(
+    calls: &mut C,
+    alloc: Global,
+    spot: &Spot,
+) -> Result<Answer, Failure>
+    ensures lists { IfOk result (TellsFolder (C.log calls.old) (C.log calls.new) (string_bytes spot.now.room) (string_bytes spot.now.folder)) }
+{
+    if !enter(calls, spot)? {
+        return Ok(Answer::NoFolder);
+    }
+    let names = names_in(calls, alloc, spot.folder.as_str())?;
+    Ok(Answer::Names(NameList::from_vec(names)))
 }

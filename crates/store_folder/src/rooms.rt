@@ -1,9 +1,10 @@
 //! The rooms: which items of ROOT they are, and the steps that name, find and rename them.
 ghost use Rattle.std.specs.Prelude.{◌≡◌, ◌≤◌, ◌<◌, ◌∷◌, [], ◌++◌, ◌⊎◌, length, position, true, false, None, Ok, Err, IsSome, IfSome, IfOk, IfErr, OnErr, OnOk, slice_set, string_bytes};
-ghost use Rattle.store_folder.specs.Paths.{item_of, room_path};
+ghost use Rattle.store_folder.specs.Paths.{IsNameable, item_of, room_path};
+ghost use Rattle.store_folder.specs.StepPlaces.{room_name};
 ghost use Rattle.store_folder.specs.Rooms.{if_room, LooksForRoom, FindsRooms, ListsRooms, IsStill, InRoom, MovesRoom, RenamesRoom};
 ghost use Rattle.store_folder.specs.Listings.{TellsNames};
-ghost use Rattle.folder_calls.specs.Calls.{Makes, renamed_item, failed_calls};
+ghost use Rattle.folder_calls.specs.Calls.{Makes, renamed_item};
 ghost use Rattle.store_api.specs.Names.{same_name};
 ghost use Rattle.store_api.specs.Effect.{number_or_absent};
 
@@ -11,6 +12,7 @@ use crate::disk::Disk;
 use crate::folders::item_path;
 use folder_calls::{Calls, Failure, is_room_name};
 use plfs_types::{Name, NameList};
+use std::alloc::Global;
 use store_api::Answer;
 
 // The place of the room with this name.
@@ -30,6 +32,82 @@ fn push_room(rooms: &mut Vec<Name>, is_room: bool, name: &Name) -> Result<(), Fa
     Ok(())
 }
 
+// The names of the rooms in byte order. ROOT itself may be reached by a link, and no room is.
+fn list_rooms<C: Calls<File = F>, F: Drop>(
+    calls: &mut C,
+    alloc: Global,
+    root: &str,
+) -> Result<Vec<Name>, Failure>
+    ensures listed { IfOk result (λ rooms. ListsRooms root.now rooms.items (C.log calls.old) (C.log calls.new)) }
+{
+    let names = calls.list(alloc, root)?;
+    let mut rooms = rooms_among(calls, alloc, root, names.as_slice())?;
+    rooms.sort_unstable();
+    Ok(rooms)
+}
+
+// Which of these names of items of ROOT are rooms'.
+fn rooms_among<C: Calls<File = F>, F: Drop>(
+    calls: &mut C,
+    alloc: Global,
+    root: &str,
+    names: &[Name],
+) -> Result<Vec<Name>, Failure>
+    ensures found { IfOk result (λ rooms. FindsRooms root.now names.now rooms.items (C.log calls.old) (C.log calls.new)) }
+{
+    let mut rooms = Vec::new(alloc);
+    for name in names {
+        let is_room = is_room(calls, alloc, root, name)?;
+        push_room(&mut rooms, is_room, name)?;
+    }
+    Ok(rooms)
+}
+
+// Whether this item of ROOT is a room: a folder whose name a room can have.
+fn is_room<C: Calls<File = F>, F: Drop>(
+    calls: &mut C,
+    alloc: Global,
+    root: &str,
+    name: &Name,
+) -> Result<bool, Failure>
+    ensures looked { IfOk result (λ is_room. LooksForRoom root.now name.now is_room (C.log calls.old) (C.log calls.new)) }
+{
+    if !is_room_name(name.bytes()) {
+        return Ok(false);
+    }
+    let path = item_path(alloc, root, name)?;
+    let kind = calls.look(path.as_str());
+    drop(path);
+    Ok(kind?.is_folder())
+}
+
+// Gives an item of ROOT another name.
+fn move_to<C: Calls<File = F>, F: Drop>(
+    calls: &mut C,
+    alloc: Global,
+    root: &str,
+    old: &str,
+    to: &Name,
+) -> Result<(), Failure>
+    ensures moved { OnOk result (Makes (renamed_item old.now (item_of root.now to.now) (Ok tt) ∷ []) (C.log calls.old) (C.log calls.new)) }
+    ensures fails { IsNameable to.now → IfErr result (λ failure. (failure ≡ Failure.NoMemory) ⊎ Makes (renamed_item old.now (item_of root.now to.now) (Err failure) ∷ []) (C.log calls.old) (C.log calls.new)) }
+{
+    let new = item_path(alloc, root, to)?;
+    let renamed = calls.rename(old, new.as_str());
+    drop(new);
+    renamed
+}
+
+// Gives a room its new name.
+fn call_room(rooms: &mut Vec<Name>, room: u64, to: &Name)
+    ensures { rooms.new.items ≡ slice_set rooms.old.items room to.now }
+{
+    let place = room as usize;
+    if place < rooms.len() {
+        rooms[place] = *to;
+    }
+}
+
 impl<C: Calls<File = F>, F: Drop> Disk<C, F> {
     /// Numbers the rooms of ROOT in byte order of their names, unless that was done.
     pub fn number_rooms(&mut self) -> Result<(), Failure>
@@ -39,57 +117,50 @@ impl<C: Calls<File = F>, F: Drop> Disk<C, F> {
         ensures root { self.new.root ≡ self.old.root }
         ensures open { self.new.open ≡ self.old.open }
         ensures failed { OnErr result (IsStill self.old self.new) }
-        ensures well { IfOk result (λ _. failed_calls (C.log self.new.calls) ≡ failed_calls (C.log self.old.calls)) }
     {
         if self.is_numbered {
             return Ok(());
         }
-        self.rooms = self.list_rooms()?;
+        self.rooms = list_rooms(&mut self.calls, self.alloc, self.root.as_str())?;
         self.is_numbered = true;
         Ok(())
     }
 
-    // The names of the rooms in byte order. ROOT itself may be reached by a link, and no room is.
-    fn list_rooms(&mut self) -> Result<Vec<Name>, Failure>
-        ensures listed { IfOk result (λ rooms. ListsRooms (string_bytes self.old.root) rooms.items (C.log self.old.calls) (C.log self.new.calls)) }
-        ensures still { IsStill self.old self.new }
-        ensures well { IfOk result (λ _. failed_calls (C.log self.new.calls) ≡ failed_calls (C.log self.old.calls)) }
+    /// Gives a room a name that no room has. Its open files stay open.
+    pub fn rename_room(&mut self, room: u64, to: &Name) -> Result<Answer, Failure>
+        ensures renames { IfOk result (λ answer. InRoom self.old room answer (C.log self.old.calls) (C.log self.new.calls) (RenamesRoom self.old self.new to.now (C.log self.old.calls) (C.log self.new.calls) room answer)) }
+        ensures failed { OnErr result ((self.new.rooms.items ≡ self.old.rooms.items) ⊎ ((self.new.rooms.items ≡ slice_set self.old.rooms.items room to.now) × MovesRoom (string_bytes self.old.root) (room_path self.old room) to.now (Err Failure.Failed) (C.log self.old.calls) (C.log self.new.calls))) }
+        ensures root { self.new.root ≡ self.old.root }
+        ensures numbered { self.new.is_numbered ≡ self.old.is_numbered }
+        ensures open { self.new.open ≡ self.old.open }
     {
-        let names = self.calls.list(self.alloc, self.root.as_str())?;
-        let mut rooms = self.rooms_among(names.as_slice())?;
-        rooms.sort_unstable();
-        Ok(rooms)
-    }
-
-    // Which of these names of items of ROOT are rooms'.
-    fn rooms_among(&mut self, names: &[Name]) -> Result<Vec<Name>, Failure>
-        ensures found { IfOk result (λ rooms. FindsRooms (string_bytes self.old.root) names.now rooms.items (C.log self.old.calls) (C.log self.new.calls)) }
-        ensures still { IsStill self.old self.new }
-        ensures well { IfOk result (λ _. failed_calls (C.log self.new.calls) ≡ failed_calls (C.log self.old.calls)) }
-    {
-        let mut rooms = Vec::new(self.alloc);
-        for name in names {
-            let is_room = self.is_room(name)?;
-            push_room(&mut rooms, is_room, name)?;
+        let Some(old) = self.room_path(room)? else {
+            return Ok(Answer::NoRoom);
+        };
+        if self.number_of(to).is_some() {
+            drop(old);
+            return Ok(Answer::TargetThere);
         }
-        Ok(rooms)
-    }
-
-    // Whether this item of ROOT is a room: a folder whose name a room can have.
-    fn is_room(&mut self, name: &Name) -> Result<bool, Failure>
-        ensures looked { IfOk result (λ is_room. LooksForRoom (string_bytes self.old.root) name.now is_room (C.log self.old.calls) (C.log self.new.calls)) }
-        ensures still { IsStill self.old self.new }
-        ensures well { IfOk result (λ _. failed_calls (C.log self.new.calls) ≡ failed_calls (C.log self.old.calls)) }
-    {
-        if !is_room_name(name.bytes()) {
-            return Ok(false);
+        if !is_room_name(to.bytes()) {
+            drop(old);
+            return Err(Failure::Failed);
         }
-        let path = item_path(self.alloc, self.root.as_str(), name)?;
-        let kind = self.calls.look(path.as_str());
-        drop(path);
-        Ok(kind?.is_folder())
+        let renamed = move_to(
+            &mut self.calls,
+            self.alloc,
+            self.root.as_str(),
+            old.as_str(),
+            to,
+        );
+        drop(old);
+        renamed?;
+        call_room(&mut self.rooms, room, to);
+        self.calls.sync_folder(self.root.as_str())?;
+        Ok(Answer::Made)
     }
+}
 
+impl<C, F> Disk<C, F> {
     /// Names all rooms in byte order.
     pub fn room_names(&self) -> Result<Answer, Failure>
         ensures named { IfOk result (TellsNames self.now.rooms.items) }
@@ -120,65 +191,12 @@ impl<C: Calls<File = F>, F: Drop> Disk<C, F> {
         }
     }
 
-    /// Gives a room a name that no room has. Its open files stay open.
-    pub fn rename_room(&mut self, room: u64, to: &Name) -> Result<Answer, Failure>
-        ensures renames { IfOk result (λ answer. InRoom self.old room answer (C.log self.old.calls) (C.log self.new.calls) (RenamesRoom self.old self.new to.now (C.log self.old.calls) (C.log self.new.calls) room answer)) }
-        ensures failed { OnErr result ((self.new.rooms.items ≡ self.old.rooms.items) ⊎ ((self.new.rooms.items ≡ slice_set self.old.rooms.items room to.now) × MovesRoom (string_bytes self.old.root) (room_path self.old room) to.now (Err Failure.Failed) (C.log self.old.calls) (C.log self.new.calls))) }
-        ensures root { self.new.root ≡ self.old.root }
-        ensures numbered { self.new.is_numbered ≡ self.old.is_numbered }
-        ensures open { self.new.open ≡ self.old.open }
-        ensures well { IfOk result (λ _. failed_calls (C.log self.new.calls) ≡ failed_calls (C.log self.old.calls)) }
-    {
-        let Some(old) = self.room_path(room)? else {
-            return Ok(Answer::NoRoom);
-        };
-        if self.number_of(to).is_some() {
-            drop(old);
-            return Ok(Answer::TargetThere);
-        }
-        if !is_room_name(to.bytes()) {
-            drop(old);
-            return Err(Failure::Failed);
-        }
-        let renamed = self.move_to(old.as_str(), to);
-        drop(old);
-        renamed?;
-        self.call_room(room, to);
-        self.calls.sync_folder(self.root.as_str())?;
-        Ok(Answer::Made)
-    }
-
-    // Gives an item of ROOT another name.
-    fn move_to(&mut self, old: &str, to: &Name) -> Result<(), Failure>
-        ensures moved { OnOk result (Makes (renamed_item old.now (item_of (string_bytes self.old.root) to.now) (Ok tt) ∷ []) (C.log self.old.calls) (C.log self.new.calls)) }
-        ensures still { IsStill self.old self.new }
-        ensures well { IfOk result (λ _. failed_calls (C.log self.new.calls) ≡ failed_calls (C.log self.old.calls)) }
-    {
-        let new = item_path(self.alloc, self.root.as_str(), to)?;
-        let renamed = self.calls.rename(old, new.as_str());
-        drop(new);
-        renamed
-    }
-
-    // Gives a room its new name.
-    fn call_room(&mut self, room: u64, to: &Name)
-        ensures called { room < length self.old.rooms.items → self.new.rooms.items ≡ slice_set self.old.rooms.items room to.now }
-        ensures calls { self.new.calls ≡ self.old.calls }
-        ensures root { self.new.root ≡ self.old.root }
-        ensures numbered { self.new.is_numbered ≡ self.old.is_numbered }
-        ensures open { self.new.open ≡ self.old.open }
-    {
-        let place = room as usize;
-        if place < self.rooms.len() {
-            self.rooms[place] = *to;
-        }
-    }
-
     /// The path of a room, or None where there is no room of this number.
     pub fn room_path(&self, room: u64) -> Result<Option<String>, Failure>
         ensures absent { length self.now.rooms.items ≤ room → result ≡ Ok None }
         ensures there { IfOk result (λ path. room < length self.now.rooms.items → IsSome path) }
         ensures path { IfOk result (λ path. IfSome path (λ path. string_bytes path ≡ room_path self.now room)) }
+        ensures memory { IsNameable (room_name self.now room) → IfErr result (λ failure. failure ≡ Failure.NoMemory) }
     {
         match self.rooms.get(room as usize) {
             Some(name) => Ok(Some(item_path(self.alloc, self.root.as_str(), name)?)),
