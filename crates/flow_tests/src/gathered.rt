@@ -1,68 +1,83 @@
 //! What is made of shares: one share of several, an open reader, and what a gathered index tells of its file.
-use crate::cases::{Case, Machine, all_hold};
-use crate::newest::{gathered, joined};
-use crate::playing::Tell;
-use crate::replies::Told;
+//!
+//! A case of a set of writes has the set in place of the rows.
+use crate::cases::all_hold;
+use crate::newest::{FIRST, SECOND, gathered, joined};
+use crate::outcomes::Tell;
 use crate::sets::read;
 use crate::spelling::Line;
 use attr_flow::attr_of;
-use plfs_types::Bytes;
-use std::test::Fail;
+use std::alloc::Global;
+use std::thread::Threads;
 
-impl Tell for Bytes {
-    fn tell(&self, line: &mut Line) {
-        line.letters(self.as_slice());
-    }
-}
-
-/// The entries of the writer 9 of host 7: of 5 bytes, and of 3 that overlap them in the file.
-pub(crate) const TWO: &str = "b@11:0+5 b@12:4+3";
-
-#[test]
-fn a_joined_share_has_each_writer_and_the_newest_bytes(rt: HostRuntime) -> Result<(), Fail> {
-    let alloc = rt.alloc();
-    // Beside them the newest entry, of the writer 3. The first worker has the greater writer.
-    let set = read(alloc, "b@11:0+5 b@12:4+3 a@13:6+2", 0)?;
-    let shares = joined(&rt, alloc, &set, "b a")?;
-    let mut line = Line::new(alloc);
+/// Tells the share of two workers, of whom the first has the greater writer.
+pub(crate) fn tell_joined<R: Threads + Sync>(
+    rt: &R,
+    alloc: Global,
+    line: &str,
+    shown: &mut Line,
+) -> Option<()> {
+    let set = read(alloc, line, 0)?;
+    let shares = joined(rt, alloc, &set, &[&[SECOND], &[FIRST]]);
+    drop(set);
+    let shares = shares?;
+    shown.push(line);
+    shown.push("\n= ");
     for share in shares.as_slice() {
-        share.tell(&mut line);
+        share.tell(shown);
     }
-    assert_eq!(rt; line.as_str(), "share 3:1 9:2 0+4 4+2 6+2");
-    Ok(())
+    drop(shares);
+    Some(())
 }
 
-#[test]
-fn a_gathered_index_tells_of_its_file(rt: HostRuntime) -> Result<(), Fail> {
-    let alloc = rt.alloc();
-    let all = gathered(&rt, alloc, &read(alloc, "b@11:0+5 b@12:4+3 @20:3", 0)?)?;
+/// Tells of the file of a gathered index.
+pub(crate) fn tell_gathered<R: Threads + Sync>(
+    rt: &R,
+    alloc: Global,
+    line: &str,
+    shown: &mut Line,
+) -> Option<()> {
+    let set = read(alloc, line, 0)?;
+    let all = gathered(rt, alloc, &set);
+    drop(set);
+    let all = all?;
     let attr = attr_of(alloc, &all.flat, &all.truncs);
     drop(all);
-    let attr = attr?;
-    let mut line = Line::new(alloc);
-    attr.tell(&mut line);
+    let attr = attr.ok()?;
+    shown.push(line);
+    shown.push("\n= ");
+    attr.tell(shown);
     drop(attr);
-    assert_eq!(rt; line.as_str(), "size 3 stored 8 9=8 truncates 20:3");
-    Ok(())
+    Some(())
 }
 
-const CASES: [Case; 2] = [
-    Case {
-        machine: Machine::Read,
-        told: &[Told::Text(b"hell"), Told::Text(b"abc")],
-        asks: "read log.7.9 0 4 read log.7.9 5 3",
-        ends: "hellabc",
-    },
-    // a log that is too short for a part
-    Case {
-        machine: Machine::Read,
-        told: &[Told::Text(b"hell"), Told::Text(b"a")],
-        asks: "read log.7.9 0 4 read log.7.9 5 3",
-        ends: "damaged hostdir.7/log.7.9 6",
-    },
-];
+const CASES: &str = "\
+# A read asks a log once for each part.
+
+read
+read log.7.9 0 4: bytes hell
+read log.7.9 5 3: bytes abc
+= hellabc
+
+read # a log that is too short for a part
+read log.7.9 0 4: bytes hell
+read log.7.9 5 3: bytes a
+= damaged hostdir.7/log.7.9 6
+
+# A joined share has each writer and the newest bytes. Beside two entries of the writer 9 there is the newest one, of the writer 3.
+
+joined
+b@11:0+5 b@12:4+3 a@13:6+2
+= share 3:1 9:2 0+4 4+2 6+2
+
+# A gathered index tells of its file.
+
+gathered
+b@11:0+5 b@12:4+3 @20:3
+= size 3 stored 8 9=8 truncates 20:3
+";
 
 #[test]
-fn a_read_asks_a_log_once_for_each_part(rt: HostRuntime) -> Result<(), Fail> {
-    all_hold(&rt, rt.alloc(), &CASES)
+fn what_was_gathered_is_read_and_told_of(rt: HostRuntime) {
+    all_hold(&rt, rt.alloc(), CASES)
 }

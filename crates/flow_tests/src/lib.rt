@@ -1,9 +1,10 @@
 //! Tests of the machines: how one is driven, and the calls of a writer, of a reader, and of who truncates, renames, looks
 //! at, recovers or migrates a file. They stand apart, so that no crate is proved twice for them.
 //!
-//! A test is a table of cases. Each says which machine runs, what its calls are told, which calls it makes of that, and
-//! how it ends. One function takes a machine through the replies, and one compares. Beside them stand sets of writes,
-//! which a reader's machines read over replies that are made of the set, against the newest write at each byte.
+//! A test is a text of cases. Each says which machine runs, which calls it makes, what each of them is told, and how it ends.
+//! One function takes a machine through the replies, and what comes otherwise than a case says is put into one line, which
+//! has to be empty in the end. Beside them stand sets of writes, which a reader's machines read over replies that are made
+//! of the set, against the newest write at each byte.
 #![tactic(auto)]
 
 #[cfg(test)]
@@ -22,6 +23,8 @@ mod machines;
 mod migrating;
 #[cfg(test)]
 mod newest;
+#[cfg(test)]
+mod outcomes;
 #[cfg(test)]
 mod playing;
 #[cfg(test)]

@@ -4,14 +4,10 @@ ghost use Rattle.mount_model.specs.declared.call.Call.TheVariants.{Greet as Asks
 ghost use Rattle.story.specs.Program.{done, ask};
 ghost use Rattle.flow.specs.Standing.{ready};
 
-use crate::cases::{Case, Machine, all_hold};
-use crate::playing::Tell;
-use crate::replies::Told;
-use crate::spelling::Line;
+use crate::cases::all_hold;
 use flow::Flow;
 use mount_model::{Call, Reply};
 use plfs_types::NoMemory;
-use std::test::Fail;
 use writer_flow::{CloseFlow, OpenWrite, SyncFlow, WriteFlow};
 
 /// Greets once, and ends with a word.
@@ -50,46 +46,24 @@ impl Flow for Greeter {
     }
 }
 
-impl Tell for u8 {
-    fn tell(&self, line: &mut Line) {
-        line.say("answer", &[*self as u64])
-    }
-}
+const CASES: &str = "\
+greet
+greet: fault
+= answer 7
 
-const CASES: [Case; 3] = [
-    Case {
-        machine: Machine::Greet,
-        told: &[Told::Fault],
-        asks: "greet",
-        ends: "answer 7",
-    },
-    // want of memory ends a machine
-    Case {
-        machine: Machine::Greet,
-        told: &[Told::NoMemory],
-        asks: "greet",
-        ends: "no-memory",
-    },
-    Case {
-        machine: Machine::Sync { pending: 0 },
-        told: &[Told::NoMemory],
-        asks: "sync-log 4294967297",
-        ends: "no-memory",
-    },
-];
+greet # want of memory ends a machine
+greet: no-memory
+= no-memory
+
+sync 0
+sync-log 4294967297: no-memory
+= no-memory
+";
+
+fn cross<A: Send, B: Send, C: Send, D: Send>() {}
 
 #[test]
-fn a_machine_is_driven_through_its_bound(rt: HostRuntime) -> Result<(), Fail> {
-    all_hold(&rt, rt.alloc(), &CASES)
-}
-
-fn crosses<T: Send>() {}
-
-#[test]
-fn machines_cross_threads(_rt: HostRuntime) -> Result<(), Fail> {
-    crosses::<OpenWrite>();
-    crosses::<WriteFlow>();
-    crosses::<SyncFlow>();
-    crosses::<CloseFlow>();
-    Ok(())
+fn machines_are_driven_through_their_bound_and_cross_threads(rt: HostRuntime) {
+    cross::<OpenWrite, WriteFlow, SyncFlow, CloseFlow>();
+    all_hold(&rt, rt.alloc(), CASES)
 }

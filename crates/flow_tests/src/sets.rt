@@ -2,9 +2,9 @@
 //!
 //! In a line `a@5:0+20` is a write of the writer a with the stamp 5, of 20 bytes from byte 0 on, behind those that stand
 //! before it in the writer's log, and `@7:4` is a truncate to 4 bytes with the stamp 7. What stands behind a `#` says why.
+use crate::spelling::parts;
 use crate::worlds::{Set, Write, logged};
 use std::alloc::Global;
-use std::test::Fail;
 
 /// They end below byte 64.
 pub(crate) const SETS: &str = "\
@@ -59,46 +59,41 @@ a@5:20+8 b@7:38+2 @6:40
 @1:40
 ";
 
-// The writer, the stamp, the place or the size, and the length of a word; 0 stands for a length that it hasn't.
-fn parts(word: &str) -> Option<(Option<usize>, u64, u64, u64)> {
-    let (letter, rest) = word.split_once('@')?;
-    let (stamp, what) = rest.split_once(':')?;
-    let (at, len) = what.split_once('+').unwrap_or((what, "0"));
+fn add(set: &mut Set, word: &str) -> Option<()> {
+    let (letter, rest) = parts(word, '@');
+    let (stamp, what) = parts(rest, ':');
+    let (at, len) = parts(what, '+');
     let stamp = stamp.parse::<u64>().ok()?;
-    let at = at.parse::<u64>().ok()?;
-    let len = len.parse::<u64>().ok()?;
-    Some(("abc".find(letter), stamp, at, len))
-}
-
-fn add(set: &mut Set, word: &str) -> Result<(), Fail> {
-    let (writer, stamp, at, len) = parts(word).ok_or("no write and no truncate")?;
-    let at = set.from.saturating_add(at);
-    if len == 0 {
-        set.truncs.push((stamp, at))?;
-        return Ok(());
+    let at = set.from.saturating_add(at.parse::<u64>().ok()?);
+    if word.starts_with('@') && len.is_empty() {
+        return set.truncs.push((stamp, at)).ok();
     }
-    let writer = writer.ok_or("no writer")?;
+    let len = len.parse::<u64>().ok()?;
+    let writer = "abc".find(letter)?;
     let place = logged(set, writer);
-    set.writes.push(Write {
+    let write = Write {
         writer,
         at,
         len,
         place,
         stamp,
-    })?;
-    Ok(())
+    };
+    set.writes.push(write).ok()
 }
 
 /// The set of a line, with its bytes counted from this one on.
-pub(crate) fn read(alloc: Global, line: &str, from: u64) -> Result<Set, Fail> {
-    let (words, _) = line.split_once('#').unwrap_or((line, ""));
+pub(crate) fn read(alloc: Global, line: &str, from: u64) -> Option<Set> {
+    let (words, _) = parts(line, '#');
     let mut set = Set {
         writes: Vec::new(alloc),
         truncs: Vec::new(alloc),
         from,
     };
     for word in words.split_whitespace() {
-        add(&mut set, word)?;
+        if add(&mut set, word).is_none() {
+            drop(set);
+            return None;
+        }
     }
-    Ok(set)
+    Some(set)
 }

@@ -1,11 +1,17 @@
-//! Calls and troubles as text.
+//! Lines of text, and calls and troubles as text.
 use flow::Stuck;
 use itoa::Buffer;
 use mount_model::{Call, Look};
-use plfs_types::Name;
 use std::alloc::Global;
 
-/// Words with a blank between them. A line for which there was no memory is like no text.
+/// What stands before the first such sign and what stands behind it, or all of the text and nothing.
+pub(crate) fn parts(text: &str, sign: char) -> (&str, &str) {
+    let text = text.trim();
+    let (first, rest) = text.split_once(sign).unwrap_or((text, ""));
+    (first.trim_end(), rest.trim_start())
+}
+
+/// Text that grows. A line for which there was no memory is like no text.
 #[derive(Drop)]
 pub(crate) struct Line {
     text: String,
@@ -34,32 +40,21 @@ impl Line {
         }
     }
 
-    fn number(&mut self, number: u64) {
+    /// A word, and this number behind it.
+    pub(crate) fn say(&mut self, word: &str, number: u64) {
+        self.push(word);
         self.push(Buffer::new().format(number));
     }
 
-    /// A word, and these numbers behind it.
-    pub(crate) fn say(&mut self, word: &str, numbers: &[u64]) {
-        if !self.text.is_empty() {
-            self.push(" ");
-        }
-        self.push(word);
-        for number in numbers {
-            self.push(" ");
-            self.number(*number);
-        }
-    }
-
-    /// Two numbers with a sign between them.
+    /// Two numbers, with a blank before them and a sign between them.
     pub(crate) fn pair(&mut self, first: u64, sign: &str, second: u64) {
-        self.push(" ");
-        self.number(first);
-        self.push(sign);
-        self.number(second);
+        self.say(" ", first);
+        self.say(sign, second);
     }
 
-    /// These bytes, each a letter.
-    pub(crate) fn letters(&mut self, bytes: &[u8]) {
+    /// A word, and these bytes behind it, each a letter.
+    pub(crate) fn letters(&mut self, word: &str, bytes: &[u8]) {
+        self.push(word);
         for byte in bytes {
             if self.text.push(char::from(*byte)).is_err() {
                 self.is_cut = true;
@@ -67,41 +62,26 @@ impl Line {
         }
     }
 
-    fn named(&mut self, word: &str, name: &Name) {
-        self.say(word, &[]);
-        self.push(" ");
-        self.letters(name.bytes());
+    /// Says what came of a deed, where that is other than what is wanted.
+    pub(crate) fn expect(&mut self, deed: &str, told: &Line, want: &str) {
+        if told.as_str() != want {
+            self.push(deed);
+            self.push(": ");
+            self.push(told.as_str());
+            self.push("\n");
+        }
     }
 }
 
 fn look_at(line: &mut Line, look: &Look) {
     match look {
-        Look::Top => line.say("top", &[]),
-        Look::List { folder } => line.named("list", folder),
-        Look::Length { path } => line.named("length", &path.file),
+        Look::Top => line.push("top"),
+        Look::List { folder } => line.letters("list ", folder.bytes()),
+        Look::Length { path } => line.letters("length ", path.file.bytes()),
         Look::Read { path, at, len } => {
-            line.named("read", &path.file);
+            line.letters("read ", path.file.bytes());
             line.pair(*at, " ", *len);
         }
-    }
-}
-
-/// The call of a writer.
-fn writers(line: &mut Line, call: &Call) {
-    match call {
-        Call::MakeContainer { .. } => line.say("make", &[]),
-        Call::Enter { host, cap, .. } => line.say("enter", &[*host as u64, *cap as u64]),
-        Call::Floor { .. } => line.say("floor", &[]),
-        Call::MakeHostdir { .. } => line.say("hostdir", &[]),
-        Call::MakeIndex { .. } => line.say("index", &[]),
-        Call::MakeLog { .. } => line.say("log", &[]),
-        Call::Write { at, .. } => line.say("write", &[*at]),
-        Call::Flush { .. } => line.say("flush", &[]),
-        Call::SyncLog { writer } => line.say("sync-log", &[*writer]),
-        Call::SyncIndex { .. } => line.say("sync-index", &[]),
-        Call::PutMeta { .. } => line.say("meta", &[]),
-        Call::Exit { .. } => line.say("exit", &[]),
-        _ => line.say("other", &[]),
     }
 }
 
@@ -116,42 +96,65 @@ fn number_at(bytes: &[u8], place: usize) -> u64 {
     u64::from_le_bytes(number)
 }
 
-/// The call of who packs an index dropping. Of a packed index its length and its numbers are told.
-fn packers(line: &mut Line, call: &Call) {
-    match call {
-        Call::StartPack { host, writer, .. } => line.say("pack", &[*host as u64, *writer]),
-        Call::PutFlat { flat, bytes } => {
-            let bytes = bytes.as_slice();
-            line.say("put", &[*flat, bytes.len() as u64]);
-            for index in 1..(bytes.len() / 8).min(100) {
-                line.push(" ");
-                line.number(number_at(bytes, 8 * index));
-            }
-        }
-        Call::SyncFlat { flat } => line.say("sync-flat", &[*flat]),
-        Call::InstallFlat { flat } => line.say("install", &[*flat]),
-        _ => writers(line, call),
+/// Of a packed index its length and its numbers.
+fn packed(line: &mut Line, flat: u64, bytes: &[u8]) {
+    line.push("put");
+    line.pair(flat, " ", bytes.len() as u64);
+    for index in 1..(bytes.len() / 8).min(100) {
+        line.say(" ", number_at(bytes, 8 * index));
     }
 }
 
-/// A call behind those that the line has.
-pub(crate) fn spell(line: &mut Line, call: &Call) {
+/// The word of a call without a number.
+fn word_of(call: &Call) -> &'static str {
     match call {
-        Call::Greet => line.say("greet", &[]),
-        Call::Find { .. } => line.say("find", &[]),
-        Call::Look { look, .. } => look_at(line, look),
-        Call::Hold { room } => line.say("hold", &[*room]),
-        Call::Mark { size, top, .. } => line.say("mark", &[*size, *top]),
-        Call::Move { holder, .. } => line.say("move", &[*holder]),
-        Call::Release { holder } => line.say("release", &[*holder]),
-        Call::Inspect { writer } => line.say("inspect", &[*writer]),
-        Call::Mend { whole, .. } => line.say("mend", &[*whole]),
-        Call::SyncDropping { log, .. } => line.say(if *log { "log" } else { "index" }, &[]),
-        Call::MendMeta { last, .. } => line.say("meta", &[*last]),
-        Call::Bury { writer, .. } => line.say("bury", &[*writer]),
-        Call::MendHold { room } => line.say("mend-hold", &[*room]),
-        _ => packers(line, call),
+        Call::Greet => "greet",
+        Call::Find { .. } => "find",
+        Call::MakeContainer { .. } => "make",
+        Call::Floor { .. } => "floor",
+        Call::MakeHostdir { .. } => "hostdir",
+        Call::MakeIndex { .. } => "index",
+        Call::MakeLog { .. } => "log",
+        Call::Flush { .. } => "flush",
+        Call::SyncIndex { .. } => "sync-index",
+        Call::PutMeta { .. } => "meta",
+        Call::Exit { .. } => "exit",
+        Call::SyncDropping { log, .. } => if *log { "log" } else { "index" },
+        _ => "another call",
     }
+}
+
+fn numbered(line: &mut Line, call: &Call) {
+    let (word, number) = match call {
+        Call::Write { at, .. } => ("write ", *at),
+        Call::SyncLog { writer } => ("sync-log ", *writer),
+        Call::Hold { room } => ("hold ", *room),
+        Call::Move { holder, .. } => ("move ", *holder),
+        Call::Release { holder } => ("release ", *holder),
+        Call::SyncFlat { flat } => ("sync-flat ", *flat),
+        Call::InstallFlat { flat } => ("install ", *flat),
+        Call::Inspect { writer } => ("inspect ", *writer),
+        Call::Mend { whole, .. } => ("mend ", *whole),
+        Call::MendMeta { last, .. } => ("meta ", *last),
+        Call::Bury { writer, .. } => ("bury ", *writer),
+        Call::MendHold { room } => ("mend-hold ", *room),
+        _ => return line.push(word_of(call)),
+    };
+    line.say(word, number);
+}
+
+/// A call behind what the line has.
+pub(crate) fn spell(line: &mut Line, call: &Call) {
+    let (word, first, second) = match call {
+        Call::Look { look, .. } => return look_at(line, look),
+        Call::PutFlat { flat, bytes } => return packed(line, *flat, bytes.as_slice()),
+        Call::Enter { host, cap, .. } => ("enter", *host as u64, *cap as u64),
+        Call::Mark { size, top, .. } => ("mark", *size, *top),
+        Call::StartPack { host, writer, .. } => ("pack", *host as u64, *writer),
+        _ => return numbered(line, call),
+    };
+    line.push(word);
+    line.pair(first, " ", second);
 }
 
 /// How a machine ended that came to no good.
@@ -162,13 +165,11 @@ pub(crate) fn trouble(line: &mut Line, why: &Stuck) {
             file,
             place,
         } => {
-            line.named("damaged", folder);
-            line.push("/");
-            line.letters(file.bytes());
-            line.push(" ");
-            line.number(*place);
+            line.letters("damaged ", folder.bytes());
+            line.letters("/", file.bytes());
+            line.say(" ", *place);
         }
-        Stuck::Refused(_) => line.say("refused", &[]),
-        Stuck::Fault => line.say("fault", &[]),
+        Stuck::Refused(_) => line.push("refused"),
+        Stuck::Fault => line.push("fault"),
     }
 }

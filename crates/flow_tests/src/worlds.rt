@@ -1,4 +1,5 @@
 //! A container with what three writers wrote, as a reader's calls see it; and what its file is, asked byte by byte.
+use crate::spelling::Line;
 use mount_model::{Call, Look, Reply};
 use plfs_types::{Bytes, Name, NameList, NoMemory};
 use std::alloc::Global;
@@ -23,13 +24,11 @@ pub(crate) struct Set {
     pub(crate) from: u64,
 }
 
-/// The writers, and their hosts.
-pub(crate) const WRITERS: [(u64, u32); 3] = [(3, 33), (9, 7), (20, 0)];
-
-const FILES: [(&str, &str); 3] = [
-    ("index.33.3", "log.33.3"),
-    ("index.7.9", "log.7.9"),
-    ("index.0.20", "log.0.20"),
+// Of each writer the index dropping, the log, and the id.
+const FILES: [(&str, &str, u64); 3] = [
+    ("index.33.3", "log.33.3", 3),
+    ("index.7.9", "log.7.9", 9),
+    ("index.0.20", "log.0.20", 20),
 ];
 
 /// The length of the writer's log.
@@ -50,10 +49,6 @@ fn byte_at(writer: usize, place: u64) -> u8 {
 }
 
 // ---- what the calls see
-
-fn name(text: &str) -> Name {
-    Name::from_bytes(text.as_bytes()).unwrap_or(Name::empty())
-}
 
 fn index_of(alloc: Global, set: &Set, writer: usize, id: u64) -> Result<Vec<u8>, NoMemory> {
     let mut all = Vec::new(alloc);
@@ -76,57 +71,64 @@ fn log_of(alloc: Global, set: &Set, writer: usize) -> Result<Vec<u8>, NoMemory> 
 }
 
 // The bytes of an index dropping or a log.
-fn file(alloc: Global, set: &Set, file: &Name) -> Result<Vec<u8>, NoMemory> {
+fn file(alloc: Global, set: &Set, file: &[u8]) -> Result<Vec<u8>, NoMemory> {
     for writer in 0..3 {
-        let (index, log) = FILES[writer];
-        let (id, _) = WRITERS[writer];
-        if *file == name(index) {
+        let (index, log, id) = FILES[writer];
+        if file == index.as_bytes() {
             return index_of(alloc, set, writer, id);
         }
-        if *file == name(log) {
+        if file == log.as_bytes() {
             return log_of(alloc, set, writer);
         }
     }
     Ok(Vec::new(alloc))
 }
 
-fn part(alloc: Global, all: &[u8], at: u64, len: u64) -> Result<Bytes, NoMemory> {
-    let mut some = Vec::new(alloc);
-    for place in at..at.saturating_add(len) {
-        match all.get(place as usize) {
-            Some(byte) => some.push(*byte)?,
-            None => return Ok(Bytes::from_vec(some)),
-        }
-    }
-    Ok(Bytes::from_vec(some))
+// So many of the bytes from this place on, as far as they are there.
+fn part(all: &[u8], at: u64, len: u64) -> &[u8] {
+    let end = at.saturating_add(len).min(all.len() as u64);
+    all.get(at as usize..end as usize).unwrap_or(&[])
 }
 
 // The names of the truncates, in byte order.
 fn marks(alloc: Global, set: &Set) -> Result<NameList, NoMemory> {
     let mut names = Vec::new(alloc);
     for (stamp, size) in set.truncs.as_slice() {
-        names.push(name(format!(in alloc; "{stamp}.{size}")?.as_str()))?;
+        let mut line = Line::new(alloc);
+        line.say("", *stamp);
+        line.say(".", *size);
+        let name = Name::from_bytes(line.as_str().as_bytes());
+        drop(line);
+        names.push(name.unwrap_or(Name::empty()))?;
     }
     names.sort_unstable();
     Ok(NameList::from_vec(names))
 }
 
-/// What a call of a reader is told.
-pub(crate) fn reply_to(alloc: Global, set: &Set, call: &Call) -> Result<Reply, NoMemory> {
-    let Call::Look { look, .. } = call else {
-        return Ok(Reply::Fault);
-    };
-    let answer = match look {
-        Look::Length { path } => Answer::Number {
-            value: file(alloc, set, &path.file)?.as_slice().len() as u64,
-        },
-        Look::Read { path, at, len } => {
-            let all = file(alloc, set, &path.file)?;
-            Answer::Bytes(part(alloc, all.as_slice(), *at, *len)?)
+fn answer_to(alloc: Global, set: &Set, look: &Look) -> Result<Answer, NoMemory> {
+    match look {
+        Look::Length { path } => {
+            let all = file(alloc, set, path.file.bytes())?;
+            let value = all.len() as u64;
+            Ok(Answer::Number { value })
         }
-        _ => Answer::Names(marks(alloc, set)?),
+        Look::Read { path, at, len } => {
+            let all = file(alloc, set, path.file.bytes())?;
+            Ok(Answer::Bytes(Bytes::copy(alloc, part(all.as_slice(), *at, *len))?))
+        }
+        _ => Ok(Answer::Names(marks(alloc, set)?)),
+    }
+}
+
+/// What a call of a reader is told, of want of memory where that was met.
+pub(crate) fn reply_to(alloc: Global, set: &Set, call: &Call) -> Reply {
+    let Call::Look { look, .. } = call else {
+        return Reply::Fault;
     };
-    Ok(Reply::Looked(answer))
+    match answer_to(alloc, set, look) {
+        Ok(answer) => Reply::Looked(answer),
+        Err(NoMemory) => Reply::NoMemory,
+    }
 }
 
 // ---- what the file is

@@ -1,5 +1,5 @@
 use Rattle.flow.specs.Standing.{IsFresh}
 use Rattle.flow_tests.proofs.playing.is_played.Given as goal
 
-abbrev pub invariant-loop-spelled : goal.invariant-loop-spelled
-invariant-loop-spelled g l = IsFresh (g.F.Flow.standing l.flow)
+abbrev pub invariant-loop-row : goal.invariant-loop-row
+invariant-loop-row g l = IsFresh (g.F.Flow.standing l.flow)
