@@ -4,7 +4,7 @@ ghost use Rattle.mount_sound.specs.Sound.{IsFine};
 ghost use Rattle.turn_object.specs.Pass.{start_of, parts_of, mine_of, seen_of, ended_of, IsPassOf};
 ghost use Rattle.script_lang.specs.Ranges.{FitsActor};
 ghost use Rattle.script_lang.specs.declared.script.Phase.{Phase as ThePhase};
-ghost use Rattle.thread_runs.specs.Running.{Between, HaveAll, IsNewcomer};
+ghost use Rattle.thread_runs.specs.Running.{Between, HaveAll};
 
 use crate::player::Player;
 use crate::told::Told;
