@@ -1,6 +1,6 @@
 -- One statement of an actor, and those of a phase.
-use Rattle.std.proofs.Common.{◌≡◌, ◌≢◌, ℕ, Bool, true, false, List, [], ◌∷◌, ◌++◌, Result, Ok, Err, refl, sym, ap, ◌∙◌, subst, append_assoc, append-nil, arith}
-use Rattle.std.specs.Prelude.{OnOk}
+use Rattle.std.proofs.Common.{◌≡◌, ℕ, Bool, true, false, List, [], ◌∷◌, ◌++◌, Result, Ok, Err, refl, sym, ap, ◌∙◌, subst, append_assoc, append-nil, arith}
+use Rattle.std.specs.Prelude.{OnOk, Some, slice_get}
 use Rattle.std.specs.Result.{is_ok}
 use Rattle.turn_object.specs.History.{state_after}
 use Rattle.turn_object.specs.Pass.{start_of, front}
@@ -12,8 +12,8 @@ use Rattle.actor_core.specs.declared.kept.Kept.{Kept}
 use Rattle.actor_core.specs.Progress.{Progress, idle, going, begun, IsIdle}
 use Rattle.actor_core.specs.Standings.{progress_of}
 use Rattle.actor_core.specs.Statements.{work_of}
-use Rattle.run_core.specs.Course.{Course, then_line, one_by_one, own}
-use Rattle.run_core.proofs.Facts.{capacity, comes_to_line, own_no, own_yes, idle_kept, work_safe}
+use Rattle.run_core.specs.Course.{Course, then_line, one_by_one}
+use Rattle.run_core.proofs.Facts.{capacity, comes_to_line, idle_kept, work_safe}
 use Rattle.share_workers.specs.Passes.{ThePass, TheTurn, IsAfter}
 use Rattle.thread_runs.specs.Going.{Goes}
 use Rattle.thread_runs.specs.Driving.{MayGoOn, ComesToIts}
@@ -68,10 +68,10 @@ acted_by s old new began copy line rests is same comes lines place =
       place = place;
     }
 
--- ---- the statements of a phase
+-- ---- the statements of a part
 
-pub acting_none : (statements : List Numbered) (player : Runner) → IsIdle (progress_of player.actor) → ActedSoFar statements statements player player
-acting_none statements player rests =
+pub acting_none : (part : List Numbered) (player : Runner) → IsIdle (progress_of player.actor) → ActedSoFar part part player player
+acting_none part player rests =
     let kept = idle_kept (progress_of player.actor) rests in
     record {
       kept = kept.0;
@@ -80,21 +80,20 @@ acting_none statements player rests =
       rests = kept.1;
       told = [];
       lines = sym (append-nil player.told.lines.items);
-      goes = λ later. goes_none (front player.pass) (one_by_one (own player.place statements) later kept.0);
+      goes = λ later. goes_none (front player.pass) (one_by_one part later kept.0);
       place = refl;
     }
 
 same_kept : (a b : Kept) → idle a ≡ idle b → a ≡ b
 same_kept a b e = cc
 
-pub acting_idle : (statements rest : List Numbered) (old now : Runner) → ActedSoFar statements rest old now → IsIdle (progress_of now.actor)
-acting_idle statements rest old now a = let Q : Progress → Type 0 = λ z. IsIdle z in subst Q (sym a.rests) tt
+pub acting_idle : (part rest : List Numbered) (old now : Runner) → ActedSoFar part rest old now → IsIdle (progress_of now.actor)
+acting_idle part rest old now a = let Q : Progress → Type 0 = λ z. IsIdle z in subst Q (sym a.rests) tt
 
--- one more of its own
-pub acting_own : (statements rest more : List Numbered) (s : Numbered) (old now new : Runner) → ActedSoFar statements rest old now → rest ≡ s ∷ more → s.actor ≡ now.place → Acted s now new → ActedSoFar statements more old new
-acting_own statements rest more s old now new a split mine acted =
+-- one more of them
+pub acting_more : (part rest more : List Numbered) (s : Numbered) (old now new : Runner) → ActedSoFar part rest old now → rest ≡ s ∷ more → Acted s now new → ActedSoFar part more old new
+acting_more part rest more s old now new a split acted =
     let same : acted.kept ≡ a.left = same_kept acted.kept a.left (sym acted.was ∙ a.rests) in
-    let next : own old.place rest ≡ s ∷ own old.place more = ap (own old.place) split ∙ own_yes old.place s more (mine ∙ a.place) in
     record {
       kept = a.kept;
       left = acted.left;
@@ -103,57 +102,41 @@ acting_own statements rest more s old now new a split mine acted =
       told = a.told ++ acted.line ∷ [];
       lines = acted.lines ∙ (ap (λ z. z ++ acted.line ∷ []) a.lines ∙ append_assoc old.told.lines.items a.told (acted.line ∷ []));
       goes = λ later.
-          let Sofar : Course → Type 0 = λ z. Goes (front old.pass) (one_by_one (own old.place statements) later a.kept) (front now.pass) z a.told in
-          let sofar = subst Sofar (ap (λ z. one_by_one z later a.left) next) (a.goes later) in
-          let rest_of : Kept → Course = λ kept. one_by_one (own old.place more) later kept in
+          let Sofar : Course → Type 0 = λ z. Goes (front old.pass) (one_by_one part later a.kept) (front now.pass) z a.told in
+          let sofar = subst Sofar (ap (λ z. one_by_one z later a.left) split) (a.goes later) in
+          let rest_of : Kept → Course = λ kept. one_by_one more later kept in
           let Here : Kept → Type 0 = λ z. Goes (front now.pass) (then_line s.line rest_of (work_of z s.statement)) (front new.pass) (rest_of acted.left) (acted.line ∷ []) in
           let here = subst Here same (acted.goes rest_of) in
-          goes_then (front old.pass) (front now.pass) (front new.pass) (one_by_one (own old.place statements) later a.kept) (then_line s.line rest_of (work_of a.left s.statement)) (rest_of acted.left) a.told (acted.line ∷ []) sofar here;
+          goes_then (front old.pass) (front now.pass) (front new.pass) (one_by_one part later a.kept) (then_line s.line rest_of (work_of a.left s.statement)) (rest_of acted.left) a.told (acted.line ∷ []) sofar here;
       place = acted.place ∙ a.place;
     }
 
--- one more that is another's
-pub acting_other : (statements rest more : List Numbered) (s : Numbered) (old now : Runner) → ActedSoFar statements rest old now → rest ≡ s ∷ more → s.actor ≢ now.place → ActedSoFar statements more old now
-acting_other statements rest more s old now a split other =
-    let next : own old.place rest ≡ own old.place more = ap (own old.place) split ∙ own_no old.place s more (λ is. other (is ∙ sym a.place)) in
-    record {
-      kept = a.kept;
-      left = a.left;
-      was = a.was;
-      rests = a.rests;
-      told = a.told;
-      lines = a.lines;
-      goes = λ later.
-          let Sofar : Course → Type 0 = λ z. Goes (front old.pass) (one_by_one (own old.place statements) later a.kept) (front now.pass) z a.told in
-          subst Sofar (ap (λ z. one_by_one z later a.left) next) (a.goes later);
-      place = a.place;
-    }
-
-pub acting_all : (statements rest : List Numbered) (old now : Runner) → rest ≡ [] → ActedSoFar statements rest old now → ActedAll statements old now
-acting_all statements rest old now none a = subst (λ z. ActedSoFar statements z old now) none a
+pub acting_all : (part rest : List Numbered) (old now : Runner) → rest ≡ [] → ActedSoFar part rest old now → ActedAll part old now
+acting_all part rest old now none a = subst (λ z. ActedSoFar part z old now) none a
 
 -- ---- a part of a phase
 
-module _ {P : Type 0} (turn : TheTurn P) where
-  pub played_none : (statements : List Numbered) (player : Runner) → MayAct turn player.pass → player.whole ≡ false → Played turn statements player player
-  played_none statements player may refused = record {
+module _ {P : Type 0} (turn : TheTurn P) (parts : List (List Numbered)) where
+  -- one that was refused memory, now or before, plays nothing
+  pub played_none : (player : Runner) (whole : Bool) → MayAct turn player.pass → whole ≡ false → Played turn parts player (record player { whole = whole })
+  played_none player whole may refused = record {
     after = after_none turn player.pass may;
-    played = λ whole. absurd (true_false (sym whole ∙ refused));
+    played = λ kept. absurd (true_false (sym kept ∙ refused));
   }
     where
       true_false : true ≡ false → ⊥
       true_false e = absurd (cc)
 
   -- whether memory was refused to it is noted
-  pub played_acted : {E : Type 0} (statements : List Numbered) (old mid : Runner) (result : Result (Unit {0}) E) (whole : Bool) → IsAfter turn old.pass mid.pass → old.whole ≡ true → whole ≡ is_ok result → OnOk result (ActedAll statements old mid) → Played turn statements old (record mid { whole = whole })
-  played_acted {E} statements old mid result whole after was is acted = record {
+  pub played_acted : {E : Type 0} (part : List Numbered) (old mid : Runner) (result : Result (Unit {0}) E) (whole : Bool) → slice_get parts old.place ≡ Some part → IsAfter turn old.pass mid.pass → old.whole ≡ true → whole ≡ is_ok result → OnOk result (ActedAll part old mid) → Played turn parts old (record mid { whole = whole })
+  played_acted {E} part old mid result whole here after was is acted = record {
     after = record { pass = after.pass; known = after.known; parts = after.parts };
-    played = λ kept. (was, noted (by result (sym is ∙ kept) acted));
+    played = λ kept. (was, (part, here, noted (by result (sym is ∙ kept) acted)));
   }
     where
-      noted : ActedAll statements old mid → ActedAll statements old (record mid { whole = whole })
+      noted : ActedAll part old mid → ActedAll part old (record mid { whole = whole })
       noted a = record { kept = a.kept; left = a.left; was = a.was; rests = a.rests; told = a.told; lines = a.lines; goes = a.goes; place = a.place }
 
-      by : (r : Result (Unit {0}) E) → is_ok r ≡ true → OnOk r (ActedAll statements old mid) → ActedAll statements old mid
+      by : (r : Result (Unit {0}) E) → is_ok r ≡ true → OnOk r (ActedAll part old mid) → ActedAll part old mid
       by (Ok a) calm x = x
       by (Err e) calm x = absurd (cc)

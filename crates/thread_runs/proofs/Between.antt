@@ -14,10 +14,12 @@ use Rattle.script_lang.specs.declared.script.Numbered.{Numbered}
 use Rattle.script_lang.specs.declared.script.Phase.{Phase}
 use Rattle.run_core.specs.Players.{IsMade}
 use Rattle.share_workers.specs.Passes.{ThePass, TheTurn}
+use Rattle.thread_runs.specs.Parts.{AreParts}
 use Rattle.thread_runs.specs.Runners.{Runner, IsReadyFor, Played, EachPlayed}
 use Rattle.thread_runs.specs.Each.{EachAt, ChangedTo}
 use Rattle.thread_runs.specs.Phases.{Keeps, IsFollower, IsLevel, IsPast, IsGathered, CaughtUp, HandedOver}
 use Rattle.thread_runs.specs.Running.{Between}
+use Rattle.thread_runs.proofs.Dealing.{made_parts}
 use Rattle.thread_runs.proofs.Each.{each_all, each_changed, each_so}
 use Rattle.thread_runs.proofs.Phasing.{level_of, ready_level, past_of, gathered_of, follower_of}
 
@@ -37,24 +39,24 @@ module _ {P : Type 0} (turn : TheTurn P) (actors : List ActorDecl) (phases left 
       each_changed (IsFollower turn phases left (seen_of main) b.blocks) (IsLevel turn phases left (seen_of main) b.blocks) (CaughtUp turn (seen_of main)) (λ place declared old new f t. level_of turn phases left (seen_of main) b.blocks place declared old new f t)
       0 actors olds begun c.len c.done b.each
 
-  pub all_ready : (statements : List Numbered) (main : ThePass) (olds begun : List Runner) → Between turn actors phases left main olds → ChangedTo (CaughtUp turn (seen_of main)) (length olds) olds begun → All IsMade statements → All (IsReadyFor turn statements) begun
-  all_ready statements main olds begun b c made =
-      each_all (IsLevel turn phases left (seen_of main) b.blocks) (IsReadyFor turn statements) (λ place declared r l. ready_level turn phases left (seen_of main) b.blocks place declared statements r b.fine made l) 0 actors begun (all_level main olds begun b c)
+  pub all_ready : (statements : List Numbered) (parts : List (List Numbered)) (main : ThePass) (olds begun : List Runner) → Between turn actors phases left main olds → ChangedTo (CaughtUp turn (seen_of main)) (length olds) olds begun → All IsMade statements → AreParts statements parts → All (IsReadyFor turn parts) begun
+  all_ready statements parts main olds begun b c made are =
+      each_all (IsLevel turn phases left (seen_of main) b.blocks) (IsReadyFor turn parts) (λ place declared r l. ready_level turn phases left (seen_of main) b.blocks place declared parts r b.fine (made_parts statements parts made are) l) 0 actors begun (all_level main olds begun b c)
 
-module _ {P : Type 0} (turn : TheTurn P) (actors : List ActorDecl) (phases left : List Phase) (phase : Phase) where
-  all_past : (main : ThePass) (olds begun played : List Runner) (b : Between turn actors phases (phase ∷ left) main olds) → ChangedTo (CaughtUp turn (seen_of main)) (length olds) olds begun → EachPlayed turn phase.statements begun played → EachAt (IsPast turn phases left (seen_of main) b.blocks) 0 actors played
+module _ {P : Type 0} (turn : TheTurn P) (actors : List ActorDecl) (phases left : List Phase) (phase : Phase) (parts : List (List Numbered)) (are : AreParts phase.statements parts) where
+  all_past : (main : ThePass) (olds begun played : List Runner) (b : Between turn actors phases (phase ∷ left) main olds) → ChangedTo (CaughtUp turn (seen_of main)) (length olds) olds begun → EachPlayed turn parts begun played → EachAt (IsPast turn phases left (seen_of main) b.blocks) 0 actors played
   all_past main olds begun played b c p =
-      each_changed (IsLevel turn phases (phase ∷ left) (seen_of main) b.blocks) (IsPast turn phases left (seen_of main) b.blocks) (Played turn phase.statements) (λ place declared old new l t. past_of turn phases left phase (seen_of main) b.blocks place declared old new l t)
+      each_changed (IsLevel turn phases (phase ∷ left) (seen_of main) b.blocks) (IsPast turn phases left (seen_of main) b.blocks) (Played turn parts) (λ place declared old new l t. past_of turn phases left phase (seen_of main) b.blocks place declared parts old new are l t)
       0 actors begun played p.len p.each (all_level turn actors phases (phase ∷ left) main olds begun b c)
 
-  pub passes_past : (main : ThePass) (olds begun played : List Runner) → Between turn actors phases (phase ∷ left) main olds → ChangedTo (CaughtUp turn (seen_of main)) (length olds) olds begun → EachPlayed turn phase.statements begun played
+  pub passes_past : (main : ThePass) (olds begun played : List Runner) → Between turn actors phases (phase ∷ left) main olds → ChangedTo (CaughtUp turn (seen_of main)) (length olds) olds begun → EachPlayed turn parts begun played
       → All (λ (r : Runner). IsPassOf turn r.pass × (1 < parts_of r.pass)) played
   passes_past main olds begun played b c p =
       each_all (IsPast turn phases left (seen_of main) b.blocks) (λ r. IsPassOf turn r.pass × (1 < parts_of r.pass)) (λ place declared r t. (t.pass, let q = t.parts in omega (arith, q))) 0 actors played (all_past main olds begun played b c p)
 
   pub phase_goes : (m0 m1 m2 : ThePass) (olds begun played gathered : List Runner) → Between turn actors phases (phase ∷ left) m0 olds
       → Keeps 0 (length olds) m0 m1 → seen_of m1 ≡ seen_of m0 → ChangedTo (CaughtUp turn (seen_of m0)) (length olds) olds begun
-      → EachPlayed turn phase.statements begun played
+      → EachPlayed turn parts begun played
       → IsPassOf turn m2 → IsLegalFront IsStep Permits (start_of turn) (front m2) → Keeps (length played) 0 m1 m2 → StartsWith (seen_of m2) (seen_of m1) → ChangedTo (HandedOver turn) (length played) played gathered → All (λ (r : Runner). StartsWith (seen_of m2) (seen_of r.pass)) played
       → Between turn actors phases left m2 gathered
   phase_goes m0 m1 m2 olds begun played gathered b keeps01 seen01 caught each pass2 known2 keeps12 more handed seen =

@@ -24,7 +24,7 @@ ok_both (Ok a) F G f g = (a, f, g)
 ok_both (Err e) F G f g = absurd g
 
 module _ {P : Type 0} (turn : TheTurn P) (actors : List ActorDecl) (phases : List Phase) where
-  actors_long : (left : List Phase) (main : ThePass) (runners : List Runner) → Between turn actors phases left main runners → length runners ≡ length actors
+  pub actors_long : (left : List Phase) (main : ThePass) (runners : List Runner) → Between turn actors phases left main runners → length runners ≡ length actors
   actors_long left main runners b = each_long (IsFollower turn phases left (seen_of main) b.blocks) 0 actors runners b.each
 
   -- what is written back of a slice of all actors is all actors

@@ -3,6 +3,8 @@ mod Going
 mod Driving
 mod SharingOut
 mod Acting
+mod Halving
+mod Dealing
 mod Each
 mod Phasing
 mod Between

@@ -98,13 +98,3 @@ module _ {P : Type 0} (turn : TheTurn P) where
       let long = each_long (IsNewcomer turn) 0 (take i actors) runners e.each in
       let short = length-take-le i actors (omega (arith, below)) in
       omega (arith, long, short, below, few)
-
-  -- a pass that was split off in vain is joined again
-  pub have_back : (actors : List ActorDecl) (main kept back now : ThePass) (runners news : List Runner) → Enters turn actors main runners → IsPassOf turn now → IsLegalFront IsStep Permits (start_of turn) (front now) → parts_of now ≡ parts_of kept + parts_of back → parts_of kept ≡ parts_of main - 2 ^ 20
-      → parts_of back ≡ 2 ^ 20 → length runners ≤ 256 → news ≡ runners → HaveAll turn now news
-  have_back actors main kept back now runners news e pass known joined divided given few same = subst (λ (z : List Runner). HaveAll turn now z) (sym same) (record {
-    pass = pass;
-    known = known;
-    parts = let p = e.parts in omega (arith, p, joined, divided, given, few);
-    each = (have_all actors main runners e).each;
-  })

@@ -2,7 +2,7 @@
 use Rattle.std.proofs.Common.{◌≡◌, ℕ, ◌+◌, ◌<◌, List, [], ◌∷◌, ◌++◌, length, sym, refl, ap, ◌∙◌, subst, arith, append-nil}
 use mathlib.Core.Logic.{dite}
 use native.Mathlib.Decide.{ℕ_discrete}
-use Rattle.std.specs.Prelude.{◌≢◌, All, slice_index_or}
+use Rattle.std.specs.Prelude.{◌≢◌, Some, All, slice_get, slice_index_or}
 use Rattle.turn_object.specs.History.{StartsWith, Happens, state_after}
 use Rattle.turn_object.specs.Front.{IsLegalFront}
 use Rattle.turn_object.specs.Pass.{start_of, front, mine_of, seen_of, ended_of}
@@ -31,6 +31,7 @@ use Rattle.run_core.specs.Players.{IsMade}
 use Rattle.share_workers.proofs.Facts.{memory_both}
 use Rattle.thread_runs.specs.Going.{EndedWithMemory, Goes}
 use Rattle.thread_runs.proofs.Memory.{all_both}
+use Rattle.thread_runs.specs.Parts.{AreParts}
 use Rattle.thread_runs.specs.Runners.{Runner, ActedAll, IsReadyFor, Played}
 use Rattle.thread_runs.specs.Phases.{AnyCall, Keeps, OnlyPass, HasActed, IsFollower, IsLevel, IsPast, IsGathered, CaughtUp, HandedOver}
 use Rattle.thread_runs.proofs.Each.{any_default}
@@ -99,8 +100,8 @@ module _ {P : Type 0} (turn : TheTurn P) (phases left : List Phase) (history : L
         acted = λ whole. acted_sees (start_of turn) phases left history blocks place declared old new (f.acted (sym t.only.whole ∙ whole)) t.only t.more up t.keeps.mine t.keeps.ended t.known;
       }
 
-  pub ready_level : (statements : List Numbered) (runner : Runner) → IsFine (start_of turn) → All IsMade statements → IsLevel turn phases left history blocks place declared runner → IsReadyFor turn statements runner
-  ready_level statements runner fine made l = record {
+  pub ready_level : (parts : List (List Numbered)) (runner : Runner) → IsFine (start_of turn) → ((at : ℕ) (part : List Numbered) → slice_get parts at ≡ Some part → All IsMade part) → IsLevel turn phases left history blocks place declared runner → IsReadyFor turn parts runner
+  ready_level parts runner fine made l = record {
     may = record { pass_of = l.pass; known = l.known; fine = fine; parts = (let p = l.parts in omega (arith, p)) };
     made = made;
     rests = λ whole. (let Q : Progress → Type 0 = λ z. IsIdle z in subst Q (sym (l.acted whole).rests) tt);
@@ -133,7 +134,7 @@ same_kept a b e = cc
 
 -- it played its part of a phase
 acted_phase : (start : State) (phases left : List Phase) (phase : Phase) (history block : List Event) (blocks : List (List Event)) (place : ℕ) (declared : ActorDecl) (old new : Runner) → HasActed start phases (phase ∷ left) history blocks place declared old
-    → seen_of old.pass ≡ history → ActedAll phase.statements old new → IsLegalFront IsStep Permits start (front new.pass) → StartsWith (history ++ block) (seen_of new.pass) → HasActed start phases left (history ++ block) (blocks ++ block ∷ []) place declared new
+    → seen_of old.pass ≡ history → ActedAll (own old.place phase.statements) old new → IsLegalFront IsStep Permits start (front new.pass) → StartsWith (history ++ block) (seen_of new.pass) → HasActed start phases left (history ++ block) (blocks ++ block ∷ []) place declared new
 acted_phase start phases left phase history block blocks place declared old new a level acted known behind =
     let process = course_of place phases declared in
     let same : acted.kept ≡ a.kept = same_kept acted.kept a.kept (sym acted.was ∙ a.rests) in
@@ -153,14 +154,15 @@ acted_phase start phases left phase history block blocks place declared old new 
     }
 
 module _ {P : Type 0} (turn : TheTurn P) (phases left : List Phase) (phase : Phase) (history : List Event) (blocks : List (List Event)) (place : ℕ) (declared : ActorDecl) where
-  pub past_of : (old new : Runner) → IsLevel turn phases (phase ∷ left) history blocks place declared old → Played turn phase.statements old new → IsPast turn phases left history blocks place declared new
-  past_of old new l played = record {
+  pub past_of : (parts : List (List Numbered)) (old new : Runner) → AreParts phase.statements parts → IsLevel turn phases (phase ∷ left) history blocks place declared old → Played turn parts old new → IsPast turn phases left history blocks place declared new
+  past_of parts old new are l played = record {
     pass = played.after.pass;
     parts = played.after.parts ∙ l.parts;
     known = played.after.known;
     will = λ whole block behind.
         let t = played.played whole in
-        acted_phase (start_of turn) phases left phase history block blocks place declared old new (l.acted t.0) l.level t.1 played.after.known behind;
+        let all : ActedAll (own old.place phase.statements) old new = subst (λ z. ActedAll z old new) (are old.place t.1.0 t.1.1) t.1.2 in
+        acted_phase (start_of turn) phases left phase history block blocks place declared old new (l.acted t.0) l.level all played.after.known behind;
   }
 
 -- ---- the main pass

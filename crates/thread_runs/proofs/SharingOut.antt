@@ -1,12 +1,10 @@
 -- An actor whose workers read the shares of its reader goes on with what they read.
-use Rattle.std.proofs.Common.{◌≡◌, ℕ, List, [], ◌∷◌, Option, Some, None, Result, Ok, Err, refl, sym, ap, ◌∙◌, subst}
+use Rattle.std.proofs.Common.{◌≡◌, ℕ, List, [], Some, None, Result, Ok, Err, refl, sym, ap, ◌∙◌, subst}
 use Rattle.std.specs.Prelude.{OnOk}
 use Rattle.turn_object.specs.History.{state_after}
-use Rattle.turn_object.specs.Callers.{MayCallAs}
 use Rattle.turn_object.specs.Front.{IsLegalFront}
 use Rattle.turn_object.specs.Pass.{start_of, front, IsPassOf}
 use Rattle.flow.specs.declared.stuck.Stuck.{Stuck}
-use Rattle.mount_model.specs.State.{State}
 use Rattle.mount_model.specs.Step.{IsStep}
 use Rattle.mount_sound.specs.Owed.{Permits}
 use Rattle.index_reader.specs.declared.sharing.Share.{Share}
@@ -20,7 +18,7 @@ use Rattle.actor_core.specs.Progress.{Progress, idle, going, asked, handed, told
 use Rattle.gather_flow.specs.Workers.{Reading, AreMachinesOf}
 use Rattle.actor_core.specs.Handing.{IsHandedOut, IsHanded, with_results}
 use Rattle.run_core.specs.Course.{then_line, one_by_one}
-use Rattle.share_workers.specs.Passes.{View, ThePass, TheTurn, IsAfter}
+use Rattle.share_workers.specs.Passes.{ThePass, TheTurn, IsAfter}
 use Rattle.thread_runs.specs.Driving.{MayGoOn, IsDriven}
 use Rattle.share_workers.specs.Workers.{HaveRead}
 use Rattle.thread_runs.proofs.Driving.{a_number, driven_first}

@@ -51,12 +51,12 @@ told_long place (s ∷ ss) (l ∷ lines) long =
 
 -- ---- lists of lists
 
-get_set_same : {X : Type 0} (xs : List X) (i : ℕ) (x v : X) → slice_get xs i ≡ Some x → slice_get (set xs i v) i ≡ Some v
+pub get_set_same : {X : Type 0} (xs : List X) (i : ℕ) (x v : X) → slice_get xs i ≡ Some x → slice_get (set xs i v) i ≡ Some v
 get_set_same [] i x v is = absurd (cc)
 get_set_same (y ∷ xs) zero x v is = refl
 get_set_same (y ∷ xs) (suc i) x v is = get_set_same xs i x v is
 
-get_set_other : {X : Type 0} (xs : List X) (i j : ℕ) (v : X) → j ≢ i → slice_get (set xs i v) j ≡ slice_get xs j
+pub get_set_other : {X : Type 0} (xs : List X) (i j : ℕ) (v : X) → j ≢ i → slice_get (set xs i v) j ≡ slice_get xs j
 get_set_other [] i j v ne = refl
 get_set_other (y ∷ xs) zero zero v ne = absurd (ne refl)
 get_set_other (y ∷ xs) zero (suc j) v ne = refl
@@ -68,7 +68,7 @@ found [] place lt = absurd (omega (arith, lt))
 found (t ∷ all) zero lt = (t, refl)
 found (t ∷ all) (suc place) lt = found all place (omega (arith, lt))
 
-same_some : {X : Type 0} (a b : X) → Some a ≡ Some b → a ≡ b
+pub same_some : {X : Type 0} (a b : X) → Some a ≡ Some b → a ≡ b
 same_some a b e = cc
 
 get_index : (all : List Told) (i : ℕ) (d : Told) → i < length all → slice_get (lines_in all) i ≡ Some (get_or all i d).lines.items

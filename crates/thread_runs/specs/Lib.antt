@@ -1,5 +1,7 @@
 pub mod Going
 pub mod Driving
+pub mod Apart
+pub mod Parts
 pub mod Runners
 pub mod Each
 pub mod Phases

@@ -1,5 +1,5 @@
 //! The lines of all actors, in the order in which their statements are written.
-ghost use Rattle.std.specs.Prelude.{◌≡◌, ◌<◌, [], OnOk, IfOk, All, length};
+ghost use Rattle.std.specs.Prelude.{◌<◌, OnOk, IfOk, All, length};
 ghost use Rattle.run_core.specs.Cast.{statements_in};
 ghost use Rattle.thread_runs.specs.Collecting.{lines_in, Suffice, HasLine, HaveLines, TakesOne, TakesAll, ArePut};
 

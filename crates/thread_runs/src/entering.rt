@@ -4,7 +4,7 @@ ghost use Rattle.mount_sound.specs.Sound.{IsFine};
 ghost use Rattle.turn_object.specs.Pass.{start_of, parts_of, mine_of, seen_of, ended_of, IsPassOf};
 ghost use Rattle.script_lang.specs.Ranges.{FitsActor};
 ghost use Rattle.script_lang.specs.declared.script.Phase.{Phase as ThePhase};
-ghost use Rattle.thread_runs.specs.Running.{Between, HaveAll, IsNewcomer};
+ghost use Rattle.thread_runs.specs.Running.{Between, HaveAll};
 
 use crate::player::Player;
 use crate::told::Told;
@@ -12,7 +12,7 @@ use actor_core::Actor;
 use edge_io::Clock;
 use mount_core::Mount;
 use script_lang::ActorDecl;
-use std::alloc::{AllocFailed, Global};
+use std::alloc::Global;
 use store_api::Store;
 use turn_object::{Pass, Turn};
 
@@ -32,6 +32,9 @@ pub(crate) fn enter_all<S: Store + Drop, C: Clock + Drop>(
     ensures all { HaveAll turn.now main.new players.new.items }
     ensures entered { result ≡ true → (phases : List ThePhase) → Between turn.now actors.now phases phases main.new players.new.items }
 {
+    if players.reserve(actors.len()).is_err() {
+        return false;
+    }
     for declared in actors {
         let place = players.len() as u64;
         let player = Player {
@@ -42,12 +45,7 @@ pub(crate) fn enter_all<S: Store + Drop, C: Clock + Drop>(
             told: Told::new(alloc),
             whole: true,
         };
-        if let Err(failed) = players.push(player) {
-            let AllocFailed { value } = failed;
-            let (back, _told, _whole) = value.apart();
-            turn.join(main, back);
-            return false;
-        }
+        players.push_reserved(player);
     }
     true
 }

@@ -1,5 +1,5 @@
 //! How actors leave a run, and how its turn is closed.
-ghost use Rattle.std.specs.Prelude.{◌≡◌, ◌^◌, ◌∷◌, ◌++◌, [], List, Bool, true, map, IfOk};
+ghost use Rattle.std.specs.Prelude.{◌≡◌, ◌^◌, ◌∷◌, ◌++◌, [], List, Bool, true, IfOk};
 ghost use Rattle.turn_object.specs.Pass.{start_of, parts_of, IsPassOf};
 ghost use Rattle.script_lang.specs.declared.line.Line.{Line};
 ghost use Rattle.script_lang.specs.declared.script.ActorDecl.{ActorDecl};

@@ -5,9 +5,11 @@
 //! of `share_workers`, and the histories of `story`.
 #![tactic(auto)]
 
+mod apart;
 mod collecting;
 mod entering;
 mod leaving;
+mod parts;
 mod phase;
 mod player;
 mod running;

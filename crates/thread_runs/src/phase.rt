@@ -8,18 +8,20 @@ ghost use Rattle.mount_sound.specs.Owed.{Permits};
 ghost use Rattle.script_lang.specs.declared.script.ActorDecl.{ActorDecl};
 ghost use Rattle.script_lang.specs.declared.script.Phase.{Phase as ThePhase};
 ghost use Rattle.run_core.specs.Players.{IsMade};
+ghost use Rattle.thread_runs.specs.Parts.{dealt};
 ghost use Rattle.thread_runs.specs.Runners.{IsReadyFor, Played, EachPlayed};
 ghost use Rattle.thread_runs.specs.Each.{ChangedTo};
 ghost use Rattle.thread_runs.specs.Phases.{Keeps, CaughtUp, HandedOver};
 ghost use Rattle.thread_runs.specs.Running.{Between};
 
+use crate::apart::each_apart;
+use crate::parts::{Parts, deal};
 use crate::player::{Player, play_own};
 use edge_io::{Clock, Gate};
 use mount_core::Mount;
-use script_lang::{Numbered, Phase};
+use script_lang::Phase;
 use std::alloc::Global;
 use std::sync::Wait;
-use std::thread;
 use std::thread::Threads;
 use store_api::Store;
 use turn_object::{Pass, Turn};
@@ -99,22 +101,7 @@ fn gather_all<S: Store + Drop, C: Clock + Drop>(
     }
 }
 
-/// How many threads a phase of so many actors is worth: one where its statements are all of one actor.
-fn threads_for(count: usize, statements: &[Numbered]) -> usize
-    ensures { 0 < count → 0 < result }
-{
-    let Some(first) = statements.first() else {
-        return 1;
-    };
-    for statement in statements {
-        if statement.actor != first.actor {
-            return count;
-        }
-    }
-    1
-}
-
-/// Has all actors play their parts of a phase, each on a thread of its own. Where only one has a part, the caller plays it.
+/// Has all actors play their parts, each that has statements on a thread of its own where there is more than one.
 fn play_each<
     S: Store + Drop + Send,
     C: Clock + Drop + Send,
@@ -126,24 +113,22 @@ fn play_each<
     turn: &Turn<Mount<S, C>>,
     gate: &G,
     players: &mut [Player<Pass<Mount<S, C>>>],
-    statements: &[Numbered],
+    parts: &Parts<'_>,
 )
-    requires { All (IsReadyFor turn.now statements.now) players.old }
-    ensures { EachPlayed turn.now statements.now players.old players.new }
+    requires { All (IsReadyFor turn.now (dealt parts.now.each.items)) players.old }
+    ensures { EachPlayed turn.now (dealt parts.now.each.items) players.old players.new }
 {
-    let count = players.len();
-    if count > 0 {
-        let threads = threads_for(count, statements);
-        thread::for_each_mut(
-            rt,
-            players,
-            threads,
-            &|_, player: &mut Player<Pass<Mount<S, C>>>|
-                requires { IsReadyFor turn.now statements.now player.old }
-                ensures { Played turn.entry.now statements.entry.now player.old player.new }
-            { play_own(rt, alloc, turn, gate, player, statements) },
-        );
-    }
+    let each = parts.each.as_slice();
+    each_apart(
+        rt,
+        &|player: &mut Player<Pass<Mount<S, C>>>|
+            requires { IsReadyFor turn.now (dealt each.now) player.old }
+            ensures { Played turn.entry.now (dealt each.entry.now) player.old player.new }
+        { play_own(rt, alloc, turn, gate, player, each) },
+        parts.busy.as_slice(),
+        0,
+        players,
+    );
 }
 
 /// Plays one phase. The actors learn of what was called before, play on threads, and the main pass learns of it.
@@ -162,11 +147,13 @@ fn play_phase<
     phase: &Phase,
 )
     requires between { (actors : List ActorDecl) × (phases : List ThePhase) × (left : List ThePhase) × Between turn.now actors phases (phase.now ∷ left) main.old players.old }
+    requires there { All (λ statement. statement.actor < length players.old) phase.now.statements }
     requires made { All IsMade phase.now.statements }
     ensures { (actors : List ActorDecl) (phases left : List ThePhase) → Between turn.now actors phases (phase.now ∷ left) main.old players.old → Between turn.now actors phases left main.new players.new }
 {
     begin_all(turn, main, players);
-    play_each(rt, alloc, turn, gate, players, phase.statements.as_slice());
+    let parts = deal(alloc, players.len(), phase.statements.as_slice());
+    play_each(rt, alloc, turn, gate, players, &parts);
     gather_all(turn, main, players);
 }
 
@@ -186,6 +173,7 @@ pub(crate) fn play_all<
     phases: &[Phase],
 )
     requires between { (actors : List ActorDecl) × Between turn.now actors phases.now phases.now main.old players.old }
+    requires there { All (λ phase. All (λ statement. statement.actor < length players.old) phase.statements) phases.now }
     requires made { All (λ phase. All IsMade phase.statements) phases.now }
     ensures { (actors : List ActorDecl) → Between turn.now actors phases.now phases.now main.old players.old → Between turn.now actors phases.now [] main.new players.new }
 {

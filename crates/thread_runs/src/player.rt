@@ -10,8 +10,10 @@ ghost use Rattle.run_core.specs.Players.{IsMade};
 ghost use Rattle.thread_runs.specs.Driving.{MayGoOn, IsDriven, ComesToIts};
 ghost use Rattle.share_workers.specs.Passes.{IsAfter};
 ghost use Rattle.thread_runs.specs.declared.player.TheConstants.{TOO_MANY};
+ghost use Rattle.thread_runs.specs.Parts.{statements_of, dealt};
 ghost use Rattle.thread_runs.specs.Runners.{MayAct, Acted, ActedAll, IsReadyFor, Played};
 
+use crate::parts::Part;
 use crate::told::Told;
 use actor_core::Actor;
 use edge_io::{Clock, Gate};
@@ -159,7 +161,7 @@ fn act<S: Store + Drop + Send, C: Clock + Drop + Send, G: Gate + Sync, R: Thread
     Ok(())
 }
 
-/// Makes those of these statements that are its own, one after the other.
+/// Makes the statements of its part, one after the other.
 fn act_all<
     S: Store + Drop + Send,
     C: Clock + Drop + Send,
@@ -171,23 +173,22 @@ fn act_all<
     turn: &Turn<Mount<S, C>>,
     gate: &G,
     player: &mut Player<Pass<Mount<S, C>>>,
-    statements: &[Numbered],
+    part: &Part<'_>,
 ) -> Result<(), NoMemory>
     requires may { MayAct turn.now player.old.pass }
-    requires made { All IsMade statements.now }
+    requires made { All IsMade (statements_of part.now) }
     requires idle { IsIdle (progress_of player.old.actor) }
     ensures after { IsAfter turn.now player.old.pass player.new.pass }
-    ensures acted { OnOk result (ActedAll statements.now player.old player.new) }
+    ensures acted { OnOk result (ActedAll (statements_of part.now) player.old player.new) }
 {
+    let statements = part.statements.as_slice();
     for statement in statements {
-        if statement.actor == player.place {
-            act(rt, alloc, turn, gate, player, statement)?;
-        }
+        act(rt, alloc, turn, gate, player, statement)?;
     }
     Ok(())
 }
 
-/// Plays its part of a phase, where it has had memory so far.
+/// Plays its part of a phase, where it has had memory so far, and there was memory for the parts.
 pub(crate) fn play_own<
     S: Store + Drop + Send,
     C: Clock + Drop + Send,
@@ -199,12 +200,15 @@ pub(crate) fn play_own<
     turn: &Turn<Mount<S, C>>,
     gate: &G,
     player: &mut Player<Pass<Mount<S, C>>>,
-    statements: &[Numbered],
+    parts: &[Part<'_>],
 )
-    requires { IsReadyFor turn.now statements.now player.old }
-    ensures { Played turn.now statements.now player.old player.new }
+    requires { IsReadyFor turn.now (dealt parts.now) player.old }
+    ensures { Played turn.now (dealt parts.now) player.old player.new }
 {
-    if player.whole {
-        player.whole = act_all(rt, alloc, turn, gate, player, statements).is_ok();
+    let place = player.place as usize;
+    if !player.whole || parts.len() <= place {
+        player.whole = false;
+        return;
     }
+    player.whole = act_all(rt, alloc, turn, gate, player, &parts[place]).is_ok();
 }

@@ -50,7 +50,7 @@ impl Meeting {
     }
 }
 
-/// Has actors 0 and 1 meet, and workers 1 and 2 of a reader.
+/// Has actor 0 and another one meet, and workers 1 and 2 of a reader.
 #[derive(Drop)]
 struct MeetGate {
     actors: Meeting,
@@ -61,7 +61,7 @@ impl Gate for MeetGate {
     fn before(&self, actor: u64, worker: u64, n: u64) {
         match (actor, worker, n) {
             (0, 0, 2) => self.actors.meet(&self.actors.first, &self.actors.second),
-            (1, 0, 2) => self.actors.meet(&self.actors.second, &self.actors.first),
+            (_, 0, 2) => self.actors.meet(&self.actors.second, &self.actors.first),
             (_, 1, 2) => self.workers.meet(&self.workers.first, &self.workers.second),
             (_, 2, 2) => self.workers.meet(&self.workers.second, &self.workers.first),
             _ => {}
@@ -89,6 +89,14 @@ const MEETINGS: &[Row] = &[
         10,
         [1, 1, 0],
         [1, 0, 1],
+    ),
+    // Two writers of one phase, beside one actor between them and one behind them that have nothing to do in it.
+    (
+        "actor w1\nactor r\nactor w2\nactor s\nphase\nw1 open f\nw2 open f\nphase\nw1 write 0 text:AAAA\nw2 write 1 text:BB\nphase\nw1 close\nw2 close\nphase\nr ropen f 2\nr read 0 4\nr map\n",
+        10_000_000,
+        10_000_000,
+        [1, 1, 0],
+        [1, 1, 0],
     ),
     // Writers of one phase after the other.
     (

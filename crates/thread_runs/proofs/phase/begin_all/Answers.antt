@@ -1,4 +1,4 @@
-use Rattle.std.proofs.Common.{rules, ◌≡◌, ◌<◌, List, length, slice_index_or, subst, ◌∙◌}
+use Rattle.std.proofs.Common.{rules, ◌<◌, List, length, slice_index_or, subst, ◌∙◌}
 use Rattle.mount_model.specs.History.{Event}
 use Rattle.turn_object.specs.Pass.{seen_of}
 use Rattle.thread_runs.specs.Phases.{CaughtUp}

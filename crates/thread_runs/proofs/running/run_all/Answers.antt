@@ -1,10 +1,11 @@
-use Rattle.std.proofs.Common.{rules, ◌≡◌, ◌≤◌, ◌++◌, [], List, length, take, drop, true, sym, subst}
+use Rattle.std.proofs.Common.{rules, ◌≡◌, ◌<◌, ◌≤◌, ◌++◌, [], List, length, take, drop, true, sym, subst, ap, ◌∙◌}
 use Rattle.std.specs.Prelude.{All}
 use Rattle.turn_object.specs.Pass.{start_of}
 use Rattle.mount_model.specs.State.{State}
 use Rattle.mount_sound.specs.Sound.{IsFine}
 use Rattle.script_lang.specs.Ranges.{FitsActor}
 use Rattle.script_lang.specs.declared.script.ActorDecl.{ActorDecl}
+use Rattle.script_lang.specs.declared.script.Numbered.{Numbered}
 use Rattle.script_lang.specs.declared.script.Phase.{Phase}
 use Rattle.run_core.specs.Leading.{GoesOn}
 use Rattle.run_core.specs.Players.{IsMade}
@@ -14,8 +15,8 @@ use Rattle.thread_runs.specs.Running.{Between}
 use Rattle.thread_runs.specs.Closing.{HasRun}
 use Rattle.thread_runs.specs.Collecting.{lines_in}
 use Rattle.thread_runs.proofs.Closing.{can_leave, ok_also}
-use Rattle.thread_runs.proofs.Handing.{written_back}
-use Rattle.thread_runs.proofs.RightRuns.{all_made}
+use Rattle.thread_runs.proofs.Handing.{actors_long, written_back}
+use Rattle.thread_runs.proofs.RightRuns.{all_made, all_there}
 use Rattle.thread_runs.proofs.running.run_all.Goals as goal
 
 pub returns-in-Err-clause-goes_on : goal.returns-in-Err-clause-goes_on
@@ -44,6 +45,16 @@ play_all-requires-clause-between g c =
       c.as_slice-actors.result.now,
       subst (λ (z : List Runner). Between c.in-Ok.made.0 c.as_slice-actors.result.now phases phases c.enter_all.new.main z) (sym c.as_mut_slice.ensures.value) (c.enter_all.ensures.entered yes phases),
     )
+
+pub play_all-requires-clause-there : goal.play_all-requires-clause-there
+play_all-requires-clause-there g c =
+    let yes : c.enter_all.result ≡ true = search rules in
+    let phases = c.as_slice-phases.result.now in
+    let turn = c.in-Ok.made.0 in
+    let count = length c.as_mut_slice.result.now in
+    let many : count ≡ length c.args.script.now.actors =
+    ap length c.as_mut_slice.ensures.value ∙ (actors_long turn c.as_slice-actors.result.now phases phases c.enter_all.new.main c.enter_all.new.players.items (c.enter_all.ensures.entered yes phases) ∙ ap length c.as_slice-actors.ensures) in
+    λ κs lives. subst (λ (z : List Phase). All (λ (phase : Phase). All (λ (s : Numbered). s.actor < count) phase.statements) z) (sym c.as_slice-phases.ensures) (all_there c.args.script.now count c.requires.playable many)
 
 pub play_all-requires-clause-made : goal.play_all-requires-clause-made
 play_all-requires-clause-made g c = λ κs lives. subst (λ (z : List Phase). All (λ (phase : Phase). All IsMade phase.statements) z) (sym c.as_slice-phases.ensures) (all_made c.args.script.now c.requires.playable)
