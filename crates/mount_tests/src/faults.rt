@@ -2,9 +2,9 @@
 use crate::calls::FIRST;
 use crate::lives::SYNCED;
 use crate::playing::{Beginning, Cast, SOUND, begun, ends, hold, live};
-use crate::spelling::Line;
 use std::alloc::Global;
 use store_api::Store;
+use test_lines::Line;
 
 // Acts of which one fails and leaves such a part, the writer that enters then, and how it leaves.
 struct Case {

@@ -1,8 +1,8 @@
 //! Containers are held, truncated, renamed and let go: each answer, each fault and each stop.
 use crate::playing::{Beginning, Cast, ONE, SOUND, all_hold, begun, fill, make, mounted};
-use crate::spelling::Line;
 use crate::tables::{Table, all_tell};
 use crate::trials::Trial;
+use test_lines::Line;
 
 const SESSIONS: &[&str] = &[
     // A container is held alone.

@@ -2,11 +2,11 @@
 use crate::calls::{numbers, path};
 use crate::lives::SYNCED;
 use crate::playing::{Beginning, Cast, ONE, SOUND, Tried, begun, hold, live, make, mounted};
-use crate::spelling::Line;
 use crate::tables::{Table, all_tell};
 use plfs_types::NoMemory;
 use std::alloc::Global;
 use store_memory::{Keep, KeepList, MemoryStore};
+use test_lines::Line;
 
 const FILES: [&str; 2] = ["hostdir.0/log.0.4294967297", "hostdir.0/index.0.4294967297"];
 

@@ -1,13 +1,13 @@
 //! How a mount begins.
 use crate::calls::name;
 use crate::playing::{Beginning, Cast, SOUND, Tried, all_hold, clock, fill, store};
-use crate::spelling::Line;
 use crate::tables::{Table, all_tell};
 use mount_core::{Mount, MountTrouble};
 use plfs_types::{Name, NoMemory};
 use std::alloc::Global;
 use store_api::{Step, Store};
 use store_memory::MemoryStore;
+use test_lines::Line;
 
 // A store whose room of marks has these folders, and these names in the folder of marks.
 fn marked(alloc: Global, folders: &[Name], marks: &str) -> Result<MemoryStore, NoMemory> {

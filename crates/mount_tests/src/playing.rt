@@ -3,7 +3,7 @@
 //! In a row `1 hold 1: held` the caller 1 makes the call `hold 1`, which is answered `held`; by `1/41 hold 1: stopped` it
 //! breaks it off after 41 bytes. `after 4` stands for the first four rows of a life.
 use crate::calls::{FIRST, call_of, name};
-use crate::spelling::{Line, parts, spell};
+use crate::spelling::{parts, spell};
 use edge_io::{ClockList, ListClock};
 use mount_core::{Mount, MountTrouble};
 use mount_model::Ask;
@@ -12,6 +12,7 @@ use std::alloc::Global;
 use std::process::Abort;
 use store_api::{Step, Store};
 use store_memory::{Fail, FailList, MemoryStore};
+use test_lines::Line;
 
 pub(crate) type Tried = Mount<MemoryStore, ListClock>;
 

@@ -1,8 +1,9 @@
 //! Each call of a writer's life is broken off in turn, and then another mount on the same store goes on.
 use crate::lives::SYNCED;
 use crate::playing::{Cast, SOUND, begun, ends, hold, live, mounted};
-use crate::spelling::{Line, parts};
+use crate::spelling::parts;
 use std::alloc::Global;
+use test_lines::Line;
 
 // The id that the second mount draws first.
 const NEXT: u64 = 8589934593;

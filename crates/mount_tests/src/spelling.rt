@@ -1,9 +1,8 @@
-//! Lines of text, and replies as text.
-use itoa::Buffer;
+//! Replies as text.
 use mount_model::{Refusal, Reply};
 use plfs_types::Name;
-use std::alloc::Global;
 use store_api::Answer;
+use test_lines::Line;
 
 /// What stands before the first such sign and what stands behind it, or all of the text and nothing.
 pub(crate) fn parts(text: &str, sign: char) -> (&str, &str) {
@@ -12,72 +11,17 @@ pub(crate) fn parts(text: &str, sign: char) -> (&str, &str) {
     (first, rest.trim_start())
 }
 
-/// Text that grows. A line for which there was no memory is like no text.
-#[derive(Drop)]
-pub(crate) struct Line {
-    text: String,
-    is_cut: bool,
-}
-
-impl Line {
-    pub(crate) fn new(alloc: Global) -> Self {
-        Line {
-            text: String::new(alloc),
-            is_cut: false,
-        }
-    }
-
-    pub(crate) fn as_str(&self) -> &str {
-        if self.is_cut {
-            "no memory for this line"
-        } else {
-            self.text.as_str()
-        }
-    }
-
-    pub(crate) fn push(&mut self, text: &str) {
-        if self.text.push_str(text).is_err() {
-            self.is_cut = true;
-        }
-    }
-
-    /// A word, and this number behind it.
-    pub(crate) fn say(&mut self, word: &str, number: u64) {
-        self.push(word);
-        self.push(Buffer::new().format(number));
-    }
-
-    /// A word, and these bytes behind it, each a letter.
-    pub(crate) fn letters(&mut self, word: &str, bytes: &[u8]) {
-        self.push(word);
-        for byte in bytes {
-            if self.text.push(char::from(*byte)).is_err() {
-                self.is_cut = true;
-            }
-        }
-    }
-
-    fn named(&mut self, word: &str, names: &[Name]) {
-        self.push(word);
-        for name in names {
-            self.letters(" ", name.bytes());
-        }
-    }
-
-    /// Says what came of a deed, where that is other than what is wanted.
-    pub(crate) fn expect(&mut self, deed: &str, told: &Line, want: &str) {
-        if told.as_str() != want {
-            self.push(deed);
-            self.push(": ");
-            self.push(told.as_str());
-            self.push("\n");
-        }
+// A word, and these names behind it.
+fn named(line: &mut Line, word: &str, names: &[Name]) {
+    line.push(word);
+    for name in names {
+        line.letters(" ", name.bytes());
     }
 }
 
 fn seen(line: &mut Line, answer: &Answer) {
     let word = match answer {
-        Answer::Names(names) => return line.named("names", names.as_slice()),
+        Answer::Names(names) => return named(line, "names", names.as_slice()),
         Answer::Number { value } => return line.say("length ", *value),
         Answer::Bytes(bytes) => return line.letters("bytes=", bytes.as_slice()),
         Answer::Absent => "absent",
@@ -133,7 +77,7 @@ fn numbered(line: &mut Line, reply: &Reply) {
 pub(crate) fn spell(line: &mut Line, reply: &Reply) {
     match reply {
         Reply::Greeted => line.push("greeted"),
-        Reply::Rooms(names) => line.named("rooms", names.as_slice()),
+        Reply::Rooms(names) => named(line, "rooms", names.as_slice()),
         Reply::Looked(answer) => seen(line, answer),
         Reply::Done => line.push("done"),
         Reply::Mended { made } => line.push(if *made { "made" } else { "whole" }),

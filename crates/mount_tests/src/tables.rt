@@ -4,9 +4,10 @@ use crate::holding::beside;
 use crate::losses::{kept, left};
 use crate::mounting::drawn;
 use crate::playing::{Cast, ends};
-use crate::spelling::{Line, parts};
+use crate::spelling::parts;
 use crate::trials::{Trial, tried};
 use std::process::Abort;
+use test_lines::Line;
 
 /// What the cases of a table are.
 #[derive(Clone, Copy)]

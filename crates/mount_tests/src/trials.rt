@@ -1,6 +1,7 @@
 //! Calls in whose act the store fails, and calls that are broken off.
 use crate::playing::{Beginning, By, Cast, SOUND, begun, hold, make};
-use crate::spelling::{Line, parts};
+use crate::spelling::parts;
+use test_lines::Line;
 
 /// A call that goes wrong.
 #[derive(Clone, Copy)]

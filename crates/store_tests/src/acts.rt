@@ -1,7 +1,8 @@
 //! What the rows do to a store, as the tables spell it.
-use crate::telling::Line;
+use crate::telling::tell;
 use plfs_types::Name;
 use store_api::{Step, Store};
+use test_lines::Line;
 
 /// An act. Files are named by their folder and their name, and lie in the first room.
 #[derive(Clone, Copy)]
@@ -152,6 +153,6 @@ pub(crate) fn act_on<S: Store>(store: &mut S, act: Act, line: &mut Line) {
         }
         _ => store.act(&step_of(act)),
     };
-    line.tell(&told);
+    tell(line, &told);
     drop(told);
 }

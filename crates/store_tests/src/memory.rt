@@ -1,7 +1,7 @@
 //! A store in memory: its answers, and its planned faults.
 use crate::acts::{Act, act_on, name};
 use crate::playing::{Row, Site, holds};
-use crate::telling::Line;
+use crate::telling::{count, note};
 use plfs_types::{Bytes, Name, NameList, NoMemory, Path};
 use std::alloc::Global;
 use std::mem;
@@ -10,6 +10,7 @@ use std::test::Fail as Failure;
 use store_memory::{
     Fail, FailList, File, FileList, Keep, KeepList, MemoryStore, Room, RoomList, Tree,
 };
+use test_lines::Line;
 
 #[derive(Drop)]
 struct InMemory {
@@ -86,16 +87,16 @@ fn keeping(alloc: Global, of: &[(u64, &str, u64)]) -> Result<KeepList, NoMemory>
 }
 
 fn counts(line: &mut Line, store: &MemoryStore) {
-    line.count("", store.acts(), " acts, ");
-    line.count("", store.faults(), " faults");
+    count(line, "", store.acts(), " acts, ");
+    count(line, "", store.faults(), " faults");
 }
 
 // How many bytes the first room's first file has, and how many of them are kept; and the counts.
 fn left(line: &mut Line, store: &MemoryStore) {
     if let Some(room) = store.tree().rooms.as_slice().first() {
         if let Some(file) = room.files.as_slice().first() {
-            line.count("; ", file.bytes.as_slice().len() as u64, " bytes, ");
-            line.count("", file.kept, " kept");
+            count(line, "; ", file.bytes.as_slice().len() as u64, " bytes, ");
+            count(line, "", file.kept, " kept");
         }
     }
     line.push("; ");
@@ -106,7 +107,7 @@ impl InMemory {
     fn put(&mut self, made: Result<MemoryStore, NoMemory>, line: &mut Line) {
         match made {
             Ok(store) => drop(mem::replace(&mut self.store, store)),
-            Err(NoMemory) => line.note(false),
+            Err(NoMemory) => note(line, false),
         }
     }
 

@@ -1,13 +1,14 @@
 //! A store on a folder of the system, and what is made beside it there.
 use crate::acts::{Act, act_on};
 use crate::playing::{Row, Site, holds};
-use crate::telling::Line;
+use crate::telling::{count, note};
 use plfs_types::{NoMemory, Word};
 use std::os::unix::fs::symlink;
 use std::process::Abort;
 use std::test::Fail;
 use std::{fs, mem};
 use store_folder::FolderStore;
+use test_lines::Line;
 
 #[derive(Drop)]
 struct OnFolder {
@@ -33,7 +34,7 @@ impl OnFolder {
     fn open(&mut self, root: &str, line: &mut Line) {
         match open(self.rt, root) {
             Ok(store) => drop(mem::replace(&mut self.store, store)),
-            Err(NoMemory) => line.note(false),
+            Err(NoMemory) => note(line, false),
         }
     }
 
@@ -41,15 +42,15 @@ impl OnFolder {
         if let Some(cause) = self.store.cause() {
             match format!(in self.rt.alloc(); "{cause}") {
                 Ok(text) => line.push(text.as_str()),
-                Err(_) => line.note(false),
+                Err(_) => note(line, false),
             }
         }
     }
 
     fn read(&self, path: &str, line: &mut Line) {
         match fs::read(&self.rt, path) {
-            Ok(bytes) => line.letters(bytes.as_slice()),
-            Err(_) => line.note(false),
+            Ok(bytes) => line.letters("", bytes.as_slice()),
+            Err(_) => note(line, false),
         }
     }
 }
@@ -57,20 +58,20 @@ impl OnFolder {
 impl Site for OnFolder {
     fn play(&mut self, act: Act, line: &mut Line) {
         match act {
-            Act::MakeDir(path) => line.note(fs::create_dir(&self.rt, path).is_ok()),
-            Act::RemoveDir(path) => line.note(fs::remove_dir_all(&self.rt, path).is_ok()),
+            Act::MakeDir(path) => note(line, fs::create_dir(&self.rt, path).is_ok()),
+            Act::RemoveDir(path) => note(line, fs::remove_dir_all(&self.rt, path).is_ok()),
             Act::WriteFile(path, text) => {
-                line.note(fs::write(&self.rt, path, text.as_bytes()).is_ok())
+                note(line, fs::write(&self.rt, path, text.as_bytes()).is_ok())
             }
-            Act::RemoveFile(path) => line.note(fs::remove_file(&self.rt, path).is_ok()),
+            Act::RemoveFile(path) => note(line, fs::remove_file(&self.rt, path).is_ok()),
             Act::ReadFile(path) => self.read(path, line),
-            Act::Link(to, at) => line.note(symlink(&self.rt, to, at).is_ok()),
+            Act::Link(to, at) => note(line, symlink(&self.rt, to, at).is_ok()),
             Act::Kind(path) => line.push(kind_of(self.rt, path)),
             Act::Open(root) => self.open(root, line),
             Act::Cause => self.cause(line),
             Act::Counts => {
-                line.count("", self.store.acts(), " acts, ");
-                line.count("", self.store.faults(), " faults");
+                count(line, "", self.store.acts(), " acts, ");
+                count(line, "", self.store.faults(), " faults");
             }
             _ => act_on(&mut self.store, act, line),
         }

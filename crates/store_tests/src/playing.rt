@@ -1,8 +1,8 @@
 //! One table is played on a store of any kind.
 use crate::acts::Act;
-use crate::telling::Line;
 use std::alloc::Global;
 use std::process::Abort;
+use test_lines::Line;
 
 /// What is done, and what is told of it.
 pub(crate) type Row = (Act, &'static str);

@@ -3,12 +3,13 @@ use crate::acts::{Act, act_on};
 use crate::memory::new_store;
 use crate::opening::open;
 use crate::playing::{Row, Site, holds};
-use crate::telling::Line;
+use crate::telling::note;
 use plfs_types::NoMemory;
 use spread_store::{Spread, SpreadTrouble, StoreList};
 use std::alloc::Global;
 use std::process::Abort;
 use store_memory::MemoryStore;
+use test_lines::Line;
 
 /// Two stores, and what they tell as one.
 struct Case {
@@ -68,10 +69,7 @@ fn named(mut stores: StoreList<MemoryStore>, line: &mut Line) {
 
 fn troubled(trouble: &SpreadTrouble, line: &mut Line) {
     match trouble {
-        SpreadTrouble::Doubled { name } => {
-            line.push("doubled ");
-            line.letters(name.bytes());
-        }
+        SpreadTrouble::Doubled { name } => line.letters("doubled ", name.bytes()),
         SpreadTrouble::Fault => line.push("fault"),
         SpreadTrouble::NoMemory => line.push("no memory"),
     }
@@ -79,7 +77,7 @@ fn troubled(trouble: &SpreadTrouble, line: &mut Line) {
 
 fn ended<R: Abort>(rt: &R, alloc: Global, case: &Case, line: &mut Line) {
     let Ok(stores) = two(alloc, case) else {
-        return line.note(false);
+        return note(line, false);
     };
     match open(rt, alloc, stores) {
         Ok(mut spread) => {

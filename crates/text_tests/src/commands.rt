@@ -1,9 +1,10 @@
 //! The words that are a command, and the words that are none.
-use crate::lines::Line;
+use crate::lines::named;
 use command_line::Command;
 use plfs_types::{NoMemory, Word};
 use std::alloc::Global;
 use std::test::Fail;
+use test_lines::Line;
 
 fn read(alloc: Global, text: &str) -> Result<Option<Command>, NoMemory> {
     let mut words = Vec::new(alloc);
@@ -18,19 +19,19 @@ fn tell(line: &mut Line, command: Command) {
         Command::Run => line.push("run"),
         Command::Play => line.push("play"),
         Command::Gen { writers } => line.fill("gen %", &[u64::from(writers)]),
-        Command::Cat { name } => line.name("cat ", &name.name()),
-        Command::Stat { name } => line.name("stat ", &name.name()),
-        Command::Map { name } => line.name("map ", &name.name()),
-        Command::Flatten { name } => line.name("flatten ", &name.name()),
-        Command::Recover { name } => line.name("recover ", &name.name()),
-        Command::Migrate { name } => line.name("migrate ", &name.name()),
+        Command::Cat { name } => named(line, "cat ", &name.name()),
+        Command::Stat { name } => named(line, "stat ", &name.name()),
+        Command::Map { name } => named(line, "map ", &name.name()),
+        Command::Flatten { name } => named(line, "flatten ", &name.name()),
+        Command::Recover { name } => named(line, "recover ", &name.name()),
+        Command::Migrate { name } => named(line, "migrate ", &name.name()),
         Command::Trunc { name, size } => {
-            line.name("trunc ", &name.name());
+            named(line, "trunc ", &name.name());
             line.fill(" to %", &[size]);
         }
         Command::Rename { name, to } => {
-            line.name("rename ", &name.name());
-            line.name(" to ", &to.name());
+            named(line, "rename ", &name.name());
+            named(line, " to ", &to.name());
         }
         Command::Ls => line.push("ls"),
     }

@@ -1,8 +1,8 @@
 //! The generated script is the one that its text says.
-use crate::lines::Line;
 use crate::scripts::tell;
 use script_lang::{Script, generate};
 use std::test::Fail;
+use test_lines::Line;
 
 // A line for each writer.
 fn add_each(text: &mut Line, pattern: &str, n: u64) {

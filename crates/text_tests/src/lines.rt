@@ -1,62 +1,24 @@
-//! What is told of a value, as text.
-use itoa::Buffer;
+//! Names in lines, and lines themselves.
 use plfs_types::Name;
-use std::alloc::Global;
+use test_lines::Line;
 
-/// Text that is written piece by piece. Where there was no memory for a piece, it is like no text.
-#[derive(Drop)]
-pub(crate) struct Line {
-    text: String,
-    is_cut: bool,
+/// A word, and this name behind it.
+pub(crate) fn named(line: &mut Line, word: &str, name: &Name) {
+    line.letters(word, name.bytes());
 }
 
-impl Line {
-    pub(crate) fn new(alloc: Global) -> Self {
-        Line {
-            text: String::new(alloc),
-            is_cut: false,
-        }
-    }
-
-    pub(crate) fn as_str(&self) -> &str {
-        if self.is_cut {
-            "no memory for this line"
-        } else {
-            self.text.as_str()
-        }
-    }
-
-    pub(crate) fn push(&mut self, text: &str) {
-        if self.text.push_str(text).is_err() {
-            self.is_cut = true;
-        }
-    }
-
-    /// The pattern, with one of the numbers in the place of each `%`.
-    pub(crate) fn fill(&mut self, pattern: &str, numbers: &[u64]) {
-        let mut numbers = numbers.iter();
-        let mut parts = pattern.split('%');
-        self.push(parts.next().unwrap_or(""));
-        for part in parts {
-            if let Some(number) = numbers.next() {
-                self.push(Buffer::new().format(*number));
-            }
-            self.push(part);
-        }
-    }
-
-    /// A word, and the bytes of a text or a name behind it, each a letter.
-    pub(crate) fn spell(&mut self, word: &str, bytes: &[u8]) {
-        self.push(word);
-        for byte in bytes {
-            if self.text.push(char::from(*byte)).is_err() {
-                self.is_cut = true;
-            }
-        }
-    }
-
-    /// A word and a name.
-    pub(crate) fn name(&mut self, word: &str, name: &Name) {
-        self.spell(word, name.bytes());
-    }
+#[test]
+fn a_line_is_what_was_put_into_it(rt: HostRuntime) {
+    let mut told = Line::new(rt.alloc());
+    told.push("a");
+    told.say(" ", 12);
+    told.letters(" ", &[98, 255]);
+    told.fill(" %, % c%.", &[0, 10]);
+    told.fill("%d", &[7, 8]);
+    let mut line = Line::new(rt.alloc());
+    line.expect("as wanted", &told, "a 12 b\u{ff} 0, 10 c.7d");
+    line.expect("otherwise", &told, "a");
+    drop(told);
+    assert!(rt; line.as_str() == "otherwise: a 12 b\u{ff} 0, 10 c.7d\n");
+    drop(line);
 }

@@ -1,10 +1,11 @@
 //! One line of each outcome and of each refusal.
-use crate::lines::Line;
+use crate::lines::named;
 use plfs_types::{Trunc, WriterCount};
 use report_text::{ReportTrouble, print, read};
 use script_lang::{Outcome, Why};
 use std::alloc::Global;
 use std::test::Fail;
+use test_lines::Line;
 
 const TEXT: &str = "\
 0 open 4294967297
@@ -154,7 +155,7 @@ fn of_containers(line: &mut Line, outcome: &Outcome) {
         Outcome::Listed { names } => {
             line.push("Listed");
             for name in names.as_slice() {
-                line.name(", name ", name);
+                named(line, ", name ", name);
             }
         }
         Outcome::Armed => line.push("Armed"),
@@ -169,8 +170,8 @@ fn of_containers(line: &mut Line, outcome: &Outcome) {
             file,
             place,
         } => {
-            line.name("Damaged, folder ", folder);
-            line.name(", file ", file);
+            named(line, "Damaged, folder ", folder);
+            named(line, ", file ", file);
             line.fill(", place %", &[*place]);
         }
         _ => line.push("Fault"),

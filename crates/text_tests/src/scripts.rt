@@ -1,9 +1,10 @@
 //! Scripts: the first fault of each kind, the limits, and what a script means.
-use crate::lines::Line;
+use crate::lines::named;
 use plfs_types::Bytes;
 use script_lang::{Data, Kind, Script, ScriptTrouble, Statement};
 use std::alloc::Global;
 use std::test::Fail;
+use test_lines::Line;
 
 fn kind(kind: Kind) -> &'static str {
     match kind {
@@ -125,8 +126,8 @@ fn a_script_has_its_limits(rt: HostRuntime) {
 
 fn tell_data(line: &mut Line, data: &Data) {
     match data {
-        Data::Hex(bytes) => line.spell(" hex:", bytes.as_slice()),
-        Data::Text(bytes) => line.spell(" text:", bytes.as_slice()),
+        Data::Hex(bytes) => line.letters(" hex:", bytes.as_slice()),
+        Data::Text(bytes) => line.letters(" text:", bytes.as_slice()),
         Data::Fill { len, byte } => line.fill(" fill:%:%", &[*len, u64::from(*byte)]),
         Data::Ramp { len, first } => line.fill(" ramp:%:%", &[*len, u64::from(*first)]),
     }
@@ -134,21 +135,21 @@ fn tell_data(line: &mut Line, data: &Data) {
 
 fn tell_statement(line: &mut Line, statement: &Statement) {
     match statement {
-        Statement::Open { name } => line.name("open ", &name.name()),
+        Statement::Open { name } => named(line, "open ", &name.name()),
         Statement::Write { at, content } => {
             line.fill("write %", &[*at]);
             tell_data(line, content);
         }
         Statement::Close => line.push("close"),
         Statement::Ropen { name, workers } => {
-            line.name("ropen ", &name.name());
+            named(line, "ropen ", &name.name());
             line.fill(" by %", &[u64::from(*workers)]);
         }
         Statement::Verify { at, content } => {
             line.fill("verify %", &[*at]);
             tell_data(line, content);
         }
-        Statement::Stat { name } => line.name("stat ", &name.name()),
+        Statement::Stat { name } => named(line, "stat ", &name.name()),
         Statement::Stop { call, bytes } => line.fill("stop % %", &[*call, *bytes]),
         _ => line.push("another"),
     }
@@ -158,7 +159,7 @@ fn tell_statement(line: &mut Line, statement: &Statement) {
 /// its statements the line, the place of the actor, and the statement.
 pub(crate) fn tell(line: &mut Line, script: &Script) {
     for actor in script.actors.as_slice() {
-        line.name("", &actor.name);
+        named(line, "", &actor.name);
         line.fill(
             " at % for %\n",
             &[u64::from(actor.host), u64::from(actor.cap)],
