@@ -5,10 +5,10 @@ use crate::cases::all_hold;
 use crate::newest::{FIRST, SECOND, gathered, joined};
 use crate::outcomes::Tell;
 use crate::sets::read;
-use crate::spelling::Line;
 use attr_flow::attr_of;
 use std::alloc::Global;
 use std::thread::Threads;
+use test_lines::Line;
 
 /// Tells the share of two workers, of whom the first has the greater writer.
 pub(crate) fn tell_joined<R: Threads + Sync>(

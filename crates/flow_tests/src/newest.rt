@@ -5,7 +5,6 @@ ghost use Rattle.index_reader.specs.Listing as listed;
 
 use crate::cases::ends;
 use crate::sets::{EDGES, SETS, read};
-use crate::spelling::Line;
 use crate::worlds::{Set, newest, reply_to, size};
 use flat_format::Flat;
 use flow::Flow;
@@ -17,6 +16,7 @@ use plain_file::{PieceList, Pieces};
 use plfs_types::{Bytes, CoverList, MAX_SIZE, NoMemory};
 use std::alloc::Global;
 use std::thread::Threads;
+use test_lines::Line;
 
 /// The index droppings of the writers, by ascending id.
 pub(crate) const FIRST: Dropping = Dropping {

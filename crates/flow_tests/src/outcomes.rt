@@ -1,10 +1,11 @@
 //! How machines end, as text.
-use crate::spelling::{Line, trouble};
+use crate::spelling::{pair, trouble};
 use attr_flow::{Attr, AttrOut};
 use flow::Stuck;
 use index_reader::{Listing, Share};
 use migrate_core::Migrated;
 use plfs_types::{Bytes, TruncList};
+use test_lines::Line;
 use torn_tail::Recovered;
 use writer_flow::{WriterHandle, WriterOut};
 
@@ -52,7 +53,7 @@ impl Tell for TruncList {
     fn tell(&self, line: &mut Line) {
         line.push("truncates");
         for t in self.as_slice() {
-            line.pair(t.stamp, ":", t.size);
+            pair(line, t.stamp, ":", t.size);
         }
     }
 }
@@ -63,7 +64,7 @@ impl Tell for Attr {
         line.say("size ", self.size);
         line.say(" stored ", u64::try_from(self.stored).unwrap_or(0));
         for share in self.shares.as_slice() {
-            line.pair(share.writer, "=", share.bytes);
+            pair(line, share.writer, "=", share.bytes);
         }
         line.push(" ");
         self.truncs.tell(line);
@@ -83,7 +84,7 @@ impl Tell for Recovered {
     fn tell(&self, line: &mut Line) {
         line.push("buried");
         for buried in self.buried.as_slice() {
-            line.pair(buried.writer, ":", buried.count);
+            pair(line, buried.writer, ":", buried.count);
         }
         line.push(" alive");
         for writer in self.alive.as_slice() {
@@ -106,7 +107,7 @@ impl Tell for Listing {
     fn tell(&self, line: &mut Line) {
         line.say("droppings ", self.droppings.as_slice().len() as u64);
         for cover in self.flat.covers.as_slice() {
-            line.pair(cover.writer, ":", cover.count);
+            pair(line, cover.writer, ":", cover.count);
         }
     }
 }
@@ -116,10 +117,10 @@ impl Tell for Share {
     fn tell(&self, line: &mut Line) {
         line.push("share");
         for cover in self.covers.as_slice() {
-            line.pair(cover.writer, ":", cover.count);
+            pair(line, cover.writer, ":", cover.count);
         }
         for piece in self.pieces.as_slice() {
-            line.pair(piece.at, "+", piece.len);
+            pair(line, piece.at, "+", piece.len);
         }
     }
 }
@@ -129,7 +130,7 @@ impl Tell for WriterHandle {
     fn tell(&self, line: &mut Line) {
         line.say(if self.closing { "closing " } else { "open " }, self.writer);
         line.say(" ", u64::from(self.cap));
-        line.pair(self.pending, " ", self.landed);
+        pair(line, self.pending, " ", self.landed);
     }
 }
 

@@ -4,11 +4,12 @@ ghost use Rattle.flow.specs.Standing.{IsFresh, IsOver, rest_of};
 
 use crate::outcomes::Tell;
 use crate::replies::reply_of;
-use crate::spelling::{Line, parts, spell};
+use crate::spelling::{parts, spell};
 use flow::Flow;
 use mount_model::{Call, Reply};
 use plfs_types::NoMemory;
 use std::alloc::Global;
+use test_lines::Line;
 
 // The reply of the row to this call, of want of memory where that was met. What both are is put behind `shown`.
 fn replied(alloc: Global, call: &Call, row: &str, shown: &mut Line) -> Reply {

@@ -1,8 +1,7 @@
-//! Lines of text, and calls and troubles as text.
+//! Calls and troubles as text.
 use flow::Stuck;
-use itoa::Buffer;
 use mount_model::{Call, Look};
-use std::alloc::Global;
+use test_lines::Line;
 
 /// What stands before the first such sign and what stands behind it, or all of the text and nothing.
 pub(crate) fn parts(text: &str, sign: char) -> (&str, &str) {
@@ -11,66 +10,10 @@ pub(crate) fn parts(text: &str, sign: char) -> (&str, &str) {
     (first.trim_end(), rest.trim_start())
 }
 
-/// Text that grows. A line for which there was no memory is like no text.
-#[derive(Drop)]
-pub(crate) struct Line {
-    text: String,
-    is_cut: bool,
-}
-
-impl Line {
-    pub(crate) fn new(alloc: Global) -> Self {
-        Line {
-            text: String::new(alloc),
-            is_cut: false,
-        }
-    }
-
-    pub(crate) fn as_str(&self) -> &str {
-        if self.is_cut {
-            "no memory for this line"
-        } else {
-            self.text.as_str()
-        }
-    }
-
-    pub(crate) fn push(&mut self, text: &str) {
-        if self.text.push_str(text).is_err() {
-            self.is_cut = true;
-        }
-    }
-
-    /// A word, and this number behind it.
-    pub(crate) fn say(&mut self, word: &str, number: u64) {
-        self.push(word);
-        self.push(Buffer::new().format(number));
-    }
-
-    /// Two numbers, with a blank before them and a sign between them.
-    pub(crate) fn pair(&mut self, first: u64, sign: &str, second: u64) {
-        self.say(" ", first);
-        self.say(sign, second);
-    }
-
-    /// A word, and these bytes behind it, each a letter.
-    pub(crate) fn letters(&mut self, word: &str, bytes: &[u8]) {
-        self.push(word);
-        for byte in bytes {
-            if self.text.push(char::from(*byte)).is_err() {
-                self.is_cut = true;
-            }
-        }
-    }
-
-    /// Says what came of a deed, where that is other than what is wanted.
-    pub(crate) fn expect(&mut self, deed: &str, told: &Line, want: &str) {
-        if told.as_str() != want {
-            self.push(deed);
-            self.push(": ");
-            self.push(told.as_str());
-            self.push("\n");
-        }
-    }
+/// Two numbers, with a blank before them and a sign between them.
+pub(crate) fn pair(line: &mut Line, first: u64, sign: &str, second: u64) {
+    line.say(" ", first);
+    line.say(sign, second);
 }
 
 fn look_at(line: &mut Line, look: &Look) {
@@ -80,7 +23,7 @@ fn look_at(line: &mut Line, look: &Look) {
         Look::Length { path } => line.letters("length ", path.file.bytes()),
         Look::Read { path, at, len } => {
             line.letters("read ", path.file.bytes());
-            line.pair(*at, " ", *len);
+            pair(line, *at, " ", *len);
         }
     }
 }
@@ -99,7 +42,7 @@ fn number_at(bytes: &[u8], place: usize) -> u64 {
 /// Of a packed index its length and its numbers.
 fn packed(line: &mut Line, flat: u64, bytes: &[u8]) {
     line.push("put");
-    line.pair(flat, " ", bytes.len() as u64);
+    pair(line, flat, " ", bytes.len() as u64);
     for index in 1..(bytes.len() / 8).min(100) {
         line.say(" ", number_at(bytes, 8 * index));
     }
@@ -154,7 +97,7 @@ pub(crate) fn spell(line: &mut Line, call: &Call) {
         _ => return numbered(line, call),
     };
     line.push(word);
-    line.pair(first, " ", second);
+    pair(line, first, " ", second);
 }
 
 /// How a machine ended that came to no good.

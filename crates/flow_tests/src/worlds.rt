@@ -1,9 +1,9 @@
 //! A container with what three writers wrote, as a reader's calls see it; and what its file is, asked byte by byte.
-use crate::spelling::Line;
 use mount_model::{Call, Look, Reply};
 use plfs_types::{Bytes, Name, NameList, NoMemory};
 use std::alloc::Global;
 use store_api::Answer;
+use test_lines::Line;
 
 /// A write of the writer at this place among the writers, with where its bytes begin in the file and in the log.
 #[derive(Clone, Copy)]

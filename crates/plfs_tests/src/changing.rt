@@ -1,5 +1,5 @@
 //! What is changed and seen of a store from outside.
-use crate::spelling::contents;
+use crate::spelling::{contents, end};
 use crate::stages::{Place, Stage, place};
 use store_api::{Answer, Step, Store};
 
@@ -74,6 +74,6 @@ pub(crate) fn change(stage: &mut Stage, verb: &str, rest: &str, want: &str) {
     if !is_done {
         stage.wrong.push(verb);
         stage.wrong.push(" ");
-        stage.wrong.end(rest);
+        end(&mut stage.wrong, rest);
     }
 }

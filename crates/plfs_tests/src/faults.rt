@@ -1,8 +1,9 @@
 //! Scripts of which each act of the store faults in turn, or whose actor stops in each of its calls, and what a recovery
 //! makes of what they left.
 use crate::playing::all_hold;
-use crate::spelling::{Line, parts};
+use crate::spelling::parts;
 use std::str;
+use test_lines::Line;
 
 // The acts of the script.
 const ACTS: u64 = 42;

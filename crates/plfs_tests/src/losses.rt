@@ -1,6 +1,6 @@
 //! Runs after a loss of power.
 use crate::playing::all_hold;
-use crate::spelling::Line;
+use test_lines::Line;
 
 // One entry is synced, a second one is flushed, and the third waits. The second entry stays, and of its log no byte that
 // wasn't synced.

@@ -2,12 +2,13 @@
 use crate::changing::change;
 use crate::faults::is_recovered;
 use crate::runs::run;
-use crate::spelling::{Line, parts};
+use crate::spelling::{end, parts, spread};
 use crate::stages::{Stage, acts, begin, lose};
 use std::alloc::Global;
 use std::process::Abort;
 use std::sync::Wait;
 use std::thread::Threads;
+use test_lines::Line;
 
 // How words end that are no command.
 const USAGE: &str =
@@ -18,8 +19,8 @@ const USAGE: &str =
 fn look(stage: &mut Stage, verb: &str, want: &str) {
     let mut told = Line::new(stage.alloc);
     match verb {
-        "acts" => told.say(acts(&stage.store)),
-        "bytes" => told.say(stage.input),
+        "acts" => told.say("", acts(&stage.store)),
+        "bytes" => told.say("", stage.input),
         _ => told.push(if is_recovered(stage.out.taken()) {
             "yes"
         } else {
@@ -29,7 +30,7 @@ fn look(stage: &mut Stage, verb: &str, want: &str) {
     if told.as_str() != want {
         stage.wrong.push(verb);
         stage.wrong.push(": ");
-        stage.wrong.end(told.as_str());
+        end(&mut stage.wrong, told.as_str());
     }
     drop(told);
 }
@@ -66,9 +67,13 @@ fn hold<R: Threads + Wait + Sync>(rt: &R, stage: &mut Stage, before: &str, table
         begin(stage, "", "");
         play_all(rt, stage, before);
         play_all(rt, stage, deeds);
+        // Such a session is also the text of a line for which there was no memory.
+        if deeds.is_empty() && !shows.is_empty() {
+            end(&mut stage.wrong, "no deeds");
+        }
         if !stage.wrong.as_str().is_empty() {
             stage.wrong.push("in: ");
-            return stage.wrong.end(shows);
+            return end(&mut stage.wrong, shows);
         }
     }
 }
@@ -81,10 +86,10 @@ pub(crate) fn all_hold<R: Threads + Wait + Sync + Abort>(
 ) {
     let mut stage = Stage::new(alloc);
     for (before, table) in tables {
-        let mut spread = Line::new(alloc);
-        spread.spread(table);
-        hold(rt, &mut stage, before, spread.as_str());
-        drop(spread);
+        let mut whole = Line::new(alloc);
+        spread(&mut whole, table);
+        hold(rt, &mut stage, before, whole.as_str());
+        drop(whole);
     }
     assert!(rt; stage.wrong.as_str().is_empty(), "{}", stage.wrong.as_str());
     drop(stage);

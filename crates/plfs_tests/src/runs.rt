@@ -1,5 +1,5 @@
 //! Runs of a command over the store.
-use crate::spelling::{Line, letters, numbers, parts};
+use crate::spelling::{end, letters, numbers, parts};
 use crate::stages::{Stage, Under};
 use edge_io::{ListClock, MemorySink, MemorySource, NoGate};
 use plfs_program::{Ended, plfs, single};
@@ -8,6 +8,7 @@ use std::alloc::Global;
 use std::sync::Wait;
 use std::thread::Threads;
 use std::{mem, str};
+use test_lines::Line;
 
 fn words(alloc: Global, text: &str) -> Vec<Word> {
     let mut words = Vec::new(alloc);
@@ -81,14 +82,14 @@ fn tell_apart(body: &str, input: &mut Line, printed: &mut Line) {
     for line in body.lines() {
         number = number.saturating_add(1);
         if let Some(text) = line.strip_prefix("= ") {
-            printed.end(text);
+            end(printed, text);
         } else {
             let (statement, outcome) = parts(line, " -> ");
-            input.end(statement);
+            end(input, statement);
             if !outcome.is_empty() {
-                printed.say(number);
+                printed.say("", number);
                 printed.push(" ");
-                printed.end(outcome);
+                end(printed, outcome);
             }
         }
     }
@@ -106,16 +107,17 @@ fn input_of(alloc: Global, head: &str, input: &str) -> Bytes {
 // Says where a run ended otherwise.
 fn judge(stage: &mut Stage, head: &str, status: u8, want: &str, printed: &str) {
     let mut told = Line::new(stage.alloc);
-    told.say(u64::from(status));
+    told.say("", u64::from(status));
     let (statuses, front) = parts(want, " ");
     let is_printed = front == ".." || stage.out.taken() == printed.as_bytes();
     if !is_printed || !statuses.contains(told.as_str()) {
         stage.wrong.push(head);
         stage.wrong.push(": ");
-        stage.wrong.end(told.as_str());
-        stage
-            .wrong
-            .end(str::from_utf8(stage.out.taken()).unwrap_or("no text"));
+        end(&mut stage.wrong, told.as_str());
+        end(
+            &mut stage.wrong,
+            str::from_utf8(stage.out.taken()).unwrap_or("no text"),
+        );
     }
     drop(told);
 }

@@ -1,8 +1,8 @@
-//! Texts that grow, and what stands in a text.
+//! What stands in a text, and what is put behind a line.
 use edge_io::CallList;
-use itoa::Buffer;
 use plfs_types::Bytes;
 use std::alloc::Global;
+use test_lines::Line;
 
 /// What stands before the first such sign and what stands behind it, or all of the text and nothing.
 pub(crate) fn parts<'a>(text: &'a str, sign: &str) -> (&'a str, &'a str) {
@@ -44,67 +44,20 @@ pub(crate) fn letters(alloc: Global, text: &str) -> Bytes {
     Bytes::from_vec(bytes)
 }
 
-/// Text that grows. A line for which there was no memory is like no text, and holds as no table.
-#[derive(Drop)]
-pub(crate) struct Line {
-    text: String,
-    is_cut: bool,
+/// A text behind what the line has, and a line feed behind it.
+pub(crate) fn end(line: &mut Line, text: &str) {
+    line.push(text);
+    line.push("\n");
 }
 
-impl Line {
-    pub(crate) fn new(alloc: Global) -> Self {
-        Line {
-            text: String::new(alloc),
-            is_cut: false,
+/// The text behind what the line has, where `{ab*3}` in it stands for `ababab`.
+pub(crate) fn spread(line: &mut Line, text: &str) {
+    for part in text.split('{') {
+        let (inner, rest) = part.split_once('}').unwrap_or(("", part));
+        let (piece, times) = parts(inner, "*");
+        for _ in 0..number(times) {
+            line.push(piece);
         }
-    }
-
-    pub(crate) fn as_str(&self) -> &str {
-        if self.is_cut {
-            "## There was no memory for this text.\n$ text"
-        } else {
-            self.text.as_str()
-        }
-    }
-
-    pub(crate) fn push(&mut self, text: &str) {
-        if self.text.push_str(text).is_err() {
-            self.is_cut = true;
-        }
-    }
-
-    /// A text, and a line feed behind it.
-    pub(crate) fn end(&mut self, text: &str) {
-        self.push(text);
-        self.push("\n");
-    }
-
-    pub(crate) fn say(&mut self, number: u64) {
-        self.push(Buffer::new().format(number));
-    }
-
-    /// The pattern, with one of the numbers in the place of each `%`.
-    pub(crate) fn fill(&mut self, pattern: &str, numbers: &[u64]) {
-        let mut numbers = numbers.iter();
-        let mut parts = pattern.split('%');
-        self.push(parts.next().unwrap_or(""));
-        for part in parts {
-            if let Some(number) = numbers.next() {
-                self.say(*number);
-            }
-            self.push(part);
-        }
-    }
-
-    /// The text, in which `{ab*3}` stands for `ababab`.
-    pub(crate) fn spread(&mut self, text: &str) {
-        for part in text.split('{') {
-            let (inner, rest) = part.split_once('}').unwrap_or(("", part));
-            let (piece, times) = parts(inner, "*");
-            for _ in 0..number(times) {
-                self.push(piece);
-            }
-            self.push(rest);
-        }
+        line.push(rest);
     }
 }

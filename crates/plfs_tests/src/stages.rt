@@ -1,12 +1,13 @@
 //! Stores in memory, and what a deed finds.
 use crate::several::as_one;
-use crate::spelling::{Line, number, numbers, parts};
+use crate::spelling::{number, numbers, parts};
 use edge_io::MemorySink;
 use plfs_types::{Name, NoMemory, Path};
 use spread_store::Backing;
 use std::alloc::Global;
 use std::mem;
 use store_memory::{Fail, FailList, Keep, KeepList, MemoryStore};
+use test_lines::Line;
 
 /// What a run is made over.
 pub(crate) type Under = Backing<MemoryStore>;
