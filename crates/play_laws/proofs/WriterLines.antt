@@ -68,7 +68,6 @@ GoodWriting start n before greeting writer statement mine ending = (new : Option
 abbrev pub GoodBoth : Moment → ℕ → List Event → List Event → Option OneFile → Option OneWriter → Statement → List Event → Ending → Type 0
 GoodBoth start n before greeting file writer statement mine ending = Good start n before greeting file statement mine ending × GoodWriting start n before greeting writer statement mine ending
 
-
 abbrev IsPlainOut : WriterOut → Type 0
 IsPlainOut out = IsUndamaged out.result
 
