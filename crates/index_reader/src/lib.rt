@@ -32,7 +32,6 @@ mod steps;
 mod tails;
 mod tops;
 mod truncs;
-mod walking;
 
 pub use gathered::{Gathered, ShareList, gather, join_shares};
 pub use listing::{Dropping, DroppingList, Listing};

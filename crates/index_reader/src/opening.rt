@@ -5,23 +5,24 @@ ghost use Rattle.index_reader.specs.Replies.{on_ok};
 ghost use Rattle.flow.specs.Standing.{ready, next_of, rest_of, replied, Awaits, IsOver, over};
 ghost use Rattle.index_reader.specs.Listing.{AreByWriter};
 ghost use Rattle.index_reader.specs.Covered.{AreByWriter as AreCoversByWriter};
-ghost use Rattle.index_reader.specs.Opening.{top_program, scan_program, open_at_program, open_read_program};
+ghost use Rattle.index_reader.specs.Scanning.{nothing_found};
+ghost use Rattle.index_reader.specs.Opening.{top_program, scan_program, scans, open_at_program, open_read_program};
 ghost use Rattle.index_reader.specs.OpenStages.{after_flat, after_flat_calls, after_open, after_open_calls, IsAfterOpen, IsOfFlat, open_left, open_calls, open_standing, open_calls_left};
 
 use crate::droppings::Droppings;
 use crate::flats::{AfterFlat, FlatRead};
 use crate::flattened::Flattened;
-use crate::listed::no_flat;
+use crate::listed::{listed, no_flat};
 use crate::listing::Listing;
 use crate::newest::{flats_path, newest_in};
 use crate::queue::Queue;
 use crate::replies::{names_in, room_in, trouble};
 use crate::scanning::{Scan, file_in};
-use crate::walking::{after_folder, after_top};
+use crate::tops::folders;
 use container_layout::{flats, hostdir};
 use flow::{Flow, Stuck};
 use mount_model::{Call, Look, Reply};
-use plfs_types::{LogicalName, Name, NoMemory};
+use plfs_types::{LogicalName, Name, NoMemory, Sequence};
 use std::alloc::Global;
 use std::mem;
 
@@ -218,6 +219,135 @@ fn stage_of(room: u64, id: u64, after: AfterFlat) -> Stage
         AfterFlat::GoesOn(read) => Stage::Reading { room, read },
         AfterFlat::Is(Err(why)) => Stage::Failed(why),
         AfterFlat::Is(Ok(flat)) => Stage::Top { room, id, flat },
+    }
+}
+
+/// Goes on to the next folder of droppings, or ends with what was listed.
+fn next_folder(
+    alloc: Global,
+    room: u64,
+    id: u64,
+    flat: Flattened,
+    rest: Queue<u32>,
+    scan: Scan,
+) -> Result<Stage, NoMemory>
+    ensures goes_on { IfOk result (λ stage. open_left stage ≡ scans room id flat rest scan) }
+    ensures fewer { IfOk result (λ stage. open_calls stage ≤ length rest) }
+{
+    let mut rest = rest;
+    match rest.pop() {
+        Some(folder) => Ok(Stage::Scans {
+            room,
+            id,
+            flat,
+            folder,
+            rest,
+            scan,
+        }),
+        None => match listed(alloc, id, flat.get(), &scan) {
+            Ok(Ok(droppings)) => {
+                drop((rest, scan));
+                Ok(Stage::Listed {
+                    room,
+                    droppings,
+                    flat,
+                })
+            }
+            Ok(Err(why)) => {
+                drop((flat, rest, scan));
+                Ok(Stage::Failed(why))
+            }
+            Err(why) => {
+                drop((flat, rest, scan));
+                Err(why)
+            }
+        },
+    }
+}
+
+/// What comes after the listing of the top.
+fn after_top(
+    alloc: Global,
+    room: u64,
+    id: u64,
+    flat: Flattened,
+    reply: Reply,
+) -> Result<Stage, NoMemory>
+    ensures goes_on { IfOk result (λ stage. open_left stage ≡ replied (rest_of (ready (top_program room id flat))) reply) }
+    ensures fewer { IfOk result (λ stage. open_calls stage < 40) }
+{
+    let why = trouble(&file_in(Name::empty(), Name::empty()), &reply);
+    let Some(names) = names_in(reply) else {
+        drop(flat);
+        return Ok(Stage::Failed(why));
+    };
+    let shown = match folders(alloc, names.as_slice()) {
+        Ok(shown) => shown,
+        Err(why) => {
+            drop((names, flat));
+            return Err(why);
+        }
+    };
+    drop(names);
+    let stage = begin_scan(alloc, room, id, flat, shown)?;
+    Ok(stage)
+}
+
+/// Begins with the first of the folders of droppings that the top shows.
+fn begin_scan(
+    alloc: Global,
+    room: u64,
+    id: u64,
+    flat: Flattened,
+    shown: Result<Sequence<u32>, Stuck>,
+) -> Result<Stage, NoMemory>
+    requires { IfOk shown (λ ks. length ks ≤ 32) }
+    ensures goes_on { IfOk result (λ stage. open_left stage ≡ on_ok (λ ks. scans room id flat ks nothing_found) shown) }
+    ensures fewer { IfOk result (λ stage. open_calls stage < 40) }
+{
+    match shown {
+        Err(why) => {
+            drop(flat);
+            Ok(Stage::Failed(why))
+        }
+        Ok(shown) => next_folder(alloc, room, id, flat, Queue::of(shown), Scan::new(alloc)),
+    }
+}
+
+/// What comes after the listing of a folder of droppings.
+fn after_folder(
+    alloc: Global,
+    room: u64,
+    id: u64,
+    flat: Flattened,
+    folder: u32,
+    rest: Queue<u32>,
+    scan: Scan,
+    reply: Reply,
+) -> Result<Stage, NoMemory>
+    ensures goes_on { IfOk result (λ stage. open_left stage ≡ replied (rest_of (ready (scans room id flat (folder ∷ rest) scan))) reply) }
+    ensures fewer { IfOk result (λ stage. open_calls stage < length rest + 1) }
+{
+    let folder = hostdir(folder);
+    let why = trouble(&file_in(folder, Name::empty()), &reply);
+    let Some(names) = names_in(reply) else {
+        drop((flat, rest, scan));
+        return Ok(Stage::Failed(why));
+    };
+    let mut scan = scan;
+    match scan.scan(folder, names.as_slice()) {
+        Err(why) => {
+            drop((names, flat, rest, scan));
+            Err(why)
+        }
+        Ok(Some(why)) => {
+            drop((names, flat, rest, scan));
+            Ok(Stage::Failed(why))
+        }
+        Ok(None) => {
+            drop(names);
+            next_folder(alloc, room, id, flat, rest, scan)
+        }
     }
 }
 

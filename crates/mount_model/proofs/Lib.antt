@@ -16,6 +16,4 @@ mod Ranges
 mod Replying
 mod Rows
 mod Stopping
-mod Striking
 mod Tables
-mod Telling
