@@ -1,8 +1,10 @@
 """Runs that are stopped at any place, and what the next run reads back."""
 
+import shutil
 import signal
 import time
 
+from faults import UNSYNCED, WORKS, below, numbered, read_back
 from trial import SECONDS, WORK, check, same, size_limit, true
 
 WRITES = 100
@@ -154,3 +156,37 @@ def is_killed_while_making(trial, name, wait):
         return mounted and time.monotonic() > mounted[0] + wait
 
     return killed_when(trial.start(WORK.replace("open f", f"open {name}")), is_time)
+
+
+# The kinds of calls before which a run is killed: those that change what lies in ROOT.
+CHANGING = {"create", "write", "cut", "rename", "remove", "mkdir", "rmdir"}
+
+
+@check
+def after_a_kill_before_any_change_nothing_is_damaged_and_no_container_stays_held(trial):
+    kept = trial.folder / "kept"
+    for before, script, words, contents in WORKS:
+        if words[0] in ("stat", "map", "ls"):
+            continue
+        for folder in (trial.root, kept):
+            shutil.rmtree(folder, ignore_errors=True)
+        trial.root.mkdir()
+        before(trial)
+        shutil.copytree(trial.root, kept)
+        _, calls = trial.watched(script, UNSYNCED, words=words)
+        for call, kind, number in numbered(below(trial, calls)):
+            if kind not in CHANGING:
+                continue
+            shutil.rmtree(trial.root)
+            shutil.copytree(kept, trial.root)
+            ended, _ = trial.watched(script, f"kill 9 {kind} {number} {trial.root}*", UNSYNCED, words=words)
+            what = f"{words} killed before {kind} {number} of {call.path.removeprefix(str(trial.root))}"
+            same(f"{what}: the status", ended.status, -signal.SIGKILL)
+            for name in "fg":
+                after = trial.run("", words=("recover", name), **trial.watch([UNSYNCED], "after"))
+                true(f"{what}: a recovery of {name} is {after}", after.status == 0 or after.out == "0 refused no-file\n")
+            content = read_back(trial)
+            true(f"{what}: {content!r} is read back", content in contents)
+            if content is not None:
+                written = trial.run(WORK, **trial.watch([UNSYNCED], "after"))
+                same(f"{what}: the status of a later writer ({written.out!r}, {written.err!r})", written.status, 0)

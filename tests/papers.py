@@ -32,11 +32,32 @@ def the_first_page_shows_the_lines_of_the_first_example(trial):
 
 
 @check
+def a_file_of_ones_own_goes_in_and_comes_out_as_the_first_page_shows(trial):
+    """The page's commands, with the program and the folder of this check in the place of those that it names."""
+    blocks = re.findall(r"^```\n(.*?)^```", (trial.top / "README.md").read_text(), re.M | re.S)
+    commands = [block for block in blocks if "od -An" in block]
+    true("README.md shows no file of one's own", len(commands) == 1)
+    (trial.folder / "data").write_bytes(trial.random.randbytes(500_000))
+    text = commands[0].replace("./plfs", f"'{trial.program}'").replace("/tmp/store", f"'{trial.root}'")
+    how = {"stdout": subprocess.PIPE, "stderr": subprocess.PIPE, "text": True, "timeout": 20, "cwd": trial.folder}
+    ended = subprocess.run(["bash", "-c", "set -e -o pipefail\n" + text], **how)
+    wanted = (0, "2 open 4294967297\n3 wrote 0 500000 STAMP\n4 closed 1\n", "")
+    same("what the commands say", (ended.returncode, masked(ended.stdout), ended.stderr), wanted)
+
+
+@check
+def the_documents_keep_their_rules(trial):
+    """What documents.py finds in the repository, which this check doesn't see."""
+    same("what is wrong with the documents", (trial.top / "documents.faults").read_text(), "")
+
+
+@check
 def the_manual_is_well_formed_and_has_each_status_and_word(trial):
     page = trial.top / "docs" / "plfs.1"
     text = page.read_text()
+    statuses = text.partition('.SH "EXIT STATUS"')[2].partition(".SH DIAGNOSTICS")[0]
     for status in (*range(8), 70):
-        true(f"the manual lacks the status {status}", re.search(rf"^\.(B|TP\n\.B) {status}$", text, re.M))
+        true(f"the manual lacks the status {status}", re.search(rf"^\.(B|TP\n\.B) {status}$", statuses, re.M))
     if shutil.which("man") is None:
         return
     how = {"stdout": subprocess.DEVNULL, "stderr": subprocess.PIPE, "text": True}
@@ -44,13 +65,61 @@ def the_manual_is_well_formed_and_has_each_status_and_word(trial):
     same("what man says of it", subprocess.run(words, **how).stderr, "")
 
 
+def commands(trial):
+    """The commands of the usage line, in its order."""
+    usage = trial.run("", words=()).out
+    true(f"the usage line is {usage!r}", usage.startswith("usage: plfs ROOT "))
+    return [it.split()[0] for it in usage.removeprefix("usage: plfs ROOT ").split("|")]
+
+
 @check
-def completion_offers_what_the_program_plays(trial):
+def the_help_and_the_manual_have_the_commands_of_the_usage_line(trial):
+    helped = subprocess.run([trial.top / "plfs", "--help"], stdout=subprocess.PIPE, text=True, timeout=20).stdout
+    page = (trial.top / "docs" / "plfs.1").read_text()
+    for word in commands(trial):
+        true(f"--help lacks {word}", re.search(rf"plfs ROOT (\S+\|)*{word}\b", helped))
+        true(f"the manual lacks {word}", re.search(rf"\b{word}\b", page.partition("DESCRIPTION")[0]))
+
+
+def asked(words, **how):
+    """What these words print."""
+    how = {"stdout": subprocess.PIPE, "stderr": subprocess.STDOUT, "text": True, "timeout": 20, **how}
+    return subprocess.run(words, **how).stdout.splitlines()
+
+
+@check
+def completion_offers_the_commands_of_the_usage_line_and_folders(trial):
     file = trial.top / "completions" / "plfs.bash"
     (trial.folder / "store").mkdir()
-    for words, wanted in (("/tmp ''", "run\nplay\ngen\ncat\nstat\nmap\nflatten\ntrunc\nrename\nrecover\nls\nmigrate"), ("/tmp : sto", "store"), ("/tmp : store p", "play")):
+    for words, wanted in (("/tmp ''", commands(trial)), ("/tmp : sto", ["store"]), ("/tmp : store p", ["play"]), ("-", ["--help", "--version"])):
         last = words.count(" ") + 1
-        asks = f"source '{file}'; COMP_WORDS=(plfs {words}); COMP_CWORD={last}; _plfs; printf '%s\\n' \"${{COMPREPLY[@]}}\""
-        how = {"stdout": subprocess.PIPE, "stderr": subprocess.PIPE, "text": True, "timeout": 20, "cwd": trial.folder}
-        ended = subprocess.run(["bash", "-c", asks], **how)
-        same(f"what is offered behind {words}", (ended.stdout, ended.stderr), (wanted + "\n", ""))
+        script = f"source '{file}'; COMP_WORDS=(plfs {words}); COMP_CWORD={last}; _plfs; printf '%s\\n' \"${{COMPREPLY[@]}}\""
+        same(f"what is offered behind {words}", asked(["bash", "-c", script], cwd=trial.folder), wanted)
+
+
+# The functions of zsh's completion, as far as the file calls them.
+ZSH = """
+compdef() { print -r -- "$@" }
+compadd() { shift; print -rl -- ${(M)@:#$PREFIX*} }
+compset() { PREFIX=${PREFIX##*:} }
+_files() { print -r -- "$@" $PREFIX }
+"""
+
+
+@check
+def completion_for_other_shells_offers_the_same(trial):
+    known = commands(trial)
+    for shell in ("zsh", "fish"):
+        text = (trial.top / "completions" / f"plfs.{shell}").read_text()
+        true(f"plfs.{shell} has other commands", " ".join(known) in text)
+        true(f"plfs.{shell} has other options", all(re.search(rf"(--|-l ){it}\b", text) for it in ("help", "version")))
+    (trial.folder / "store").mkdir()
+    if shutil.which("zsh"):
+        calls = [f"CURRENT={number} PREFIX={word} _plfs" for number, word in ((2, "--h"), (2, "/tmp:sto"), (3, "r"), (4, ""))]
+        script = "\n".join([ZSH, f"source '{trial.top}/completions/plfs.zsh'", *calls])
+        same("what zsh offers", asked(["zsh", "-f", "-c", script]), ["_plfs plfs", "--help", "-/ sto", *[it for it in known if it[0] == "r"]])
+    if shutil.which("fish"):
+        for words, wanted in (("sto", ["store/"]), ("/tmp:sto", ["/tmp:store/"]), ("--", ["--help", "--version"]), ("/tmp ", sorted(known)), ("/tmp play ", [])):
+            script = f"source '{trial.top}/completions/plfs.fish'; complete -C 'plfs {words}'"
+            offered = [it.split("\t")[0] for it in asked(["fish", "--no-config", "-c", script], cwd=trial.folder)]
+            same(f"what fish offers behind {words}", offered, wanted)

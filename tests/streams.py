@@ -162,17 +162,6 @@ def a_run_that_was_refused_says_nothing_on_standard_error(trial):
 
 
 @check
-def damage_that_is_found_while_a_file_is_written_out_says_where(trial):
-    trial.ends(0, WORK)
-    log = trial.root / "f" / "hostdir.0" / "log.0.4294967297"
-    index = trial.root / "f" / "hostdir.0" / "index.0.4294967297"
-    index.write_bytes(bytes(40))
-    ended = trial.ends(7, "", words=["cat", "f"], lines="0 damaged hostdir.0/index.0.4294967297 0\n")
-    same("standard error", ended.err, f"plfs: {index}: damaged: restore it from a copy\n")
-    true("the log is away", log.exists())
-
-
-@check
 def a_generated_checkpoint_is_summed_up(trial):
     summary = "lines 134\nrefused 0\nfaults 0\ndamaged 0\nsame 64\ndiffers 0\nsize 3008512\n"
     for _ in range(2):

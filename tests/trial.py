@@ -1,9 +1,11 @@
-"""What each check has at hand: a folder of its own with an empty ROOT, the program, and words for what must hold."""
+"""What each check has at hand: a folder of its own with an empty ROOT, the program, the library that stands between it
+and its calls on files, and words for what must hold."""
 
 import os
 import pathlib
 import re
 import resource
+import shutil
 import signal
 import subprocess
 from collections import namedtuple
@@ -14,6 +16,10 @@ SECONDS = 20
 CHECKS = []
 
 Ended = namedtuple("Ended", "status out err")
+
+# A call on a file as preload.c logs it: its kind, what it ended with (a number, or an error as EIO), its path, the second
+# path of a rename, and the words of what else was asked for.
+Call = namedtuple("Call", "kind end path other more")
 
 # One actor writes and closes; another run reads it back.
 WORK = "actor a\na open f\na write 0 text:hello\na sync\na close\n"
@@ -62,19 +68,23 @@ def listed(folder):
 
 
 class Trial:
-    """One check's folder, its empty ROOT in it, the program, and a source of random numbers."""
+    """One check's folder, its empty ROOT in it, the program, the library of preload.c, and a source of random numbers."""
 
-    def __init__(self, program, top, folder, random):
+    def __init__(self, program, library, top, folder, random):
         self.program = str(program)
+        self.library = library
         self.top = pathlib.Path(top)
         self.folder = pathlib.Path(folder)
         self.root = self.folder / "root"
         self.random = random
+        self.scripts = 0
         self.root.mkdir()
 
     def start(self, script, root=None, words=("play",), closed=(), limits=(), **how):
-        """Starts the program on a script, with these descriptors closed and these limits of the system set."""
-        place = self.folder / "script"
+        """Starts the program on a script, with these descriptors closed and these limits of the system set. Each script
+        is a file of its own: a program that was started before may not have read its own to the end."""
+        self.scripts += 1
+        place = self.folder / f"script{self.scripts}"
         place.write_text(script)
 
         def before():
@@ -90,7 +100,7 @@ class Trial:
                 how[stream] = None
         with open(place, "rb") as script_file:
             how.setdefault("stdin", script_file)
-            return subprocess.Popen([self.program, root or self.root, *words], preexec_fn=before, **how)
+            return subprocess.Popen([self.program, self.root if root is None else root, *words], preexec_fn=before, **how)
 
     def run(self, script, root=None, **how):
         """Runs the program on a script to its end: its status, and what it printed."""
@@ -103,6 +113,26 @@ class Trial:
             raise Wrong(f"the program had not ended after {SECONDS} seconds")
         text = [(it or b"").decode("utf-8", "backslashreplace") for it in (out, err)]
         return Ended(started.returncode, masked(text[0]), text[1])
+
+    def watch(self, rules=(), name="calls"):
+        """What `start` and `run` are given for a run whose calls on files follow these rules of preload.c and are logged."""
+        self.library.is_there()
+        log, file = self.folder / f"{name}.log", self.folder / f"{name}.rules"
+        log.unlink(missing_ok=True)
+        file.write_text("\n".join([f"log {log}", *rules, ""]))
+        path = os.environ.get("PATH", "/usr/bin:/bin")
+        return {"env": {"PATH": path, "LANG": "C.UTF-8", "LD_PRELOAD": self.library.path, "PRELOAD_RULES": str(file)}}
+
+    def calls(self, name="calls"):
+        """The calls of the last run that was watched under this name."""
+        lines = (self.folder / f"{name}.log").read_text("utf-8", "surrogateescape").splitlines()
+        return [Call(kind, int(end) if end.isdigit() else end, path, other, more.split())
+                for kind, end, path, other, more in (line.split("\t") for line in lines)]
+
+    def watched(self, script, *rules, **how):
+        """A run whose calls follow these rules: how it ended, and its calls."""
+        ended = self.run(script, **self.watch(rules), **how)
+        return ended, self.calls()
 
     def ends(self, wanted, script, root=None, **how):
         """Runs a script, which must end with this status and, where lines are given, print them; the end is returned."""
@@ -124,6 +154,24 @@ class Trial:
 
     def is_untouched(self):
         same("what lies in ROOT", listed(self.root), {})
+
+
+class Library:
+    """The library of preload.c, built into a folder, or why it isn't there."""
+
+    def __init__(self, source, folder):
+        self.path, self.lacks = str(pathlib.Path(folder, "preload.so")), ""
+        words = ["cc", "-std=c11", "-D_GNU_SOURCE", "-O1", "-Wall", "-Wextra", "-Werror", "-shared", "-fPIC", "-pthread", "-o", self.path, source]
+        if not shutil.which("cc"):
+            self.lacks = "no compiler"
+            return
+        built = subprocess.run(words, stdout=subprocess.PIPE, stderr=subprocess.STDOUT, text=True)
+        if built.returncode:
+            self.lacks = f"cc does not build {source}: {built.stdout}"
+
+    def is_there(self):
+        if self.lacks:
+            raise Wrong(self.lacks)
 
 
 def ignore(number):

@@ -1,13 +1,39 @@
-"""The root script `plfs`, in a copy of the repository's shape with a program of three lines."""
+"""The root scripts `plfs` and `build`, in a copy of the repository's shape with a program of three lines."""
 
 import os
 import shutil
+import signal
 import subprocess
+import sys
+import time
 
 from trial import Skipped, check, same, true
 
 PROGRAM = "#!/bin/sh\nprintf 'program'\nprintf ' <%s>' \"$@\"\nprintf '\\n'\n"
-NEEDED = ["bash", "cat", "dirname", "env", "find", "mktemp", "mkdir", "readlink", "rm", "sh", "tail", "touch"]
+NEEDED = ["bash", "cat", "dirname", "env", "find", "readlink", "sh", "touch"]
+# What the toolchain in the place of `rt` calls.
+CALLED = ["basename", "cp", "ls", "mkdir", "sleep"]
+
+# A toolchain that proves a crate where what it stands on is proved, and where no file forbids it. It notes what it does.
+TOOLCHAIN = """#!/bin/sh
+top='{top}'
+case $1 in
+version) echo kit ;;
+lib)
+    name=$(basename "$PWD")
+    echo "begin $name" >>"$top/seen"
+    sleep {pause}
+    for low in $(cat src/stands_on); do
+        [ -d "../$low/out/rlib/$low.rlib" ] || echo "$name lacks $low" >>"$top/seen"
+    done
+    mkdir -p "out/incremental" "out/rlib/$name.rlib"
+    [ ! -e "$top/wrong-$name" ] || {{ echo a goal is open; exit 1; }}
+    echo "end $name" >>"$top/seen" ;;
+run) ls "$5" >>"$top/seen" && cp '{program}.made' '{program}' ;;
+esac
+"""
+# As in crates.txt: `low` below all, two pairs beside one another, one above these, and one that the program doesn't need.
+CRATES = {"low": "", "left": "low", "right": "low", "far_left": "left", "far_right": "right", "above": "far_left far_right low", "apart": "low", "plfs": "above left"}
 
 
 class Copy:
@@ -22,14 +48,17 @@ class Copy:
         self.elsewhere = trial.folder / "elsewhere"
         for folder in (self.program.parent, self.tools, self.elsewhere):
             folder.mkdir(parents=True)
-        shutil.copy(trial.top / "plfs", self.script)
+        for name in ("plfs", "build"):
+            shutil.copy(trial.top / name, self.top / name)
         (self.top / "crates.txt").write_text("")
         self.source.write_text("")
-        for name in NEEDED:
+        for name in NEEDED + CALLED:
             found = shutil.which(name)
             if not found:
                 raise Skipped(f"{name} is not there")
             (self.tools / name).symlink_to(found)
+        pythons = [sys.executable, shutil.which("python3") or "", "/usr/bin/python3"]
+        (self.tools / "python3").symlink_to(next(it for it in pythons if it and os.access(it, os.X_OK)))
 
     def build(self, age):
         """Puts a program there, older or younger than its sources."""
@@ -37,6 +66,24 @@ class Copy:
         for path in (self.top / "crates.txt", self.source):
             os.utime(path, (10**9, 10**9))
         os.utime(self.program, (10**9 + age, 10**9 + age))
+
+    def toolchain(self, crates=None, pause=0):
+        """Puts these crates there, and a toolchain that proves them and then makes the program."""
+        self.build(1)
+        self.program.rename(f"{self.program}.made")
+        place(self.tools / "rt", TOOLCHAIN.format(top=self.top, program=self.program, pause=pause))
+        for name, low in (crates or {}).items():
+            source = self.top / "crates" / name / "src"
+            source.mkdir(parents=True, exist_ok=True)
+            (source / "lib.rt").write_text(f"{name}\n")
+            (source / "stands_on").write_text(low)
+        (self.top / "crates.txt").write_text("".join(f"{name}: {low} itoa\n" for name, low in reversed((crates or {}).items())))
+
+    def seen(self):
+        """What the toolchain noted since it was last asked."""
+        found = (self.top / "seen").read_text().splitlines() if (self.top / "seen").exists() else []
+        (self.top / "seen").write_text("")
+        return found
 
     def run(self, *words, script=None, **more):
         env = {"PATH": str(self.tools), "TMPDIR": str(self.elsewhere), **more}
@@ -98,16 +145,74 @@ def without_toolchain_and_program_the_status_is_70(trial):
 @check
 def the_root_script_builds_once_in_a_temporary_folder_and_removes_it(trial):
     copy = Copy(trial)
-    copy.build(1)
-    place(copy.tools / "rt", f"#!/bin/sh\ncp '{copy.program}.made' '{copy.program}'; ls \"$3\" >'{copy.top}/seen'\n")
-    (copy.tools / "cp").symlink_to(shutil.which("cp"))
-    (copy.tools / "ls").symlink_to(shutil.which("ls"))
-    copy.program.rename(f"{copy.program}.made")
+    copy.toolchain()
     ended = copy.run("x")
     same("the end", (ended.returncode, ended.stdout), (0, "program <x>\n"))
-    true(f"standard error is {ended.stderr!r}", "proving and building" in ended.stderr)
+    true(f"standard error is {ended.stderr!r}", "proving and building" in ended.stderr and "built in" in ended.stderr)
     same("what is left of the temporary folder", os.listdir(copy.elsewhere), [])
     is_quiet(copy.run("x"), "program <x>\n")
+
+
+@check
+def crates_are_proved_side_by_side_each_once_and_behind_what_it_stands_on(trial):
+    copy = Copy(trial)
+    copy.toolchain(CRATES, 0.4)
+    ended = copy.run("x", PLFS_LANES="2")
+    same(f"the end ({ended.stderr})", (ended.returncode, ended.stdout), (0, "program <x>\n"))
+    seen = copy.seen()
+    needed = [it for it in CRATES if it not in ("apart", "plfs")]
+    same("what was proved", sorted(seen), sorted(f"{word} {it}" for it in needed for word in ("begin", "end")))
+    for name in needed:
+        for low in CRATES[name].split():
+            true(f"{name} was begun before {low} was proved", seen.index(f"end {low}") < seen.index(f"begin {name}"))
+    true(f"no two were proved side by side: {seen}", seen.index("begin right") < seen.index("end left") and seen.index("begin left") < seen.index("end right"))
+    told = [line for line in ended.stderr.splitlines() if " of 6 crates proved: " in line]
+    same("how many are told as proved", [line.split()[1] for line in told], [str(number) for number in range(1, 7)])
+    true(f"what is told is {told}", "at work on " in told[0] and " left" in told[0] and told[-1].endswith(": above"))
+    true("a lane is left", not (copy.program.parent / "lanes").exists())
+
+
+@check
+def a_build_goes_on_where_it_was_stopped(trial):
+    copy = Copy(trial)
+    copy.toolchain(CRATES, 0.1)
+    (copy.top / "wrong-far_right").touch()
+    ended = copy.run("x")
+    same("the end", (ended.returncode, ended.stdout), (70, ""))
+    true(f"standard error is {ended.stderr!r}", "a goal is open" in ended.stderr and "far_right is not proved" in ended.stderr)
+    true("the kept work of the crate is lost", (copy.top / "crates" / "far_right" / "out" / "incremental").is_dir())
+    proved = {it.split()[1] for it in copy.seen() if it.startswith("end ")}
+    true(f"proved are {proved}", {"low", "right"} <= proved)
+    (copy.top / "wrong-far_right").unlink()
+    env = {"PATH": str(copy.tools), "TMPDIR": str(copy.elsewhere)}
+    started = subprocess.Popen([copy.script, "x"], cwd=copy.elsewhere, env=env, stdin=subprocess.DEVNULL, stdout=subprocess.DEVNULL, stderr=subprocess.DEVNULL, start_new_session=True)
+    end = time.monotonic() + 20
+    while "end far_right" not in (copy.top / "seen").read_text():
+        true("it doesn't go on", time.monotonic() < end)
+        time.sleep(0.01)
+    os.killpg(started.pid, signal.SIGINT)
+    started.wait(20)
+    proved |= {it.split()[1] for it in copy.seen() if it.startswith("end ")}
+    ended = copy.run("x")
+    same(f"the end ({ended.stderr})", (ended.returncode, ended.stdout), (0, "program <x>\n"))
+    again = {it.split()[1] for it in copy.seen()}
+    same("what was proved twice", again & proved, set())
+    same("what was proved in all", again | proved, set(CRATES) - {"apart", "plfs"})
+    (copy.top / "crates" / "far_left" / "src" / "lib.rt").write_text("changed\n")
+    same("the end after a change", copy.run("x").returncode, 0)
+    same("what a change has proved anew", {it.split()[1] for it in copy.seen()}, {"far_left", "above"})
+
+
+@check
+def a_source_in_a_folder_named_out_is_seen_and_what_was_made_is_not(trial):
+    copy = Copy(trial)
+    copy.build(1)
+    for folder, is_seen in (("plfs/out/lanes/0/crates/low/src", False), ("plfs/proofs/stage/out", True)):
+        source = copy.top / "crates" / folder / "Answers.antt"
+        source.parent.mkdir(parents=True)
+        source.write_text("")
+        ended = copy.run("x")
+        same(f"the end with {folder}", (ended.returncode, ended.stdout, "older than its sources" in ended.stderr), (0, "program <x>\n", is_seen))
 
 
 @check

@@ -6,6 +6,7 @@ use Rattle.story.specs.Program.{Program, done, ask, followed_by}
 use Rattle.flow.specs.declared.stuck.Stuck.{Stuck}
 use Rattle.flow.specs.Running.{asking}
 use Rattle.flow.specs.Standing.{Standing, ready, asked as out, Rest, over, awaits, next_of, rest_of, Awaits, IsOver}
+use Rattle.flow.specs.Replies.{Tries, on_ok}
 use Rattle.mount_model.specs.declared.call.Call.{Call}
 use Rattle.mount_model.specs.declared.reply.Reply.{Reply}
 use Rattle.writer_flow.specs.OpeningStages.{open_standing}
@@ -22,7 +23,6 @@ use Rattle.index_reader.specs.declared.sharing.ShareRead.{ShareRead}
 use Rattle.index_reader.specs.Opening.{open_at_program}
 use Rattle.index_reader.specs.OpenStages.{open_standing as list_standing, open_rest}
 use Rattle.index_reader.specs.ReadingStages.{read_standing}
-use Rattle.index_reader.specs.Replies.{Tries, on_ok}
 use Rattle.index_reader.specs.Stages.{share_standing}
 use Rattle.index_reader.specs.Truncs.{trunc_program}
 use Rattle.index_reader.specs.Gathered.{IsJoinedOf}

@@ -5,9 +5,9 @@ use Rattle.plfs_types.specs.declared.entries.Trunc.{Trunc}
 use Rattle.story.specs.Program.{done, ask, followed_by}
 use Rattle.story.specs.Process.{asks}
 use Rattle.flow.specs.declared.stuck.Stuck.{Stuck}
+use Rattle.flow.specs.Replies.{Tries}
 use Rattle.index_reader.specs.declared.listing.Listing.{Listing}
 use Rattle.index_reader.specs.declared.sharing.Share.{Share}
-use Rattle.index_reader.specs.Replies.{Tries}
 use Rattle.gather_flow.specs.declared.all_read.AllRead.{AllRead}
 use Rattle.actor_core.specs.declared.kept.Stop.{Stop}
 use Rattle.actor_core.specs.Stopping.{carried, is_due, one_nearer, stoppable}

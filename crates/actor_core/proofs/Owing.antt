@@ -7,6 +7,7 @@ use Rattle.story.specs.Program.{Program, AsksOnly, done, ask}
 use Rattle.story.specs.Process.{asks}
 use Rattle.flow.specs.declared.stuck.Stuck.{Stuck}
 use Rattle.flow.specs.Running.{asking, unbroken}
+use Rattle.flow.specs.Replies.{Tries, on_ok}
 use Rattle.mount_model.specs.declared.call.Call.TheVariants.{Greet}
 use Rattle.script_lang.specs.declared.line.Why.TheVariants.{NotOpen}
 use Rattle.writer_flow.specs.Opening.{open_program}
@@ -27,7 +28,6 @@ use Rattle.writer_flow.specs.declared.handle.WriterHandle.{WriterHandle}
 use Rattle.index_reader.specs.declared.listing.Listing.{Listing}
 use Rattle.index_reader.specs.declared.opened.OpenReader.{OpenReader}
 use Rattle.index_reader.specs.declared.sharing.Share.{Share}
-use Rattle.index_reader.specs.Replies.{Tries, on_ok}
 use Rattle.script_lang.specs.declared.script.Data.{Data}
 use Rattle.script_lang.specs.declared.script.Statement.{Statement}
 use Rattle.script_lang.specs.declared.script.Statement.TheVariants.{Open, Write, Sync, Close, Ropen, Read, Verify, Map, Rclose, Stat, Flatten, Recover, Trunc, Rename, Ls, Stop as Arms}
@@ -139,11 +139,11 @@ opens_reader_unowed kept stop name workers None = carries (open_read_program nam
 
 reads_unowed : (kept : Kept) (stop : Option Stop) (at len : ℕ) (reader : Option OpenReader) → Unowed (reads kept stop at len reader)
 reads_unowed kept stop at len None = tt
-reads_unowed kept stop at len (Some reader) = carries (read_program reader.room reader.droppings (plan_of reader.pieces reader.size at len)) stop (λ left result. finishes (read_from kept at result)) (finishes (stopped kept)) (read_unowed reader.room reader.droppings (plan_of reader.pieces reader.size at len)) (λ left result. tt) tt
+reads_unowed kept stop at len (Some reader) = carries (read_program reader.room reader.hosts (plan_of reader.pieces reader.size at len)) stop (λ left result. finishes (read_from kept at result)) (finishes (stopped kept)) (read_unowed reader.room reader.hosts (plan_of reader.pieces reader.size at len)) (λ left result. tt) tt
 
 verifies_unowed : (kept : Kept) (stop : Option Stop) (at : ℕ) (content : Data) (reader : Option OpenReader) → Unowed (verifies kept stop at content reader)
 verifies_unowed kept stop at content None = tt
-verifies_unowed kept stop at content (Some reader) = carries (read_program reader.room reader.droppings (plan_of reader.pieces reader.size at (length_of content))) stop (λ left result. finishes (verified kept at content result)) (finishes (stopped kept)) (read_unowed reader.room reader.droppings (plan_of reader.pieces reader.size at (length_of content))) (λ left result. tt) tt
+verifies_unowed kept stop at content (Some reader) = carries (read_program reader.room reader.hosts (plan_of reader.pieces reader.size at (length_of content))) stop (λ left result. finishes (verified kept at content result)) (finishes (stopped kept)) (read_unowed reader.room reader.hosts (plan_of reader.pieces reader.size at (length_of content))) (λ left result. tt) tt
 
 maps_unowed : (kept : Kept) (reader : Option OpenReader) → Unowed (maps kept reader)
 maps_unowed kept None = tt

@@ -2,7 +2,9 @@
 use Rattle.std.proofs.Common.{ℕ, true, false, List, [], ◌∷◌, ◌++◌, length, take, replicate, nat_lt, Option, Some, None, Result, Ok, Err}
 use Rattle.std.specs.Prelude.{if◌then◌else◌}
 use Rattle.plfs_types.specs.declared.entries.Cover.{Cover}
+use Rattle.plain_file.specs.declared.parts.WriterHost.{WriterHost}
 use Rattle.flow.specs.declared.stuck.Stuck.{Stuck}
+use Rattle.flow.specs.Replies.{Tries, given, on_ok, bytes_in, damage, trouble}
 use Rattle.story.specs.Program.{Program, done, ask}
 use Rattle.mount_model.specs.Paths.{log_path}
 use Rattle.mount_model.specs.declared.call.Call.{Call}
@@ -13,7 +15,6 @@ use Rattle.read_plan.specs.declared.part.Part.{Part}
 use Rattle.index_reader.specs.declared.listing.Dropping.{Dropping}
 use Rattle.index_reader.specs.declared.placing.Placed.{Placed}
 use Rattle.index_reader.specs.declared.placing.Placed.TheVariants.{Zeros, Logged}
-use Rattle.index_reader.specs.Replies.{Tries, given, on_ok, bytes_in, damage, trouble}
 use Rattle.index_reader.specs.Opening.{open_at_program, open_read_program}
 use Rattle.index_reader.specs.Reading.{placed_all, ends_at, spells, read_program}
 use Rattle.index_reader.specs.Sharing.{share_program}
@@ -66,5 +67,5 @@ spells_unowed room (Logged p ∷ parts) sofar = (
       ]),
 )
 
-pub read_unowed : (room : ℕ) (droppings : List Dropping) (parts : List Part) → IsUnowed (read_program room droppings parts)
-read_unowed room droppings parts = spells_unowed room (placed_all droppings parts) []
+pub read_unowed : (room : ℕ) (hosts : List WriterHost) (parts : List Part) → IsUnowed (read_program room hosts parts)
+read_unowed room hosts parts = spells_unowed room (placed_all hosts parts) []

@@ -3,11 +3,11 @@ use Rattle.std.specs.Prelude.{List, Some, Result, Ok, Err}
 use Rattle.plfs_types.specs.declared.entries.Trunc.{Trunc}
 use Rattle.story.specs.Program.{done, followed_by}
 use Rattle.flow.specs.declared.stuck.Stuck.{Stuck}
+use Rattle.flow.specs.Replies.{Tries, on_ok}
 use Rattle.script_lang.specs.declared.line.Outcome.TheVariants.{Reader}
 use Rattle.index_reader.specs.declared.listing.Listing.{Listing}
 use Rattle.index_reader.specs.declared.sharing.Share.{Share}
 use Rattle.index_reader.specs.declared.opened.OpenReader.{OpenReader}
-use Rattle.index_reader.specs.Replies.{Tries, on_ok}
 use Rattle.index_reader.specs.Truncs.{trunc_program}
 use Rattle.gather_flow.specs.OneIndex.{reader_of}
 use Rattle.outcomes.specs.Counts.{cut_of}

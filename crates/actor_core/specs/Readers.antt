@@ -37,14 +37,14 @@ opens_reader kept stop name workers None = carried (open_read_program name) stop
 abbrev pub reads : Kept → Option Stop → ℕ → ℕ → Option OpenReader → Work
 reads kept stop at len None = finishes (refused kept NotOpen)
 reads kept stop at len (Some reader) =
-    carried (read_program reader.room reader.droppings (plan_of reader.pieces reader.size at len)) stop
+    carried (read_program reader.room reader.hosts (plan_of reader.pieces reader.size at len)) stop
     (λ left result. finishes (read_from kept at result)) (finishes (stopped kept))
 
 -- it reads the length of the data
 abbrev pub verifies : Kept → Option Stop → ℕ → Data → Option OpenReader → Work
 verifies kept stop at content None = finishes (refused kept NotOpen)
 verifies kept stop at content (Some reader) =
-    carried (read_program reader.room reader.droppings (plan_of reader.pieces reader.size at (length_of content))) stop
+    carried (read_program reader.room reader.hosts (plan_of reader.pieces reader.size at (length_of content))) stop
     (λ left result. finishes (verified kept at content result)) (finishes (stopped kept))
 
 abbrev pub maps : Kept → Option OpenReader → Work

@@ -3,9 +3,9 @@ use Rattle.std.specs.Prelude.{List, [], map, Option, Some, None, Result}
 use Rattle.story.specs.Process.{shares}
 use Rattle.flow.specs.declared.stuck.Stuck.{Stuck}
 use Rattle.flow.specs.Running.{asking}
+use Rattle.flow.specs.Replies.{Tries, on_ok}
 use Rattle.index_reader.specs.declared.opened.OpenReader.{OpenReader}
 use Rattle.index_reader.specs.declared.sharing.Share.{Share}
-use Rattle.index_reader.specs.Replies.{Tries, on_ok}
 use Rattle.gather_flow.specs.Shares.{by_itself}
 use Rattle.gather_flow.specs.Workers.{all_of}
 use Rattle.actor_core.specs.declared.kept.Stop.{Stop}

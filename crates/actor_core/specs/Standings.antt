@@ -4,6 +4,7 @@ use Rattle.story.specs.Process.{asks, ends}
 use Rattle.flow.specs.Standing.{Standing, ready, asked as out, Rest, over, awaits, rest_of, Awaits}
 use Rattle.flow.specs.declared.stuck.Stuck.{Stuck}
 use Rattle.flow.specs.Running.{unbroken}
+use Rattle.flow.specs.Replies.{on_ok}
 use Rattle.mount_model.specs.declared.call.Call.{Call}
 use Rattle.mount_model.specs.declared.call.Call.TheVariants.{Greet}
 use Rattle.mount_model.specs.declared.reply.Reply.{Reply}
@@ -13,7 +14,6 @@ use Rattle.writer_flow.specs.SyncingStages.{sync_standing, sync_left}
 use Rattle.writer_flow.specs.ClosingStages.{close_standing, close_left}
 use Rattle.index_reader.specs.declared.listing.Listing.{Listing as Listed}
 use Rattle.index_reader.specs.declared.sharing.Share.{Share}
-use Rattle.index_reader.specs.Replies.{on_ok}
 use Rattle.index_reader.specs.OpenStages.{open_standing as list_standing, open_calls_left}
 use Rattle.index_reader.specs.ReadingStages.{read_standing, read_left}
 use Rattle.attr_flow.specs.Stages.{attr_standing, attr_left}

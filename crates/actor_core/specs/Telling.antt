@@ -2,13 +2,13 @@
 use Rattle.std.specs.Prelude.{ℕ, List, [], Option, Result, Ok, Err}
 use Rattle.story.specs.Program.{done, followed_by}
 use Rattle.flow.specs.declared.stuck.Stuck.{Stuck}
+use Rattle.flow.specs.Replies.{Tries, on_ok}
 use Rattle.attr_flow.specs.declared.attr.Attr.{Attr}
 use Rattle.attr_flow.specs.declared.attr_flow.AttrOut.{AttrOut}
 use Rattle.attr_flow.specs.declared.attr_flow.AttrOut.TheVariants.{Cached, MustMerge}
 use Rattle.attr_flow.specs.Asking.{attr_program}
 use Rattle.index_reader.specs.declared.listing.Listing.{Listing}
 use Rattle.index_reader.specs.declared.sharing.Share.{Share}
-use Rattle.index_reader.specs.Replies.{Tries, on_ok}
 use Rattle.index_reader.specs.Opening.{open_at_program}
 use Rattle.index_reader.specs.Truncs.{trunc_program}
 use Rattle.actor_core.specs.declared.kept.Stop.{Stop}

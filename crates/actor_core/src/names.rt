@@ -1,12 +1,12 @@
 //! The names of all files.
 ghost use Rattle.std.specs.Prelude.{◌≡◌};
 ghost use Rattle.flow.specs.Standing.{next_of};
-ghost use Rattle.actor_core.specs.Names.{is_logical as logical_test, logical_among, names_told};
+ghost use Rattle.actor_core.specs.Names.{logical_among, names_told};
 ghost use Rattle.actor_core.specs.Naming.{names_standing, names_left};
 
 use flow::{Flow, Stuck, failure};
 use mount_model::{Call, Reply};
-use plfs_types::{LogicalName, Name, NameList, NoMemory};
+use plfs_types::{NameList, NoMemory};
 use std::mem;
 
 /// Names all files by one call.
@@ -16,19 +16,12 @@ pub(crate) enum NamesRead {
     Told(Result<NameList, Stuck>),
 }
 
-/// Whether a file may have this name.
-fn is_logical(name: &Name) -> bool
-    ensures { result ≡ logical_test name.now }
-{
-    LogicalName::read(name.bytes()).is_some()
-}
-
 /// The logical names among these, in their order. It takes no memory.
 fn logical(names: NameList) -> NameList
     ensures { result ≡ logical_among names }
 {
     let mut names = names.into_vec();
-    names.retain(|name| is_logical(name));
+    names.retain(|name| name.is_logical());
     NameList::from_vec(names)
 }
 

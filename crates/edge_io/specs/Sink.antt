@@ -23,8 +23,9 @@ TakesOn piece (Some old) new = new ≡ Some (old ++ piece)
 pub record HasWritten (n : ℕ) (piece : List ℕ) (old new : Taking) : Type 0 where
   pub within : n ≤ length piece
   pub bytes : TakesOn (take n piece) old.taken new.taken
-  pub faults : old.faults ≤ new.faults
+  pub faults : new.faults ≡ old.faults
   pub stalls : old.stalls ≤ new.stalls
+  pub unstalled : 1 ≤ n → new.stalls ≡ old.stalls
   pub stalled : n ≡ 0 → 1 ≤ length piece → HasRisen old.stalls new.stalls
 
 -- the write has failed, and the bytes taken are as they were

@@ -23,7 +23,7 @@ pub record HasRead (n : ℕ) (into : List ℕ) (old new : Given) : Type 0 where
   pub within : n ≤ length into
   pub bytes : HandsOver (take n into) old.left new.left
   pub end : 1 ≤ length into → EndsAtLast n old.left
-  pub faults : old.faults ≤ new.faults
+  pub faults : new.faults ≡ old.faults
 
 -- the read has failed, and the bytes left are as they were
 pub record HasNotRead (old new : Given) : Type 0 where

@@ -2,9 +2,10 @@
 use Rattle.std.proofs.Common.{◌≡◌, true, refl}
 use Rattle.flow.specs.declared.stuck.Stuck.{Stuck}
 use Rattle.flow.specs.Standing.{IsOver, ready, rest_of}
+use Rattle.flow.specs.Composed.{is_awaiting}
 use Rattle.std.specs.Prelude.{ℕ, Result}
 use Rattle.flow.specs.Replies.{on_ok}
-use Rattle.index_reader.specs.OpenStages.{open_rest, open_standing}
+use Rattle.index_reader.specs.OpenStages.{open_standing}
 use Rattle.gather_flow.specs.Gathering.{gather_rest}
 use Rattle.flatten_core.specs.declared.flattening.Flattened.{Flattened}
 use Rattle.flatten_core.specs.declared.parts.Part.{Part}
@@ -14,13 +15,13 @@ use Rattle.flatten_core.specs.declared.stages.Stage.TheVariants.{Scanning, Synci
 use Rattle.flatten_core.specs.Flattening.{gathers, installs_gathered, lists, tells}
 use Rattle.flatten_core.specs.Installing.{syncs_listed}
 use Rattle.flatten_core.specs.Parts.{parted, IsPartUnderway}
-use Rattle.flatten_core.specs.Stages.{installing, is_awaiting, IsUnderway}
+use Rattle.flatten_core.specs.Stages.{installing, IsUnderway}
 use Rattle.flatten_core.specs.StartStages.{starting}
-use Rattle.flatten_core.proofs.PartLemmas.{awaiting_then, calling_not_over, not_over}
+use Rattle.flow.proofs.Composing.{awaiting_then, calling_not_over, not_over}
 
 -- a stage that hasn't ended has a call
 pub not_ended : (room flat : ℕ) (stage : Stage) → IsUnderway stage → ((outcome : Result (Unit {0}) Stuck) → stage ≡ Ended outcome → ⊥) → is_awaiting (rest_of (installing room flat stage)) ≡ true
-not_ended room flat (Scanning scan covers bytes) is differs = awaiting_then (open_rest scan) (on_ok (syncs_listed room flat covers bytes)) is
+not_ended room flat (Scanning scan covers bytes) is differs = awaiting_then (on_ok (syncs_listed room flat covers bytes)) (open_standing scan) is
 not_ended room flat (SyncingLog d rest bytes) is differs = refl
 not_ended room flat (SyncingIndex d rest bytes) is differs = refl
 not_ended room flat (Putting bytes) is differs = refl

@@ -1,4 +1,2 @@
-pub mod FollowLemmas
 pub mod Spelled
-pub mod PartLemmas
 pub mod EndLemmas

@@ -1,26 +1,21 @@
 -- Where the parts of a whole flattening stand in its program.
-use Rattle.std.specs.Prelude.{◌≡◌, ℕ, ◌+◌, ◌*◌, ◌^◌, true, Option, Some, None, Result, IfSome}
+use Rattle.std.specs.Prelude.{◌≡◌, ℕ, ◌+◌, ◌*◌, ◌^◌, true, Result, IfSome}
 use Rattle.flow.specs.declared.stuck.Stuck.{Stuck}
-use Rattle.story.specs.Program.{Program, done, ask, followed_by}
-use Rattle.flow.specs.Standing.{Rest, Standing, asked, awaits, over, ready, rest_of}
+use Rattle.story.specs.Program.{done}
+use Rattle.flow.specs.Standing.{Standing, ready, rest_of}
+use Rattle.flow.specs.Composed.{then_on, is_awaiting, calling}
 use Rattle.mount_model.specs.declared.call.Call.{Call}
 use Rattle.mount_model.specs.declared.reply.Reply.{Reply}
 use Rattle.mount_model.specs.Step.{OwedBy}
 use Rattle.flow.specs.Replies.{on_ok}
 use Rattle.index_reader.specs.OpenStages.{open_calls_left, open_standing}
-use Rattle.gather_flow.specs.Gathering.{gather_left, gather_rest, shares_bound, then_on}
+use Rattle.gather_flow.specs.Gathering.{gather_left, gather_rest, shares_bound}
 use Rattle.flatten_core.specs.declared.flattening.Flattened.{Flattened}
 use Rattle.flatten_core.specs.declared.parts.Part.{Part}
 use Rattle.flatten_core.specs.declared.parts.Part.TheVariants.{Beginning, Listing, Gathering, Ending, Ended}
 use Rattle.flatten_core.specs.Flattening.{gathers, installs_gathered, lists, tells}
 use Rattle.flatten_core.specs.StartStages.{starting, starts_left}
-use Rattle.flatten_core.specs.Stages.{installing, installs_left, is_awaiting, IsUnderway}
-
--- a call that isn't given yet, or was given, and then what its reply leads to
-abbrev pub calling : {R S : Type 0} → Option Call → Rest Call Reply R → (R → Program Call Reply S) → Standing Call Reply S
-calling call (over result) next = ready (next result)
-calling (Some call) (awaits k) next = ready (ask call (λ reply. followed_by (k reply) next))
-calling None (awaits k) next = asked (λ reply. followed_by (k reply) next)
+use Rattle.flatten_core.specs.Stages.{installing, installs_left, IsUnderway}
 
 abbrev pub parted : Part → Standing Call Reply (Result Flattened Stuck)
 parted (Beginning stage) = then_on (ready (starting stage)) (on_ok lists)

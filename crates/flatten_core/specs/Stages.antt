@@ -1,8 +1,9 @@
 -- Where the stages of an installing stand in its program.
-use Rattle.std.specs.Prelude.{◌≡◌, ℕ, ◌+◌, ◌*◌, Bool, true, false, length, Result}
+use Rattle.std.specs.Prelude.{◌≡◌, ℕ, ◌+◌, ◌*◌, Bool, true, length, Result}
 use Rattle.flow.specs.declared.stuck.Stuck.{Stuck}
 use Rattle.story.specs.Program.{done, followed_by}
-use Rattle.flow.specs.Standing.{Rest, Standing, asked, awaits, over, ready, rest_of}
+use Rattle.flow.specs.Standing.{Standing, asked, ready, rest_of}
+use Rattle.flow.specs.Composed.{is_awaiting}
 use Rattle.mount_model.specs.declared.call.Call.{Call}
 use Rattle.mount_model.specs.declared.reply.Reply.{Reply}
 use Rattle.flow.specs.Replies.{on_ok}
@@ -20,11 +21,6 @@ installing room flat Put = asked (if_done (syncs_flat flat))
 installing room flat SyncingFlat = ready (syncs_flat flat)
 installing room flat Installing = ready (installs flat)
 installing room flat (Ended outcome) = ready (done outcome)
-
--- there is a question whose reply is to come
-abbrev pub is_awaiting : {A R X : Type 0} → Rest A R X → Bool
-is_awaiting (over result) = false
-is_awaiting (awaits k) = true
 
 -- a listing has a further call
 abbrev pub is_underway : Stage → Bool

@@ -1,10 +1,11 @@
 //! The next call of each part of a whole flattening, and the part once it was given.
 ghost use Rattle.std.specs.Prelude.{◌≡◌, true, Some, IfOk, IfSome};
 ghost use Rattle.flow.specs.Standing.{ready, next_of, rest_of};
+ghost use Rattle.flow.specs.Composed.{is_awaiting};
 ghost use Rattle.mount_model.specs.Step.{OwedBy};
 ghost use Rattle.index_reader.specs.OpenStages.{open_calls_left, open_standing};
 ghost use Rattle.flatten_core.specs.Parts.{parted, parts_left, IsPartUnderway};
-ghost use Rattle.flatten_core.specs.Stages.{is_awaiting, IsUnderway, installing};
+ghost use Rattle.flatten_core.specs.Stages.{IsUnderway, installing};
 ghost use Rattle.flatten_core.specs.StartStages.{starting};
 
 use crate::flattening::Flattened;

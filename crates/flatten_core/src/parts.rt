@@ -3,15 +3,16 @@ ghost use Rattle.std.specs.Prelude.{◌≡◌, ◌<◌, ◌≤◌, ◌+◌, ◌^
 ghost use Rattle.mount_model.specs.declared.call.Call.{Call as Asked};
 ghost use Rattle.story.specs.Program.{followed_by};
 ghost use Rattle.flow.specs.Standing.{ready, next_of, rest_of, replied, Awaits, IsFresh, IsOver};
+ghost use Rattle.flow.specs.Composed.{calling, is_awaiting, then_on};
 ghost use Rattle.flow.specs.Replies.{on_ok};
 ghost use Rattle.mount_model.specs.Step.{OwedBy};
 ghost use Rattle.index_reader.specs.Covered.{AreByWriter as AreCoversByWriter};
 ghost use Rattle.index_reader.specs.Listing.{AreByWriter};
 ghost use Rattle.index_reader.specs.OpenStages.{open_calls_left, open_standing};
-ghost use Rattle.gather_flow.specs.Gathering.{gather_left, gather_rest, gather_standing, then_on};
+ghost use Rattle.gather_flow.specs.Gathering.{gather_left, gather_rest, gather_standing};
 ghost use Rattle.flatten_core.specs.Flattening.{flattened, gathers, installs_gathered, installs_index, lists, tells};
-ghost use Rattle.flatten_core.specs.Parts.{calling, ending_bound, gathering_bound, parted, parts_left, IsPartUnderway};
-ghost use Rattle.flatten_core.specs.Stages.{is_awaiting, IsUnderway, installing, installs_left};
+ghost use Rattle.flatten_core.specs.Parts.{ending_bound, gathering_bound, parted, parts_left, IsPartUnderway};
+ghost use Rattle.flatten_core.specs.Stages.{IsUnderway, installing, installs_left};
 ghost use Rattle.flatten_core.specs.StartStages.{starting, starts_left};
 
 use crate::flattening::Flattened;

@@ -33,13 +33,12 @@ use Rattle.mount_sound.specs.Items.{HasItem}
 use Rattle.mount_sound.specs.Owed.{IsLawful, Permits, StandsInRoom}
 use Rattle.mount_sound.specs.Sound.{IsClean, IsFine, IsSoundFor}
 use Rattle.mount_sound.proofs.Facts.{was_clean}
-use Rattle.flow.specs.Replies.{failure, given, on_ok, room_in}
+use Rattle.flow.specs.Replies.{failure, given, on_ok, room_in, Tries, on_ok as then_on_ok}
 use Rattle.index_reader.specs.declared.listing.Dropping.{Dropping as Listed}
 use Rattle.index_reader.specs.declared.listing.Listing.{Listing}
 use Rattle.index_reader.specs.declared.sharing.Share.{Share}
 use Rattle.index_reader.specs.Listing.{AreByWriter}
 use Rattle.index_reader.specs.Opening.{open_at_program, scan_program}
-use Rattle.index_reader.specs.Replies.{Tries, on_ok as then_on_ok}
 use Rattle.index_reader.specs.Sharing.{share_program}
 use Rattle.index_reader.specs.Truncs.{trunc_program}
 use Rattle.index_reader.proofs.Facts.{IsLook, OnlyLooks, listing_looks, share_looks, truncs_looks}

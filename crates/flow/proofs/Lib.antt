@@ -1,4 +1,5 @@
 pub mod Facts
 mod Running
+pub mod Composing
 pub mod NameLemmas
 pub mod OrderLemmas

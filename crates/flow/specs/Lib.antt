@@ -1,4 +1,5 @@
 pub mod Standing
+pub mod Composed
 pub mod Running
 pub mod Replies
 pub mod Names

@@ -1,6 +1,7 @@
 //! A reader's machines over sets of writes, against the newest write asked byte by byte.
 ghost use Rattle.std.specs.Prelude.{IfSome};
 ghost use Rattle.flow.specs.Standing.{IsFresh};
+ghost use Rattle.index_reader.specs.Covered as covered;
 ghost use Rattle.index_reader.specs.Listing as listed;
 
 use crate::cases::ends;
@@ -103,7 +104,8 @@ pub(crate) fn joined<R: Threads + Sync>(
 
 /// What two workers gather.
 pub(crate) fn gathered<R: Threads + Sync>(rt: &R, alloc: Global, set: &Set) -> Option<Gathered>
-    ensures { IfSome result (λ all. listed.AreByWriter all.droppings) }
+    ensures droppings { IfSome result (λ all. listed.AreByWriter all.droppings) }
+    ensures covers { IfSome result (λ all. covered.AreByWriter all.flat.covers) }
 {
     let truncs = ended(alloc, set, TruncRead::new(alloc, 1)).ok()?.ok()?;
     let Some(shares) = joined(rt, alloc, set, &[&[FIRST], &[SECOND, THIRD]]) else {

@@ -1,1 +1,2 @@
 mod SameFile
+mod Over

@@ -1,7 +1,9 @@
+pub mod Doubts
 pub mod Calls
 pub mod Keys
 pub mod Kinds
 pub mod Noted
 pub mod OpenFiles
 pub mod Opened
+pub mod Own
 pub mod Parts

@@ -1,9 +1,10 @@
 //! The calls of the system, as far as a store makes them.
-ghost use Rattle.std.specs.Prelude.{◌≡◌, ◌∷◌, [], length, IfOk, IfErr};
+ghost use Rattle.std.specs.Prelude.{◌≡◌, ◌∷◌, [], length, Option, None, IfOk, IfErr};
 ghost use Rattle.folder_calls.specs.Calls.{Log, Makes, looked_at, listed_folder, opened_file, created_file, measured_file, read_bytes, wrote_bytes, resized_file, synced_file, made_folder, synced_folder, removed_file, removed_folder, renamed_item, giving, failed_calls};
+ghost use Rattle.folder_calls.specs.Noted.{noted};
 
 use crate::failure::Failure;
-use crate::reason::Kind;
+use crate::reason::{Kind, Reason};
 use plfs_types::NameList;
 use std::alloc::Global;
 
@@ -15,14 +16,33 @@ pub enum Removal {
     NotEmpty,
 }
 
-/// The system, as far as a store calls it. A call that fails is `Failed`, but for want of memory in a listing,
-/// which changes nothing. Each call tells itself, and that where it succeeded no failed one came to the log.
+/// The system, as far as a store calls it. A call that fails is `Failed`, but for a sync, and for want of memory in a
+/// listing, which changes nothing. Each call tells itself, and that where it succeeded no failed one came to the log.
 pub trait Calls {
+    ghost use Rattle.folder_calls.specs.declared.reason.Reason.{Reason};
+
     /// An open file.
     type File: Drop;
 
     /// The calls made so far, where it tells them.
     ghost log: { Self → Log Self.File };
+
+    /// Why the step fails, as far as its calls told.
+    ghost told: { Self → Option Reason };
+
+    /// Forgets what the calls told, before another step.
+    fn forget(&mut self)
+        ensures uncalled { log self.new ≡ log self.old }
+        ensures forgotten { told self.new ≡ None };
+
+    /// Tells why a step fails that asks nothing more of the system.
+    fn tell(&mut self, reason: Reason)
+        ensures uncalled { log self.new ≡ log self.old }
+        ensures noted { told self.new ≡ noted (told self.old) reason };
+
+    /// Why the last call failed, or what the last look found.
+    fn reason(&self) -> Option<Reason>
+        ensures { result ≡ told self.now };
 
     /// What stands at a path. It follows no link.
     fn look(&mut self, path: &str) -> Result<Kind, Failure>
@@ -74,7 +94,7 @@ pub trait Calls {
     /// Syncs a file's bytes and its length.
     fn sync(&mut self, file: &Self::File) -> Result<(), Failure>
         ensures call { Makes (synced_file file.now result ∷ []) (log self.old) (log self.new) }
-        ensures failed { IfErr result (λ failure. failure ≡ Failure.Failed) }
+        ensures failed { IfErr result (λ failure. failure ≡ Failure.Unsynced) }
         ensures well { IfOk result (λ _. failed_calls (log self.new) ≡ failed_calls (log self.old)) };
 
     /// Makes a folder. False where something is at the path.
@@ -86,7 +106,7 @@ pub trait Calls {
     /// Syncs the names in a folder.
     fn sync_folder(&mut self, path: &str) -> Result<(), Failure>
         ensures call { Makes (synced_folder path.now result ∷ []) (log self.old) (log self.new) }
-        ensures failed { IfErr result (λ failure. failure ≡ Failure.Failed) }
+        ensures failed { IfErr result (λ failure. failure ≡ Failure.Unsynced) }
         ensures well { IfOk result (λ _. failed_calls (log self.new) ≡ failed_calls (log self.old)) };
 
     /// Removes a file. False where nothing is at the path.

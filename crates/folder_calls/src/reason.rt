@@ -78,6 +78,10 @@ impl Display for Kind {
 pub enum Reason {
     /// No item of a folder can have such a name, or no room.
     Unnameable,
+    /// A sync of the item, or of the folder with its name, failed before.
+    Unsynced,
+    /// The step would write other bytes over those of an earlier run.
+    Overwrites,
     /// This stands where the step needs something else.
     Found { kind: Kind },
     /// The system failed what it was asked for.
@@ -88,6 +92,8 @@ impl Display for Reason {
     fn fmt<W: fmt::Write>(&self, f: &mut Formatter<W>) -> fmt::Result {
         match self {
             Reason::Unnameable => write!(f, "no such name can stand there"),
+            Reason::Overwrites => write!(f, "would overwrite bytes of an earlier run"),
+            Reason::Unsynced => write!(f, "a sync of it or of its folder failed before"),
             Reason::Found { kind } => write!(f, "{kind}"),
             Reason::System { asked, error } => write!(f, "{asked}: {error}"),
         }

@@ -52,21 +52,6 @@ impl<R> SystemCalls<R> {
         SystemCalls { rt, last: None }
     }
 
-    /// Forgets what the last call told.
-    pub fn forget(&mut self)
-        ensures runtime { self.new.rt ≡ self.old.rt }
-        ensures forgotten { self.new.last ≡ None }
-    {
-        self.last = None;
-    }
-
-    /// Why the last call failed or what the last look found, since it was told to forget.
-    pub fn last(&self) -> Option<Reason>
-        ensures { result ≡ self.now.last }
-    {
-        self.last
-    }
-
     // Keeps what a call told, unless one failed before: that is why the step fails.
     fn note(&mut self, reason: Reason)
         ensures noted { self.new.last ≡ noted self.old.last reason }
@@ -92,6 +77,22 @@ impl<R> SystemCalls<R> {
         match end {
             Ok(value) => Ok(value),
             Err(error) => Err(self.fail(asked, error)),
+        }
+    }
+
+    // A sync's end, and why it failed.
+    fn synced<T: Drop>(&mut self, end: io::Result<T>) -> Result<T, Failure>
+        ensures { IfErr result (λ failure. failure ≡ Failure.Unsynced) }
+    {
+        match end {
+            Ok(value) => Ok(value),
+            Err(error) => {
+                self.note(Reason::System {
+                    asked: Asked::Sync,
+                    error,
+                });
+                Err(Failure::Unsynced)
+            }
         }
     }
 
@@ -175,6 +176,20 @@ impl<R: System> Calls for SystemCalls<R> {
 
     ghost log = { λ _. None };
 
+    ghost told = { λ calls. calls.last };
+
+    fn forget(&mut self) {
+        self.last = None;
+    }
+
+    fn tell(&mut self, reason: Reason) {
+        self.note(reason);
+    }
+
+    fn reason(&self) -> Option<Reason> {
+        self.last
+    }
+
     fn look(&mut self, path: &str) -> Result<Kind, Failure> {
         let kind = match fs::symlink_metadata(&self.rt, path) {
             Ok(found) => kind_of(&found),
@@ -235,7 +250,7 @@ impl<R: System> Calls for SystemCalls<R> {
 
     fn sync(&mut self, file: &File) -> Result<(), Failure> {
         let end = file.sync_all();
-        self.ended(Asked::Sync, end)
+        self.synced(end)
     }
 
     fn make_folder(&mut self, path: &str) -> Result<bool, Failure> {
@@ -245,9 +260,9 @@ impl<R: System> Calls for SystemCalls<R> {
 
     fn sync_folder(&mut self, path: &str) -> Result<(), Failure> {
         let folder = File::open(&self.rt, path);
-        let folder = self.ended(Asked::Sync, folder)?;
+        let folder = self.synced(folder)?;
         let end = folder.sync_all();
-        self.ended(Asked::Sync, end)
+        self.synced(end)
     }
 
     fn remove_file(&mut self, path: &str) -> Result<bool, Failure> {

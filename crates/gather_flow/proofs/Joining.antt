@@ -9,6 +9,7 @@ use Rattle.interval_merge.specs.Lists.{newest_source}
 use Rattle.attr_flow.specs.Attributes.{gathered as told_by}
 use Rattle.index_reader.specs.declared.listing.Listing.{Listing}
 use Rattle.index_reader.specs.declared.sharing.Share.{Share}
+use Rattle.index_reader.specs.Hosts.{hosts_of}
 use Rattle.index_reader.specs.Runs.{runs_of}
 use Rattle.index_reader.specs.Gathered.{IsJoinedOf, pieces_of_each, covers_of}
 use Rattle.gather_flow.specs.OneIndex.{first_covers, reader_of, attr_of}
@@ -38,7 +39,7 @@ joined_reader listing shares share truncs joined =
     let covers = same_covers_told listing shares share joined in
     λ i. record {
       room = listing.room;
-      droppings = listing.droppings;
+      hosts = hosts_of listing.droppings;
       pieces = runs_of (λ x. kept_source truncs x (same_newest listing.flat.pieces shares share joined x i));
       size = size_from (runs_of (λ x. same_newest listing.flat.pieces shares share joined x i)) truncs;
       covers = covers i;

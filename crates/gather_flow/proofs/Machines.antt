@@ -2,13 +2,13 @@
 use Rattle.std.proofs.Common.{◌≡◌, ◌≤◌, ◌<◌, ℕ, ◌+◌, ◌-◌, ◌*◌, ◌^◌, arith, List, Some, None, Result, sym, ap, ◌∙◌}
 use Rattle.flow.specs.declared.stuck.Stuck.{Stuck}
 use Rattle.flow.specs.Standing.{next_of, rest_of}
+use Rattle.flow.specs.Replies.{on_ok}
 use Rattle.mount_model.specs.declared.call.Call.{Call}
 use Rattle.mount_model.specs.Step.{OwedBy}
 use Rattle.index_reader.specs.declared.listing.Listing.{Listing}
 use Rattle.index_reader.specs.declared.sharing.Share.{Share}
 use Rattle.index_reader.specs.declared.sharing.ShareRead.{ShareRead}
 use Rattle.index_reader.specs.declared.truncs.TruncRead.{TruncRead}
-use Rattle.index_reader.specs.Replies.{on_ok}
 use Rattle.index_reader.specs.Stages.{share_standing, share_left}
 use Rattle.index_reader.specs.TruncStages.{trunc_standing, trunc_left}
 use Rattle.gather_flow.specs.declared.all_read.AllRead.{AllRead}
@@ -18,7 +18,8 @@ use Rattle.gather_flow.specs.declared.gathering.Tried.TheVariants as tried
 use Rattle.gather_flow.specs.declared.gathering.Called.TheVariants as called
 use Rattle.gather_flow.specs.Gathering.{if_truncs_listed, after_share, gather_standing, gather_left, share_bound, shares_bound}
 use Rattle.gather_flow.specs.Called.{IsTried, IsCalled}
-use Rattle.gather_flow.proofs.Throughs.{asks_then, rests_then, through, same_then}
+use Rattle.flow.proofs.Composing.{asks_then, through, same_then}
+use Rattle.gather_flow.proofs.Throughs.{rests_then}
 
 -- ---- the machine at work
 
@@ -26,7 +27,7 @@ pub share_asks : (old new : ShareRead) (listed : Listing) (workers worker : ℕ)
     → Some call ≡ next_of (share_standing old) → rest_of (share_standing new) ≡ rest_of (share_standing old) → OwedBy call → share_left new ≡ share_left old
     → IsTried (Shares old listed workers worker sofar) (tried.Asks call (Shares new listed workers worker sofar))
 share_asks old new listed workers worker sofar call some same owed left = (
-  asks_then (share_standing old) (after_share workers listed worker sofar) call some,
+  asks_then (after_share workers listed worker sofar) (share_standing old) call some,
   rests_then (share_standing old) (share_standing new) (after_share workers listed worker sofar) call some same,
   owed,
   omega (arith, left),
@@ -37,13 +38,13 @@ pub share_through : (old new : ShareRead) (listed : Listing) (workers worker : �
     → IsTried (Shares old listed workers worker sofar) (tried.Through (Shares new listed workers worker sofar))
 share_through old new listed workers worker sofar none same left =
     let is = through (share_standing old) (share_standing new) tt none same in
-    (is, same_then (share_standing old) (share_standing new) (after_share workers listed worker sofar) same is, omega (arith, left), omega arith)
+    (is, same_then (after_share workers listed worker sofar) (share_standing old) (share_standing new) same is, omega (arith, left), omega arith)
 
 pub trunc_asks : (old new : TruncRead) (listed : Listing) (shares : List Share) (call : Call)
     → Some call ≡ next_of (trunc_standing old) → rest_of (trunc_standing new) ≡ rest_of (trunc_standing old) → OwedBy call → trunc_left new ≡ trunc_left old
     → IsTried (Truncs old listed shares) (tried.Asks call (Truncs new listed shares))
 trunc_asks old new listed shares call some same owed left = (
-  asks_then (trunc_standing old) (on_ok (if_truncs_listed listed shares)) call some,
+  asks_then (on_ok (if_truncs_listed listed shares)) (trunc_standing old) call some,
   rests_then (trunc_standing old) (trunc_standing new) (on_ok (if_truncs_listed listed shares)) call some same,
   owed,
   omega (arith, left),
@@ -54,7 +55,7 @@ pub trunc_through : (old new : TruncRead) (listed : Listing) (shares : List Shar
     → IsTried (Truncs old listed shares) (tried.Through (Truncs new listed shares))
 trunc_through old new listed shares none same left =
     let is = through (trunc_standing old) (trunc_standing new) tt none same in
-    (is, same_then (trunc_standing old) (trunc_standing new) (on_ok (if_truncs_listed listed shares)) same is, omega (arith, left), omega arith)
+    (is, same_then (on_ok (if_truncs_listed listed shares)) (trunc_standing old) (trunc_standing new) same is, omega (arith, left), omega arith)
 
 -- ---- the machines one after the other
 

@@ -3,11 +3,11 @@ use Rattle.std.proofs.Common.{◌≡◌, List, [], ◌∷◌, ◌++◌, Result, 
 use Rattle.plfs_types.specs.declared.entries.Trunc.{Trunc}
 use Rattle.story.specs.Program.{Program, done, ask, followed_by}
 use Rattle.flow.specs.declared.stuck.Stuck.{Stuck}
+use Rattle.flow.specs.Replies.{Tries, on_ok}
 use Rattle.mount_model.specs.declared.call.Call.{Call}
 use Rattle.mount_model.specs.declared.reply.Reply.{Reply}
 use Rattle.index_reader.specs.declared.listing.Listing.{Listing}
 use Rattle.index_reader.specs.declared.sharing.Share.{Share}
-use Rattle.index_reader.specs.Replies.{Tries, on_ok}
 use Rattle.index_reader.specs.Truncs.{trunc_program}
 use Rattle.gather_flow.specs.declared.all_read.AllRead.{AllRead}
 use Rattle.gather_flow.specs.Shares.{by_itself}

@@ -18,16 +18,18 @@ use Rattle.index_reader.specs.Stages.{share_standing}
 use Rattle.std.specs.Prelude.{Result}
 use Rattle.flow.specs.declared.stuck.Stuck.{Stuck}
 use Rattle.flow.specs.Standing.{Standing, ready}
+use Rattle.flow.specs.Composed.{then_on}
+use Rattle.flow.specs.Replies.{on_ok}
 use Rattle.mount_model.specs.declared.call.Call.{Call}
 use Rattle.mount_model.specs.declared.reply.Reply.{Reply}
 use Rattle.index_reader.specs.Truncs.{trunc_program}
-use Rattle.index_reader.specs.Replies.{on_ok}
+use Rattle.index_reader.specs.Hosts.{hosts_of}
 use Rattle.index_reader.specs.Runs.{merged_of}
 use Rattle.index_reader.specs.Gathered.{IsGatheredOf, pieces_of_each, covers_of}
 use Rattle.index_reader.proofs.RunLemmas.{runs_of-is, merged_of-is}
 use Rattle.gather_flow.specs.OneIndex.{gathered_of, reader_of, attr_of}
 use Rattle.gather_flow.specs.Shares.{by_itself, worker_program, programs_from}
-use Rattle.gather_flow.specs.Gathering.{if_truncs_listed, reads_truncs, then_on, after_share, shares_from}
+use Rattle.gather_flow.specs.Gathering.{if_truncs_listed, reads_truncs, after_share, shares_from}
 use Rattle.gather_flow.proofs.CoverLemmas.{covers_are}
 
 -- what was gathered is one index
@@ -47,7 +49,7 @@ gathered_is listing shares truncs gathered are runs =
 -- what is told of a reader that was opened
 pub record IsOpenedOf (gathered : Gathered) (reader : OpenReader) : Type 0 where
   pub room : reader.room ≡ gathered.room
-  pub droppings : reader.droppings ≡ gathered.droppings
+  pub hosts : reader.hosts ≡ hosts_of gathered.droppings
   pub covers : reader.covers ≡ gathered.flat.covers
   pub truncs : reader.truncs ≡ gathered.truncs
   pub size : reader.size ≡ size_from gathered.flat.pieces gathered.truncs
@@ -65,7 +67,7 @@ reader_is listing shares truncs gathered reader are runs opened clipped =
     let covers = opened.covers ∙ covers_are (covers_of shares ++ listing.flat.covers) gathered.flat.covers are.covers in
     λ i. record {
       room = (opened.room ∙ are.room) i;
-      droppings = (opened.droppings ∙ are.droppings) i;
+      hosts = (opened.hosts ∙ ap hosts_of are.droppings) i;
       pieces = pieces i;
       size = size i;
       covers = covers i;

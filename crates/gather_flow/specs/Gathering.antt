@@ -1,15 +1,16 @@
 -- Where the shares and the truncates of a container that is gathered stand.
 use Rattle.std.specs.Prelude.{ℕ, ◌+◌, ◌-◌, ◌*◌, ◌^◌, List, [], ◌∷◌, ◌++◌, Result, Ok, Err}
 use Rattle.plfs_types.specs.declared.entries.Trunc.{Trunc}
-use Rattle.story.specs.Program.{Program, done, followed_by}
+use Rattle.story.specs.Program.{done, followed_by}
 use Rattle.flow.specs.declared.stuck.Stuck.{Stuck}
 use Rattle.flow.specs.declared.stuck.Stuck.TheVariants.{Fault}
-use Rattle.flow.specs.Standing.{Standing, ready, asked, Rest, over, awaits, rest_of, IsOver, Awaits}
+use Rattle.flow.specs.Standing.{Standing, ready, Rest, over, awaits, rest_of, IsOver, Awaits}
+use Rattle.flow.specs.Composed.{then_on}
+use Rattle.flow.specs.Replies.{Tries, on_ok}
 use Rattle.mount_model.specs.declared.call.Call.{Call}
 use Rattle.mount_model.specs.declared.reply.Reply.{Reply}
 use Rattle.index_reader.specs.declared.listing.Listing.{Listing}
 use Rattle.index_reader.specs.declared.sharing.Share.{Share}
-use Rattle.index_reader.specs.Replies.{Tries, on_ok}
 use Rattle.index_reader.specs.Stages.{share_standing, share_left}
 use Rattle.index_reader.specs.Truncs.{trunc_program}
 use Rattle.index_reader.specs.TruncStages.{trunc_standing, trunc_left}
@@ -18,16 +19,10 @@ use Rattle.gather_flow.specs.declared.gathering.Gathering.{Gathering}
 use Rattle.gather_flow.specs.declared.gathering.Gathering.TheVariants.{Shares, Truncs, Ended}
 use Rattle.gather_flow.specs.Shares.{by_itself, programs_from}
 
-module _ {R S : Type 0} where
-  -- a machine, and then what its result leads to
-  abbrev pub then_on : Standing Call Reply R → (R → Program Call Reply S) → Standing Call Reply S
-  then_on (ready program) next = ready (followed_by program next)
-  then_on (asked k) next = asked (λ reply. followed_by (k reply) next)
-
 -- what follows the reply to a machine's call; without a call nothing does
-abbrev pub rest_then : {R S : Type 0} → Rest Call Reply R → (R → Tries S) → Rest Call Reply (Result S Stuck)
-rest_then (over result) next = over (Err Fault)
-rest_then (awaits k) next = awaits (λ reply. followed_by (k reply) next)
+abbrev pub call_then : {R S : Type 0} → Rest Call Reply R → (R → Tries S) → Rest Call Reply (Result S Stuck)
+call_then (over result) next = over (Err Fault)
+call_then (awaits k) next = awaits (λ reply. followed_by (k reply) next)
 
 -- once the truncates are listed
 abbrev pub if_truncs_listed : Listing → List Share → List Trunc → Tries AllRead
@@ -52,8 +47,8 @@ gather_standing (Ended result) = ready (done result)
 
 -- what follows the reply to the call that is out
 abbrev pub gather_rest : Gathering → Rest Call Reply (Result AllRead Stuck)
-gather_rest (Shares flow listed workers worker sofar) = rest_then (rest_of (share_standing flow)) (after_share workers listed worker sofar)
-gather_rest (Truncs flow listed shares) = rest_then (rest_of (trunc_standing flow)) (on_ok (if_truncs_listed listed shares))
+gather_rest (Shares flow listed workers worker sofar) = call_then (rest_of (share_standing flow)) (after_share workers listed worker sofar)
+gather_rest (Truncs flow listed shares) = call_then (rest_of (trunc_standing flow)) (on_ok (if_truncs_listed listed shares))
 gather_rest (Ended result) = over result
 
 -- the machine at work has no further call

@@ -13,6 +13,7 @@ use Rattle.index_reader.specs.declared.listing.Listing.{Listing}
 use Rattle.index_reader.specs.declared.sharing.Share.{Share}
 use Rattle.index_reader.specs.declared.opened.OpenReader.{OpenReader}
 use Rattle.index_reader.specs.declared.gathered.Gathered.{Gathered}
+use Rattle.index_reader.specs.Hosts.{hosts_of}
 use Rattle.index_reader.specs.Runs.{runs_of, merged_of}
 use Rattle.index_reader.specs.Gathered.{covers_of, pieces_of_each}
 use Rattle.gather_flow.specs.declared.all_read.AllRead.{AllRead}
@@ -46,7 +47,7 @@ gathered_of listing shares truncs = record { room = listing.room; flat = flat_of
 abbrev pub reader_of : Listing → List Share → List Trunc → OpenReader
 reader_of listing shares truncs = record {
   room = listing.room;
-  droppings = listing.droppings;
+  hosts = hosts_of listing.droppings;
   pieces = runs_of (λ x. kept_source truncs x (newest_source (listing.flat.pieces ∷ pieces_of_each shares) x));
   size = size_from (merged_of (listing.flat.pieces ∷ pieces_of_each shares)) truncs;
   covers = first_covers (covers_of shares ++ listing.flat.covers);

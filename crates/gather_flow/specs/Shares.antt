@@ -1,10 +1,10 @@
 -- The shares of a container's droppings, one a worker.
 use Rattle.std.specs.Prelude.{ℕ, ◌-◌, List, [], ◌∷◌, ◌++◌, map}
 use Rattle.std.specs.List.{range_with_len}
+use Rattle.flow.specs.Replies.{Tries, on_ok}
 use Rattle.story.specs.Program.{followed_by}
 use Rattle.index_reader.specs.declared.listing.Listing.{Listing}
 use Rattle.index_reader.specs.declared.sharing.Share.{Share}
-use Rattle.index_reader.specs.Replies.{Tries, on_ok}
 use Rattle.index_reader.specs.Sharing.{share_program}
 use Rattle.gather_flow.specs.Dealing.{dealt_to}
 

@@ -4,11 +4,11 @@ use Rattle.story.specs.Program.{Program}
 use Rattle.flow.specs.declared.stuck.Stuck.{Stuck}
 use Rattle.flow.specs.Running.{asking}
 use Rattle.flow.specs.Standing.{ready}
+use Rattle.flow.specs.Replies.{Tries}
 use Rattle.mount_model.specs.declared.call.Ask.{Ask}
 use Rattle.mount_model.specs.declared.reply.Reply.{Reply}
 use Rattle.index_reader.specs.declared.sharing.Share.{Share}
 use Rattle.index_reader.specs.declared.sharing.ShareRead.{ShareRead}
-use Rattle.index_reader.specs.Replies.{Tries}
 use Rattle.index_reader.specs.Stages.{share_standing}
 use Rattle.index_reader.specs.Gathered.{IsJoinedOf}
 

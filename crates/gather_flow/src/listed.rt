@@ -37,6 +37,7 @@ impl Listed {
     /// The listing.
     pub fn get(&self) -> &Listing
         ensures value { result.now ≡ self.now }
+        ensures droppings { AreDroppingsByWriter self.now.droppings }
         ensures covers { AreCoversByWriter self.now.flat.covers }
     {
         &self.listing

@@ -4,7 +4,7 @@ use Rattle.plfs_types.specs.declared.entries.Entry.{Entry}
 use Rattle.plfs_types.specs.declared.limits.TheConstants.{MAX_LOG}
 use Rattle.index_entry.specs.Entries.{AreEntriesOf, logged, last_stamp}
 use Rattle.index_pack.specs.declared.runs.Run.{Run}
-use Rattle.index_pack.specs.declared.trouble.TheConstants.{MAX_PACKED}
+use Rattle.plfs_types.specs.declared.limits.TheConstants.{MAX_PACKED}
 use Rattle.index_pack.specs.Runs.{IsRun, Ends, run_entries}
 
 -- the number of entries is in range

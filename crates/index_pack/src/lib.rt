@@ -15,5 +15,5 @@ mod unpacking;
 pub use laws::{entries_have_a_packing, packings_are_one, packs_one_list};
 pub use packing::pack;
 pub use runs::Run;
-pub use trouble::{HEAD_SIZE, MAX_PACKED, PackTrouble, RUN_SIZE};
+pub use trouble::{HEAD_SIZE, PackTrouble, RUN_SIZE};
 pub use unpacking::unpack;

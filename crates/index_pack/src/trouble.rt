@@ -16,9 +16,6 @@ pub const HEAD_SIZE: usize = 24;
 /// The bytes of a run.
 pub const RUN_SIZE: usize = 64;
 
-/// The most entries of a packed index.
-pub const MAX_PACKED: u64 = 1 << 20;
-
 /// Why bytes give no entries.
 #[derive(Clone, Copy, Debug, PartialEq, Eq)]
 pub enum PackTrouble {

@@ -11,9 +11,9 @@ ghost use Rattle.index_pack.specs.Spelling.{Packs};
 ghost use Rattle.index_pack.specs.Valid.{IsValidRun, AreValidRuns, writer_of};
 
 use crate::runs::{Run, could_go_on, further};
-use crate::trouble::{HEAD_SIZE, LETTERS, MAX_PACKED, PackTrouble, RUN_SIZE};
+use crate::trouble::{HEAD_SIZE, LETTERS, PackTrouble, RUN_SIZE};
 use index_entry::number_at;
-use plfs_types::{Entry, EntryList, MAX_LOG, MAX_STAMP, NoMemory, Sequence, fits};
+use plfs_types::{Entry, EntryList, MAX_LOG, MAX_PACKED, MAX_STAMP, NoMemory, Sequence, fits};
 use std::alloc::Global;
 
 /// The entries whose packed index the bytes are. `Bad` comes exactly where they are none, with the place 0 where there

@@ -4,11 +4,12 @@ use Rattle.std.specs.Prelude.{if◌then◌else◌}
 use Rattle.std.proofs.lemmas.Bool.{cond-true, cond-false, lt-leb, le-leb}
 use Rattle.plfs_types.specs.declared.entries.Entry.{Entry}
 use Rattle.interval_merge.specs.Writer.{HasPiece}
+use Rattle.flow.specs.Entries.{is_next}
 use Rattle.index_reader.specs.declared.entries.Tail.{Tail}
 use Rattle.index_reader.specs.declared.entries.Went.{Went}
 use Rattle.index_reader.specs.declared.entries.Went.TheVariants.{Ends, Breaks}
 use Rattle.index_entry.specs.Spelling.{entry_in}
-use Rattle.index_reader.specs.Entries.{is_next, longer, checked}
+use Rattle.index_reader.specs.Entries.{longer, checked}
 
 -- So many entries are left of those that were to be checked, and checking these comes to the same.
 pub record Checking (log count : ℕ) (bytes : List ℕ) (first : Tail) (left : ℕ) (rest : List ℕ) (tail : Tail) : Type 0 where

@@ -5,4 +5,3 @@ pub use Rattle.index_reader.proofs.ItemLemmas.{flat_item-at, flat_item-here, fla
 pub use Rattle.index_reader.proofs.Looking.{IsLook, OnlyLooks, listing_looks, share_looks, truncs_looks}
 pub use Rattle.index_reader.proofs.PackRuleLemmas.{pack_told-bad, pack_told-packs}
 pub use Rattle.index_reader.proofs.Searching.{same_bytes-eq, same_bytes-itself}
-pub use Rattle.index_reader.proofs.TruncLemmas.{trunc_in-found, trunc_in-is, trunc_in-not}

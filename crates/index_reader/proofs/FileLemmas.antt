@@ -16,7 +16,7 @@ use Rattle.index_reader.specs.declared.flats.FlatStep.TheVariants as step
 use Rattle.index_reader.specs.declared.parts.FileRead.{FileRead}
 use Rattle.index_reader.specs.declared.steps.PackStep.{PackStep}
 use Rattle.index_reader.specs.declared.steps.PackStep.TheVariants as packing
-use Rattle.index_reader.specs.Replies.{Tries, given, number_in, bytes_in, on_ok, trouble}
+use Rattle.index_reader.specs.Replies.{number_in}
 use Rattle.index_reader.specs.FileStages.{file_left}
 use Rattle.index_reader.specs.FlatRules.{flat_told}
 use Rattle.index_reader.specs.Opening.{flat_program, flat_bytes, flat_or_damage}
@@ -26,6 +26,7 @@ use Rattle.index_reader.specs.Packs.{pack_tail, pack_rest, if_headed, head_fault
 use Rattle.index_reader.specs.declared.packed.Headed.{Headed}
 use Rattle.index_reader.specs.Packed.{headed_program}
 use Rattle.flow.specs.declared.stuck.Stuck.{Stuck}
+use Rattle.flow.specs.Replies.{Tries, given, bytes_in, on_ok, trouble}
 use Rattle.plfs_types.specs.declared.entries.Entry.{Entry}
 use Rattle.index_reader.specs.Stages.{pack_step}
 use Rattle.index_reader.specs.FileReads.{parts_of, next_part, parts, bytes_left, bytes_on}

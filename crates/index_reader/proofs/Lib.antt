@@ -11,11 +11,11 @@ mod ItemLemmas
 pub mod Looking
 mod OpenLemmas
 mod OwnerLemmas
+mod HostLemmas
 mod PackRuleLemmas
 mod PackedLemmas
 pub mod RunLemmas
 mod Searching
 pub mod TailLemmas
 mod TopLemmas
-pub mod TruncLemmas
 mod TruncOrder

@@ -6,6 +6,7 @@ use Rattle.plfs_types.specs.declared.names.Path.{Path}
 use Rattle.container_layout.specs.Paths.{hostdir_of}
 use Rattle.flat_format.specs.declared.flat.Flat.{Flat}
 use Rattle.flow.specs.declared.stuck.Stuck.{Stuck}
+use Rattle.flow.specs.Replies.{Tries, given, on_ok, room_in, names_in, bytes_in, trouble}
 use Rattle.story.specs.Program.{AsksOnly, Program, done, ask, followed_by}
 use Rattle.mount_model.specs.Paths.{flat_path, index_path, log_path}
 use Rattle.mount_model.specs.declared.call.Call.{Call}
@@ -17,7 +18,7 @@ use Rattle.index_reader.specs.declared.entries.Went.TheVariants.{On, Ends, Break
 use Rattle.index_reader.specs.declared.listing.Dropping.{Dropping}
 use Rattle.index_reader.specs.declared.scanning.Scan.{Scan}
 use Rattle.index_reader.specs.declared.sharing.Sofar.{Sofar}
-use Rattle.index_reader.specs.Replies.{Tries, given, on_ok, room_in, names_in, number_in, log_length_in, bytes_in, trouble}
+use Rattle.index_reader.specs.Replies.{number_in, log_length_in}
 use Rattle.index_reader.specs.Covered.{cover_of}
 use Rattle.index_reader.specs.FileReads.{next_part, parts, parts_of, bytes_left}
 use Rattle.index_reader.specs.FlatRules.{flat_told}

@@ -5,6 +5,8 @@ use Rattle.flat_format.specs.declared.flat.Flat.{Flat}
 use Rattle.flow.specs.declared.stuck.Stuck.{Stuck}
 use Rattle.story.specs.Program.{followed_by}
 use Rattle.flow.specs.Standing.{ready, rest_of, replied}
+use Rattle.flow.specs.Replies.{Tries, given, names_in, on_ok, trouble}
+use Rattle.flow.specs.Listed.{file_in}
 use Rattle.mount_model.specs.Paths.{Name}
 use Rattle.mount_model.specs.declared.reply.Reply.{Reply}
 use Rattle.index_reader.specs.declared.flats.AfterFlat.{AfterFlat}
@@ -14,8 +16,7 @@ use Rattle.index_reader.specs.declared.flats.FlatStep.{FlatStep}
 use Rattle.index_reader.specs.declared.flats.FlatStep.TheVariants as step
 use Rattle.index_reader.specs.declared.listing.Listing.{Listing}
 use Rattle.index_reader.specs.declared.opening.Stage.TheVariants.{Reading}
-use Rattle.index_reader.specs.Replies.{Tries, given, names_in, on_ok, trouble}
-use Rattle.index_reader.specs.Scanning.{file_in, nothing_found}
+use Rattle.index_reader.specs.Scanning.{nothing_found}
 use Rattle.index_reader.specs.Tops.{top_shows}
 use Rattle.index_reader.specs.Opening.{scans, top_program}
 use Rattle.index_reader.specs.OpenStages.{flat_step, flat_left, after_flat, IsOfFlat, open_left}

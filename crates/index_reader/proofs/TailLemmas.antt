@@ -20,7 +20,7 @@ use Rattle.index_reader.specs.declared.steps.Step.TheVariants.{Index, Log, Entri
 use Rattle.index_reader.specs.declared.sharing.Share.{Share}
 use Rattle.index_reader.specs.Stages.{step_program, pack_step, dropping_left}
 use Rattle.flow.specs.declared.stuck.Stuck.{Stuck}
-use Rattle.index_reader.specs.Replies.{Tries}
+use Rattle.flow.specs.Replies.{Tries}
 use Rattle.index_reader.specs.Tails.{reads_of, next_read, reads, reads_left, reads_on}
 
 one_read_less : (left : ℕ) → 0 < left → reads_of left ≡ suc (reads_of (left - next_read left))

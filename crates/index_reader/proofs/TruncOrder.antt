@@ -1,13 +1,14 @@
 -- Truncates that are put in their places one by one are those that a sort gives.
-use Rattle.std.proofs.Common.{◌≡◌, ℕ, suc, ◌+◌, ◌<◌, ◌≤◌, nat_eq, nat_le, nat_lt, if◌then◌else◌, true, false, List, [], ◌∷◌, ◌++◌, take, drop, Option, Some, None, Result, Ok, Err, refl, ap, sym, ◌∙◌, ◌⊎◌, inl, inr, subst, arith}
+use Rattle.std.proofs.Common.{◌≡◌, ℕ, suc, ◌+◌, ◌<◌, ◌≤◌, nat_eq, nat_le, nat_lt, if◌then◌else◌, true, false, List, [], ◌∷◌, ◌++◌, take, drop, Some, None, Result, Ok, Err, refl, ap, sym, ◌∙◌, ◌⊎◌, inl, inr, subst, arith}
 use Rattle.std.specs.List.{AllByRecursion}
-use Rattle.std.proofs.lemmas.Bool.{cases_Bool, cases_eq, cases_lt, cond-true, cond-false}
+use Rattle.std.proofs.lemmas.Bool.{cases_eq, cases_lt, cond-true, cond-false}
 use Rattle.std.proofs.lemmas.Bool.Decides.{nat_tests}
 use Rattle.plfs_types.specs.declared.entries.Trunc.{Trunc}
 use Rattle.flow.specs.Order.{ordered_by, put_by, truncs_by_stamp}
 use Rattle.flow.specs.declared.stuck.Stuck.{Stuck}
 use Rattle.mount_model.specs.Paths.{Name}
-use Rattle.index_reader.specs.Truncs.{if_trunc, inserted, is_before, place_of, trunc_in, truncs_listed, truncs_of}
+use Rattle.flow.specs.Names.{trunc_in}
+use Rattle.index_reader.specs.Truncs.{if_trunc, inserted, is_before, place_of, truncs_listed, truncs_of}
 
 -- ---- one in its place
 

@@ -1,19 +1,12 @@
 -- The entries of an index dropping, as they are checked in order.
-use Rattle.std.specs.Prelude.{ℕ, zero, suc, ◌+◌, ◌-◌, ◌&&◌, ◌==◌, nat_le, nat_lt, Bool, if◌then◌else◌, List, [], ◌∷◌, ◌++◌, drop}
+use Rattle.std.specs.Prelude.{ℕ, zero, suc, ◌+◌, nat_le, if◌then◌else◌, List, [], ◌∷◌, ◌++◌, drop}
 use Rattle.index_entry.specs.Spelling.{entry_in}
-use Rattle.plfs_types.specs.declared.limits.TheConstants.{ENTRY_SIZE, MAX_SIZE, MAX_LOG, MAX_STAMP}
+use Rattle.plfs_types.specs.declared.limits.TheConstants.{ENTRY_SIZE}
 use Rattle.plfs_types.specs.declared.entries.Entry.{Entry}
-use Rattle.plfs_types.specs.declared.entries.Cover.{Cover}
+use Rattle.flow.specs.Entries.{is_next}
 use Rattle.index_reader.specs.declared.entries.Tail.{Tail}
 use Rattle.index_reader.specs.declared.entries.Went.{Went}
 use Rattle.index_reader.specs.declared.entries.Went.TheVariants.{On, Ends, Breaks}
-
--- The entry is valid, and follows what this cover counts: it has its writer, a later stamp, and the next place in the
--- log, where it ends within the longest one.
-abbrev pub is_next : Cover → Entry → Bool
-is_next cover e =
-    nat_lt 0 e.len && (nat_le e.at MAX_SIZE && (nat_le e.len (MAX_SIZE - e.at) && (nat_lt cover.stamp e.stamp && (nat_le e.stamp MAX_STAMP
-    && ((e.writer == cover.writer) && ((e.physical == cover.bytes) && (nat_le e.physical MAX_LOG && nat_le e.len (MAX_LOG - e.physical))))))))
 
 -- with one entry more
 abbrev pub longer : Entry → Tail → Tail

@@ -1,19 +1,19 @@
 -- The calls that read a file's bytes up to a length that was told.
 use Rattle.std.specs.Prelude.{ℕ, zero, suc, ◌+◌, ◌-◌, ◌/◌, nat_le, min, if◌then◌else◌, List, ◌++◌, length, Ok}
+use Rattle.plfs_types.specs.declared.limits.TheConstants.{MAX_PIECE}
 use Rattle.plfs_types.specs.declared.names.Path.{Path}
+use Rattle.flow.specs.Replies.{Tries, given, bytes_in, trouble}
 use Rattle.story.specs.Program.{done, ask}
 use Rattle.mount_model.specs.declared.call.Call.TheVariants.{Look}
 use Rattle.mount_model.specs.declared.call.Look.TheVariants.{Read}
-use Rattle.index_reader.specs.declared.bytes.TheConstants.{MAX_BYTES}
-use Rattle.index_reader.specs.Replies.{Tries, given, bytes_in, trouble}
 
 -- how many Reads so many bytes take, 2^20 by each
 abbrev pub parts_of : ℕ → ℕ
-parts_of left = (left + (MAX_BYTES - 1)) / MAX_BYTES
+parts_of left = (left + (MAX_PIECE - 1)) / MAX_PIECE
 
 -- how many bytes the next Read asks for
 abbrev pub next_part : ℕ → ℕ
-next_part left = min left MAX_BYTES
+next_part left = min left MAX_PIECE
 
 -- Reads of the bytes that are left of so many, by so many calls, behind those so far. A Read that gives less than it
 -- asked for is the last.

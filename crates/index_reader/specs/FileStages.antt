@@ -1,10 +1,10 @@
 -- Where the reading of a file stands in its program.
 use Rattle.std.specs.Prelude.{ℕ, List}
+use Rattle.flow.specs.Replies.{Tries}
 use Rattle.story.specs.Program.{done}
 use Rattle.index_reader.specs.declared.parts.FileRead.{FileRead}
 use Rattle.index_reader.specs.declared.bytes.AfterPart.{AfterPart}
 use Rattle.index_reader.specs.declared.bytes.AfterPart.TheVariants.{GoesOn, Is}
-use Rattle.index_reader.specs.Replies.{Tries}
 use Rattle.index_reader.specs.FileReads.{bytes_on}
 
 abbrev pub file_left : ℕ → FileRead → Tries (List ℕ)

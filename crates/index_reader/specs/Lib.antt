@@ -1,9 +1,9 @@
-pub mod Queues
 pub mod Searching
 pub mod Replies
 pub mod Found
 pub mod Covered
 pub mod Listing
+pub mod Hosts
 pub mod Items
 pub mod Newest
 pub mod FileReads
@@ -29,3 +29,4 @@ pub mod TruncStages
 pub mod ReadingStages
 pub mod Gathered
 pub mod Firsts
+pub mod Opened

@@ -4,6 +4,7 @@ use Rattle.flat_format.specs.declared.flat.Flat.{Flat}
 use Rattle.flow.specs.declared.stuck.Stuck.{Stuck}
 use Rattle.story.specs.Program.{done, followed_by}
 use Rattle.flow.specs.Standing.{Awaits, Standing, ready, rest_of}
+use Rattle.flow.specs.Replies.{Tries, on_ok}
 use Rattle.mount_model.specs.declared.call.Call.{Call}
 use Rattle.mount_model.specs.declared.reply.Reply.{Reply}
 use Rattle.index_reader.specs.declared.flats.FlatRead.{FlatRead}
@@ -19,7 +20,6 @@ use Rattle.index_reader.specs.declared.opening.OpenRead.{OpenRead}
 use Rattle.index_reader.specs.declared.opening.Stage.{Stage}
 use Rattle.index_reader.specs.declared.opening.Stage.TheVariants.{Finding, Flats, Reading, Top, Scans, Listed, Failed}
 use Rattle.index_reader.specs.Listing.{AreByWriter}
-use Rattle.index_reader.specs.Replies.{Tries, on_ok}
 use Rattle.index_reader.specs.FileStages.{file_left}
 use Rattle.index_reader.specs.FlatRules.{flat_told}
 use Rattle.index_reader.specs.Opening.{flat_program, flat_or_damage, top_program, scans, open_at_program, open_read_program}

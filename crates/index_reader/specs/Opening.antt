@@ -6,6 +6,8 @@ use Rattle.container_layout.specs.Paths.{hostdir_of}
 use Rattle.flat_format.specs.declared.flat.Flat.{Flat}
 use Rattle.flat_format.specs.declared.flat.TheConstants.{HEAD_SIZE, COVER_SIZE}
 use Rattle.flow.specs.declared.stuck.Stuck.{Stuck}
+use Rattle.flow.specs.Replies.{Tries, given, on_ok, room_in, names_in, damage, trouble}
+use Rattle.flow.specs.Listed.{file_in}
 use Rattle.story.specs.Program.{done, ask, followed_by}
 use Rattle.mount_model.specs.declared.call.Call.TheVariants.{Find, Look}
 use Rattle.mount_model.specs.declared.call.Look.TheVariants.{List as ListFolder, Length, Top}
@@ -14,12 +16,12 @@ use Rattle.index_reader.specs.declared.listing.Dropping.{Dropping}
 use Rattle.index_reader.specs.declared.listing.Listing.{Listing}
 use Rattle.index_reader.specs.declared.owners.Owner.{Owner}
 use Rattle.index_reader.specs.declared.scanning.Scan.{Scan}
-use Rattle.index_reader.specs.Replies.{Tries, given, on_ok, room_in, names_in, number_in, damage, trouble}
+use Rattle.index_reader.specs.Replies.{number_in}
 use Rattle.index_reader.specs.FileReads.{bytes_left}
 use Rattle.index_reader.specs.FlatRules.{flat_told}
 use Rattle.index_reader.specs.Newest.{newest_in, flats_path}
 use Rattle.index_reader.specs.Packs.{packed_path}
-use Rattle.index_reader.specs.Scanning.{file_in, owner_of, has_writer, nothing_found, scanned}
+use Rattle.index_reader.specs.Scanning.{owner_of, has_writer, nothing_found, scanned}
 use Rattle.index_reader.specs.Tops.{top_shows}
 
 -- ---- the newest flattened index

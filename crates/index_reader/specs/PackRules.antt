@@ -5,7 +5,8 @@ use Rattle.plfs_types.specs.declared.limits.TheConstants.{MAX_LOG, MAX_SIZE, MAX
 use Rattle.index_entry.specs.Entries.{logged, last_stamp}
 use Rattle.index_entry.specs.Spelling.{number_in}
 use Rattle.index_pack.specs.declared.runs.Run.{Run}
-use Rattle.index_pack.specs.declared.trouble.TheConstants.{HEAD_SIZE, MAX_PACKED, RUN_SIZE}
+use Rattle.index_pack.specs.declared.trouble.TheConstants.{HEAD_SIZE, RUN_SIZE}
+use Rattle.plfs_types.specs.declared.limits.TheConstants.{MAX_PACKED}
 use Rattle.index_pack.specs.Reading.{runs_in}
 use Rattle.index_pack.specs.Runs.{entry_of, run_entries, entries_of}
 use Rattle.index_pack.specs.Spelling.{letters}

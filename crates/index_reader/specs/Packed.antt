@@ -2,11 +2,11 @@
 use Rattle.std.specs.Prelude.{ℕ, ◌≤◌, List, Ok, Err}
 use Rattle.plfs_types.specs.declared.entries.Cover.{Cover}
 use Rattle.plfs_types.specs.declared.names.Path.{Path}
+use Rattle.flow.specs.Replies.{Tries, damage}
 use Rattle.story.specs.Program.{done}
 use Rattle.index_reader.specs.declared.entries.Tail.{Tail}
 use Rattle.index_reader.specs.declared.packed.Headed.{Headed}
 use Rattle.index_reader.specs.declared.packed.Headed.TheVariants.{Fault, Covered, More}
-use Rattle.index_reader.specs.Replies.{Tries, damage}
 use Rattle.index_reader.specs.Packs.{no_tail, pack_rest}
 use Rattle.plfs_types.specs.declared.entries.Entry.{Entry}
 use Rattle.plfs_types.specs.declared.limits.TheConstants.{MAX_LOG}

@@ -3,6 +3,7 @@ use Rattle.std.specs.Prelude.{ℕ, ◌+◌, List, ◌∷◌, length, Result}
 use Rattle.flow.specs.declared.stuck.Stuck.{Stuck}
 use Rattle.story.specs.Program.{done}
 use Rattle.flow.specs.Standing.{Standing, ready}
+use Rattle.flow.specs.Replies.{Tries}
 use Rattle.mount_model.specs.declared.call.Call.{Call}
 use Rattle.mount_model.specs.declared.reply.Reply.{Reply}
 use Rattle.index_reader.specs.declared.placing.Placed.{Placed}
@@ -10,7 +11,6 @@ use Rattle.index_reader.specs.declared.placing.Placed.TheVariants.{Logged}
 use Rattle.index_reader.specs.declared.reading.Reading.{Reading}
 use Rattle.index_reader.specs.declared.reading.Stage.{Stage}
 use Rattle.index_reader.specs.declared.reading.Stage.TheVariants.{Asking, Ended}
-use Rattle.index_reader.specs.Replies.{Tries}
 use Rattle.index_reader.specs.Reading.{spells}
 
 abbrev pub part_left : ℕ → List Placed → List ℕ → Stage → Tries (List ℕ)

@@ -4,15 +4,13 @@ use Rattle.plfs_types.specs.declared.names.Path.{Path}
 use Rattle.container_layout.specs.declared.items.Item.{Item}
 use Rattle.container_layout.specs.declared.items.Item.TheVariants as item
 use Rattle.flow.specs.declared.stuck.Stuck.{Stuck}
+use Rattle.flow.specs.Listed.{file_in}
+use Rattle.flow.specs.Replies.{damage}
 use Rattle.mount_model.specs.Paths.{Name}
 use Rattle.index_reader.specs.declared.owners.Owner.{Owner}
 use Rattle.index_reader.specs.declared.scanning.Scan.{Scan}
-use Rattle.index_reader.specs.Replies.{damage}
 use Rattle.index_reader.specs.Found.{item_of, AscendBy}
 use Rattle.index_reader.specs.Items.{hostdir_item}
-
-abbrev pub file_in : Name → Name → Path
-file_in folder name = record { folder = folder; file = name }
 
 abbrev pub owner : ℕ → ℕ → Owner
 owner host writer = record { host = host; writer = writer }

@@ -6,6 +6,7 @@ use Rattle.flow.specs.declared.stuck.Stuck.{Stuck}
 use Rattle.interval_merge.specs.Writer.{HasPiece}
 use Rattle.story.specs.Program.{done, followed_by}
 use Rattle.flow.specs.Standing.{Standing, ready}
+use Rattle.flow.specs.Replies.{Tries, on_ok}
 use Rattle.mount_model.specs.declared.call.Call.{Call}
 use Rattle.mount_model.specs.declared.reply.Reply.{Reply}
 use Rattle.index_reader.specs.declared.listing.Dropping.{Dropping}
@@ -18,6 +19,7 @@ use Rattle.index_reader.specs.declared.steps.PackStep.{PackStep}
 use Rattle.index_reader.specs.declared.steps.PackStep.TheVariants as packing
 use Rattle.index_reader.specs.declared.steps.DroppingRead.{DroppingRead}
 use Rattle.index_reader.specs.declared.steps.DroppingRead.TheVariants as from
+use Rattle.index_reader.specs.declared.tail_flow.TailFlow.{TailFlow}
 use Rattle.index_reader.specs.declared.tails.After.{After}
 use Rattle.index_reader.specs.declared.tails.After.TheVariants.{GoesOn, Is}
 use Rattle.index_reader.specs.declared.sharing.Share.{Share}
@@ -25,7 +27,6 @@ use Rattle.index_reader.specs.declared.sharing.Sofar.{Sofar}
 use Rattle.index_reader.specs.declared.sharing.Stage.{Stage}
 use Rattle.index_reader.specs.declared.sharing.Stage.TheVariants.{Underway, Ended}
 use Rattle.index_reader.specs.declared.sharing.ShareRead.{ShareRead}
-use Rattle.index_reader.specs.Replies.{Tries, on_ok}
 use Rattle.index_reader.specs.Tails.{tail_program, log_then, reads_on}
 use Rattle.index_reader.specs.FileStages.{file_left}
 use Rattle.index_reader.specs.PackRules.{pack_told}
@@ -80,6 +81,12 @@ dropping_calls (from.Packed p) = pack_calls p.step
 abbrev pub after_calls : After → ℕ
 after_calls (GoesOn d) = dropping_calls d
 after_calls (Is result) = 0
+
+abbrev pub tail_standing : TailFlow → Standing Call Reply (Result Tail Stuck)
+tail_standing flow = ready (after_left flow.room flow.stage)
+
+abbrev pub tail_calls : TailFlow → ℕ
+tail_calls flow = after_calls flow.stage
 
 abbrev pub stage_left : ℕ → List Cover → List Dropping → Sofar → Stage → Tries Share
 stage_left room covers rest sofar (Underway d) = followed_by (dropping_left room d) (on_ok (λ tail. gathers room covers rest (added tail sofar)))

@@ -1,7 +1,8 @@
 -- The calls that read what a flattened index doesn't cover of one writer's index dropping: its length, its log's, and
 -- Reads of the whole entries.
 use Rattle.std.specs.Prelude.{ℕ, zero, suc, ◌+◌, ◌-◌, ◌*◌, ◌/◌, nat_le, nat_lt, min, Bool, true, false, if◌then◌else◌, List, length, Ok, Err}
-use Rattle.plfs_types.specs.declared.limits.TheConstants.{ENTRY_SIZE}
+use Rattle.plfs_types.specs.declared.limits.TheConstants.{ENTRIES_A_READ, ENTRY_SIZE}
+use Rattle.flow.specs.Replies.{Tries, given, bytes_in, damage, trouble}
 use Rattle.story.specs.Program.{done, ask}
 use Rattle.mount_model.specs.declared.call.Call.TheVariants.{Look}
 use Rattle.mount_model.specs.declared.call.Look.TheVariants.{Length, Read}
@@ -10,17 +11,16 @@ use Rattle.index_reader.specs.declared.listing.Dropping.{Dropping}
 use Rattle.index_reader.specs.declared.entries.Tail.{Tail}
 use Rattle.index_reader.specs.declared.entries.Went.{Went}
 use Rattle.index_reader.specs.declared.entries.Went.TheVariants.{On, Ends, Breaks}
-use Rattle.index_reader.specs.declared.tails.TheConstants.{MAX_READ}
-use Rattle.index_reader.specs.Replies.{Tries, given, number_in, log_length_in, bytes_in, damage, trouble}
+use Rattle.index_reader.specs.Replies.{number_in, log_length_in}
 use Rattle.index_reader.specs.Entries.{checked}
 
 -- how many Reads so many entries take, 4096 by each
 abbrev pub reads_of : ℕ → ℕ
-reads_of left = (left + (MAX_READ - 1)) / MAX_READ
+reads_of left = (left + (ENTRIES_A_READ - 1)) / ENTRIES_A_READ
 
 -- how many entries the next Read asks for
 abbrev pub next_read : ℕ → ℕ
-next_read left = min left MAX_READ
+next_read left = min left ENTRIES_A_READ
 
 -- the entries of the bytes that a Read of so many entries gave
 abbrev pub check : ℕ → ℕ → List ℕ → Tail → Went × Tail

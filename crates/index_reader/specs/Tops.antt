@@ -4,10 +4,11 @@ use Rattle.std.specs.List.{range_with_len}
 use Rattle.plfs_types.specs.declared.names.Path.{Path}
 use Rattle.container_layout.specs.Paths.{hostdir_of}
 use Rattle.flow.specs.declared.stuck.Stuck.{Stuck}
+use Rattle.flow.specs.Replies.{damage}
+use Rattle.flow.specs.Listed.{file_in}
 use Rattle.mount_model.specs.Paths.{Name, openhosts, metadata, truncs, flats}
 use Rattle.index_reader.specs.Searching.{has_name}
-use Rattle.index_reader.specs.Replies.{damage}
-use Rattle.index_reader.specs.Scanning.{file_in, unless_foreign}
+use Rattle.index_reader.specs.Scanning.{unless_foreign}
 
 -- the numbers of the folders of droppings
 abbrev pub hostdirs : List ℕ

@@ -4,12 +4,12 @@ use Rattle.plfs_types.specs.declared.entries.Trunc.{Trunc}
 use Rattle.flow.specs.declared.stuck.Stuck.{Stuck}
 use Rattle.story.specs.Program.{done}
 use Rattle.flow.specs.Standing.{Standing, ready}
+use Rattle.flow.specs.Replies.{Tries}
 use Rattle.mount_model.specs.declared.call.Call.{Call}
 use Rattle.mount_model.specs.declared.reply.Reply.{Reply}
 use Rattle.index_reader.specs.declared.truncs.TruncRead.{TruncRead}
 use Rattle.index_reader.specs.declared.truncs.Stage.{Stage}
 use Rattle.index_reader.specs.declared.truncs.Stage.TheVariants.{Listing, Ended}
-use Rattle.index_reader.specs.Replies.{Tries}
 use Rattle.index_reader.specs.Truncs.{trunc_program}
 
 abbrev pub list_left : Stage → Tries (List Trunc)

@@ -1,24 +1,14 @@
 -- The call that lists a container's truncates, and what its names tell.
-use Rattle.std.specs.Prelude.{ℕ, ◌+◌, ◌^◌, ◌&&◌, ◌==◌, nat_lt, Bool, if◌then◌else◌, List, [], ◌∷◌, ◌++◌, take, drop, Option, Some, None, Result, Ok, Err}
+use Rattle.std.specs.Prelude.{ℕ, ◌+◌, ◌==◌, nat_lt, Bool, if◌then◌else◌, List, [], ◌∷◌, ◌++◌, take, drop, Option, Some, None, Result, Ok, Err}
 use Rattle.plfs_types.specs.declared.entries.Trunc.{Trunc}
 use Rattle.plfs_types.specs.declared.names.Path.{Path}
-use Rattle.container_layout.specs.declared.items.Item.TheVariants as item
-use Rattle.container_layout.specs.Paths.{path_of}
 use Rattle.flow.specs.declared.stuck.Stuck.{Stuck}
+use Rattle.flow.specs.Names.{trunc_in}
+use Rattle.flow.specs.Replies.{Tries, given, names_in, damage, trouble}
 use Rattle.story.specs.Program.{done, ask}
 use Rattle.mount_model.specs.declared.call.Call.TheVariants.{Look}
 use Rattle.mount_model.specs.declared.call.Look.TheVariants.{List as ListFolder}
 use Rattle.mount_model.specs.Paths.{Name, truncs}
-use Rattle.index_reader.specs.Searching.{find_below, same_bytes}
-use Rattle.index_reader.specs.Replies.{Tries, given, names_in, damage, trouble}
-
--- the truncate of this stamp and size, where the name is that of its dropping
-abbrev pub trunc_at : Name → ℕ → ℕ → Option Trunc
-trunc_at name stamp size = if nat_lt 0 stamp && same_bytes name (path_of (item.Trunc stamp size)).file then Some (record { stamp = stamp; size = size }) else None
-
--- the truncate whose dropping has this name
-unfoldable pub trunc_in : Name → Option Trunc
-trunc_in name = find_below (λ stamp. find_below (trunc_at name stamp) (2 ^ 40 + 1)) (2 ^ 63)
 
 -- it has the earlier stamp, or at one stamp the smaller size
 abbrev pub is_before : Trunc → Trunc → Bool

@@ -5,13 +5,9 @@ ghost use Rattle.index_reader.specs.FileReads.{next_part as part_next, bytes_lef
 ghost use Rattle.index_reader.specs.FileStages.{file_left, part_left, part_calls};
 
 use crate::parts::FileRead;
-use crate::replies::{bytes_in, trouble};
-use flow::Stuck;
+use flow::{Stuck, bytes_in, trouble};
 use mount_model::{Call, Look, Reply};
-use plfs_types::{Bytes, NoMemory, Path};
-
-/// How many bytes one Read asks for at most.
-pub(crate) const MAX_BYTES: u64 = 1 << 20;
+use plfs_types::{Bytes, MAX_PIECE, NoMemory, Path};
 
 /// What comes after a Read.
 #[derive(Drop)]
@@ -23,7 +19,7 @@ pub(crate) enum AfterPart {
 fn next_part(left: u64) -> u64
     ensures { result ≡ part_next left }
 {
-    left.min(MAX_BYTES)
+    left.min(MAX_PIECE)
 }
 
 /// Adds bytes at the end.

@@ -47,6 +47,21 @@ impl Covers {
         Covers { list }
     }
 
+    /// The covers as a list.
+    pub(crate) fn get(&self) -> &CoverList
+        ensures { result.now ≡ self.now }
+    {
+        &self.list
+    }
+
+    /// The list, taken out.
+    pub(crate) fn into_list(self) -> CoverList
+        ensures value { result ≡ self }
+        ensures order { AreByWriter self }
+    {
+        self.list
+    }
+
     /// The cover of a writer, or one of no entries.
     pub(crate) fn of_writer(&self, writer: u64) -> Cover
         ensures { result ≡ cover_for writer self.now }

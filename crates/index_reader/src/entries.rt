@@ -1,18 +1,18 @@
 //! The entries of an index dropping, which are checked in order.
 ghost use Rattle.std.specs.Prelude.{All, ◌≡◌, ◌+◌, ◌*◌, ◌≤◌, ◌<◌, ◌^◌, length, drop, true, OnOk, IfOk};
+ghost use Rattle.flow.specs.Entries.{is_next as next_of};
 ghost use Rattle.index_reader.specs.declared.entries.Went.TheVariants.{On};
 ghost use Rattle.interval_merge.specs.Writer.{HasPiece};
-ghost use Rattle.index_entry.specs.Spelling.{entry_in as entry_of};
-ghost use Rattle.index_reader.specs.Entries.{is_next as next_of, longer as longer_of, checked};
+ghost use Rattle.index_reader.specs.Entries.{longer as longer_of, checked};
 
-use index_entry::number_at;
-use plfs_types::{Cover, ENTRY_SIZE, Entry, EntryList, MAX_LOG, MAX_SIZE, MAX_STAMP, NoMemory};
+use flow::{first_entry, is_next};
+use plfs_types::{Cover, ENTRY_SIZE, Entry, EntryList, NoMemory};
 
 /// What was read of an index dropping: the entries that a flattened index doesn't cover, and a cover of all.
 #[derive(Drop)]
-pub(crate) struct Tail {
-    pub(crate) cover: Cover,
-    pub(crate) entries: EntryList,
+pub struct Tail {
+    pub cover: Cover,
+    pub entries: EntryList,
 }
 
 /// How far the checking of entries went.
@@ -26,41 +26,12 @@ pub(crate) enum Went {
     Breaks,
 }
 
-#[tactic(auto, unfolding(index_entry::specs::Spelling::entry_in))]
-fn entry_in(bytes: &[u8]) -> Entry
-    requires { ENTRY_SIZE ≤ length bytes.now }
-    ensures { result ≡ entry_of bytes.now }
-{
-    Entry {
-        at: number_at(bytes, 0),
-        len: number_at(bytes, 8),
-        physical: number_at(bytes, 16),
-        stamp: number_at(bytes, 24),
-        writer: number_at(bytes, 32),
-    }
-}
-
 /// The bytes after those of the first entry.
 fn past_first(bytes: &[u8]) -> &[u8]
     requires { ENTRY_SIZE ≤ length bytes.now }
     ensures { result.now ≡ drop ENTRY_SIZE bytes.now }
 {
     &bytes[ENTRY_SIZE..]
-}
-
-/// Whether the entry is valid and follows what the cover counts.
-fn is_next(cover: &Cover, entry: &Entry) -> bool
-    ensures { result ≡ next_of cover.now entry.now }
-{
-    0 < entry.len
-        && entry.at <= MAX_SIZE
-        && entry.len <= MAX_SIZE - entry.at
-        && cover.stamp < entry.stamp
-        && entry.stamp <= MAX_STAMP
-        && entry.writer == cover.writer
-        && entry.physical == cover.bytes
-        && entry.physical <= MAX_LOG
-        && entry.len <= MAX_LOG - entry.physical
 }
 
 impl Tail {
@@ -96,7 +67,7 @@ impl Tail {
         let mut rest = bytes;
         let mut left = count;
         while left > 0 {
-            let entry = entry_in(rest);
+            let entry = first_entry(rest);
             if !is_next(&self.cover, &entry) {
                 return Ok(Went::Breaks);
             }

@@ -2,8 +2,8 @@
 ghost use Rattle.std.specs.Prelude.{◌≡◌, ◌<◌, ◌+◌, ◌^◌, ℕ, Some, IfOk};
 ghost use Rattle.story.specs.Program.{done, followed_by};
 ghost use Rattle.flow.specs.Standing.{ready, next_of, rest_of, replied};
+ghost use Rattle.flow.specs.Replies.{on_ok};
 ghost use Rattle.mount_model.specs.Paths.{flat_path as path_of_flat};
-ghost use Rattle.index_reader.specs.Replies.{on_ok};
 ghost use Rattle.index_reader.specs.FileStages.{part_left, part_calls};
 ghost use Rattle.index_reader.specs.FlatRules.{flat_told};
 ghost use Rattle.index_reader.specs.Opening.{flat_program, flat_or_damage};
@@ -12,10 +12,10 @@ ghost use Rattle.index_reader.specs.OpenStages.{flat_left, flat_step, after_flat
 use crate::bytes::{AfterPart, read_on};
 use crate::flattened::Flattened;
 use crate::parts::FileRead;
-use crate::replies::{damage, number_in, trouble};
+use crate::replies::number_in;
 use container_layout::{Item, print};
 use flat_format::{FlatTrouble, decode};
-use flow::Stuck;
+use flow::{Stuck, damage, trouble};
 use mount_model::{Call, Look, Reply};
 use plfs_types::{Bytes, NoMemory, Path};
 use std::alloc::Global;

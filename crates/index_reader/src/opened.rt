@@ -7,14 +7,18 @@ ghost use Rattle.plain_file.specs.Keys.{KeysDiffer};
 ghost use Rattle.plain_file.specs.Runs.{ArePieces};
 ghost use Rattle.plain_file.specs.Shows.{entries_of, truncs_of};
 ghost use Rattle.index_reader.specs.Listing.{AreByWriter};
+ghost use Rattle.index_reader.specs.Covered.{AreByWriter as AreCoversByWriter};
+ghost use Rattle.index_reader.specs.Hosts.{AreByWriter as AreHostsByWriter, hosts_of as hosts_told};
+ghost use Rattle.index_reader.specs.Opened.{parts_of, reader_from};
 ghost use Rattle.plain_file.specs.Size.{size_from};
 ghost use Rattle.plain_file.specs.Sources.{source_at, kept_source};
 
-use crate::droppings::Droppings;
+use crate::covers::Covers;
 use crate::gathered::Gathered;
+use crate::hosts::{Hosts, hosts_of};
 use flat_format::Flat;
 use interval_merge::{clip, size};
-use plain_file::Pieces;
+use plain_file::{HostList, Pieces, ReaderParts};
 use plfs_types::{CoverList, NoMemory, Trunc, TruncList};
 use std::alloc::Global;
 
@@ -22,10 +26,10 @@ use std::alloc::Global;
 #[derive(Drop)]
 pub struct OpenReader {
     pub(crate) room: u64,
-    pub(crate) droppings: Droppings,
+    pub(crate) hosts: Hosts,
     pub(crate) pieces: Pieces,
     pub(crate) size: u64,
-    pub(crate) covers: CoverList,
+    pub(crate) covers: Covers,
     pub(crate) truncs: TruncList,
 }
 
@@ -44,9 +48,10 @@ fn clipped(alloc: Global, pieces: Pieces, truncs: &[Trunc]) -> Result<Pieces, No
 impl OpenReader {
     /// Opens what was gathered, with the droppings by ascending writer.
     pub fn new(alloc: Global, gathered: Gathered) -> Result<OpenReader, NoMemory>
-        requires { AreByWriter gathered.droppings }
+        requires droppings { AreByWriter gathered.droppings }
+        requires covers { AreCoversByWriter gathered.flat.covers }
         ensures room { IfOk result (λ reader. reader.room ≡ gathered.room) }
-        ensures droppings { IfOk result (λ reader. reader.droppings ≡ gathered.droppings) }
+        ensures hosts { IfOk result (λ reader. reader.hosts ≡ hosts_told gathered.droppings) }
         ensures covers { IfOk result (λ reader. reader.covers ≡ gathered.flat.covers) }
         ensures truncs { IfOk result (λ reader. reader.truncs ≡ gathered.truncs) }
         ensures size { IfOk result (λ reader. reader.size ≡ size_from gathered.flat.pieces gathered.truncs) }
@@ -73,14 +78,84 @@ impl OpenReader {
                 return Err(why);
             }
         };
+        let hosts = hosts_of(alloc, droppings.as_slice());
+        drop(droppings);
+        let Ok(hosts) = hosts else {
+            drop((covers, clipped, truncs));
+            return Err(NoMemory);
+        };
         Ok(OpenReader {
             room,
-            droppings: Droppings::of(droppings),
+            hosts: Hosts::of(hosts),
             pieces: clipped,
+            size,
+            covers: Covers::of(covers),
+            truncs,
+        })
+    }
+
+    /// The reader of these parts, whose hosts and covers stand by ascending writer.
+    pub fn of_parts(parts: ReaderParts) -> OpenReader
+        requires hosts { AreHostsByWriter parts.hosts }
+        requires covers { AreCoversByWriter parts.covers }
+        ensures { result ≡ reader_from parts }
+    {
+        let ReaderParts {
+            room,
+            pieces,
             size,
             covers,
             truncs,
-        })
+            hosts,
+        } = parts;
+        OpenReader {
+            room,
+            hosts: Hosts::of(hosts),
+            pieces,
+            size,
+            covers: Covers::of(covers),
+            truncs,
+        }
+    }
+
+    /// Its parts.
+    pub fn into_parts(self) -> ReaderParts
+        ensures parts { result ≡ parts_of self }
+        // The hosts stand by ascending writer.
+        ensures hosts { AreHostsByWriter result.hosts }
+        // So do the covers.
+        ensures covers { AreCoversByWriter result.covers }
+    {
+        let OpenReader {
+            room,
+            hosts,
+            pieces,
+            size,
+            covers,
+            truncs,
+        } = self;
+        ReaderParts {
+            room,
+            pieces,
+            size,
+            covers: covers.into_list(),
+            truncs,
+            hosts: hosts.into_list(),
+        }
+    }
+
+    /// The container's room.
+    pub fn room(&self) -> u64
+        ensures { result ≡ self.now.room }
+    {
+        self.room
+    }
+
+    /// The host of each writer that has a dropping.
+    pub fn hosts(&self) -> &HostList
+        ensures { result.now ≡ self.now.hosts }
+    {
+        self.hosts.get()
     }
 
     /// The size of the file.
@@ -101,7 +176,7 @@ impl OpenReader {
     pub fn covers(&self) -> &CoverList
         ensures { result.now ≡ self.now.covers }
     {
-        &self.covers
+        self.covers.get()
     }
 
     /// The truncates that are in it.

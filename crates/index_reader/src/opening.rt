@@ -1,8 +1,8 @@
 //! Listing a container.
 ghost use Rattle.std.specs.Prelude.{◌≡◌, ◌≤◌, ◌<◌, ◌+◌, ◌^◌, ◌∷◌, length, IfOk};
 ghost use Rattle.story.specs.Program.{followed_by};
-ghost use Rattle.index_reader.specs.Replies.{on_ok};
 ghost use Rattle.flow.specs.Standing.{ready, next_of, rest_of, replied, Awaits, IsOver, over};
+ghost use Rattle.flow.specs.Replies.{on_ok};
 ghost use Rattle.index_reader.specs.Listing.{AreByWriter};
 ghost use Rattle.index_reader.specs.Covered.{AreByWriter as AreCoversByWriter};
 ghost use Rattle.index_reader.specs.Scanning.{nothing_found};
@@ -15,14 +15,12 @@ use crate::flattened::Flattened;
 use crate::listed::{listed, no_flat};
 use crate::listing::Listing;
 use crate::newest::{flats_path, newest_in};
-use crate::queue::Queue;
-use crate::replies::{names_in, room_in, trouble};
 use crate::scanning::{Scan, file_in};
 use crate::tops::folders;
 use container_layout::{flats, hostdir};
-use flow::{Flow, Stuck};
+use flow::{Flow, Stuck, names_in, room_in, trouble};
 use mount_model::{Call, Look, Reply};
-use plfs_types::{LogicalName, Name, NoMemory, Sequence};
+use plfs_types::{LogicalName, Name, NoMemory, Queue, Sequence};
 use std::alloc::Global;
 use std::mem;
 

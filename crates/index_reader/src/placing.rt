@@ -2,10 +2,13 @@
 ghost use Rattle.std.specs.Prelude.{◌≡◌, IfOk};
 ghost use Rattle.index_reader.specs.declared.listing.Dropping.{Dropping as Listed};
 ghost use Rattle.index_reader.specs.Found.{item_of};
-ghost use Rattle.index_reader.specs.Listing.{AreByWriter, host_of as host_for};
+ghost use Rattle.index_reader.specs.Listing.{AreByWriter};
+ghost use Rattle.index_reader.specs.Hosts.{AreByWriter as AreHostsByWriter};
 ghost use Rattle.index_reader.specs.Reading.{placed, placed_all};
 
+use crate::hosts::host_of;
 use crate::listing::Dropping;
+use plain_file::WriterHost;
 use plfs_types::{NoMemory, Sequence};
 use read_plan::Part;
 use std::alloc::Global;
@@ -41,20 +44,9 @@ pub fn found(droppings: &[Dropping], writer: u64) -> Option<Dropping>
     }
 }
 
-/// The host of a writer's dropping.
-fn host_of(droppings: &[Dropping], writer: u64) -> u32
-    requires { AreByWriter droppings.now }
-    ensures { result ≡ host_for writer droppings.now }
-{
-    match found(droppings, writer) {
-        Some(dropping) => dropping.host,
-        None => 0,
-    }
-}
-
-fn with_host(droppings: &[Dropping], part: Part) -> Placed
-    requires { AreByWriter droppings.now }
-    ensures { result ≡ placed droppings.now part }
+fn with_host(hosts: &[WriterHost], part: Part) -> Placed
+    requires { AreHostsByWriter hosts.now }
+    ensures { result ≡ placed hosts.now part }
 {
     match part {
         Part::Hole { len } => Placed::Zeros { len },
@@ -63,7 +55,7 @@ fn with_host(droppings: &[Dropping], part: Part) -> Placed
             physical,
             len,
         } => Placed::Logged(Place {
-            host: host_of(droppings, writer),
+            host: host_of(hosts, writer),
             writer,
             at: physical,
             len,
@@ -74,15 +66,15 @@ fn with_host(droppings: &[Dropping], part: Part) -> Placed
 /// The parts with the hosts of their writers.
 pub(crate) fn place_all(
     alloc: Global,
-    droppings: &[Dropping],
+    hosts: &[WriterHost],
     parts: &[Part],
 ) -> Result<Sequence<Placed>, NoMemory>
-    requires { AreByWriter droppings.now }
-    ensures { IfOk result (λ all. all ≡ placed_all droppings.now parts.now) }
+    requires { AreHostsByWriter hosts.now }
+    ensures { IfOk result (λ all. all ≡ placed_all hosts.now parts.now) }
 {
     let mut all = Vec::new(alloc);
     for part in parts {
-        all.push(with_host(droppings, *part))?;
+        all.push(with_host(hosts, *part))?;
     }
     Ok(Sequence::from_vec(all))
 }

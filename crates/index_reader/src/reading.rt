@@ -1,6 +1,6 @@
 //! Reading bytes of a file from the logs.
-ghost use Rattle.std.specs.Prelude.{◌≡◌, ◌≤◌, ◌<◌, ◌+◌, ◌^◌, ℕ, [], ◌++◌, length, take, replicate, IfOk, OnOk, Ok};
-ghost use Rattle.flow.specs.Standing.{ready, next_of, rest_of, replied, Awaits};
+ghost use Rattle.std.specs.Prelude.{◌≡◌, ◌≤◌, ◌<◌, ◌+◌, ◌^◌, ℕ, [], ◌++◌, length, take, replicate, ◌↔◌, IsTrue, IfOk, OnOk, Ok};
+ghost use Rattle.flow.specs.Standing.{ready, next_of, rest_of, replied, Awaits, IsOver};
 ghost use Rattle.read_plan.specs.Plan.{plan_of};
 ghost use Rattle.index_reader.specs.Reading.{spells, read_program, ends_at as end_of};
 ghost use Rattle.index_reader.specs.ReadingStages.{part_left, part_calls, read_standing, read_left};
@@ -8,12 +8,10 @@ ghost use Rattle.index_reader.specs.ReadingStages.{part_left, part_calls, read_s
 use crate::bytes::add;
 use crate::opened::OpenReader;
 use crate::placing::{Place, Placed, place_all};
-use crate::queue::Queue;
-use crate::replies::{bytes_in, damage, trouble};
 use crate::tails::log_path;
-use flow::{Flow, Stuck};
+use flow::{Flow, Stuck, bytes_in, damage, trouble};
 use mount_model::{Call, Look, Reply};
-use plfs_types::{Bytes, NoMemory};
+use plfs_types::{Bytes, NoMemory, Queue};
 use read_plan::plan;
 use std::alloc::Global;
 use std::mem;
@@ -100,11 +98,12 @@ impl Reading {
     /// Reads at most `len` bytes, up to 2^24, of the reader's file from byte `at` on; there are none past its end.
     pub fn new(alloc: Global, reader: &OpenReader, at: u64, len: u64) -> Result<Reading, NoMemory>
         requires { len ≤ 2 ^ 24 }
-        ensures { IfOk result (λ reading. read_standing reading
-            ≡ ready (read_program reader.now.room reader.now.droppings (plan_of reader.now.pieces reader.now.size at len))) }
+        ensures standing { IfOk result (λ reading. read_standing reading
+            ≡ ready (read_program reader.now.room reader.now.hosts (plan_of reader.now.pieces reader.now.size at len))) }
+        ensures few { IfOk result (λ reading. read_left reading ≤ length (plan_of reader.now.pieces reader.now.size at len)) }
     {
         let parts = plan(alloc, &reader.pieces, reader.size, at, len)?;
-        let placed = place_all(alloc, reader.droppings.as_slice(), parts.as_slice())?;
+        let placed = place_all(alloc, reader.hosts.get().as_slice(), parts.as_slice())?;
         let mut rest = Queue::of(placed);
         let mut sofar = Bytes::new(alloc);
         let stage = next_stage(alloc, &mut rest, &mut sofar)?;
@@ -115,6 +114,16 @@ impl Reading {
             sofar,
             stage,
         })
+    }
+
+    /// Whether it has no further call.
+    pub fn is_over(&self) -> bool
+        ensures { IsTrue result ↔ IsOver (rest_of (read_standing self.now)) }
+    {
+        match &self.stage {
+            Stage::Asking(_) => false,
+            Stage::Ended(_) => true,
+        }
     }
 
     /// The call that is to be made, where there is one.

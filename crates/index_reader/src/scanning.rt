@@ -1,15 +1,15 @@
 //! What the listings of a container's folders of droppings show.
 ghost use Rattle.std.specs.Prelude.{◌≡◌, ◌≤◌, [], length, Result, Ok, IfOk, IfSome};
 ghost use Rattle.flow.specs.declared.stuck.Stuck.{Stuck as Trouble};
+ghost use Rattle.flow.specs.Listed.{file_in as path_in};
 ghost use Rattle.index_reader.specs.declared.scanning.Scan.{Scan as Scanned};
 ghost use Rattle.index_reader.specs.Replies.{on_trouble};
 ghost use Rattle.index_reader.specs.Items.{hostdir_item as item_of_hostdir, is_of_hostdir as of_hostdir};
-ghost use Rattle.index_reader.specs.Scanning.{file_in as path_in, nothing_found, foreign_in as foreign, taken, taken_all, scanned as scanning};
+ghost use Rattle.index_reader.specs.Scanning.{nothing_found, foreign_in as foreign, taken, taken_all, scanned as scanning};
 
 use crate::owners::Owners;
-use crate::replies::damage;
 use container_layout::{Item, read};
-use flow::Stuck;
+use flow::{Stuck, damage};
 use plfs_types::{Name, NoMemory, Path};
 use std::alloc::Global;
 

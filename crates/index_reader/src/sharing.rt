@@ -1,9 +1,9 @@
 //! Reading a share of a container's index droppings.
-ghost use Rattle.std.specs.Prelude.{All, ◌≡◌, ◌≤◌, ◌<◌, ◌+◌, ◌*◌, ◌^◌, ℕ, List, [], length, IfOk, OnOk};
+ghost use Rattle.std.specs.Prelude.{All, ◌≡◌, ◌≤◌, ◌<◌, ◌+◌, ◌*◌, ◌^◌, ℕ, List, [], length, Some, IfOk, OnOk};
 ghost use Rattle.interval_merge.specs.Writer.{HasPiece};
 ghost use Rattle.story.specs.Program.{followed_by};
 ghost use Rattle.flow.specs.Standing.{ready, next_of, rest_of, replied, Awaits};
-ghost use Rattle.index_reader.specs.Replies.{on_ok};
+ghost use Rattle.flow.specs.Replies.{on_ok};
 ghost use Rattle.index_reader.specs.Runs.{merged_of, pieces_of};
 ghost use Rattle.index_reader.specs.Covered.{AreByWriter, cover_of as cover_for};
 ghost use Rattle.index_reader.specs.Sharing.{nothing, added, share_of, dropping_program, gathers, share_program};
@@ -12,14 +12,13 @@ ghost use Rattle.index_reader.specs.Stages.{after_left, after_calls, dropping_le
 use crate::covers::Covers;
 use crate::entries::Tail;
 use crate::listing::{Dropping, DroppingList};
-use crate::queue::Queue;
 use crate::steps::{DroppingRead, PackRead, TailRead};
 use crate::tails::After;
 use flow::{Flow, Stuck};
 use interval_merge::{PiecesList, merge_all, of_writer};
 use mount_model::{Call, Reply};
 use plain_file::{PieceList, Pieces};
-use plfs_types::{Cover, CoverList, Entry, NoMemory};
+use plfs_types::{Cover, CoverList, Entry, NoMemory, Queue};
 use std::alloc::Global;
 use std::mem;
 
@@ -155,10 +154,19 @@ impl ShareRead {
         ensures { result ≡ next_of (share_standing self.now) }
     {
         match &self.stage {
-            Stage::Underway(DroppingRead::Entries(read)) => Some(read.call(self.room)),
-            Stage::Underway(DroppingRead::Packed(read)) => Some(read.call(self.room)),
+            Stage::Underway(read) => Some(dropping_call(self.room, read)),
             Stage::Ended(_) => None,
         }
+    }
+}
+
+/// The call that is to be made for one dropping.
+pub(crate) fn dropping_call(room: u64, read: &DroppingRead) -> Call
+    ensures { Some result ≡ next_of (ready (dropping_left room read.now)) }
+{
+    match read {
+        DroppingRead::Entries(read) => read.call(room),
+        DroppingRead::Packed(read) => read.call(room),
     }
 }
 
@@ -267,7 +275,7 @@ fn goes_on(
 }
 
 /// What comes after the reply to the call of one dropping.
-fn after_dropping(
+pub(crate) fn after_dropping(
     alloc: Global,
     room: u64,
     read: DroppingRead,

@@ -9,16 +9,13 @@ ghost use Rattle.index_reader.specs.Stages.{tail_left, after_left, IsOfPieces, s
 
 use crate::entries::{Tail, Went};
 use crate::listing::Dropping;
-use crate::replies::{bytes_in, damage, log_length_in, number_in, trouble};
+use crate::replies::{log_length_in, number_in};
 use crate::steps::{DroppingRead, Step, TailRead};
 use container_layout::{Item, print};
-use flow::Stuck;
+use flow::{Stuck, bytes_in, damage, trouble};
 use mount_model::{Call, Look, Reply};
-use plfs_types::{Cover, ENTRY_SIZE, EntryList, NoMemory, Path};
+use plfs_types::{Cover, ENTRIES_A_READ, ENTRY_SIZE, EntryList, NoMemory, Path};
 use std::alloc::Global;
-
-/// How many entries one Read asks for at most.
-pub(crate) const MAX_READ: u64 = 4096;
 
 /// The bytes of an entry.
 const ENTRY: u64 = ENTRY_SIZE as u64;
@@ -48,7 +45,7 @@ pub(crate) fn log_path(host: u32, writer: u64) -> Path
 fn next_read(left: u64) -> u64
     ensures { result ≡ read_next left }
 {
-    left.min(MAX_READ)
+    left.min(ENTRIES_A_READ)
 }
 
 impl TailRead {

@@ -5,10 +5,9 @@ ghost use Rattle.index_reader.specs.Replies.{on_trouble};
 ghost use Rattle.index_reader.specs.Searching.{has_name as has};
 ghost use Rattle.index_reader.specs.Tops.{access as access_name, hostdirs, top_names as names_of_top, foreign_at_top as foreign, required, shown as shown_of, top_shows};
 
-use crate::replies::damage;
 use crate::scanning::file_in;
 use container_layout::{flats, hostdir, metadata, openhosts, truncs};
-use flow::Stuck;
+use flow::{Stuck, damage};
 use plfs_types::{Name, NameList, NoMemory, Path, Sequence};
 use std::alloc::Global;
 

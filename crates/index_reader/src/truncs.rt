@@ -1,14 +1,13 @@
 //! Listing a container's truncates.
 ghost use Rattle.std.specs.Prelude.{◌≡◌, ◌<◌, [], IfOk};
 ghost use Rattle.flow.specs.Standing.{ready, next_of, rest_of, replied};
-ghost use Rattle.index_reader.specs.Truncs.{trunc_in as trunc_of, truncs_listed, truncs_of, trunc_program, truncs_path as path_of_truncs};
+ghost use Rattle.index_reader.specs.Truncs.{truncs_listed, truncs_of, trunc_program, truncs_path as path_of_truncs};
 ghost use Rattle.index_reader.specs.TruncStages.{list_left, list_calls, trunc_standing, trunc_left};
 
-use crate::replies::{damage, names_in, trouble};
-use container_layout::{Item, read, truncs};
-use flow::{Flow, Stuck, truncs_by_stamp};
+use container_layout::truncs;
+use flow::{Flow, Stuck, damage, names_in, trouble, trunc_in, truncs_by_stamp};
 use mount_model::{Call, Look, Reply};
-use plfs_types::{Name, NoMemory, Path, Trunc, TruncList};
+use plfs_types::{Name, NoMemory, Path, TruncList};
 use std::alloc::Global;
 
 /// Lists a container's truncates: by rising stamp, at one stamp by rising size. The first name that is no truncate's is
@@ -31,16 +30,6 @@ fn truncs_path(name: Name) -> Path
     Path {
         folder: truncs(),
         file: name,
-    }
-}
-
-/// The truncate whose dropping has this name.
-fn trunc_in(name: Name) -> Option<Trunc>
-    ensures { result ≡ trunc_of name }
-{
-    match read(&truncs_path(name))? {
-        Item::Trunc { stamp, size } => Some(Trunc { stamp, size }),
-        _ => None,
     }
 }
 

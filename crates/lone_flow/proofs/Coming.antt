@@ -1,6 +1,7 @@
 -- How a machine comes to its end, call by call.
-use Rattle.std.proofs.Common.{◌≡◌, ◌≢◌, List, [], ◌∷◌, ◌++◌, Some, None, true, false, refl, sym, ap, ◌∙◌, subst, append_assoc, append-nil}
+use Rattle.std.proofs.Common.{◌≡◌, ◌≢◌, List, [], ◌∷◌, ◌++◌, Some, None, Result, Ok, Err, true, false, refl, sym, ap, ◌∙◌, subst, append_assoc, append-nil}
 use Rattle.std.specs.List.{AllByRecursion}
+use Rattle.std.specs.Prelude.{OnErr}
 use Rattle.flow.specs.Running.{Runs, asking, unbroken}
 use Rattle.flow.specs.Standing.{Rest, Standing, Awaits, IsOver, asked, awaits, next_of, over, ready, replied, rest_of}
 use Rattle.mount_model.specs.declared.call.Call.{Call}
@@ -14,7 +15,7 @@ use Rattle.mount_sound.specs.Owed.{IsLawful, May, Permits}
 use Rattle.story.specs.Program.{Program, done, ask}
 use Rattle.story.specs.Safe.{IsSafe}
 use Rattle.story.proofs.Facts.{after_own}
-use Rattle.lone_flow.specs.Driving.{AreMade, CallsOn, Drives, MayDrive, Nears, NearsFrom, greets_first}
+use Rattle.lone_flow.specs.Driving.{AreMade, BeginsToDrive, Drives, HadMemory, HadMemoryBeforeLast, MayDrive, Nears, NearsFrom, greets_first}
 
 -- ---- calls, and one call more
 
@@ -168,13 +169,52 @@ at_end (asked k) start now standing out n is same = absurd n
 
 -- ---- broken off
 
-pub came : {R : Type 0} (first : Standing Call Reply R) (start now : State) (standing : Standing Call Reply R) → NearsFrom first start standing now → CallsOn start now
-came (ready program) start now standing n = record { events = n.events; made = n.made }
-came (asked k) start now standing n = absurd n
+-- calls of which none was refused memory, and one more
+before_last : (xs : List Event) (e : Event) → HadMemory xs → HadMemoryBeforeLast (xs ++ e ∷ [])
+before_last [] e had = tt
+before_last (x ∷ []) e had = (had.0, tt)
+before_last (x ∷ y ∷ ys) e had = (had.0, before_last (y ∷ ys) e had.1)
 
-pub came_further : {R : Type 0} (first : Standing Call Reply R) (start now new : State) (standing : Standing Call Reply R) (call : Call) (reply : Reply) → NearsFrom first start standing now → May now 0 (unbroken call) → IsStep now 0 (unbroken call) reply new → CallsOn start new
-came_further (ready program) start now new standing call reply n may step = record {
-  events = n.events ++ event_of call reply new ∷ [];
-  made = made_both start now new n.events (event_of call reply new ∷ []) n.made (made_one now call reply new may step);
-}
-came_further (asked k) start now new standing call reply n may step = absurd n
+none_refused : (xs : List Event) → HadMemory xs → HadMemoryBeforeLast xs
+none_refused [] had = tt
+none_refused (x ∷ []) had = tt
+none_refused (x ∷ y ∷ ys) had = (had.0, none_refused (y ∷ ys) had.1)
+
+-- whatever a program has asked, it can come to its end
+comes_to_end : {R : Type 0} (program : Program Call Reply R) (now : State) → (more : List Event) × (result : R) × Runs 0 program more result
+comes_to_end (done result) now = ([], result, (refl, refl))
+comes_to_end (ask call k) now =
+    let later = comes_to_end (k NoMemory) now in
+    let e = event_of call NoMemory now in
+    (e ∷ later.0, later.1, after_own 0 (unbroken call) (λ reply. asking (k reply)) e later.0 later.1 refl refl later.2)
+
+pub broken_off : {R : Type 0} (first : Standing Call Reply R) (start now : State) (standing : Standing Call Reply R) → NearsFrom first start standing now → BeginsToDrive first start now
+broken_off (ready program) start now standing n =
+    let later = comes_to_end n.rest now in
+    record { events = n.events; made = n.made; had_memory = none_refused n.events n.had_memory; more = later.0; result = later.1; front_of = n.runs later.0 later.1 later.2 }
+broken_off (asked k) start now standing n = absurd n
+
+broken_at : {R : Type 0} (program : Program Call Reply R) (start now new : State) (standing : Standing Call Reply R) (call : Call) (reply : Reply) (n : Nears program start standing now) → AsksNext n.rest call → May now 0 (unbroken call) → IsStep now 0 (unbroken call) reply new → BeginsToDrive (ready program) start new
+broken_at {R} program start now new standing call reply n a may step =
+    let e : Event = event_of call reply new in
+    let later = comes_to_end (a.next reply) new in
+    let on : Runs 0 n.rest (e ∷ later.0) later.1 = subst (λ (p : Program Call Reply R). Runs 0 p (e ∷ later.0) later.1) (sym a.is) (after_own 0 (unbroken call) (λ r. asking (a.next r)) e later.0 later.1 refl refl later.2) in
+    record {
+      events = n.events ++ e ∷ [];
+      made = made_both start now new n.events (e ∷ []) n.made (made_one now call reply new may step);
+      had_memory = before_last n.events e n.had_memory;
+      more = later.0;
+      result = later.1;
+      front_of = subst (λ (z : List Event). Runs 0 (greets_first program) z later.1) (sym (append_assoc n.events (e ∷ []) later.0)) (n.runs (e ∷ later.0) later.1 on);
+    }
+
+-- behind one call more
+pub broken_further : {R : Type 0} (first : Standing Call Reply R) (start now new : State) (standing : Standing Call Reply R) (call : Call) (reply : Reply) → NearsFrom first start standing now → Some call ≡ next_of standing → May now 0 (unbroken call) → IsStep now 0 (unbroken call) reply new → BeginsToDrive first start new
+broken_further {R} (ready program) start now new standing call reply n is may step =
+    broken_at program start now new standing call reply n (asks_next n.rest call (subst (λ (s : Standing Call Reply R). Some call ≡ next_of s) n.stands is)) may step
+broken_further (asked k) start now new standing call reply n is may step = absurd n
+
+-- what is so is so of an error
+pub on_err : {X E : Type 0} (result : Result X E) (Says : Type 0) → Says → OnErr result Says
+on_err (Ok x) Says says = tt
+on_err (Err e) Says says = says

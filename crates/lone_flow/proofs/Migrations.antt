@@ -7,7 +7,7 @@ use Rattle.store_api.specs.declared.step.Answer.TheVariants as answer
 use Rattle.container_layout.specs.declared.items.Item.{Item}
 use Rattle.container_layout.specs.declared.items.Item.TheVariants as item
 use Rattle.container_layout.specs.Paths.{hostdir_of}
-use Rattle.index_pack.specs.declared.trouble.TheConstants.{MAX_PACKED}
+use Rattle.plfs_types.specs.declared.limits.TheConstants.{MAX_PACKED}
 use Rattle.flow.specs.declared.stuck.Stuck.{Stuck}
 use Rattle.story.specs.Program.{done, ask, followed_by}
 use Rattle.mount_model.specs.declared.call.Call.TheVariants.{Look}
@@ -21,11 +21,10 @@ use Rattle.mount_model.specs.Replies.{IsTrouble, refused, damaged, fault, no_mem
 use Rattle.flow.specs.declared.names.Metadata.{Metadata}
 use Rattle.flow.specs.Listed.{file_in, or_trouble, told_by}
 use Rattle.flow.specs.Names.{meta_in}
-use Rattle.flow.specs.Replies.{Tries, bytes_in, damage, failure, given, on_ok, room_in, trouble}
+use Rattle.flow.specs.Replies.{Tries, bytes_in, damage, failure, given, on_ok, room_in, trouble, names_in}
 use Rattle.index_reader.specs.declared.listing.Listing.{Listing}
 use Rattle.index_reader.specs.declared.scanning.Scan.{Scan}
 use Rattle.index_reader.specs.Opening.{listed, listing_of, lone_pack, no_flat, scans, uncovered, unless_lone, unless_uncovered}
-use Rattle.index_reader.specs.Replies as replies
 use Rattle.index_reader.specs.Scanning as scanning
 use Rattle.index_reader.specs.Scanning.{foreign_in, has_writer, nothing_found, scanned, taken, taken_all, unless_foreign}
 use Rattle.index_reader.specs.Items.{hostdir_item}
@@ -51,7 +50,7 @@ look_well : {A R : Type 0} (room : ℕ) (look : Looking) (f : Reply → Option A
 look_well room look f path next goes = λ reply answered. given_well (f reply) (trouble path reply) next (λ none. look_plain room look path reply answered) goes
 
 -- the same by the words of a reader
-same_trouble : (path : Path) (told : Answer) → IsNoFault (replies.trouble path (Looked told))
+same_trouble : (path : Path) (told : Answer) → IsNoFault (trouble path (Looked told))
 same_trouble path answer.NoFolder = tt
 same_trouble path answer.Made = tt
 same_trouble path (answer.Old room) = tt
@@ -64,28 +63,28 @@ same_trouble path (answer.Number value) = tt
 same_trouble path (answer.Bytes bytes) = tt
 same_trouble path answer.Beyond = tt
 
-read_troubled : {may : Refusal → Type 0} (path : Path) (reply : Reply) → reply ≢ NoMemory → reply ≢ Fault → IsTrouble may reply → IsNoFault (replies.trouble path reply)
-read_troubled path reply had good (refused why may e) = subst (λ (r : Reply). IsNoFault (replies.trouble path r)) (sym e) tt
-read_troubled path reply had good (damaged folder file e) = subst (λ (r : Reply). IsNoFault (replies.trouble path r)) (sym e) tt
+read_troubled : {may : Refusal → Type 0} (path : Path) (reply : Reply) → reply ≢ NoMemory → reply ≢ Fault → IsTrouble may reply → IsNoFault (trouble path reply)
+read_troubled path reply had good (refused why may e) = subst (λ (r : Reply). IsNoFault (trouble path r)) (sym e) tt
+read_troubled path reply had good (damaged folder file e) = subst (λ (r : Reply). IsNoFault (trouble path r)) (sym e) tt
 read_troubled path reply had good (fault e) = absurd (good e)
 read_troubled path reply had good (no_memory e) = absurd (had e)
 
-read_plain : (room : ℕ) (look : Looking) (path : Path) (reply : Reply) → IsAnswered (Look room look) reply → IsNoFault (replies.trouble path reply)
-read_plain room look path reply answered = elim answered.fits as (λ _. IsNoFault (replies.trouble path reply)) [
-  | inl p ↦ subst (λ (r : Reply). IsNoFault (replies.trouble path r)) (sym p.2) (same_trouble path p.0)
+read_plain : (room : ℕ) (look : Looking) (path : Path) (reply : Reply) → IsAnswered (Look room look) reply → IsNoFault (trouble path reply)
+read_plain room look path reply answered = elim answered.fits as (λ _. IsNoFault (trouble path reply)) [
+  | inl p ↦ subst (λ (r : Reply). IsNoFault (trouble path r)) (sym p.2) (same_trouble path p.0)
   | inr t ↦ read_troubled path reply answered.has_memory answered.is_good t
 ]
 
-read_given : {A R : Type 0} (found : Option A) (why : Stuck) (next : A → Tries R) → IsNoFault why → ((a : A) → EndsWell (next a)) → EndsWell (replies.given found why next)
+read_given : {A R : Type 0} (found : Option A) (why : Stuck) (next : A → Tries R) → IsNoFault why → ((a : A) → EndsWell (next a)) → EndsWell (given found why next)
 read_given None why next fine goes = fine
 read_given (Some a) why next fine goes = goes a
 
-read_on_ok : {A R : Type 0} (next : A → Tries R) (result : Result A Stuck) → HasNoFault result → ((a : A) → EndsWell (next a)) → EndsWell (replies.on_ok next result)
+read_on_ok : {A R : Type 0} (next : A → Tries R) (result : Result A Stuck) → HasNoFault result → ((a : A) → EndsWell (next a)) → EndsWell (on_ok next result)
 read_on_ok next (Ok a) fine goes = goes a
 read_on_ok next (Err why) fine goes = fine
 
-read_well : {A R : Type 0} (room : ℕ) (look : Looking) (f : Reply → Option A) (path : Path) (next : A → Tries R) → ((a : A) → EndsWell (next a)) → EndsWell (ask (Look room look) (λ reply. replies.given (f reply) (replies.trouble path reply) next))
-read_well room look f path next goes = λ reply answered. read_given (f reply) (replies.trouble path reply) next (read_plain room look path reply answered) goes
+read_well : {A R : Type 0} (room : ℕ) (look : Looking) (f : Reply → Option A) (path : Path) (next : A → Tries R) → ((a : A) → EndsWell (next a)) → EndsWell (ask (Look room look) (λ reply. given (f reply) (trouble path reply) next))
+read_well room look f path next goes = λ reply answered. read_given (f reply) (trouble path reply) next (read_plain room look path reply answered) goes
 
 -- ---- listings
 
@@ -94,13 +93,13 @@ foreign_fine folder None next fine = fine
 foreign_fine folder (Some name) next fine = tt
 
 taken_fine : (path : Path) (found : Option Item) (scan : Scan) (next : Scan → Result Scan Stuck) → ((more : Scan) → HasNoFault (next more)) → HasNoFault (taken path found scan next)
-taken_fine path (Some (item.Index host writer)) scan next fine = either_fine (has_writer writer scan.indices) (Err (replies.damage path 0)) _ tt (fine _)
-taken_fine path (Some (item.Packed host writer)) scan next fine = either_fine (has_writer writer scan.packs) (Err (replies.damage path 0)) _ tt (fine _)
+taken_fine path (Some (item.Index host writer)) scan next fine = either_fine (has_writer writer scan.indices) (Err (damage path 0)) _ tt (fine _)
+taken_fine path (Some (item.Packed host writer)) scan next fine = either_fine (has_writer writer scan.packs) (Err (damage path 0)) _ tt (fine _)
 taken_fine path other scan next fine = fine scan
 
 taken_all_fine : (folder : Name) (names : List Name) (scan : Scan) → HasNoFault (taken_all folder names scan)
 taken_all_fine folder [] scan = tt
-taken_all_fine folder (name ∷ names) scan = taken_fine (scanning.file_in folder name) (hostdir_item (scanning.file_in folder name)) scan (λ more. taken_all folder names more) (λ more. taken_all_fine folder names more)
+taken_all_fine folder (name ∷ names) scan = taken_fine (file_in folder name) (hostdir_item (file_in folder name)) scan (λ more. taken_all folder names more) (λ more. taken_all_fine folder names more)
 
 scanned_fine : (folder : Name) (names : List Name) (scan : Scan) → HasNoFault (scanned folder names scan)
 scanned_fine folder names scan = foreign_fine folder (foreign_in folder names) (taken_all folder names scan) (taken_all_fine folder names scan)
@@ -124,19 +123,19 @@ listed_fine room scan =
 
 scans_well : (room : ℕ) (ks : List ℕ) (scan : Scan) → EndsWell (scans room 0 no_flat ks scan)
 scans_well room [] scan = listed_fine room scan
-scans_well room (k ∷ ks) scan = read_well room (ListFolder (hostdir_of k)) replies.names_in (scanning.file_in (hostdir_of k) []) _
+scans_well room (k ∷ ks) scan = read_well room (ListFolder (hostdir_of k)) names_in (file_in (hostdir_of k) []) _
     (λ names. read_on_ok (λ found. scans room 0 no_flat ks found) (scanned (hostdir_of k) names scan) (scanned_fine (hostdir_of k) names scan) (λ found. scans_well room ks found))
 
 required_fine : {X : Type 0} (name : Name) (path : Path) (names : List Name) (next : Result X Stuck) → HasNoFault next → HasNoFault (required name path names next)
-required_fine name path names next fine = either_fine (has_name name names) next (Err (replies.damage path 0)) fine tt
+required_fine name path names next fine = either_fine (has_name name names) next (Err (damage path 0)) fine tt
 
 top_fine : (names : List Name) → HasNoFault (top_shows names)
 top_fine names =
     foreign_fine [] (foreign_at_top names) _
-    (required_fine access (scanning.file_in [] access) names _
-    (required_fine flats (scanning.file_in flats []) names _
-    (required_fine metadata (scanning.file_in metadata []) names _
-    (required_fine truncs (scanning.file_in truncs []) names (Ok (shown names hostdirs)) tt))))
+    (required_fine access (file_in [] access) names _
+    (required_fine flats (file_in flats []) names _
+    (required_fine metadata (file_in metadata []) names _
+    (required_fine truncs (file_in truncs []) names (Ok (shown names hostdirs)) tt))))
 
 -- ---- the packed index is made
 
@@ -207,7 +206,7 @@ metadata_well room scan well = λ reply answered.
     (λ metas. then_well scan (migrates_listed room metas) well (λ listing. migrates_well room (chosen listing.droppings metas) nothing))
 
 at_well : (room : ℕ) → EndsWell (migrate_at_program room)
-at_well room = read_well room Top replies.names_in (scanning.file_in [] []) _
+at_well room = read_well room Top names_in (file_in [] []) _
     (λ names. read_on_ok (migrates_shown room) (top_shows names) (top_fine names) (λ folders. metadata_well room (scans room 0 no_flat folders nothing_found) (scans_well room folders nothing_found)))
 
 find_plain : {may : Refusal → Type 0} (reply : Reply) → reply ≢ NoMemory → reply ≢ Fault → ((room : ℕ) × (reply ≡ Room room)) ⊎ IsTrouble may reply → room_in reply ≡ None → IsNoFault (failure reply)

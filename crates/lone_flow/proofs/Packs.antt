@@ -1,6 +1,7 @@
 -- What is known of a migration that caller 0 ran by itself.
 use Rattle.std.proofs.Common.{◌≡◌, inl, inr, ℕ, List, [], ◌∷◌, Result, Ok, Err, IfOk, refl, sym, subst}
 use Rattle.std.specs.List.{AllByRecursion}
+use Rattle.std.specs.Prelude.{OnErr}
 use Rattle.plfs_types.specs.Counts.{HasRisen}
 use Rattle.flow.specs.declared.stuck.Stuck.{Stuck}
 use Rattle.flow.specs.Running.{Runs, asking}
@@ -27,7 +28,7 @@ use Rattle.migrate_laws.specs.Moments.{IsLooking}
 use Rattle.migrate_laws.proofs.Facts.{migrated_later}
 use Rattle.trouble_laws.specs.Ends.{AlwaysEnds}
 use Rattle.trouble_laws.specs.Undamaged.{IsUndamaged}
-use Rattle.lone_flow.specs.Driving.{Drives, Makes, MayDrive, greets_first}
+use Rattle.lone_flow.specs.Driving.{BeginsToDrive, BeginsToMake, Drives, Makes, MayDrive, greets_first}
 use Rattle.lone_flow.specs.Faults.{IsFault}
 use Rattle.lone_flow.specs.Migrating.{Migrates}
 use Rattle.lone_flow.proofs.Causes.{run_caused}
@@ -109,6 +110,10 @@ module _ (name : List ℕ) (start end : State) (standing : Standing Call Reply (
   pub all_undamaged : {E : Type 0} (result : Result (Result Migrated Stuck) E) → AlwaysEnds IsUndamaged (migrate_program name) → IsFine start → IfOk result (λ ended. Drives standing start ended end) → IfOk result (λ ended. IsClean start → IsUndamaged ended)
   all_undamaged (Ok ended) law fine d = undamaged name start ended end law (made_so ended d) fine
   all_undamaged (Err none) law fine d = tt
+
+  pub all_broken : {E : Type 0} (result : Result (Result Migrated Stuck) E) → OnErr result (BeginsToDrive standing start end) → OnErr result (BeginsToMake (migrate_program name) start end)
+  all_broken (Ok ended) broken = tt
+  all_broken (Err none) broken = subst (λ (s : Standing Call Reply (Result Migrated Stuck)). BeginsToDrive s start end) is broken
 
 -- the law that a migration is always allowed
 abbrev pub IsAlwaysAllowed : Type 0

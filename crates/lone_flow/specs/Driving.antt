@@ -1,5 +1,5 @@
 -- What a caller by itself makes of a machine on a mount.
-use Rattle.std.specs.Prelude.{◌≡◌, ◌≢◌, ◌++◌, List}
+use Rattle.std.specs.Prelude.{◌≡◌, ◌≢◌, List, [], ◌∷◌, ◌++◌}
 use Rattle.std.specs.List.{AllByRecursion}
 use Rattle.flow.specs.Running.{Runs, asking}
 use Rattle.flow.specs.Standing.{Standing, ready, asked}
@@ -20,14 +20,15 @@ pub record AreMade (start : State) (events : List Event) (end : State) : Type 0 
   pub ends : state_after start events ≡ end
   pub own : AllByRecursion (λ (event : Event). event.caller ≡ 0) events
 
--- some such calls lead there
-pub record CallsOn (start end : State) : Type 0 where
-  pub events : List Event
-  pub made : AreMade start events end
-
 -- none of them was refused memory
 abbrev pub HadMemory : List Event → Type 0
 HadMemory events = AllByRecursion (λ (event : Event). event.reply ≢ NoMemory) events
+
+-- none was, but for the last one perhaps
+abbrev pub HadMemoryBeforeLast : List Event → Type 0
+HadMemoryBeforeLast [] = Unit {0}
+HadMemoryBeforeLast (event ∷ []) = Unit {0}
+HadMemoryBeforeLast (event ∷ next ∷ later) = (event.reply ≢ NoMemory) × HadMemoryBeforeLast (next ∷ later)
 
 -- a greeting, and then the calls of the program
 abbrev pub greets_first : {R : Type 0} → Program Call Reply R → Program Call Reply R
@@ -40,7 +41,20 @@ pub record Makes {R : Type 0} (program : Program Call Reply R) (start : State) (
   pub had_memory : HadMemory events
   pub runs : Runs 0 (greets_first program) events result
 
+-- By itself caller 0 began to do so, and was broken off: its calls are a front of those of such a run. Only the last one may have been refused memory.
+pub record BeginsToMake {R : Type 0} (program : Program Call Reply R) (start end : State) : Type 0 where
+  pub events : List Event
+  pub made : AreMade start events end
+  pub had_memory : HadMemoryBeforeLast events
+  pub more : List Event
+  pub result : R
+  pub front_of : Runs 0 (greets_first program) (events ++ more) result
+
 -- the same of the program that a machine has still to run
+abbrev pub BeginsToDrive : {R : Type 0} → Standing Call Reply R → State → State → Type 0
+BeginsToDrive (ready program) start end = BeginsToMake program start end
+BeginsToDrive (asked k) start end = ⊥
+
 abbrev pub Drives : {R : Type 0} → Standing Call Reply R → State → R → State → Type 0
 Drives (ready program) start result end = Makes program start result end
 Drives (asked k) start result end = ⊥

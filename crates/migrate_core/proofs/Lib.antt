@@ -1,6 +1,5 @@
 pub mod EntryLemmas
 pub mod Facts
-pub mod FollowLemmas
 pub mod LongestLemmas
 pub mod ReadLemmas
 pub mod StepLemmas

@@ -7,7 +7,7 @@ use Rattle.std.proofs.lemmas.Nat.{from_le_bytes-to_le_bytes_8}
 use Rattle.plfs_types.specs.declared.entries.Entry.{Entry}
 use Rattle.index_entry.specs.Spelling.{number_in}
 use Rattle.index_pack.specs.declared.runs.Run.{Run}
-use Rattle.index_pack.specs.declared.trouble.TheConstants.{MAX_PACKED}
+use Rattle.plfs_types.specs.declared.limits.TheConstants.{MAX_PACKED}
 use Rattle.index_pack.specs.Runs.{AreMaximal, CouldGoOn, IsRun, entries_from, entries_of, entry_of, run_entries}
 use Rattle.index_pack.specs.Spelling.{Packs, pack_spelling}
 use Rattle.index_pack.specs.Valid.{CanBePacked}

@@ -3,6 +3,8 @@ use Rattle.std.proofs.Common.{◌≡◌, ℕ, List, [], ◌∷◌, ap, sym, subs
 use Rattle.std.specs.Prelude.{Option, Some, None, Result, Ok, Err}
 use Rattle.flow.specs.Standing.{Awaits, ready, replied, rest_of}
 use Rattle.flow.specs.declared.stuck.Stuck.{Stuck}
+use Rattle.flow.specs.Replies.{Tries, given, names_in, on_ok, trouble}
+use Rattle.flow.specs.Listed.{file_in}
 use Rattle.story.specs.Program.{done, ask}
 use Rattle.mount_model.specs.declared.reply.Reply.{Reply}
 use Rattle.mount_model.specs.Paths.{Name}
@@ -11,8 +13,7 @@ use Rattle.index_reader.specs.declared.opening.AfterOpen.{AfterOpen}
 use Rattle.index_reader.specs.declared.opening.AfterOpen.TheVariants.{GoesOn, Is}
 use Rattle.index_reader.specs.Opening.{no_flat, scan_program, scans}
 use Rattle.index_reader.specs.OpenStages.{after_open, open_rest, IsAfterOpen}
-use Rattle.index_reader.specs.Replies.{Tries, given, names_in, on_ok, trouble}
-use Rattle.index_reader.specs.Scanning.{file_in, nothing_found}
+use Rattle.index_reader.specs.Scanning.{nothing_found}
 use Rattle.index_reader.specs.Tops.{top_shows}
 use Rattle.migrate_core.specs.declared.migrated.Migrated.{Migrated}
 use Rattle.migrate_core.specs.Migrating.{lists_metadata, migrate_at_program, migrates_shown}

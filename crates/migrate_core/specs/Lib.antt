@@ -4,7 +4,6 @@ pub mod Counting
 pub mod Chosen
 pub mod Writers
 pub mod Migrating
-pub mod Follows
 pub mod Steps
 pub mod Stages
 pub mod MigrateStages

@@ -7,12 +7,11 @@ use Rattle.mount_model.specs.declared.call.Call.TheVariants.{Find, Look}
 use Rattle.mount_model.specs.declared.call.Look.TheVariants.{List as ListFolder, Top}
 use Rattle.mount_model.specs.Paths.{Name, metadata}
 use Rattle.flow.specs.declared.names.Metadata.{Metadata}
-use Rattle.flow.specs.Listed.{told_by}
-use Rattle.flow.specs.Replies.{Tries, given, on_ok, room_in, failure}
+use Rattle.flow.specs.Listed.{told_by, file_in}
+use Rattle.flow.specs.Replies.{Tries, given, on_ok, room_in, failure, names_in, trouble}
 use Rattle.index_reader.specs.declared.listing.Listing.{Listing}
 use Rattle.index_reader.specs.Opening.{no_flat, scans}
-use Rattle.index_reader.specs.Replies as replies
-use Rattle.index_reader.specs.Scanning.{file_in, nothing_found}
+use Rattle.index_reader.specs.Scanning.{nothing_found}
 use Rattle.index_reader.specs.Tops.{top_shows}
 use Rattle.migrate_core.specs.declared.migrated.Migrated.{Migrated}
 use Rattle.migrate_core.specs.Counting.{nothing, noted}
@@ -42,7 +41,7 @@ migrates_shown room folders = lists_metadata room (scans room 0 no_flat folders 
 abbrev pub migrate_at_program : ℕ → Tries Migrated
 migrate_at_program room = ask
     (Look room Top)
-    (λ reply. replies.given (replies.names_in reply) (replies.trouble (file_in [] []) reply) (λ names. replies.on_ok (migrates_shown room) (top_shows names)))
+    (λ reply. given (names_in reply) (trouble (file_in [] []) reply) (λ names. on_ok (migrates_shown room) (top_shows names)))
 
 abbrev pub migrate_program : Name → Tries Migrated
 migrate_program name = ask (Find name) (λ reply. given (room_in reply) (failure reply) migrate_at_program)

@@ -1,8 +1,9 @@
 -- Where the stages of a migration stand in its program.
-use Rattle.std.specs.Prelude.{◌≡◌, ℕ, ◌+◌, ◌*◌, ◌^◌, Bool, true, false, length, Result, Err}
+use Rattle.std.specs.Prelude.{◌≡◌, ℕ, ◌+◌, ◌*◌, ◌^◌, Bool, true, length, Result, Err}
 use Rattle.flow.specs.declared.stuck.Stuck.{Stuck}
 use Rattle.story.specs.Program.{done, followed_by}
-use Rattle.flow.specs.Standing.{Rest, Standing, awaits, over, ready, rest_of}
+use Rattle.flow.specs.Standing.{Standing, ready, rest_of}
+use Rattle.flow.specs.Composed.{then_on, is_awaiting}
 use Rattle.mount_model.specs.declared.call.Call.{Call}
 use Rattle.mount_model.specs.declared.reply.Reply.{Reply}
 use Rattle.flow.specs.Replies.{Tries, on_ok}
@@ -13,14 +14,13 @@ use Rattle.migrate_core.specs.declared.migrated.Migrated.{Migrated}
 use Rattle.migrate_core.specs.declared.stage.Underway.{Underway}
 use Rattle.migrate_core.specs.declared.stage.Stage.{Stage}
 use Rattle.migrate_core.specs.declared.stage.Stage.TheVariants as stage
-use Rattle.migrate_core.specs.Follows.{behind}
 use Rattle.migrate_core.specs.Counting.{noted}
 use Rattle.migrate_core.specs.Migrating.{lists_metadata, migrate_at_program, migrate_program, migrates, migrates_listed}
 use Rattle.migrate_core.specs.Steps.{step_calls, step_standing}
 
 -- one writer is packed, and then those that are left
 abbrev pub underway : Underway → Standing Call Reply (Result Migrated Stuck)
-underway u = behind (step_standing u.room u.meta u.step) (on_ok (λ fate. migrates u.room u.rest (noted fate u.tally.sofar)))
+underway u = then_on (step_standing u.room u.meta u.step) (on_ok (λ fate. migrates u.room u.rest (noted fate u.tally.sofar)))
 
 abbrev pub migrating : Stage → Standing Call Reply (Result Migrated Stuck)
 migrating (stage.Finding name) = ready (migrate_program name)
@@ -34,11 +34,6 @@ migrating (stage.Ended outcome) = ready (done outcome)
 abbrev pub shown_program : ℕ → AfterOpen → Tries Migrated
 shown_program room (after.Is (Err why)) = done (Err why)
 shown_program room scan = lists_metadata room (after_open scan)
-
--- there is a question whose reply is to come
-abbrev pub is_awaiting : {A R X : Type 0} → Rest A R X → Bool
-is_awaiting (over result) = false
-is_awaiting (awaits k) = true
 
 -- a listing has a further call
 abbrev pub is_underway : Stage → Bool

@@ -4,7 +4,7 @@ use Rattle.std.specs.Prelude.{ℕ, zero, suc, ◌+◌, ◌-◌, ◌*◌, ◌/◌
 use Rattle.plfs_types.specs.declared.names.Path.{Path}
 use Rattle.plfs_types.specs.declared.entries.Entry.{Entry}
 use Rattle.store_api.specs.declared.step.Answer.TheVariants.{Number}
-use Rattle.index_pack.specs.declared.trouble.TheConstants.{MAX_PACKED}
+use Rattle.plfs_types.specs.declared.limits.TheConstants.{ENTRIES_A_READ, MAX_PACKED}
 use Rattle.story.specs.Program.{done, ask}
 use Rattle.mount_model.specs.declared.call.Call.TheVariants.{Look, StartPack, PutFlat, SyncFlat, InstallFlat}
 use Rattle.mount_model.specs.declared.call.Look.TheVariants.{Length, Read}
@@ -61,11 +61,11 @@ packs room m entries = starts room m (packing entries) (counts_of entries)
 
 -- how many Reads so many entries take, 4096 by each
 abbrev pub reads_of : ℕ → ℕ
-reads_of left = (left + 4095) / 4096
+reads_of left = (left + (ENTRIES_A_READ - 1)) / ENTRIES_A_READ
 
 -- how many entries the next Read asks for
 abbrev pub next_read : ℕ → ℕ
-next_read left = min left 4096
+next_read left = min left ENTRIES_A_READ
 
 -- it goes on with what was read, or this is the place of what breaks a rule
 abbrev pub or_damage : Path → (Tail → Tries Fate) → Result Tail ℕ → Tries Fate

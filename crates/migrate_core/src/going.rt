@@ -1,5 +1,6 @@
 //! The stages of a migration.
 ghost use Rattle.std.specs.Prelude.{◌≡◌, ◌≤◌, ◌<◌, ◌+◌, ◌*◌, ◌^◌, length, true, Result, Some, IfOk, IfSome};
+ghost use Rattle.flow.specs.Composed.{then_on, is_awaiting};
 ghost use Rattle.flow.specs.Standing.{ready, next_of, rest_of, replied, Awaits};
 ghost use Rattle.index_reader.specs.Listing.{AreByWriter};
 ghost use Rattle.index_reader.specs.OpenStages.{after_open, after_open_calls, open_calls_left, open_rest, open_standing, IsAfterOpen};
@@ -9,10 +10,9 @@ ghost use Rattle.flow.specs.Replies.{Tries, on_ok};
 ghost use Rattle.mount_model.specs.Step.{OwedBy};
 ghost use Rattle.story.specs.Program.{followed_by};
 ghost use Rattle.migrate_core.specs.declared.migrated.Migrated.{Migrated as Done};
-ghost use Rattle.migrate_core.specs.Follows.{behind};
 ghost use Rattle.migrate_core.specs.Counting.{noted as noted_of, nothing as nothing_of};
 ghost use Rattle.migrate_core.specs.Migrating.{migrate_program, migrate_at_program, migrates, migrates_listed, scans_then};
-ghost use Rattle.migrate_core.specs.Stages.{calls_left, is_awaiting, migrating, shown_program, underway, writer_calls, IsUnderway};
+ghost use Rattle.migrate_core.specs.Stages.{calls_left, migrating, shown_program, underway, writer_calls, IsUnderway};
 ghost use Rattle.migrate_core.specs.Steps.{after_calls, after_standing, step_calls, step_standing};
 
 use crate::chosen::{chosen, listed};
@@ -23,9 +23,9 @@ use crate::steps::Step;
 use crate::writers::After;
 use container_layout::metadata;
 use flow::{Flow, Metadata, MetadataList, Stuck, failure, room_in};
-use index_reader::{AfterOpen, Listing, OpenRead, Queue};
+use index_reader::{AfterOpen, Listing, OpenRead};
 use mount_model::{Call, Look, Reply};
-use plfs_types::NoMemory;
+use plfs_types::{NoMemory, Queue};
 use std::alloc::Global;
 
 /// Begins with the first of the writers that are left, or ends where there is none.
@@ -64,7 +64,7 @@ fn ended(room: u64, rest: Queue<Metadata>, tally: Tally, became: Result<Fate, St
 /// Goes on after a reply to a call for this writer.
 fn goes_on(room: u64, rest: Queue<Metadata>, tally: Tally, meta: Metadata, after: After) -> Stage
     requires { tally.sofar.writers + tally.sofar.left + length rest + 1 < 2 ^ 64 }
-    ensures goes_on { migrating result ≡ behind (after_standing room meta after) (on_ok (λ fate. migrates room rest (noted_of fate tally.sofar))) }
+    ensures goes_on { migrating result ≡ then_on (after_standing room meta after) (on_ok (λ fate. migrates room rest (noted_of fate tally.sofar))) }
     ensures fewer { calls_left result ≤ after_calls after + length rest * writer_calls }
     ensures underway { IsUnderway result }
 {

@@ -1,6 +1,6 @@
 //! The packed index of entries that were read.
 ghost use Rattle.std.specs.Prelude.{◌≡◌, ◌≤◌, ◌<◌, ◌^◌, IfOk};
-ghost use Rattle.index_pack.specs.declared.trouble.TheConstants.{MAX_PACKED};
+ghost use Rattle.plfs_types.specs.declared.limits.TheConstants.{MAX_PACKED};
 ghost use Rattle.migrate_core.specs.Longest.{packing as packing_of};
 ghost use Rattle.migrate_core.specs.Writers.{counts_of};
 

@@ -5,8 +5,8 @@ use crate::migrated::{Migrated, Tally};
 use crate::shown::Shown;
 use crate::steps::Step;
 use flow::{Metadata, MetadataList, Stuck};
-use index_reader::{OpenRead, Queue};
-use plfs_types::LogicalName;
+use index_reader::OpenRead;
+use plfs_types::{LogicalName, Queue};
 
 #[derive(Drop)]
 pub(crate) enum Stage {

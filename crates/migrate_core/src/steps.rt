@@ -1,6 +1,6 @@
 //! How far the packing of one writer has come.
 ghost use Rattle.std.specs.Prelude.{◌+◌, ◌≤◌};
-ghost use Rattle.index_pack.specs.declared.trouble.TheConstants.{MAX_PACKED};
+ghost use Rattle.plfs_types.specs.declared.limits.TheConstants.{MAX_PACKED};
 
 use crate::entries::Told;
 use crate::migrated::Packed;

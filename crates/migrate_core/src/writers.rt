@@ -1,6 +1,6 @@
 //! The packing of one writer.
 ghost use Rattle.std.specs.Prelude.{◌≡◌, ◌≤◌, ◌<◌, ◌+◌, ◌/◌, ◌^◌, ℕ, Some, Ok, IfOk, IfSome};
-ghost use Rattle.index_pack.specs.declared.trouble.TheConstants.{MAX_PACKED};
+ghost use Rattle.plfs_types.specs.declared.limits.TheConstants.{MAX_PACKED};
 ghost use Rattle.flow.specs.Standing.{ready, next_of, rest_of, replied};
 ghost use Rattle.flow.specs.declared.names.Metadata.{Metadata as Left};
 ghost use Rattle.flow.specs.Replies.{Tries};
@@ -18,14 +18,10 @@ use crate::packing::pack_read;
 use crate::steps::{Reads, Step};
 use container_layout::{Item, print};
 use flow::{Metadata, Stuck, bytes_in, damage, failure, trouble};
-use index_pack::MAX_PACKED;
 use mount_model::{Call, Look, Reply};
-use plfs_types::{NoMemory, Path};
+use plfs_types::{ENTRIES_A_READ, MAX_PACKED, NoMemory, Path};
 use std::alloc::Global;
 use store_api::Answer;
-
-/// How many entries one Read asks for at most.
-const MAX_READ: u64 = 4096;
 
 /// What comes after a reply.
 #[derive(Drop)]
@@ -69,7 +65,7 @@ fn flat_in(reply: &Reply) -> Option<u64>
 fn next_read(left: u64) -> u64
     ensures { result ≡ read_next left }
 {
-    left.min(MAX_READ)
+    left.min(ENTRIES_A_READ)
 }
 
 impl Step {

@@ -2,7 +2,7 @@
 use Rattle.std.proofs.Common.{◌≡◌, ◌≤◌, ◌<◌, ℕ, List, length, Some, sym, ◌∙◌, inr, subst, arith}
 use Rattle.std.specs.Prelude.{slice_get}
 use Rattle.container_layout.specs.declared.items.Item.TheVariants.{Meta, Packed}
-use Rattle.index_pack.specs.declared.trouble.TheConstants.{MAX_PACKED}
+use Rattle.plfs_types.specs.declared.limits.TheConstants.{MAX_PACKED}
 use Rattle.store_api.specs.declared.tree.Room.{Room}
 use Rattle.store_api.specs.declared.tree.Tree.{Tree}
 use Rattle.flow.specs.declared.names.Metadata.{Metadata}

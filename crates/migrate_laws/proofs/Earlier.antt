@@ -20,6 +20,8 @@ use Rattle.store_laws.specs.There.{ListsFolder}
 use Rattle.store_laws.proofs.Facts.{name_eq}
 use Rattle.flow.specs.declared.stuck.Stuck.{Stuck}
 use Rattle.flow.specs.Running.{unbroken}
+use Rattle.flow.specs.Replies.{Tries, damage, given, names_in, on_ok, trouble}
+use Rattle.flow.specs.Listed.{file_in}
 use Rattle.story.specs.Program.{done}
 use Rattle.mount_model.specs.declared.call.Call.TheVariants.{Look}
 use Rattle.mount_model.specs.declared.call.Look.TheVariants.{List as ListFolder, Top}
@@ -41,8 +43,7 @@ use Rattle.index_reader.specs.declared.scanning.Scan.{Scan}
 use Rattle.index_reader.specs.Found.{item_of}
 use Rattle.index_reader.specs.Items.{hostdir_item}
 use Rattle.index_reader.specs.Opening.{dropping_of, has_owner, is_of_host, listing_of, lone_pack, no_flat, scans, unless_lone}
-use Rattle.index_reader.specs.Replies.{Tries, damage, given, names_in, on_ok, trouble}
-use Rattle.index_reader.specs.Scanning.{file_in, foreign_in, has_writer, owner, owner_of, placed, scanned, taken, taken_all, unless_foreign}
+use Rattle.index_reader.specs.Scanning.{foreign_in, has_writer, owner, owner_of, placed, scanned, taken, taken_all, unless_foreign}
 use Rattle.index_reader.specs.Searching.{has_name, same_bytes}
 use Rattle.index_reader.specs.Tops.{access, foreign_at_top, hostdirs, required, shown, top_shows}
 use Rattle.index_reader.proofs.Facts.{hostdir_item-here, same_bytes-itself}

@@ -14,7 +14,7 @@ use Rattle.mount_sound.specs.Issued.{issued, issued_after}
 use Rattle.mount_sound.specs.Ledger.{Ledger}
 use Rattle.mount_sound.specs.Owed.{IsLawful, May}
 use Rattle.mount_sound.specs.Sound.{IsSoundFor}
-use Rattle.mount_sound.proofs.Facts.{history_keeps, later}
+use Rattle.mount_sound.proofs.Facts.{history_keeps, later, lawful_first, lawful_rest}
 use Rattle.flow.specs.Running.{Runs, unbroken}
 use Rattle.flow.proofs.Facts.{runs_done, runs_in_two, runs_next}
 use Rattle.story.specs.Program.{Program, ask, done, followed_by}
@@ -25,14 +25,6 @@ use Rattle.migrate_laws.proofs.Starting.{LastsBeside}
 
 abbrev pub Ends : {R : Type 0} → ℕ → (R → State → Type 0) → Program Call Reply R → State → Type 0
 Ends {R} caller good program start = (l : Ledger) (events : List Event) (result : R) → IsLawful start events → IsSoundFor l start → Runs caller program events result → good result (state_after start events)
-
-pub lawful_first : (start : State) (first rest : List Event) → IsLawful start (first ++ rest) → IsLawful start first
-lawful_first start [] rest lawful = tt
-lawful_first start (e ∷ first) rest lawful = (lawful.0, lawful.1, lawful_first e.after first rest lawful.2)
-
-pub lawful_rest : (start : State) (first rest : List Event) → IsLawful start (first ++ rest) → IsLawful (state_after start first) rest
-lawful_rest start [] rest lawful = lawful
-lawful_rest start (e ∷ first) rest lawful = lawful_rest e.after first rest lawful.2
 
 module _ {R : Type 0} (caller : ℕ) (good : R → State → Type 0) where
   -- it is at its end, and others may call yet

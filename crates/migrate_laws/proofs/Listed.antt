@@ -17,6 +17,8 @@ use Rattle.store_laws.specs.There.{ListsFolder}
 use Rattle.store_laws.proofs.Facts.{name_refl}
 use Rattle.flow.specs.declared.stuck.Stuck.{Stuck}
 use Rattle.flow.specs.Running.{unbroken}
+use Rattle.flow.specs.Replies.{Tries, damage, given, names_in, on_ok, trouble}
+use Rattle.flow.specs.Listed.{file_in}
 use Rattle.story.specs.Program.{done}
 use Rattle.mount_model.specs.declared.call.Call.TheVariants.{Look}
 use Rattle.mount_model.specs.declared.call.Look.TheVariants.{List as ListFolder}
@@ -38,8 +40,7 @@ use Rattle.index_reader.specs.declared.scanning.Scan.{Scan}
 use Rattle.index_reader.specs.Found.{item_of}
 use Rattle.index_reader.specs.Items.{hostdir_item}
 use Rattle.index_reader.specs.Opening.{dropping_of, listing_of, lone_pack, no_flat, scans, unless_lone}
-use Rattle.index_reader.specs.Replies.{Tries, damage, given, names_in, on_ok, trouble}
-use Rattle.index_reader.specs.Scanning.{file_in, foreign_in, has_writer, nothing_found, owner, placed, scanned, taken, taken_all, unless_foreign}
+use Rattle.index_reader.specs.Scanning.{foreign_in, has_writer, nothing_found, owner, placed, scanned, taken, taken_all, unless_foreign}
 use Rattle.index_reader.proofs.Facts.{hostdir_item-at}
 use Rattle.migrate_core.specs.Chosen.{is_packed}
 use Rattle.migrate_laws.proofs.Ends.{Ends, ends_ask, ends_done}

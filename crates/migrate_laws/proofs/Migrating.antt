@@ -34,7 +34,6 @@ use Rattle.index_reader.specs.declared.listing.Dropping.{Dropping}
 use Rattle.index_reader.specs.declared.listing.Listing.{Listing}
 use Rattle.index_reader.specs.declared.scanning.Scan.{Scan}
 use Rattle.index_reader.specs.Opening.{no_flat, scans}
-use Rattle.index_reader.specs.Replies as replies
 use Rattle.index_reader.specs.Scanning as scanning
 use Rattle.index_reader.specs.Tops.{top_shows}
 use Rattle.index_reader.proofs.Facts.{IsLook, OnlyLooks}
@@ -129,11 +128,11 @@ looks_then caller fact stays (ask q k) next looks goes state f = asks_safe calle
     (λ state reply after step may f. looks_then caller fact stays (k reply) next (looks.1 reply) goes after (cleanly_stays fact stays state after caller (unbroken q) reply may step f))
     state f
 
-given_looks : {A R : Type 0} (o : Option A) (why : Stuck) (next : A → Tries R) → ((a : A) → OnlyLooks (next a)) → OnlyLooks (replies.given o why next)
+given_looks : {A R : Type 0} (o : Option A) (why : Stuck) (next : A → Tries R) → ((a : A) → OnlyLooks (next a)) → OnlyLooks (given o why next)
 given_looks None why next goes = tt
 given_looks (Some a) why next goes = goes a
 
-on_ok_looks : {A R : Type 0} (next : A → Tries R) → ((a : A) → OnlyLooks (next a)) → (result : Result A Stuck) → OnlyLooks (replies.on_ok next result)
+on_ok_looks : {A R : Type 0} (next : A → Tries R) → ((a : A) → OnlyLooks (next a)) → (result : Result A Stuck) → OnlyLooks (on_ok next result)
 on_ok_looks next goes (Ok a) = goes a
 on_ok_looks next goes (Err because) = tt
 
@@ -141,7 +140,7 @@ pub scans_look : (room : ℕ) (ks : List ℕ) (scan : Scan) → OnlyLooks (scans
 scans_look room [] scan = tt
 scans_look room (k ∷ ks) scan = (
   tt,
-  λ reply. given_looks (replies.names_in reply) (replies.trouble (scanning.file_in (hostdir_of k) []) reply) (λ names. replies.on_ok (λ more. scans room 0 no_flat ks more) (scanning.scanned (hostdir_of k) names scan))
+  λ reply. given_looks (names_in reply) (trouble (file_in (hostdir_of k) []) reply) (λ names. on_ok (λ more. scans room 0 no_flat ks more) (scanning.scanned (hostdir_of k) names scan))
       (λ names. on_ok_looks (λ more. scans room 0 no_flat ks more) (λ more. scans_look room ks more) (scanning.scanned (hostdir_of k) names scan)),
 )
 
@@ -176,17 +175,17 @@ module _ (caller number : ℕ) where
         (fine_lasts caller) (λ state fine. may_free state caller (Look number (ListFolder metadata)) (tt, tt) fine)
         (λ state reply after fine may step. safe_listed state reply after step may fine (told_by metadata (λ names. metas_named names []) reply) refl)
 
-  safe_shown : (r : Result (List ℕ) Stuck) (state : State) → IsFine state → IsSafe IsStep Permits caller (asking (replies.on_ok (migrates_shown number) r)) state
+  safe_shown : (r : Result (List ℕ) Stuck) (state : State) → IsFine state → IsSafe IsStep Permits caller (asking (on_ok (migrates_shown number) r)) state
   safe_shown (Ok ks) state fine = safe_metadata (scans number 0 no_flat ks scanning.nothing_found) (scans_look number ks scanning.nothing_found) state fine
   safe_shown (Err why) state fine = tt
 
-  safe_top : (o : Option (List Name)) (why : Stuck) (state : State) → IsFine state → IsSafe IsStep Permits caller (asking (replies.given o why (λ names. replies.on_ok (migrates_shown number) (top_shows names)))) state
+  safe_top : (o : Option (List Name)) (why : Stuck) (state : State) → IsFine state → IsSafe IsStep Permits caller (asking (given o why (λ names. on_ok (migrates_shown number) (top_shows names)))) state
   safe_top None why state fine = tt
   safe_top (Some names) why state fine = safe_shown (top_shows names) state fine
 
   safe_at : (state : State) → IsFine state → IsSafe IsStep Permits caller (asking (migrate_at_program number)) state
-  safe_at = safe_free caller (Look number Top) (λ reply. replies.given (replies.names_in reply) (replies.trouble (scanning.file_in [] []) reply) (λ names. replies.on_ok (migrates_shown number) (top_shows names))) (tt, tt)
-      (λ reply after fine. safe_top (replies.names_in reply) (replies.trouble (scanning.file_in [] []) reply) after fine)
+  safe_at = safe_free caller (Look number Top) (λ reply. given (names_in reply) (trouble (file_in [] []) reply) (λ names. on_ok (migrates_shown number) (top_shows names))) (tt, tt)
+      (λ reply after fine. safe_top (names_in reply) (trouble (file_in [] []) reply) after fine)
 
 -- From a fine state a caller may make all calls of a migration, whatever others do between them.
 pub safe_migration : (caller : ℕ) (name : List ℕ) (state : State) → IsFine state → IsSafe IsStep Permits caller (asking (migrate_program name)) state

@@ -2,7 +2,7 @@
 use Rattle.std.proofs.Common.{◌≡◌, ◌≤◌, ◌<◌, ◌-◌, ◌*◌, ◌/◌, ◌^◌, ◌==◌, ℕ, zero, suc, nat_lt, Bool, true, false, List, Option, Some, None, refl, ap, sym, ◌∙◌, ◌⊎◌, inl, inr, subst, arith}
 use Rattle.std.specs.Prelude.{if◌then◌else◌, Result, Ok, Err, slice_get}
 use Rattle.plfs_types.specs.declared.entries.Entry.{Entry}
-use Rattle.index_pack.specs.declared.trouble.TheConstants.{MAX_PACKED}
+use Rattle.plfs_types.specs.declared.limits.TheConstants.{MAX_PACKED}
 use Rattle.container_layout.specs.declared.items.Item.TheVariants.{Packed as PackedItem}
 use Rattle.store_api.specs.declared.step.Answer.TheVariants.{Bytes, Made, NoFolder, NoRoom, Number}
 use Rattle.store_api.specs.declared.store.Trouble.TheVariants as trouble_

@@ -9,7 +9,7 @@ use Rattle.plfs_types.specs.declared.entries.Entry.{Entry}
 use Rattle.container_layout.specs.declared.items.Item.TheVariants.{Index}
 use Rattle.index_entry.specs.Spelling.{FitsPlaces, entry_in, spelling, spelling_all}
 use Rattle.index_entry.proofs.Facts.{drop-spelling_all, entries_format, length-spelling, length-spelling_all, take-spelling_all}
-use Rattle.index_pack.specs.declared.trouble.TheConstants.{MAX_PACKED}
+use Rattle.plfs_types.specs.declared.limits.TheConstants.{MAX_PACKED}
 use Rattle.store_api.specs.declared.tree.Room.{Room}
 use Rattle.store_api.specs.declared.tree.Tree.{Tree}
 use Rattle.store_api.specs.declared.step.Answer.TheVariants.{Bytes, Number}

@@ -25,13 +25,12 @@ use Rattle.mount_sound.specs.Issued.{issued}
 use Rattle.mount_sound.specs.Ledger.{Ledger}
 use Rattle.mount_sound.specs.Owed.{IsLawful, StandsInRoom}
 use Rattle.mount_sound.specs.Sound.{IsSoundFor}
-use Rattle.mount_sound.proofs.Facts.{history_keeps}
+use Rattle.mount_sound.proofs.Facts.{history_keeps, lawful_first, lawful_rest}
 use Rattle.recovery_laws.proofs.Facts.{Stays}
 use Rattle.index_reader.specs.declared.listing.Dropping.{Dropping}
 use Rattle.index_reader.specs.declared.listing.Listing.{Listing}
 use Rattle.index_reader.specs.Found.{item_of}
 use Rattle.index_reader.specs.Opening.{no_flat, scans}
-use Rattle.index_reader.specs.Replies as replies
 use Rattle.index_reader.specs.Scanning.{nothing_found}
 use Rattle.index_reader.specs.Scanning as scanning
 use Rattle.index_reader.specs.Tops.{top_shows}
@@ -46,7 +45,7 @@ use Rattle.migrate_laws.proofs.Choosing.{HasOf, IsNew, IsOpen, chosen_open, has_
 use Rattle.migrate_laws.proofs.Closing.{closed_left, closed_of, its_own, left_by, long_so, not_both, of_meta, packed_by}
 use Rattle.migrate_laws.proofs.Counting.{IsDealt, IsDone, all_end, as_many, left_there, writers_of}
 use Rattle.migrate_laws.proofs.Earlier.{IsIn, packed_stay, scans_show, top_has}
-use Rattle.migrate_laws.proofs.Ends.{IsNext, along, calls_later, its_moment, lawful_before, lawful_first, lawful_rest, looked_later, looks_only, never, next_call, same_end}
+use Rattle.migrate_laws.proofs.Ends.{IsNext, along, calls_later, its_moment, lawful_before, looked_later, looks_only, never, next_call, same_end}
 use Rattle.migrate_laws.proofs.Finding.{found_named}
 use Rattle.migrate_laws.proofs.Left.{AreLeft, IsLeft, all_left_stay, left_stays}
 use Rattle.migrate_laws.proofs.Listed.{ListingStands, scans_end}
@@ -333,7 +332,7 @@ module _ (caller number : ℕ) (out : Migrated) where
   -- the top shows which folders of droppings there are
   module _ (l : Ledger) (start : State) (s : IsSoundFor l start) (events : List Event) (lawful : IsLawful start events) where
     abbrev top_on : Reply → Tries Migrated
-    top_on reply = replies.given (replies.names_in reply) (replies.trouble (scanning.file_in [] []) reply) (λ names. replies.on_ok (migrates_shown number) (top_shows names))
+    top_on reply = given (names_in reply) (trouble (file_in [] []) reply) (λ names. on_ok (migrates_shown number) (top_shows names))
 
     module _ (n : IsNext caller (Look number Top) top_on start events (Ok out)) where
       abbrev topped : State
@@ -342,7 +341,7 @@ module _ (caller number : ℕ) (out : Migrated) where
       packed_then : (w : WriterOf) → IsPackedNow start w → IsPackedNow topped w
       packed_then w was = along (λ state. IsPackedNow state w) (packed_stay caller number w) l start n.before (lawful_before caller (Look number Top) top_on start events (Ok out) n lawful) s was
 
-      by_folders : (names : List Name) → IsStep topped caller (unbroken (Look number Top)) (Looked (Names names)) n.event.after → (r : Result (List ℕ) Stuck) → top_shows names ≡ r → Runs caller (replies.on_ok (migrates_shown number) r) n.rest (Ok out) → HasNewlyPacked caller number (IsPackedNow start) n.event.after n.rest out
+      by_folders : (names : List Name) → IsStep topped caller (unbroken (Look number Top)) (Looked (Names names)) n.event.after → (r : Result (List ℕ) Stuck) → top_shows names ≡ r → Runs caller (on_ok (migrates_shown number) r) n.rest (Ok out) → HasNewlyPacked caller number (IsPackedNow start) n.event.after n.rest out
       by_folders names step (Err why) is runs = absurd (never caller why n.rest out runs)
       by_folders names step (Ok folders) is runs =
           newly_so caller number (IsPackedNow start) (λ w. IsPackedNow n.event.after w × IsIn (w.host % 32) folders) n.event.after n.rest out
@@ -352,13 +351,13 @@ module _ (caller number : ℕ) (out : Migrated) where
           ))
           (lists_so folders n.then_ledger n.event.after n.rest n.lawful n.then_sound runs)
 
-      by_names : (o : Option (List Name)) → replies.names_in n.event.reply ≡ o → Runs caller (replies.given o (replies.trouble (scanning.file_in [] []) n.event.reply) (λ names. replies.on_ok (migrates_shown number) (top_shows names))) n.rest (Ok out) → HasNewlyPacked caller number (IsPackedNow start) n.event.after n.rest out
-      by_names None is runs = absurd (never caller (replies.trouble (scanning.file_in [] []) n.event.reply) n.rest out runs)
+      by_names : (o : Option (List Name)) → names_in n.event.reply ≡ o → Runs caller (given o (trouble (file_in [] []) n.event.reply) (λ names. on_ok (migrates_shown number) (top_shows names))) n.rest (Ok out) → HasNewlyPacked caller number (IsPackedNow start) n.event.after n.rest out
+      by_names None is runs = absurd (never caller (trouble (file_in [] []) n.event.reply) n.rest out runs)
       by_names (Some names) is runs = by_folders names (subst (λ r. IsStep topped caller (unbroken (Look number Top)) r n.event.after) (of_names n.event.reply names is) n.step) (top_shows names) refl runs
 
       topped_so : HasNewlyPacked caller number (IsPackedNow start) start events out
       topped_so = subst (λ es. HasNewlyPacked caller number (IsPackedNow start) start es out) (sym n.split)
-          (new_later start n.before n.event n.rest caller out n.others (subst (λ (a : Ask). IsLooking a.call) (sym n.asks) tt) number (IsPackedNow start) (by_names (replies.names_in n.event.reply) refl n.runs))
+          (new_later start n.before n.event n.rest caller out n.others (subst (λ (a : Ask). IsLooking a.call) (sym n.asks) tt) number (IsPackedNow start) (by_names (names_in n.event.reply) refl n.runs))
 
     at_so : Runs caller (migrate_at_program number) events (Ok out) → HasNewlyPacked caller number (IsPackedNow start) start events out
     at_so runs = topped_so (next_call caller (Look number Top) top_on l start events (Ok out) lawful s runs)

@@ -3,7 +3,7 @@ use Rattle.std.proofs.Common.{◌≡◌, ◌≤◌, ◌-◌, ◌*◌, ◌/◌, �
 use Rattle.std.specs.Prelude.{if◌then◌else◌, Result, Ok, Err}
 use Rattle.plfs_types.specs.declared.entries.Entry.{Entry}
 use Rattle.index_entry.specs.Spelling.{spelling_all}
-use Rattle.index_pack.specs.declared.trouble.TheConstants.{MAX_PACKED}
+use Rattle.plfs_types.specs.declared.limits.TheConstants.{MAX_PACKED}
 use Rattle.store_api.specs.declared.step.Answer.TheVariants.{Bytes, Number}
 use Rattle.flow.specs.declared.stuck.Stuck.{Stuck}
 use Rattle.flow.specs.Running.{asking, unbroken}

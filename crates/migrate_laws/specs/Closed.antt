@@ -2,7 +2,7 @@
 use Rattle.std.specs.Prelude.{◌≢◌, ◌≤◌, ◌<◌, ℕ, List, [], ◌∷◌}
 use Rattle.std.specs.List.{AllByRecursion, Contains}
 use Rattle.container_layout.specs.declared.items.Item.TheVariants.{Meta, Packed}
-use Rattle.index_pack.specs.declared.trouble.TheConstants.{MAX_PACKED}
+use Rattle.plfs_types.specs.declared.limits.TheConstants.{MAX_PACKED}
 use Rattle.store_api.specs.declared.tree.Room.{Room}
 use Rattle.mount_sound.specs.Items.{HasItem}
 use Rattle.mount_sound.specs.There.{landed_in}

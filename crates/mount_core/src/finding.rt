@@ -1,6 +1,5 @@
 //! Calls that find, make and name containers.
-ghost use Rattle.std.specs.Prelude.{◌≡◌, ◌↔◌, IsTrue, codes};
-ghost use Rattle.plfs_types.specs.Names.{IsLogicalName};
+ghost use Rattle.std.specs.Prelude.{◌≡◌, codes};
 ghost use Rattle.mount_model.specs.Finding.{Finds, MakesContainer, AreLogicalOf, RoomsReply, NamesRooms};
 ghost use Rattle.mount_model.specs.Paths.{new_folders, new_files};
 ghost use Rattle.store_api.specs.Step.{make_room};
@@ -21,19 +20,12 @@ pub(crate) fn access() -> Name
     Name::from_bytes(b"access").unwrap()
 }
 
-/// Whether the name is that of a container.
-fn is_logical(name: &Name) -> bool
-    ensures { IsTrue result ↔ IsLogicalName name.now }
-{
-    LogicalName::read(name.bytes()).is_some()
-}
-
 /// The logical names among these, in their order. It takes no memory.
 fn logical(names: NameList) -> NameList
     ensures { AreLogicalOf names result }
 {
     let mut names = names.into_vec();
-    names.retain(|name| is_logical(name));
+    names.retain(|name| name.is_logical());
     NameList::from_vec(names)
 }
 

@@ -1,5 +1,5 @@
 pub mod Facts
-mod Losing
+pub mod Losing
 mod Losses
 mod Surviving
 mod Syncing

@@ -3,6 +3,7 @@ use Rattle.std.proofs.Common.{◌≡◌, ℕ, ◌+◌, ◌-◌, ◌<◌, ◌≤�
 use Rattle.std.proofs.lemmas.List.{length-append}
 use Rattle.std.proofs.lemmas.List.Elements.{All-nil, All-cons, All-append}
 use Rattle.plfs_types.specs.declared.entries.Entry.{Entry}
+use Rattle.plfs_types.specs.declared.limits.TheConstants.{MAX_TIME}
 use Rattle.plfs_types.specs.Stamps.{next_stamp}
 use Rattle.index_entry.specs.Valid.{IsValidEntry}
 use Rattle.mount_model.specs.declared.row.Row.{Row}
@@ -146,7 +147,9 @@ pub record IsStamp (last floor stamp : ℕ) : Type 0 where
   pub fits : stamp < 2 ^ 63
 
 pub next_is_stamp : (time last floor : ℕ) → last < 2 ^ 63 - 1 → floor < 2 ^ 63 - 1 → IsStamp last floor (next_stamp time last floor)
-next_is_stamp time last floor l f = record { some = omega arith; later = omega arith; above = omega arith; fits = omega arith }
+next_is_stamp time last floor l f =
+    let latest : MAX_TIME ≡ 2 ^ 62 = refl in
+    record { some = omega arith; later = omega arith; above = omega arith; fits = omega (arith, latest) }
 
 pub valid_entry : (stamp : ℕ) (row : Row) (at len : ℕ) → 1 ≤ len → at + len ≤ 2 ^ 40 → 1 ≤ stamp → stamp < 2 ^ 63 → IsValidEntry (entry_of stamp row at len)
 valid_entry stamp row at len some near stamped fits = record { not_empty = some; near = near; stamped = stamped; stamp_fits = omega (arith, fits) }

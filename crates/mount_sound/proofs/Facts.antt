@@ -28,6 +28,7 @@ pub use Rattle.mount_sound.proofs.Keeping.{AreKept, AreKeptIn, AreWithin, are_ke
 pub use Rattle.mount_sound.proofs.KeptLater.{kept_no_less, step_keeps_kept}
 pub use Rattle.mount_sound.proofs.LandedLater.{history_stays, items_stay, landed_from, landed_stays}
 pub use Rattle.mount_sound.proofs.Landing.{IsWhole, content_take, entries_landed, entries_take, in_order_take, logged_take, no_writes, writes_take}
+pub use Rattle.mount_sound.proofs.LawfulParts.{lawful_first, lawful_rest}
 pub use Rattle.mount_sound.proofs.Live.{Own, its_host}
 pub use Rattle.mount_sound.proofs.Local.{AllFit, no_room, some_room}
 pub use Rattle.mount_sound.proofs.Making.{HasSoundWriters, accounted, all_fit, its_writers, one_tree}

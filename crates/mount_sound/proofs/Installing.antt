@@ -31,7 +31,7 @@ use Rattle.mount_model.specs.State.{State, Table}
 use Rattle.mount_shape.specs.Named.{FitsNames}
 use Rattle.index_pack.specs.Spelling.{Packs}
 use Rattle.index_pack.specs.Valid.{CanBePacked}
-use Rattle.index_pack.specs.declared.trouble.TheConstants.{MAX_PACKED}
+use Rattle.plfs_types.specs.declared.limits.TheConstants.{MAX_PACKED}
 use Rattle.index_pack.proofs.Facts.{one_packing, packing}
 use Rattle.mount_sound.specs.Flats.{IsBegunIn, IsRightPack}
 use Rattle.mount_model.specs.Step.{Answers, IsStep}

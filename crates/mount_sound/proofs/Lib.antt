@@ -40,6 +40,7 @@ mod KeptActs
 mod KeptLater
 mod LandedLater
 mod Landing
+mod LawfulParts
 mod Leaving
 mod Live
 mod Local

@@ -1,6 +1,6 @@
 //! Laws of flattened indices, and of packed ones.
 ghost use Rattle.std.specs.Prelude.{◌≡◌, ◌≤◌, ℕ, List, Some, slice_get};
-ghost use Rattle.index_pack.specs.declared.trouble.TheConstants.{MAX_PACKED};
+ghost use Rattle.plfs_types.specs.declared.limits.TheConstants.{MAX_PACKED};
 ghost use Rattle.container_layout.specs.declared.items.Item.TheVariants.{Index, Packed};
 ghost use Rattle.store_api.specs.declared.tree.Room.{Room};
 ghost use Rattle.store_api.specs.declared.tree.Tree.{Tree};

@@ -15,7 +15,7 @@ use crate::roster::Roster;
 use crate::telling::otherwise;
 use container_layout::{Item, openhosts, read};
 use mount_model::{Holder, Refusal, Reply};
-use plfs_types::{MAX_SIZE, MAX_STAMP, Name, NoMemory, Path};
+use plfs_types::{MAX_SIZE, MAX_STAMP, MAX_TIME, Name, NoMemory, Path};
 use store_api::{Answer, Trouble};
 
 /// The refusal that names the writer whose entry this is in the folder of who has a container open.
@@ -68,7 +68,7 @@ pub fn truncate_stamp(time: u64, top: u64) -> u64
     ensures later { top < result }
     ensures fits { result ≤ MAX_STAMP }
 {
-    time.min(1 << 62).max(top + 1)
+    time.min(MAX_TIME).max(top + 1)
 }
 
 impl Roster {

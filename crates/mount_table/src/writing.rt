@@ -9,7 +9,7 @@ ghost use Rattle.mount_table.specs.Standing.{AtPlace};
 use crate::roster::Roster;
 use crate::telling::otherwise;
 use mount_model::{Refusal, Reply, Row};
-use plfs_types::{MAX_LOG, MAX_SIZE, MAX_STAMP, Path};
+use plfs_types::{MAX_LOG, MAX_SIZE, MAX_STAMP, MAX_TIME, Path};
 use store_api::{Answer, Trouble};
 
 /// Why the writer may not write so many bytes from this place on.
@@ -36,7 +36,7 @@ pub fn stamp_at(time: u64, row: &Row) -> u64
     ensures same { result ≡ stamp_of time row.now }
     ensures stamp { IsStampFor row.now result }
 {
-    time.min(1 << 62).max((row.last + 1).max(row.floor + 1))
+    time.min(MAX_TIME).max((row.last + 1).max(row.floor + 1))
 }
 
 impl Roster {

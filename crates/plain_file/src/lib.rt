@@ -8,11 +8,14 @@
 
 mod changes;
 mod laws;
+mod parts;
 mod pieces;
 
 pub use changes::{Change, ChangeList, Rank, replay};
 pub use laws::{
-    clipped_pieces, merged_pieces, newest_shows, pieces_are_one, pieces_end_within,
-    pieces_lie_in_logs, pieces_name_bytes, size_is_from_pieces,
+    clipped_pieces, merged_pieces, newest_shows, pieces_are_one, pieces_clipped_before,
+    pieces_end_within, pieces_lie_in_logs, pieces_name_bytes, size_is_from_clipped_pieces,
+    size_is_from_pieces,
 };
+pub use parts::{HostList, ReaderParts, WriterHost};
 pub use pieces::{Piece, PieceList, Pieces};

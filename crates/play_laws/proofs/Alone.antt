@@ -11,10 +11,10 @@ use Rattle.mount_model.specs.declared.reply.Reply.{Reply}
 use Rattle.mount_model.specs.History.{Event}
 use Rattle.flow.specs.declared.stuck.Stuck.{Stuck}
 use Rattle.flow.specs.Running.{asking, Runs}
+use Rattle.flow.specs.Replies.{Tries, on_ok}
 use Rattle.flow.proofs.Facts.{runs_in_two}
 use Rattle.index_reader.specs.declared.listing.Listing.{Listing}
 use Rattle.index_reader.specs.declared.sharing.Share.{Share}
-use Rattle.index_reader.specs.Replies.{Tries, on_ok}
 use Rattle.index_reader.specs.Sharing.{share_program}
 use Rattle.index_reader.specs.Truncs.{trunc_program}
 use Rattle.reader_laws.specs.Opening.{Portion, droppings_of, shares_of, ReadsInTurn}

@@ -8,11 +8,11 @@ use Rattle.plain_file.proofs.Facts.{Among, All-Among}
 use Rattle.mount_model.specs.History.{Event}
 use Rattle.mount_sound.specs.Owed.{IsLawful}
 use Rattle.flow.specs.Running.{Runs}
+use Rattle.flow.specs.Replies.{Tries}
 use Rattle.index_reader.specs.declared.listing.Dropping.{Dropping as Listed}
 use Rattle.index_reader.specs.declared.listing.Listing.{Listing}
 use Rattle.index_reader.specs.declared.sharing.Share.{Share}
 use Rattle.index_reader.specs.Gathered.{pieces_of_each}
-use Rattle.index_reader.specs.Replies.{Tries}
 use Rattle.index_reader.specs.Sharing.{share_program}
 use Rattle.gathering.specs.Moments.{Moment, IsNamed, IsSoundAt, moment_after}
 use Rattle.gathering.specs.Seen.{calls_of}

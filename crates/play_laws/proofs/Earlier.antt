@@ -50,7 +50,7 @@ opened_earlier n now front waits event more rest reader sound split lawful none 
     let end : Moment = moment_after from (h.first ∷ h.more) in
     let has : HasOpenReader start end reader h.cut = record {
       view = view_earlier start from end reader.room h.cut reader.truncs grows h.has.view;
-      droppings = h.has.droppings;
+      hosts = h.has.hosts;
       pieces = h.has.pieces;
       size = h.has.size;
       covers = h.has.covers;

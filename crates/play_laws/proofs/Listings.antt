@@ -14,11 +14,11 @@ use Rattle.mount_model.specs.History.{Event}
 use Rattle.mount_sound.specs.Owed.{IsLawful}
 use Rattle.flow.specs.declared.stuck.Stuck.{Stuck}
 use Rattle.flow.specs.Running.{unbroken, asking, Runs}
+use Rattle.flow.specs.Replies.{Tries, given, on_ok, room_in, names_in}
 use Rattle.index_reader.specs.declared.listing.Listing.{Listing}
 use Rattle.index_reader.specs.declared.scanning.Scan.{Scan}
 use Rattle.index_reader.specs.Newest.{newest_in}
 use Rattle.index_reader.specs.Opening.{no_flat, flat_program, uncovered, lone_pack, listing_of, unless_uncovered, unless_lone, listed, scans, top_program, if_newest, open_at_program, open_read_program}
-use Rattle.index_reader.specs.Replies.{Tries, given, on_ok, room_in, names_in}
 use Rattle.index_reader.specs.Scanning.{nothing_found, scanned}
 use Rattle.index_reader.specs.Tops.{top_shows}
 use Rattle.gathering.specs.Flats.{IsFlatName, TakesNewest, pieces_of}

@@ -13,7 +13,8 @@ use Rattle.writer_flow.specs.declared.handle.WriterHandle.{WriterHandle}
 use Rattle.writer_laws.specs.Counting.{entry_count, writes_told}
 use Rattle.writer_laws.specs.Knowing.{HasRow, Knows}
 use Rattle.writer_laws.specs.Waiting.{LetsBe}
-use Rattle.writer_laws.proofs.Facts.{SyncedBy, goes, handle_waits, lawful_first, none_told, writes_both}
+use Rattle.mount_sound.proofs.Facts.{lawful_first}
+use Rattle.writer_laws.proofs.Facts.{SyncedBy, goes, handle_waits, none_told, writes_both}
 use Rattle.gathering.specs.Bounds.{IsOf, IsSyncedIn}
 use Rattle.gathering.specs.Moments.{Dropping}
 use Rattle.gathering.proofs.Facts.{among_left, among_right, any_found, found_any}

@@ -134,7 +134,7 @@ reader_made listing shares truncs runs =
     let kept : AreRunsOf (λ x. kept_source truncs x (newest_source lists x)) (runs_of (λ x. kept_source truncs x (newest_source lists x))) = runs_are (λ x. kept_source truncs x (newest_source lists x)) (kept_bounded truncs (newest_source lists) bounded) in
     record {
       room = refl;
-      droppings = refl;
+      hosts = refl;
       covers = refl;
       truncates = refl;
       size = refl;

@@ -18,6 +18,7 @@ use Rattle.mount_model.specs.History.{Event, state_after}
 use Rattle.mount_sound.specs.Owed.{IsLawful}
 use Rattle.flow.specs.declared.stuck.Stuck.{Stuck}
 use Rattle.flow.specs.Running.{asking, Runs}
+use Rattle.flow.specs.Replies.{on_ok}
 use Rattle.script_lang.specs.declared.script.Statement.TheVariants.{Ropen}
 use Rattle.index_reader.specs.declared.listing.Dropping.{Dropping as Listed}
 use Rattle.index_reader.specs.declared.listing.Listing.{Listing}
@@ -25,7 +26,6 @@ use Rattle.index_reader.specs.declared.opened.OpenReader.{OpenReader}
 use Rattle.index_reader.specs.declared.sharing.Share.{Share}
 use Rattle.index_reader.specs.Gathered.{pieces_of_each, IsGatheredOf}
 use Rattle.index_reader.specs.Opening.{open_read_program}
-use Rattle.index_reader.specs.Replies.{on_ok}
 use Rattle.index_reader.specs.Sharing.{share_program}
 use Rattle.gathering.specs.Moments.{Moment, IsNamed, IsSoundAt, moment_after}
 use Rattle.gathering.specs.Seen.{Asked, calls_of}

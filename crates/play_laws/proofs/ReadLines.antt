@@ -129,12 +129,12 @@ module _ (start : Moment) (n : ℕ) (before greeting : List Event) (kept : Kept)
   reads_there : (mine : List Event) → Next start (before ++ greeting) mine → IsLawful file.moment.state (has.between ++ mine)
   reads_there mine next = lawful_together file.moment has.between mine has.lawful (subst (λ (m : Moment). IsLawful m.state mine) (sym has.is_now) next.lawful)
 
-  pub gave : (at len : ℕ) (mine : List Event) (bytes : List ℕ) → Next start (before ++ greeting) mine → Runs n (read_program reader.room reader.droppings (plan_of reader.pieces reader.size at len)) mine (Ok bytes) → bytes ≡ slice (seen_bytes file) at len
+  pub gave : (at len : ℕ) (mine : List Event) (bytes : List ℕ) → Next start (before ++ greeting) mine → Runs n (read_program reader.room reader.hosts (plan_of reader.pieces reader.size at len)) mine (Ok bytes) → bytes ≡ slice (seen_bytes file) at len
   gave at len mine bytes next runs =
       reads_bytes n has.opened file.moment reader file.cut has.between mine at len bytes (reads_there mine next) has.sound has.has runs
       ∙ ap (λ ts. slice (view file.moment file.cut ts) at len) (sym has.truncates)
 
-  pub troubled : (at len : ℕ) (mine : List Event) (why : Stuck) → Next start before (greeting ++ mine) → Next start (before ++ greeting) mine → Runs n (read_program reader.room reader.droppings (plan_of reader.pieces reader.size at len)) mine (Err why) → FailedHere start before (greeting ++ mine) why
+  pub troubled : (at len : ℕ) (mine : List Event) (why : Stuck) → Next start before (greeting ++ mine) → Next start (before ++ greeting) mine → Runs n (read_program reader.room reader.hosts (plan_of reader.pieces reader.size at len)) mine (Err why) → FailedHere start before (greeting ++ mine) why
   troubled at len mine why whole next runs =
       let fails : FailsByStore n (state_after file.moment.state has.between) mine why = reads_trouble n has.opened file.moment reader file.cut has.between mine at len why (reads_there mine next) has.sound has.has runs in
       let there : state_after file.moment.state has.between ≡ (moment_after start (before ++ greeting)).state = sym (follows file.moment has.between).0 ∙ ap (λ (m : Moment). m.state) has.is_now in
@@ -144,14 +144,14 @@ module _ (start : Moment) (n : ℕ) (before greeting : List Event) (kept : Kept)
   early_fault : (mine : List Event) (why : Stuck) → FailedHere start before (greeting ++ mine) why → EndsEarly start (Mine mine) (stuck_outcome why)
   early_fault mine why f = subst (λ w. EndsEarly start (Mine mine) (stuck_outcome w)) (sym f.fault) f.rose
 
-  pub shows_read : (at len : ℕ) (mine : List Event) (result : Result (List ℕ) Stuck) → Next start before (greeting ++ mine) → Next start (before ++ greeting) mine → Runs n (read_program reader.room reader.droppings (plan_of reader.pieces reader.size at len)) mine result
+  pub shows_read : (at len : ℕ) (mine : List Event) (result : Result (List ℕ) Stuck) → Next start before (greeting ++ mine) → Next start (before ++ greeting) mine → Runs n (read_program reader.room reader.hosts (plan_of reader.pieces reader.size at len)) mine result
       → ShowsRead start (Mine mine) file at len (read_outcome at result)
   shows_read at len mine (Ok bytes) whole next runs = (refl, gave at len mine bytes next runs)
   shows_read at len mine (Err why) whole next runs =
       let f = troubled at len mine why whole next runs in subst (λ w. ShowsRead start (Mine mine) file at len (stuck_outcome w)) (sym f.fault) f.rose
 
   pub shows_verified : (at : ℕ) (content : Data) (mine : List Event) (result : Result (List ℕ) Stuck) → Next start before (greeting ++ mine) → Next start (before ++ greeting) mine
-      → Runs n (read_program reader.room reader.droppings (plan_of reader.pieces reader.size at (length_of content))) mine result → ShowsVerified start (Mine mine) file at content (verify_outcome at content result)
+      → Runs n (read_program reader.room reader.hosts (plan_of reader.pieces reader.size at (length_of content))) mine result → ShowsVerified start (Mine mine) file at content (verify_outcome at content result)
   shows_verified at content mine (Ok bytes) whole next runs =
       subst (λ bs. ShowsVerified start (Mine mine) file at content (difference at (first_difference 0 (bytes_of content) bs))) (sym (gave at (length_of content) mine bytes next runs)) (shows_compared start (Mine mine) file at content)
   shows_verified at content mine (Err why) whole next runs =
@@ -177,7 +177,7 @@ module _ (start : Moment) (n : ℕ) (before greeting : List Event) {L : Type 0} 
   read_ends at len (Some reader) None part ws lines left is keeps whole plays = absurd keeps
   read_ends at len (Some reader) (Some file) part ws lines left is keeps whole plays =
       let G = Good start n before greeting (Some file) (Read at len) in
-      elim (carried_on n as_line next (read_program reader.room reader.droppings (plan_of reader.pieces reader.size at len)) stop (λ later result. finishes (read_from kept at result)) (finishes (stopped kept)) part ws lines left plays) as (λ _. EndsSo n as_line next part ws lines left G) [
+      elim (carried_on n as_line next (read_program reader.room reader.hosts (plan_of reader.pieces reader.size at len)) stop (λ later result. finishes (read_from kept at result)) (finishes (stopped kept)) part ws lines left plays) as (λ _. EndsSo n as_line next part ws lines left G) [
         | inl r ↦
             let b : Both start before greeting r.mine = up_to start before greeting part r.mine r.rest whole r.all in
             ended_behind n as_line next (read_from kept at r.result) ends part r.mine r.rest ws lines left G r.all r.goes_on
@@ -194,7 +194,7 @@ module _ (start : Moment) (n : ℕ) (before greeting : List Event) {L : Type 0} 
   verify_ends at content (Some reader) None part ws lines left is keeps whole plays = absurd keeps
   verify_ends at content (Some reader) (Some file) part ws lines left is keeps whole plays =
       let G = Good start n before greeting (Some file) (Verify at content) in
-      elim (carried_on n as_line next (read_program reader.room reader.droppings (plan_of reader.pieces reader.size at (length_of content))) stop (λ later result. finishes (verified kept at content result)) (finishes (stopped kept)) part ws lines left plays) as (λ _. EndsSo n as_line next part ws lines left G) [
+      elim (carried_on n as_line next (read_program reader.room reader.hosts (plan_of reader.pieces reader.size at (length_of content))) stop (λ later result. finishes (verified kept at content result)) (finishes (stopped kept)) part ws lines left plays) as (λ _. EndsSo n as_line next part ws lines left G) [
         | inl r ↦
             let b : Both start before greeting r.mine = up_to start before greeting part r.mine r.rest whole r.all in
             ended_behind n as_line next (verified kept at content r.result) ends part r.mine r.rest ws lines left G r.all r.goes_on

@@ -4,6 +4,7 @@ use Rattle.std.specs.List.{range_with_len}
 use Rattle.story.specs.Program.{Program}
 use Rattle.flow.specs.declared.stuck.Stuck.{Stuck}
 use Rattle.flow.specs.declared.stuck.Stuck.TheVariants as stuck
+use Rattle.flow.specs.Replies.{on_ok}
 use Rattle.mount_model.specs.Paths.{Name}
 use Rattle.mount_model.specs.declared.call.Call.{Call}
 use Rattle.mount_model.specs.declared.reply.Reply.{Reply}
@@ -13,7 +14,6 @@ use Rattle.index_reader.specs.declared.listing.Listing.{Listing}
 use Rattle.index_reader.specs.declared.opened.OpenReader.{OpenReader}
 use Rattle.index_reader.specs.Opening.{open_at_program, open_read_program}
 use Rattle.index_reader.specs.Reading.{read_program}
-use Rattle.index_reader.specs.Replies.{on_ok}
 use Rattle.attr_flow.specs.Asking.{attr_program}
 use Rattle.attr_flow.specs.declared.attr_flow.AttrOut.{AttrOut}
 use Rattle.attr_flow.specs.declared.attr_flow.AttrOut.TheVariants.{Cached, MustMerge}
@@ -69,11 +69,11 @@ module _ (kept : Kept) (alive : kept.gone ≡ false) where
 
   pub reads_spare : (stop : Option Stop) (at len : ℕ) (r : Option OpenReader) → SparesWriter kept (reads kept stop at len r)
   reads_spare stop at len None = (refl, tt, inl alive)
-  reads_spare stop at len (Some reader) = carries (read_program reader.room reader.droppings (plan_of reader.pieces reader.size at len)) stop (λ left result. finishes (read_from kept at result)) (read_none reader.room reader.droppings (plan_of reader.pieces reader.size at len)) (λ left result. (refl, or_tells _ result (λ content. tt), inl alive))
+  reads_spare stop at len (Some reader) = carries (read_program reader.room reader.hosts (plan_of reader.pieces reader.size at len)) stop (λ left result. finishes (read_from kept at result)) (read_none reader.room reader.hosts (plan_of reader.pieces reader.size at len)) (λ left result. (refl, or_tells _ result (λ content. tt), inl alive))
 
   pub verifies_spare : (stop : Option Stop) (at : ℕ) (content : Data) (r : Option OpenReader) → SparesWriter kept (verifies kept stop at content r)
   verifies_spare stop at content None = (refl, tt, inl alive)
-  verifies_spare stop at content (Some reader) = carries (read_program reader.room reader.droppings (plan_of reader.pieces reader.size at (length_of content))) stop (λ left result. finishes (verified kept at content result)) (read_none reader.room reader.droppings (plan_of reader.pieces reader.size at (length_of content)))
+  verifies_spare stop at content (Some reader) = carries (read_program reader.room reader.hosts (plan_of reader.pieces reader.size at (length_of content))) stop (λ left result. finishes (verified kept at content result)) (read_none reader.room reader.hosts (plan_of reader.pieces reader.size at (length_of content)))
       (λ left result. (refl, or_tells (λ found. difference at (first_difference 0 (bytes_of content) found)) result (λ found. difference_tells at (first_difference 0 (bytes_of content) found)), inl alive))
 
   pub maps_spare : (r : Option OpenReader) → SparesWriter kept (maps kept r)

@@ -3,13 +3,14 @@ use Rattle.std.proofs.Common.{ℕ, zero, suc, ◌+◌, ◌-◌, ◌*◌, ◌/◌
 use Rattle.std.specs.Prelude.{if◌then◌else◌}
 use Rattle.std.specs.List.{range_with_len}
 use Rattle.plfs_types.specs.declared.entries.Cover.{Cover}
+use Rattle.plain_file.specs.declared.parts.WriterHost.{WriterHost}
 use Rattle.flow.specs.declared.names.Metadata.{Metadata}
 use Rattle.flow.specs.declared.names.OpenEntry.{OpenEntry}
 use Rattle.flow.specs.declared.stuck.Stuck.{Stuck}
 use Rattle.flow.specs.Entries.{is_next}
 use Rattle.flow.specs.Listed.{told_by}
 use Rattle.flow.specs.Order.{entries_by_writer}
-use Rattle.flow.specs.Replies.{Tries, bytes_in, failure, given, is_no_folder, length_in, on_ok, room_in, trouble}
+use Rattle.flow.specs.Replies.{Tries, bytes_in, failure, given, is_no_folder, length_in, on_ok, room_in, trouble, damage}
 use Rattle.story.specs.Program.{AsksOnly, Program, ask, done, followed_by}
 use Rattle.store_api.specs.declared.step.Answer.TheVariants.{Names}
 use Rattle.mount_model.specs.Paths.{Name, index_path, log_path, metadata, openhosts, truncs}
@@ -24,7 +25,6 @@ use Rattle.index_reader.specs.declared.listing.Listing.{Listing}
 use Rattle.index_reader.specs.declared.placing.Placed.{Placed}
 use Rattle.index_reader.specs.declared.placing.Placed.TheVariants.{Logged, Zeros}
 use Rattle.index_reader.specs.declared.sharing.Share.{Share}
-use Rattle.index_reader.specs.Replies as look
 use Rattle.index_reader.specs.Opening.{open_at_program, open_read_program, scan_program}
 use Rattle.index_reader.specs.Reading.{ends_at, placed_all, read_program, spells}
 use Rattle.index_reader.specs.Sharing.{share_program}
@@ -85,11 +85,11 @@ looks_none : {R : Type 0} (p : Program Call Reply R) → OnlyLooks p → AsksNoW
 looks_none (done r) looks = tt
 looks_none (ask call k) looks = (look_none call looks.0, λ reply. looks_none (k reply) (looks.1 reply))
 
-pub ok_none : {A R : Type 0} (next : A → Tries R) → ((a : A) → AsksNoWriter (next a)) → (result : Result A Stuck) → AsksNoWriter (look.on_ok next result)
+pub ok_none : {A R : Type 0} (next : A → Tries R) → ((a : A) → AsksNoWriter (next a)) → (result : Result A Stuck) → AsksNoWriter (on_ok next result)
 ok_none next goes (Ok a) = goes a
 ok_none next goes (Err why) = tt
 
-told_none : {A R : Type 0} (o : Option A) (why : Stuck) (next : A → Tries R) → ((a : A) → AsksNoWriter (next a)) → AsksNoWriter (look.given o why next)
+told_none : {A R : Type 0} (o : Option A) (why : Stuck) (next : A → Tries R) → ((a : A) → AsksNoWriter (next a)) → AsksNoWriter (given o why next)
 told_none None why next goes = tt
 told_none (Some a) why next goes = goes a
 
@@ -108,7 +108,7 @@ share_none room share covers = looks_none (share_program room share covers) (sha
 pub itself_none : {R : Type 0} (workers : ℕ) (listing : Listing) (numbers : List ℕ) (sofar : List Share) (next : List Share → Tries R) → ((shares : List Share) → AsksNoWriter (next shares)) → AsksNoWriter (by_itself (map (worker_program workers listing) numbers) sofar next)
 itself_none workers listing [] sofar next goes = goes sofar
 itself_none workers listing (worker ∷ numbers) sofar next goes =
-    then_none (worker_program workers listing worker) (look.on_ok (λ share. by_itself (map (worker_program workers listing) numbers) (sofar ++ share ∷ []) next))
+    then_none (worker_program workers listing worker) (on_ok (λ share. by_itself (map (worker_program workers listing) numbers) (sofar ++ share ∷ []) next))
     (λ result. ok_none (λ share. by_itself (map (worker_program workers listing) numbers) (sofar ++ share ∷ []) next) (λ share. itself_none workers listing numbers (sofar ++ share ∷ []) next goes) result)
     (share_none listing.room (dealt_to workers worker 0 listing.droppings) listing.flat.covers)
 
@@ -117,15 +117,15 @@ spells_none room [] sofar = tt
 spells_none room (Zeros len ∷ parts) sofar = spells_none room parts (sofar ++ replicate len 0)
 spells_none room (Logged p ∷ parts) sofar = (
   tt,
-  λ reply. told_none (look.bytes_in reply) (look.trouble (log_path p.host p.writer) reply)
+  λ reply. told_none (bytes_in reply) (trouble (log_path p.host p.writer) reply)
       (λ bytes. if nat_lt (length bytes) p.len
-      then done (Err (look.damage (log_path p.host p.writer) (ends_at p (length bytes))))
+      then done (Err (damage (log_path p.host p.writer) (ends_at p (length bytes))))
       else spells room parts (sofar ++ take p.len bytes))
-      (λ bytes. either_none (nat_lt (length bytes) p.len) (done (Err (look.damage (log_path p.host p.writer) (ends_at p (length bytes))))) (spells room parts (sofar ++ take p.len bytes)) tt (spells_none room parts (sofar ++ take p.len bytes))),
+      (λ bytes. either_none (nat_lt (length bytes) p.len) (done (Err (damage (log_path p.host p.writer) (ends_at p (length bytes))))) (spells room parts (sofar ++ take p.len bytes)) tt (spells_none room parts (sofar ++ take p.len bytes))),
 )
 
-pub read_none : (room : ℕ) (droppings : List Dropping) (parts : List Part) → AsksNoWriter (read_program room droppings parts)
-read_none room droppings parts = spells_none room (placed_all droppings parts) []
+pub read_none : (room : ℕ) (hosts : List WriterHost) (parts : List Part) → AsksNoWriter (read_program room hosts parts)
+read_none room hosts parts = spells_none room (placed_all hosts parts) []
 
 -- ---- what is told of a file
 
@@ -277,7 +277,7 @@ index_none started index =
     (installs_none started.room started.flat index.covers (flat_spelling index))
 
 read_truncs : (listing : Listing) (shares : List Share) → AsksNoWriter (reads_truncs listing shares)
-read_truncs listing shares = then_none (trunc_program listing.room) (look.on_ok (if_truncs_listed listing shares)) (λ result. ok_none (if_truncs_listed listing shares) (λ ts. tt) result) (truncs_none listing.room)
+read_truncs listing shares = then_none (trunc_program listing.room) (on_ok (if_truncs_listed listing shares)) (λ result. ok_none (if_truncs_listed listing shares) (λ ts. tt) result) (truncs_none listing.room)
 
 gathers_none : (started : Started) (listing : Listing) → AsksNoWriter (flatten.gathers started listing)
 gathers_none started listing =
@@ -293,7 +293,7 @@ flatten_none name = then_none (begin.start_program name) (on_ok flatten.lists) (
 -- ---- what follows the shares of a reader
 
 pub after_shares : (listing : Listing) (shares : List Share) → AsksNoWriter (opens listing shares)
-after_shares listing shares = then_none (trunc_program listing.room) (look.on_ok (if_truncs listing shares)) (λ result. ok_none (if_truncs listing shares) (λ ts. tt) result) (truncs_none listing.room)
+after_shares listing shares = then_none (trunc_program listing.room) (on_ok (if_truncs listing shares)) (λ result. ok_none (if_truncs listing shares) (λ ts. tt) result) (truncs_none listing.room)
 
 pub tells_none : (listing : Listing) (shares : List Share) → AsksNoWriter (tells_by listing shares)
-tells_none listing shares = then_none (trunc_program listing.room) (look.on_ok (λ ts. done (Ok (attr_of listing shares ts)))) (λ result. ok_none (λ ts. done (Ok (attr_of listing shares ts))) (λ ts. tt) result) (truncs_none listing.room)
+tells_none listing shares = then_none (trunc_program listing.room) (on_ok (λ ts. done (Ok (attr_of listing shares ts)))) (λ result. ok_none (λ ts. done (Ok (attr_of listing shares ts))) (λ ts. tt) result) (truncs_none listing.room)

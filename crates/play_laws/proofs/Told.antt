@@ -21,7 +21,7 @@ use Rattle.mount_sound.specs.Owed.{IsLawful}
 use Rattle.flow.specs.declared.stuck.Stuck.{Stuck}
 use Rattle.flow.specs.declared.stuck.Stuck.TheVariants as stuck
 use Rattle.flow.specs.Running.{Runs, unbroken}
-use Rattle.flow.specs.Replies.{failure, given, on_ok, room_in}
+use Rattle.flow.specs.Replies.{failure, given, on_ok, room_in, Tries}
 use Rattle.attr_flow.specs.declared.attr.Attr.{Attr}
 use Rattle.attr_flow.specs.declared.attr_flow.AttrOut.{AttrOut}
 use Rattle.attr_flow.specs.declared.attr_flow.AttrOut.TheVariants.{Cached, MustMerge}
@@ -32,7 +32,6 @@ use Rattle.index_reader.specs.declared.listing.Listing.{Listing}
 use Rattle.index_reader.specs.declared.opened.OpenReader.{OpenReader}
 use Rattle.index_reader.specs.declared.sharing.Share.{Share}
 use Rattle.index_reader.specs.Opening.{open_at_program}
-use Rattle.index_reader.specs.Replies.{Tries}
 use Rattle.index_reader.specs.Sharing.{covered}
 use Rattle.gathering.specs.Gathering.{Gathered}
 use Rattle.gathering.specs.Moments.{Moment, IsSoundAt, moment_after}

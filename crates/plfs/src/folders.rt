@@ -2,6 +2,7 @@
 ghost use Rattle.std.specs.Prelude.{◌≡◌, ◌==◌, length, map, slice_get, position, is_some, IfOk};
 ghost use Rattle.std.specs.List.{slice_split, list_all};
 ghost use Rattle.plfs.specs.Folders.{has_name, has_failed, failed_place};
+ghost use Rattle.store_folder.specs.Stored.{root_of};
 
 use plfs_types::{NoMemory, Word};
 use spread_store::StoreList;
@@ -33,14 +34,21 @@ pub fn are_named(folders: &[&str]) -> bool
 
 /// A store on each of the folders, in their order. No folder is touched.
 pub fn stores_of(rt: HostRuntime, folders: &[&str]) -> Result<Stores, NoMemory>
-    ensures { IfOk result (λ stores. length stores ≡ length folders.now) }
+    ensures each { IfOk result (λ stores. map (λ store. root_of store) stores ≡ map (λ folder. folder.now) folders.now) }
+    ensures count { IfOk result (λ stores. length stores ≡ length folders.now) }
 {
     let mut stores = StoreList::new(rt.alloc());
     for folder in folders {
-        let folder = Word::copy(rt.alloc(), folder)?;
-        stores.push(FolderStore::open(rt, rt.alloc(), &folder)?)?;
+        stores.push(store_on(rt, folder)?)?;
     }
     Ok(stores)
+}
+
+fn store_on(rt: HostRuntime, folder: &str) -> Result<FolderStore<HostRuntime>, NoMemory>
+    ensures root { IfOk result (λ store. root_of store ≡ folder.now) }
+{
+    let folder = Word::copy(rt.alloc(), folder)?;
+    FolderStore::open(rt, rt.alloc(), &folder)
 }
 
 // Whether the store at this place has failed.

@@ -1,22 +1,32 @@
 //! The program `plfs`: the command of its words, over real folders, the standard streams and the system's clock.
-//! It owns no rule; all of them stand in the library `plfs_program`. Where a run ends with a status from 3 to 7, it
-//! says why on standard error, in one line.
+//! It owns no rule of what lies there; all of them stand in the library `plfs_program`. It owns the order in which a
+//! run takes things up: its words, its script, and only then the folders, which it locks. Where a run ends with a
+//! status from 3 to 7, it says why on standard error, in one line.
 #![tactic(auto)]
 
+ghost use Rattle.std.specs.Prelude.{◌≤◌, length};
+
 mod folders;
-mod heard;
+mod lock;
+mod said;
+mod script;
+mod spelled;
 mod standard;
 
 use crate::folders::{MOST_FOLDERS, Stores, are_named, failed, folders_of, stores_of};
-use crate::heard::{Heard, Said, Saying};
+use crate::lock::{Denial, Denied, lock_folders};
+use crate::said::{Said, Saying};
+use crate::script::{read_script, writes_a_file};
+use crate::spelled::Spelled;
 use crate::standard::{INPUT, OUTPUT, Standard};
+use command_line::Command;
 use edge_io::{NoGate, StdSink, StdSource, SystemClock};
 use plfs_program::{Ended, USAGE, plfs};
 use plfs_types::{NoMemory, Word};
 use spread_store::{Backing, Spread, SpreadTrouble};
 use std::alloc::Global;
-use std::cell::{Cell, RefCell};
-use std::io::{self, Write};
+use std::cell::RefCell;
+use std::io::{self, ErrorKind, Write};
 use std::process::ExitCode;
 use std::sync::Wait;
 use std::thread::Threads;
@@ -29,20 +39,31 @@ const CURE: &str = "restore it from a copy";
 /// The folders that a command is run over. All runs are over this one type, so that the program is compiled once.
 type Folders = Backing<FolderStore<HostRuntime>>;
 
-/// What a run leaves: the store, the status, and what the standard streams told.
+/// A command: its words, which are of this kind, and the script that was read for it.
+#[derive(Clone, Copy)]
+struct Task<'a> {
+    words: &'a [Word],
+    command: Command,
+    script: &'a [u8],
+}
+
+/// What a run leaves: the store, the status, and what was written to standard output.
 #[derive(Drop)]
 struct Ran {
     ended: Ended<Folders>,
-    input: Option<io::Error>,
     said: Said,
 }
 
 /// Reads the words, the first of which is the folder, and ends with the status of their command. A standard stream
 /// that the program was started without fails, and none of the store's files comes into its place.
+///
+/// No folder is touched before the words are a command's and its script was read. From then on until the end each folder
+/// is locked, so that no other program works on it.
 fn main(rt: HostRuntime) -> ExitCode {
     let standard = match Standard::take(&rt) {
         Ok(standard) => standard,
         Err(error) => {
+            let _ = println!(rt; "0 fault");
             let _ = eprintln!(rt; "plfs: /: open: {error}");
             return ExitCode::from(4);
         }
@@ -53,20 +74,57 @@ fn main(rt: HostRuntime) -> ExitCode {
     let Some(words) = words else {
         return usage(&rt);
     };
-    let Some((root, command)) = words.split_first() else {
+    let Some((root, words)) = words.split_first() else {
         return usage(&rt);
     };
     let Ok(folders) = folders_of(rt.alloc(), root) else {
         return starved(&rt);
     };
-    if folders.len() > 1 {
-        return serve_several(&rt, rt, root, &folders, command, &standard);
+    if folders.len() > MOST_FOLDERS || !are_named(&folders) {
+        return usage(&rt);
     }
+    let Ok(command) = Command::read(rt.alloc(), words) else {
+        return starved(&rt);
+    };
+    let Some(command) = command else {
+        return usage(&rt);
+    };
+    let script = match read_script(rt.alloc(), rt.reader(), &command) {
+        Ok(script) => script,
+        Err(error) => return unread(&rt, error, &standard),
+    };
+    let locks = match lock_folders(&rt, &folders) {
+        Ok(locks) => locks,
+        Err(denied) => return tell_denied(&rt, &folders, denied, &standard),
+    };
+    let task = Task {
+        words,
+        command,
+        script: &script,
+    };
+    let code = if folders.len() > 1 {
+        serve_several(&rt, rt, root, &folders, &task, &standard)
+    } else {
+        serve_one(&rt, rt, root, &folders, &task, &standard)
+    };
+    drop(locks);
+    code
+}
+
+// Runs the command over one folder.
+fn serve_one<H: Threads + Wait + Sync>(
+    handle: &H,
+    rt: HostRuntime,
+    root: &Word,
+    folders: &[&str],
+    task: &Task<'_>,
+    standard: &Standard,
+) -> ExitCode {
     let Ok(store) = FolderStore::open(rt, rt.alloc(), root) else {
         return starved(&rt);
     };
-    let ran = run(&rt, &rt, command, Backing::One(store));
-    tell_ran(&rt, root, &folders, ran, &standard)
+    let ran = run(handle, &rt, task, Backing::One(store));
+    tell_ran(&rt, root, folders, ran, standard)
 }
 
 // Runs the command over several folders as one store.
@@ -75,37 +133,33 @@ fn serve_several<H: Threads + Wait + Sync>(
     rt: HostRuntime,
     root: &Word,
     folders: &[&str],
-    command: &[Word],
+    task: &Task<'_>,
     standard: &Standard,
-) -> ExitCode {
-    if folders.is_empty() || folders.len() > MOST_FOLDERS || !are_named(folders) {
-        return usage(&rt);
-    }
+) -> ExitCode
+    requires some { 1 ≤ length folders.now }
+    requires few { length folders.now ≤ MOST_FOLDERS }
+{
     let Ok(stores) = stores_of(rt, folders) else {
         return starved(&rt);
     };
     match Spread::open(rt.alloc(), stores) {
         Ok(spread) => {
-            let ran = run(handle, &rt, command, Backing::Several(spread));
+            let ran = run(handle, &rt, task, Backing::Several(spread));
             tell_ran(&rt, root, folders, ran, standard)
         }
         Err((stores, trouble)) => tell_unopened(&rt, root, folders, &stores, trouble, standard),
     }
 }
 
-// Runs the command over the store, the standard streams and the system's clock.
+// Runs the command over the store, its script, standard output and the system's clock.
 fn run<H: Threads + Wait + Sync>(
     handle: &H,
     rt: &HostRuntime,
-    command: &[Word],
+    task: &Task<'_>,
     store: Folders,
 ) -> Ran {
-    let input = Cell::new(None);
-    let said = RefCell::new(Said::new(rt.alloc(), !writes_a_file(command)));
-    let mut source = StdSource::new(Heard {
-        reader: rt.reader(),
-        error: &input,
-    });
+    let said = RefCell::new(Said::new(rt.alloc(), !writes_a_file(&task.command)));
+    let mut source = StdSource::new(task.script);
     let mut sink = StdSink::new(Saying {
         writer: io::writer(rt),
         said: &said,
@@ -113,7 +167,7 @@ fn run<H: Threads + Wait + Sync>(
     let ended = plfs(
         handle,
         rt.alloc(),
-        command,
+        task.words,
         &mut source,
         &mut sink,
         store,
@@ -124,7 +178,6 @@ fn run<H: Threads + Wait + Sync>(
     drop(sink);
     Ran {
         ended,
-        input: input.get(),
         said: said.into_inner(),
     }
 }
@@ -135,14 +188,12 @@ fn tell(
     status: u8,
     root: &str,
     store: Option<&FolderStore<HostRuntime>>,
-    input: Option<io::Error>,
     said: &Said,
     standard: &Standard,
 ) {
     match status {
         3 => say_starved(rt),
         4 => tell_fault(rt, root, store),
-        5 => tell_stream(rt, "input: read", standard.has(INPUT), input),
         6 => tell_stream(rt, "output: write", standard.has(OUTPUT), said.error),
         7 => tell_damage(rt, root, store, said),
         _ => {}
@@ -150,6 +201,7 @@ fn tell(
 }
 
 // Says why a run ended so: of the one folder, or of that of several where it did.
+#[inline(never)]
 fn tell_ran(
     rt: &HostRuntime,
     root: &Word,
@@ -157,22 +209,14 @@ fn tell_ran(
     ran: Ran,
     standard: &Standard,
 ) -> ExitCode {
-    let Ran { ended, input, said } = ran;
+    let Ran { ended, said } = ran;
     let Ended { store, status } = ended;
     let Some(store) = store else {
-        tell(rt, status, root.as_str(), None, input, &said, standard);
+        tell(rt, status, root.as_str(), None, &said, standard);
         return ExitCode::from(status);
     };
     match store.apart() {
-        Ok(store) => tell(
-            rt,
-            status,
-            root.as_str(),
-            Some(&store),
-            input,
-            &said,
-            standard,
-        ),
+        Ok(store) => tell(rt, status, root.as_str(), Some(&store), &said, standard),
         Err(spread) => {
             let last = spread.last();
             let stores = spread.close();
@@ -184,21 +228,13 @@ fn tell_ran(
             let store = stores.as_slice().get(place);
             match folders.get(place) {
                 Some(folder) if status == 4 || !is_of_script(&said) => {
-                    tell(rt, status, folder, store, input, &said, standard);
+                    tell(rt, status, folder, store, &said, standard);
                 }
-                _ => tell(rt, status, root.as_str(), None, input, &said, standard),
+                _ => tell(rt, status, root.as_str(), None, &said, standard),
             }
         }
     }
     ExitCode::from(status)
-}
-
-// Whether the command writes the bytes of a file, and no lines.
-fn writes_a_file(command: &[Word]) -> bool {
-    match command.first() {
-        Some(word) => word.as_str() == "cat",
-        None => false,
-    }
 }
 
 // Whether what is damaged was told at a line of a script. Else the last step was made where it is.
@@ -215,6 +251,7 @@ fn tell_fault(rt: &HostRuntime, root: &str, store: Option<&FolderStore<HostRunti
         Some(store) => store.cause(),
         None => None,
     };
+    let root = Spelled(root);
     let _ = match cause {
         Some(cause) => eprintln!(rt; "plfs: {root}{cause}"),
         None => eprintln!(rt; "plfs: {root}: the store failed"),
@@ -222,6 +259,7 @@ fn tell_fault(rt: &HostRuntime, root: &str, store: Option<&FolderStore<HostRunti
 }
 
 // Prints the line of several folders that can't be opened as one, and says why they can't.
+#[inline(never)]
 fn tell_unopened(
     rt: &HostRuntime,
     root: &Word,
@@ -245,7 +283,7 @@ fn tell_unopened(
             Err(error) => unprinted(rt, error, standard),
         },
         SpreadTrouble::Doubled { name } => {
-            let root = root.as_str();
+            let root = Spelled(root.as_str());
             let name = str::from_utf8(name.bytes()).unwrap_or("");
             match println!(rt; "0 damaged {name} 0") {
                 Ok(()) => {
@@ -256,6 +294,36 @@ fn tell_unopened(
             }
         }
     }
+}
+
+// Prints the line of folders of which one can't be had, and says why it can't.
+#[inline(never)]
+fn tell_denied(
+    rt: &HostRuntime,
+    folders: &[&str],
+    denied: Denied,
+    standard: &Standard,
+) -> ExitCode {
+    if let Denial::NoMemory = denied.why {
+        return starved(rt);
+    }
+    if let Err(error) = println!(rt; "0 fault") {
+        return unprinted(rt, error, standard);
+    }
+    let folder = Spelled(folders.get(denied.place).copied().unwrap_or(""));
+    let why = denied.why;
+    let _ = eprintln!(rt; "plfs: {folder}: {why}");
+    ExitCode::from(4)
+}
+
+// Says why there is no script.
+#[inline(never)]
+fn unread(rt: &HostRuntime, error: io::Error, standard: &Standard) -> ExitCode {
+    if error.kind() == ErrorKind::OutOfMemory {
+        return starved(rt);
+    }
+    tell_stream(rt, "input: read", standard.has(INPUT), Some(error));
+    ExitCode::from(5)
 }
 
 fn unprinted(rt: &HostRuntime, error: io::Error, standard: &Standard) -> ExitCode {
@@ -286,6 +354,7 @@ fn tell_damage(
         None => Place::root(),
     };
     let room = Place::of_room(place.room);
+    let root = Spelled(root);
     let _ = match said.damage().split_once(' ') {
         Some(("0", what)) => eprintln!(rt; "plfs: {root}{room}: {what}: {CURE}"),
         Some((line, what)) => eprintln!(rt; "plfs: {root}: line {line}: {what}: {CURE}"),
@@ -295,9 +364,12 @@ fn tell_damage(
 }
 
 // The words behind the program's name, or None where one of them is no text.
+#[inline(never)]
 fn words(rt: &HostRuntime, alloc: Global) -> Result<Option<Vec<Word>>, NoMemory> {
-    let Ok(args) = env::args(rt) else {
-        return Ok(None);
+    let args = match env::args(rt) {
+        Ok(args) => args,
+        Err(error) if error.kind() == ErrorKind::OutOfMemory => return Err(NoMemory),
+        Err(_) => return Ok(None),
     };
     let mut words = Vec::new(alloc);
     for arg in args.skip(1) {

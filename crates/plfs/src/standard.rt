@@ -32,6 +32,7 @@ pub struct Standard {
 impl Standard {
     /// Takes those of the descriptors 0, 1 and 2 that are closed, by a folder that is open for reading. Both a read
     /// and a write of such a descriptor fail. So does this, where the system opens no further file.
+    #[inline(never)]
     pub fn take(rt: &HostRuntime) -> io::Result<Standard>
         ensures above { IfOk result (λ standard. pos 2 <ℤ file_raw_fd standard.above) }
     {

@@ -18,7 +18,6 @@ use Rattle.script_lang.specs.declared.line.Why.TheVariants.{MountsSpent}
 use Rattle.script_lang.specs.Ranges.{FitsNumbered}
 use Rattle.report_text.specs.Text.{HaveText, text_of}
 use Rattle.run_core.specs.Conditions.{IsPlayable}
-use Rattle.run_core.specs.Leading.{GoesOn}
 use Rattle.run_core.specs.Play.{IsPlay}
 use Rattle.run_core.proofs.Facts.{play_caused, play_has_text}
 use Rattle.plfs_program.specs.Calling.{ran, broke_off}
@@ -32,7 +31,7 @@ use Rattle.plfs_program.specs.Output.{IsPrinted, IsCutOff}
 use Rattle.plfs_program.specs.Playing.{IsPlayedAs, IsStoreLeft}
 use Rattle.plfs_program.specs.ReadOut.{ShowOneFile}
 use Rattle.plfs_program.specs.SoundTrees.{TellsSoundTree}
-use Rattle.plfs_program.specs.Ways.{by_turns}
+use Rattle.plfs_program.specs.Ways.{HasBegun, by_turns}
 use Rattle.plfs_program.proofs.Calls.{was_run}
 use Rattle.plfs_program.proofs.CatLemmas.{seen_so}
 use Rattle.plfs_program.proofs.CommandLemmas.{statements_fit}
@@ -86,9 +85,9 @@ read_out name count lines e start end after is made left play =
 
 pub mounted_so : (name : List ℕ) (e : Ends) (status : ℕ) (start end : State) (after : Stored) → e.stored_after ≡ Some after → IsMounted 0 e.times e.stored start → after ≡ end.store → CatsOn name start e.taking end e.taking_after status → CatCourse name e status
 mounted_so name e status start end after is made left cats =
-    seen_so name (λ count lines. IsPlay (cat_script name count) start lines end) (λ count lines. IsReadOut name count lines e) (GoesOn start end) (IsStoreLeft e) (λ lines. WentOn name start lines end) (λ lines. IsLeftBehind name lines e)
+    seen_so name (λ count lines. IsPlay (cat_script name count) start lines end) (λ count lines. IsReadOut name count lines e) (HasBegun by_turns (cat_script name 0) start end) (IsStoreLeft (HasBegun by_turns (cat_script name 0)) e) (λ lines. WentOn name start lines end) (λ lines. IsLeftBehind name lines e)
     (λ count lines play. read_out name count lines e start end after is made left play)
-    (λ goes_on. record { after = after; left = is; lawful = ran (was_run e.times e.stored after start end made goes_on left) })
+    (λ begun. record { after = after; left = is; lawful = ran (was_run (HasBegun by_turns (cat_script name 0)) e.times e.stored after start end made begun left) })
     (λ lines w. record { after = after; left = is; start = start; end = end; mounted = made; went = w; is = sym left; plain = shown_on name w.count e.times e.stored lines start w.mid made w.play })
     e.taking e.taking_after status cats
 

@@ -8,18 +8,20 @@ use Rattle.std.proofs.lemmas.List.FromFn.{map-range_with_len_more}
 use Rattle.edge_io.specs.Sink.{Taking, TakesOn}
 use Rattle.mount_model.specs.State.{State}
 use Rattle.script_lang.specs.declared.line.Line.{Line}
+use Rattle.script_lang.specs.declared.script.ActorDecl.{ActorDecl}
 use Rattle.script_lang.specs.declared.script.Numbered.{Numbered}
 use Rattle.actor_core.specs.declared.kept.Kept.{Kept}
 use Rattle.actor_core.specs.Progress.{fresh}
 use Rattle.report_text.specs.Text.{text_of}
-use Rattle.run_core.specs.Leading.{GoesOn}
+use Rattle.run_core.specs.Breaking.{IsPlayBroken}
+use Rattle.run_core.specs.Broken.{OneIsBroken}
 use Rattle.run_core.specs.Play.{IsPlay}
 use Rattle.run_core.specs.declared.lone_reader.LoneReader.{LoneReader}
 use Rattle.run_core.specs.Making.{Keeps, HasMade, HasMadeOne, Makes}
-use Rattle.run_core.proofs.Facts.{made_none, made_more, made_play}
+use Rattle.run_core.proofs.Facts.{made_none, made_more, made_play, one_breaks}
 use Rattle.plfs_program.specs.Cat.{CatEnds, unopened, unsaid, whole, stuck, broken, starved, hungry, IsRead, is_read, content_of, contents, opening, reading, cat_statements, cat_script, pieces_of, reader_size}
 use Rattle.plfs_program.specs.Catting.{CatsOn, Reads, Writes, FailsAt, starves, sticks, breaks}
-use Rattle.plfs_program.specs.Commands.{actor}
+use Rattle.plfs_program.specs.Commands.{script_of, actor}
 use Rattle.plfs_program.specs.Outcomes.{status_of}
 use Rattle.plfs_program.specs.Output.{IsPrinted, IsCutOff}
 
@@ -126,6 +128,12 @@ pub sticks_so : (k : ℕ) (s : Numbered) (reader new : LoneReader) (now later : 
 sticks_so k s reader new now later taking line status same made not_read is =
     sticks (λ kept keeps. let m = made_of k s kept now later line new same (made kept keeps) in (line, m.0, m.2, not_read, is)) refl
 
+broken_of : (k : ℕ) (s : Numbered) (kept : Kept) (now later : State) → s ≡ reading k → OneIsBroken s kept now later → OneIsBroken (reading k) kept now later
+broken_of k s kept now later same broken_off = let P : Numbered → Type 0 = λ z. OneIsBroken z kept now later in subst P same broken_off
+
+pub starves_so : (k : ℕ) (s : Numbered) (reader : LoneReader) (now later : State) (taking : Taking) → s ≡ reading k → ((kept : Kept) → Keeps reader kept → OneIsBroken s kept now later) → FailsAt k reader now taking later taking 3
+starves_so k s reader now later taking same broken_off = starves (λ kept keeps. broken_of k s kept now later same (broken_off kept keeps)) refl refl
+
 pub breaks_so : (k : ℕ) (s : Numbered) (reader new : LoneReader) (now later : State) (old after : Taking) (line : Line) (bytes : List ℕ) (status : ℕ) → s ≡ reading k → ((kept : Kept) → Keeps reader kept → HasMadeOne s kept now line new later)
     → bytes ≡ content_of line.outcome → IsRead line → IsCutOff bytes old after → status ≡ 6 → FailsAt k reader now old later after status
 breaks_so k s reader new now later old after line bytes status same made shown read cut is =
@@ -144,11 +152,38 @@ reads_all name start end opened k size taking after reader told all r =
 same_taking : (written : List ℕ) (old mid new : Taking) → new ≡ mid → IsPrinted written old mid → IsPrinted written old new
 same_taking written old mid new same is = subst (IsPrinted written old) (sym same) is
 
+-- a front of the next piece's calls is a front of a play with one piece more
+broken_piece : (name : List ℕ) (start now end : State) (opened : Line) (k : ℕ) (lines : List Line) (kept : Kept) → HasMade actor (cat_statements name k) start (opened ∷ lines) kept now → OneIsBroken (reading k) kept now end → IsPlayBroken (cat_script name (k + 1)) start end
+broken_piece name start now end opened k lines kept made b =
+    let more : cat_statements name k ++ reading k ∷ [] ≡ cat_statements name (k + 1) = more_statements name k in
+    let P : List Numbered → Type 0 = λ z. IsPlayBroken (script_of z) start end in
+    subst P more (one_breaks actor (cat_statements name k) (reading k) start now end (opened ∷ lines) kept refl (subst (λ (z : List Numbered). All IsFirst z) (sym more) (all_first name (k + 1))) made b)
+
+-- a front of the opening's calls is a front of a play without a piece
+pub broken_opening : (name : List ℕ) (start end : State) (reader : LoneReader) → Keeps reader (fresh actor.host actor.cap) → ((kept : Kept) → Keeps reader kept → OneIsBroken (opening name) kept start end) → IsPlayBroken (cat_script name 0) start end
+broken_opening name start end reader keeps breaks_off =
+    one_breaks actor [] (opening name) start start end [] (fresh actor.host actor.cap) refl (all_first name 0) (made_none actor start) (breaks_off (fresh actor.host actor.cap) keeps)
+
+-- memory was refused as it was opened
+pub opening_starves : (name : List ℕ) (start end : State) (declared : ActorDecl) (s : Numbered) (reader : LoneReader) (taking : Taking) → declared ≡ actor → s ≡ opening name → Keeps reader (fresh declared.host declared.cap)
+    → ((kept : Kept) → Keeps reader kept → OneIsBroken s kept start end) → CatsOn name start taking end taking 3
+opening_starves name start end declared s reader taking is same keeps broken_off =
+    let K : ActorDecl → Type 0 = λ z. Keeps reader (fresh z.host z.cap) in
+    let B : Numbered → Type 0 = λ z. (kept : Kept) → Keeps reader kept → OneIsBroken z kept start end in
+    hungry (inr (broken_opening name start end reader (subst K is keeps) (subst B same broken_off))) refl refl
+
 -- a piece was not written
 pub reads_fail : (name : List ℕ) (start now end : State) (opened : Line) (k size status : ℕ) (taking mid after : Taking) (reader : LoneReader) → reader_size opened.outcome ≡ Some size → k < pieces_of size → Reads name start opened k taking reader now mid
     → FailsAt k reader now mid end after status → CatsOn name start taking end after status
-reads_fail name start now end opened k size status taking mid after reader told less r (starves goes_on same is) =
-    starved opened r.lines (record { count = k; mid = now; play = is_play name k start now (opened ∷ r.lines) r.kept r.made; later = goes_on }) r.read (same_taking (contents r.lines) taking mid after same r.printed) is
+reads_fail name start now end opened k size status taking mid after reader told less r (starves breaks_off same is) =
+    let b = breaks_off r.kept r.keeps in
+    starved opened r.lines (record {
+      count = k;
+      mid = now;
+      play = is_play name k start now (opened ∷ r.lines) r.kept r.made;
+      later = record { events = b.events; leads = b.leads };
+      broken = broken_piece name start now end opened k r.lines r.kept r.made b;
+    }) r.read (same_taking (contents r.lines) taking mid after same r.printed) is
 reads_fail name start now end opened k size status taking mid after reader told less r (sticks line same) =
     let l = line r.kept r.keeps in
     let P : ℕ → Type 0 = λ n. IsPlay (cat_script name n) start (opened ∷ (r.lines ++ l.0 ∷ [])) end in
@@ -168,11 +203,11 @@ Said line taking after status =
     ((status ≡ status_of (line ∷ [])) × IsPrinted (text_of (line ∷ [])) taking after) ⊎ ((status ≡ 6) × IsCutOff (text_of (line ∷ [])) taking after) ⊎ ((status ≡ 3) × (after ≡ taking))
 
 -- there is no reader
-pub no_reader : (name : List ℕ) (start end : State) (line : Line) (status : ℕ) (taking after : Taking) → reader_size line.outcome ≡ None → IsPlay (cat_script name 0) start (line ∷ []) end → GoesOn start end → Said line taking after status
+pub no_reader : (name : List ℕ) (start end : State) (line : Line) (status : ℕ) (taking after : Taking) → reader_size line.outcome ≡ None → IsPlay (cat_script name 0) start (line ∷ []) end → Said line taking after status
     → CatsOn name start taking end after status
-no_reader name start end line status taking after none play goes_on (inl (is, all)) = unopened line play none all is
-no_reader name start end line status taking after none play goes_on (inr (inl (is, part))) = unsaid line play none part is
-no_reader name start end line status taking after none play goes_on (inr (inr (is, same))) = hungry goes_on same is
+no_reader name start end line status taking after none play (inl (is, all)) = unopened line play none all is
+no_reader name start end line status taking after none play (inr (inl (is, part))) = unsaid line play none part is
+no_reader name start end line status taking after none play (inr (inr (is, same))) = hungry (inl (line ∷ [], play)) same is
 
 -- ---- from a mount to the run
 

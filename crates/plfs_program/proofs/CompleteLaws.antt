@@ -1,5 +1,5 @@
 -- What a run over a sound tree comes to where nothing breaks.
-use Rattle.std.proofs.Common.{ℕ, ◌≡◌, ◌≤◌, ◌⊎◌, inl, inr, Bool, true, false, ◌||◌, if◌then◌else◌, List, [], ◌∷◌, ◌++◌, Some, Ok, Err, refl, sym, ap, ◌∙◌, arith}
+use Rattle.std.proofs.Common.{ℕ, ◌≡◌, ◌⊎◌, inl, inr, Bool, true, false, ◌||◌, if◌then◌else◌, List, [], ◌∷◌, ◌++◌, Some, Ok, Err, refl, sym, ap, ◌∙◌, arith}
 use Rattle.std.proofs.lemmas.List.Folds.{list_any-append}
 use Rattle.edge_io.specs.Sink.{Taking}
 use Rattle.edge_io.specs.Source.{Given}
@@ -81,15 +81,15 @@ module _ (given after : Given) (e : Ends) (quiet : HadNoTrouble given after e) (
   no_fault way script lines p bad = quiet.store p.after p.left (p.cause bad)
 
   -- what came behind some text that was taken wasn't cut off
-  written : (text : List ℕ) (mid : Taking) → e.taking.faults ≤ mid.faults → e.taking.stalls ≤ mid.stalls → IsCutOff text mid e.taking_after → ⊥
+  written : (text : List ℕ) (mid : Taking) → mid.faults ≡ e.taking.faults → mid.stalls ≡ e.taking.stalls → IsCutOff text mid e.taking_after → ⊥
   written text mid faults stalls part = elim part.cause as (λ _. ⊥) [
-    | inl risen ↦ quiet.sink (risen_since e.taking.faults mid.faults e.taking_after.faults faults risen)
-    | inr stalled ↦ quiet.stalls (risen_since e.taking.stalls mid.stalls e.taking_after.stalls stalls stalled)
+    | inl risen ↦ quiet.sink (risen_since e.taking.faults mid.faults e.taking_after.faults (omega (arith, faults)) risen)
+    | inr stalled ↦ quiet.stalls (risen_since e.taking.stalls mid.stalls e.taking_after.stalls (omega (arith, stalls)) stalled)
   ]
 
   play_done : (way : Way) (script : Script) (shows : Shows) (status : ℕ) → ShowsNone shows → FaultsAmong shows → PlayCourse way script shows e status → IsDone status
   play_done way script shows status keeps among (printed lines p all is) = done_so (shows.decide lines) status (keeps lines (p.undamaged sound)) (λ bad. no_fault way script lines p (among lines bad)) is
-  play_done way script shows status keeps among (cut_off lines p part is) = absurd (written (shows.text lines) e.taking (omega arith) (omega arith) part)
+  play_done way script shows status keeps among (cut_off lines p part is) = absurd (written (shows.text lines) e.taking refl refl part)
   play_done way script shows status keeps among (exhausted left same is) = inr (inr is)
 
   input_done : (way : Way) (bytes : List ℕ) (status : ℕ) → ((fault : Fault) → HasFault bytes fault → ⊥) → InputCourse way bytes e status → IsDone status
@@ -102,7 +102,7 @@ module _ (given after : Given) (e : Ends) (quiet : HadNoTrouble given after e) (
 
   cat_done : (name : List ℕ) (status : ℕ) → CatCourse name e status → IsDone status
   cat_done name status (unopened line p none all is) = last_done by_turns _ [] line status p.played is
-  cat_done name status (unsaid line p none part is) = absurd (written (text_of (line ∷ [])) e.taking (omega arith) (omega arith) part)
+  cat_done name status (unsaid line p none part is) = absurd (written (text_of (line ∷ [])) e.taking refl refl part)
   cat_done name status (whole opened reads size tells p all out is) = inl is
   cat_done name status (stuck opened reads last size tells within p all not_read out is) = last_done by_turns _ (opened ∷ reads) last status p.played is
   cat_done name status (broken opened reads last size mid tells within p all last_read out part is) = absurd (written (content_of last.outcome) mid out.faults out.stalls part)
@@ -111,7 +111,7 @@ module _ (given after : Given) (e : Ends) (quiet : HadNoTrouble given after e) (
 
   migrate_done : (name : List ℕ) (status : ℕ) → MigrateCourse name e status → IsDone status
   migrate_done name status (told_whole said m all is) = said_done said status (m.undamaged sound) (λ bad. quiet.store m.after m.left (m.cause bad)) is
-  migrate_done name status (told_part said m part is) = absurd (written (said_text said) e.taking (omega arith) (omega arith) part)
+  migrate_done name status (told_part said m part is) = absurd (written (said_text said) e.taking refl refl part)
   migrate_done name status (untold left same is) = inr (inr is)
 
   pub course_done : (Serves : Command → Type 0) (words : List (List ℕ)) (status : ℕ) → IsAsked Serves words given after → Course Serves words given after e status → IsDone status

@@ -9,39 +9,43 @@ use Rattle.command_line.specs.declared.commands.Command.{Command}
 use Rattle.command_line.specs.declared.commands.Command.TheVariants.{Run}
 use Rattle.script_lang.specs.declared.line.Line.{Line}
 use Rattle.script_lang.specs.declared.script.Script.{Script}
+use Rattle.mount_model.specs.State.{State}
+use Rattle.run_core.specs.Leading.{GoesOn}
 use Rattle.plfs_program.specs.Calling.{Leaves, broke_off, ran}
-use Rattle.plfs_program.specs.Cat.{unopened, unsaid, whole, stuck, broken, starved, hungry as wants}
+use Rattle.plfs_program.specs.Cat.{cat_script, unopened, unsaid, whole, stuck, broken, starved, hungry as wants}
 use Rattle.plfs_program.specs.Catting.{CatCourse, IsLeftBehind}
 use Rattle.plfs_program.specs.Commands.{IsBuiltCommand, IsServed}
 use Rattle.plfs_program.specs.Course.{Course, InputCourse, faulty, played, starved as unplayed, usage, unread, read, planned, cats, migrates, hungry}
 use Rattle.plfs_program.specs.Ends.{Ends, IsUntouched}
 use Rattle.plfs_program.specs.Lines.{AreLinesOf, unmounted, mounted}
-use Rattle.plfs_program.specs.Migrating.{IsMigratedAs, IsSaidOf, MigrateCourse, Said, is_broken_by, line_zero, said_status, printed as said, cut_off as unsaid_whole, exhausted as starved_so, unmounted as not_mounted, mounted as on_mount}
+use Rattle.plfs_program.specs.Migrating.{HasBegunIt, IsMigratedAs, IsSaidOf, MigrateCourse, Said, is_broken_by, line_zero, said_status, printed as said, cut_off as unsaid_whole, exhausted as starved_so, unmounted as not_mounted, mounted as on_mount}
 use Rattle.plfs_program.specs.Outcomes.{has_line, is_damage, is_fault, is_refusal, status_of}
 use Rattle.plfs_program.specs.Playing.{IsPlayedAs, IsStoreLeft, PlayCourse, printed, cut_off, exhausted}
 use Rattle.plfs_program.specs.Showing.{Shows, all_lines, behind_opening, is_reader, shows_of}
 use Rattle.plfs_program.specs.SoundTrees.{TellsSoundTree, LeavesSoundTree}
-use Rattle.plfs_program.specs.Ways.{Way, by_turns}
+use Rattle.plfs_program.specs.Ways.{Way, HasBegun, by_turns}
 use Rattle.plfs_program.specs.declared.showing.Shown.{Shown}
 use Rattle.plfs_program.specs.declared.showing.Shown.TheVariants as shown
-use Rattle.plfs_program.proofs.Calls.{FailingLeavesSound, all_leave_sound, play_runs, went_runs}
-use Rattle.plfs_program.proofs.MigrateCourses.{calls_lead}
+use Rattle.plfs_program.proofs.Calls.{FailingLeavesSound, all_leave_sound, begun_leads, migration_leads, play_runs, went_runs}
 
 -- ---- a sound tree is left
 
-lines_leave : (way : Way) (times : Option (List ℕ)) (before after : Stored) (script : Script) (lines : List Line) → AreLinesOf way times before after script lines → Leaves times before after
+lines_leave : (way : Way) (times : Option (List ℕ)) (before after : Stored) (script : Script) (lines : List Line) → AreLinesOf way times before after script lines → Leaves GoesOn times before after
 lines_leave way times before after script lines (unmounted trouble failed says) = broke_off trouble failed
 lines_leave way times before after script lines (mounted on) = ran (play_runs way times before after script lines on)
 
 module _ (failing : FailingLeavesSound) where
-  left_so : (e : Ends) (after : Stored) → e.stored_after ≡ Some after → Leaves e.times e.stored after → TellsSoundTree e.stored → LeavesSoundTree e.stored_after
-  left_so e after is left told = (after, is, all_leave_sound e.times e.stored after failing left told)
+  left_so : (Calls : State → State → Type 0) → ((start end : State) → Calls start end → GoesOn start end) → (e : Ends) (after : Stored) → e.stored_after ≡ Some after → Leaves Calls e.times e.stored after → TellsSoundTree e.stored → LeavesSoundTree e.stored_after
+  left_so Calls lead e after is left told = (after, is, all_leave_sound Calls lead e.times e.stored after failing left told)
+
+  lawful_so : (e : Ends) (after : Stored) → e.stored_after ≡ Some after → Leaves GoesOn e.times e.stored after → TellsSoundTree e.stored → LeavesSoundTree e.stored_after
+  lawful_so e after is left told = left_so GoesOn (λ start end calls. calls) e after is left told
 
   played_leaves : (way : Way) (script : Script) (lines : List Line) (e : Ends) → IsPlayedAs way script lines e → TellsSoundTree e.stored → LeavesSoundTree e.stored_after
-  played_leaves way script lines e p told = left_so e p.after p.left (lines_leave way e.times e.stored p.after script lines p.in_turn) told
+  played_leaves way script lines e p told = lawful_so e p.after p.left (lines_leave way e.times e.stored p.after script lines p.in_turn) told
 
-  store_leaves : (e : Ends) → IsStoreLeft e → TellsSoundTree e.stored → LeavesSoundTree e.stored_after
-  store_leaves e left told = left_so e left.after left.left left.lawful told
+  store_leaves : (way : Way) (script : Script) (e : Ends) → IsStoreLeft (HasBegun way script) e → TellsSoundTree e.stored → LeavesSoundTree e.stored_after
+  store_leaves way script e left told = left_so (HasBegun way script) (begun_leads way script) e left.after left.left left.lawful told
 
   untouched_leaves : (e : Ends) → IsUntouched e → TellsSoundTree e.stored → LeavesSoundTree e.stored_after
   untouched_leaves e same told = (e.stored, same, told)
@@ -49,10 +53,10 @@ module _ (failing : FailingLeavesSound) where
   play_leaves : (way : Way) (script : Script) (shows : Shows) (e : Ends) (status : ℕ) → PlayCourse way script shows e status → TellsSoundTree e.stored → LeavesSoundTree e.stored_after
   play_leaves way script shows e status (printed lines p all is) told = played_leaves way script lines e p told
   play_leaves way script shows e status (cut_off lines p part is) told = played_leaves way script lines e p told
-  play_leaves way script shows e status (exhausted left same is) told = store_leaves e left told
+  play_leaves way script shows e status (exhausted left same is) told = store_leaves way script e left told
 
   behind_leaves : (name : List ℕ) (lines : List Line) (e : Ends) → IsLeftBehind name lines e → TellsSoundTree e.stored → LeavesSoundTree e.stored_after
-  behind_leaves name lines e b told = left_so e b.after b.left (ran (went_runs name e.times e.stored b.after lines b.start b.end b.mounted b.went b.is)) told
+  behind_leaves name lines e b told = lawful_so e b.after b.left (ran (went_runs name e.times e.stored b.after lines b.start b.end b.mounted b.went b.is)) told
 
   cat_leaves : (name : List ℕ) (e : Ends) (status : ℕ) → CatCourse name e status → TellsSoundTree e.stored → LeavesSoundTree e.stored_after
   cat_leaves name e status (unopened line p none all is) told = played_leaves by_turns _ _ e p.played told
@@ -61,19 +65,19 @@ module _ (failing : FailingLeavesSound) where
   cat_leaves name e status (stuck opened reads last size tells within p all not_read out is) told = played_leaves by_turns _ _ e p.played told
   cat_leaves name e status (broken opened reads last size mid tells within p all last_read out part is) told = played_leaves by_turns _ _ e p.played told
   cat_leaves name e status (starved opened reads b all out is) told = behind_leaves name (opened ∷ reads) e b told
-  cat_leaves name e status (wants left same is) told = store_leaves e left told
+  cat_leaves name e status (wants left same is) told = store_leaves by_turns (cat_script name 0) e left told
 
-  said_leaves : (name : List ℕ) (times : Option (List ℕ)) (before after : Stored) (s : Said) → IsSaidOf times before after name s → Leaves times before after
+  said_leaves : (name : List ℕ) (times : Option (List ℕ)) (before after : Stored) (s : Said) → IsSaidOf times before after name s → Leaves GoesOn times before after
   said_leaves name times before after s (not_mounted trouble outcome failed told is) = broke_off trouble failed
-  said_leaves name times before after s (on_mount ended m is) = ran (record { start = m.start; end = m.end; mounted = m.mounted; called = calls_lead m.start m.end (record { events = m.made.events; made = m.made.made }); left = m.left })
+  said_leaves name times before after s (on_mount ended m is) = ran (record { start = m.start; end = m.end; mounted = m.mounted; called = migration_leads name m.start m.end (inl (ended, m.made)); left = m.left })
 
   migrated_leaves : (name : List ℕ) (s : Said) (e : Ends) → IsMigratedAs name s e → TellsSoundTree e.stored → LeavesSoundTree e.stored_after
-  migrated_leaves name s e m told = left_so e m.after m.left (said_leaves name e.times e.stored m.after s m.came) told
+  migrated_leaves name s e m told = lawful_so e m.after m.left (said_leaves name e.times e.stored m.after s m.came) told
 
   migrate_leaves : (name : List ℕ) (e : Ends) (status : ℕ) → MigrateCourse name e status → TellsSoundTree e.stored → LeavesSoundTree e.stored_after
   migrate_leaves name e status (said s m all is) told = migrated_leaves name s e m told
   migrate_leaves name e status (unsaid_whole s m part is) told = migrated_leaves name s e m told
-  migrate_leaves name e status (starved_so left same is) told = store_leaves e left told
+  migrate_leaves name e status (starved_so left same is) told = left_so (HasBegunIt name) (migration_leads name) e left.after left.left left.lawful told
 
   input_leaves : (way : Way) (bytes : List ℕ) (e : Ends) (status : ℕ) → InputCourse way bytes e status → TellsSoundTree e.stored → LeavesSoundTree e.stored_after
   input_leaves way bytes e status (faulty fault has same says is) told = untouched_leaves e same told

@@ -13,7 +13,7 @@ use Rattle.plfs_program.specs.Playing.{PlayCourse, printed, cut_off, exhausted}
 use Rattle.plfs_program.specs.Course.{InputCourse}
 use Rattle.plfs_program.specs.Showing.{Shows}
 use Rattle.plfs_program.specs.SoundTrees.{TellsSoundTree}
-use Rattle.plfs_program.specs.Ways.{Way}
+use Rattle.plfs_program.specs.Ways.{Way, HasBegun}
 
 -- what was said of a text is said of a line that is the same
 pub said_as : (line shown : List ℕ) (e : Ends) → shown ≡ line → IsSaid shown e → IsSaid line e
@@ -24,7 +24,7 @@ pub course_of_slice : (way : Way) (bytes shown : List ℕ) (e : Ends) (status : 
 course_of_slice way bytes shown e status same course = let P : List ℕ → Type 0 = λ b. InputCourse way b e status in subst P same course
 
 -- memory was refused, and the store is so
-pub left_so : (way : Way) (script : Script) (shows : Shows) (e : Ends) (status : ℕ) (after : Stored) → e.stored_after ≡ Some after → Leaves e.times e.stored after → e.taking_after ≡ e.taking → status ≡ 3 → PlayCourse way script shows e status
+pub left_so : (way : Way) (script : Script) (shows : Shows) (e : Ends) (status : ℕ) (after : Stored) → e.stored_after ≡ Some after → Leaves (HasBegun way script) e.times e.stored after → e.taking_after ≡ e.taking → status ≡ 3 → PlayCourse way script shows e status
 left_so way script shows e status after is lawful untold told = exhausted (record { after = after; left = is; lawful = lawful }) untold told
 
 -- how the printing of what is shown ended
@@ -36,7 +36,7 @@ Reported shows lines e status =
 
 -- a script whose lines were printed, or cut off, or for which memory was refused at last
 pub reported : (way : Way) (script : Script) (shows : Shows) (lines : List Line) (e : Ends) (status : ℕ) (after : Stored)
-    → e.stored_after ≡ Some after → Leaves e.times e.stored after → AreLinesOf way e.times e.stored after script lines → (has_line is_fault lines ≡ true → HasRisen e.stored.faults after.faults) → (TellsSoundTree e.stored → has_line is_damage lines ≡ false)
+    → e.stored_after ≡ Some after → Leaves (HasBegun way script) e.times e.stored after → AreLinesOf way e.times e.stored after script lines → (has_line is_fault lines ≡ true → HasRisen e.stored.faults after.faults) → (TellsSoundTree e.stored → has_line is_damage lines ≡ false)
     → Reported shows lines e status → PlayCourse way script shows e status
 reported way script shows lines e status after is lawful in_turn cause undamaged (inl (told, all)) =
     printed lines (record { after = after; left = is; in_turn = in_turn; cause = cause; undamaged = undamaged }) all told

@@ -12,16 +12,14 @@ use Rattle.mount_model.specs.declared.trouble.MountTrouble.{MountTrouble}
 use Rattle.mount_model.specs.declared.trouble.MountTrouble.TheVariants as trouble
 use Rattle.migrate_core.specs.declared.migrated.Migrated.{Migrated}
 use Rattle.trouble_laws.specs.Undamaged.{IsUndamaged}
-use Rattle.lone_flow.specs.Driving.{CallsOn}
 use Rattle.lone_flow.specs.Faults.{IsFault}
 use Rattle.outcomes.specs.Outcomes.{stuck_outcome}
 use Rattle.script_lang.specs.declared.line.Line.{Line}
 use Rattle.script_lang.specs.declared.line.Outcome.{Outcome}
 use Rattle.report_text.specs.Text.{HaveText, ListsLogicalNames, text_of}
-use Rattle.run_core.specs.Leading.{GoesOn}
 use Rattle.plfs_program.specs.Calling.{ran, broke_off}
 use Rattle.plfs_program.specs.Ends.{Ends}
-use Rattle.plfs_program.specs.Migrating.{IsMigratedAs, IsMigration, IsReported, MigrateCourse, MigratesOn, Said, cut_off, ended_so, exhausted, is_broken_by, line_zero, mounted, printed, said_of, said_status, said_text, starved, unmounted}
+use Rattle.plfs_program.specs.Migrating.{HasBegunIt, IsMigratedAs, IsMigration, IsReported, MigrateCourse, MigratesOn, Said, cut_off, ended_so, exhausted, is_broken_by, line_zero, mounted, printed, said_of, said_status, said_text, starved, unmounted}
 use Rattle.plfs_program.specs.Mounting.{unmounted_of}
 use Rattle.plfs_program.specs.Outcomes.{is_damage, is_fault, status_of}
 use Rattle.plfs_program.specs.Output.{IsPrinted, IsCutOff}
@@ -57,11 +55,8 @@ ended_undamaged (Err (stuck.Refused why)) none = refl
 
 -- ---- on a mount
 
-pub calls_lead : (start end : State) → CallsOn start end → GoesOn start end
-calls_lead start end c = record { events = c.events; leads = record { lawful = c.made.lawful; ends = c.made.ends } }
-
-was_left : (e : Ends) (start end : State) (after : Stored) → e.stored_after ≡ Some after → IsMounted 0 e.times e.stored start → after ≡ end.store → CallsOn start end → IsStoreLeft e
-was_left e start end after is made left c = record { after = after; left = is; lawful = ran (was_run e.times e.stored after start end made (calls_lead start end c) left) }
+was_left : (name : List ℕ) (e : Ends) (start end : State) (after : Stored) → e.stored_after ≡ Some after → IsMounted 0 e.times e.stored start → after ≡ end.store → HasBegunIt name start end → IsStoreLeft (HasBegunIt name) e
+was_left name e start end after is made left begun = record { after = after; left = is; lawful = ran (was_run (HasBegunIt name) e.times e.stored after start end made begun left) }
 
 migrated_as : (name : List ℕ) (e : Ends) (start end : State) (after : Stored) (ended : Result Migrated Stuck) → e.stored_after ≡ Some after → IsMounted 0 e.times e.stored start → after ≡ end.store → IsMigration name start ended end → IsMigratedAs name (said_of ended) e
 migrated_as name e start end after ended is made left m = record {
@@ -75,14 +70,14 @@ migrated_as name e start end after ended is made left m = record {
 }
 
 -- what was said became of it
-said_so : (name : List ℕ) (said : Said) (e : Ends) (status : ℕ) → IsMigratedAs name said e → IsStoreLeft e → IsReported (said_text said) (said_status said) e.taking e.taking_after status → MigrateCourse name e status
+said_so : (name : List ℕ) (said : Said) (e : Ends) (status : ℕ) → IsMigratedAs name said e → IsStoreLeft (HasBegunIt name) e → IsReported (said_text said) (said_status said) e.taking e.taking_after status → MigrateCourse name e status
 said_so name said e status m left (inl (told, all)) = printed said m all told
 said_so name said e status m left (inr (inl (told, part))) = cut_off said m part told
 said_so name said e status m left (inr (inr (told, untold))) = exhausted left untold told
 
 pub migrated_so : (name : List ℕ) (e : Ends) (status : ℕ) (start end : State) (after : Stored) → e.stored_after ≡ Some after → IsMounted 0 e.times e.stored start → after ≡ end.store → MigratesOn name start e.taking end e.taking_after status → MigrateCourse name e status
-migrated_so name e status start end after is made left (ended_so ended m calls said) = said_so name (said_of ended) e status (migrated_as name e start end after ended is made left m) (was_left e start end after is made left calls) said
-migrated_so name e status start end after is made left (starved calls same told) = exhausted (was_left e start end after is made left calls) same told
+migrated_so name e status start end after is made left (ended_so ended m said) = said_so name (said_of ended) e status (migrated_as name e start end after ended is made left m) (was_left name e start end after is made left (inl (ended, m.made.made))) said
+migrated_so name e status start end after is made left (starved broken same told) = exhausted (was_left name e start end after is made left (inr broken)) same told
 
 -- ---- without a mount
 

@@ -7,7 +7,6 @@ use Rattle.mount_model.specs.declared.trouble.MountTrouble.{MountTrouble}
 use Rattle.mount_model.specs.Failing.{FailsToMount}
 use Rattle.script_lang.specs.declared.line.Line.{Line}
 use Rattle.script_lang.specs.declared.script.Script.{Script}
-use Rattle.run_core.specs.Leading.{GoesOn}
 use Rattle.play_laws.specs.Counting.{CountWrites}
 use Rattle.plfs_program.specs.SoundTrees.{TellsSoundTree}
 use Rattle.plfs_program.specs.Ways.{Way, HasLines, ShowsFiles}
@@ -24,15 +23,15 @@ pub record IsPlayedOn (way : Way) (times : Option (List ℕ)) (before : Stored) 
   pub plain : TellsSoundTree before → ShowsFiles way script start lines end play
   pub counted : TellsSoundTree before → CountWrites script lines
 
--- A mount was made of the store as it was, with these times to come, and its calls led to what is left of the store.
-pub record IsRun (times : Option (List ℕ)) (before after : Stored) : Type 0 where
+-- A mount was made of the store as it was, with these times to come, and such calls of it led to what is left of the store.
+pub record IsRun (Calls : State → State → Type 0) (times : Option (List ℕ)) (before after : Stored) : Type 0 where
   pub start : State
   pub end : State
   pub mounted : IsMounted 0 times before start
-  pub called : GoesOn start end
+  pub called : Calls start end
   pub left : end.store ≡ after
 
 -- That, or the mounting broke off and left the store so.
-pub data Leaves (times : Option (List ℕ)) (before after : Stored) : Type 0 where
-  broke_off : (trouble : MountTrouble) → FailsToMount before trouble after → Leaves times before after
-  ran : IsRun times before after → Leaves times before after
+pub data Leaves (Calls : State → State → Type 0) (times : Option (List ℕ)) (before after : Stored) : Type 0 where
+  broke_off : (trouble : MountTrouble) → FailsToMount before trouble after → Leaves Calls times before after
+  ran : IsRun Calls times before after → Leaves Calls times before after

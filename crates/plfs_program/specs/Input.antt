@@ -15,9 +15,9 @@ abbrev pub IsAtEnd : Option (List ℕ) → Type 0
 IsAtEnd None = Unit {0}
 IsAtEnd (Some left) = left ≡ []
 
--- the bytes were read from the front of the source, to its end or to the limit
+-- the bytes were read from the front of the source, to its end or to the limit, and no read failed
 pub record IsWholeInput (limit : ℕ) (bytes : List ℕ) (old new : Given) : Type 0 where
   pub handed : HandsOver bytes old.left new.left
-  pub faults : old.faults ≤ new.faults
+  pub faults : new.faults ≡ old.faults
   pub within : length bytes ≤ limit
   pub to_end : (length bytes ≡ limit) ⊎ IsAtEnd new.left

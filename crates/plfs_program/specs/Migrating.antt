@@ -14,7 +14,7 @@ use Rattle.migrate_core.specs.declared.migrated.Migrated.{Migrated}
 use Rattle.migrate_core.specs.Migrating.{migrate_program}
 use Rattle.migrate_laws.specs.Migrated.{HasMigrated}
 use Rattle.trouble_laws.specs.Undamaged.{IsUndamaged}
-use Rattle.lone_flow.specs.Driving.{CallsOn, Makes}
+use Rattle.lone_flow.specs.Driving.{BeginsToMake, Makes}
 use Rattle.lone_flow.specs.Faults.{IsFault}
 use Rattle.lone_flow.specs.Migrating.{Migrates}
 use Rattle.outcomes.specs.Outcomes.{stuck_outcome}
@@ -85,11 +85,15 @@ pub record IsMigratedAs (name : List ℕ) (said : Said) (e : Ends) : Type 0 wher
   pub cause : is_broken_by is_fault said ≡ true → HasRisen e.stored.faults after.faults
   pub undamaged : TellsSoundTree e.stored → is_broken_by is_damage said ≡ false
 
+-- caller 0 by itself made the calls of a migration of this file to their end, or was broken off
+abbrev pub HasBegunIt : List ℕ → State → State → Type 0
+HasBegunIt name start end = ((ended : Result Migrated Stuck) × Makes (migrate_program name) start ended end) ⊎ BeginsToMake (migrate_program name) start end
+
 -- What becomes of it: one line is printed, or a front of it where the sink broke. Where memory was refused there is none.
 pub data MigrateCourse (name : List ℕ) (e : Ends) (status : ℕ) : Type 0 where
   printed : (said : Said) → IsMigratedAs name said e → IsPrinted (said_text said) e.taking e.taking_after → status ≡ said_status said → MigrateCourse name e status
   cut_off : (said : Said) → IsMigratedAs name said e → IsCutOff (said_text said) e.taking e.taking_after → status ≡ 6 → MigrateCourse name e status
-  exhausted : IsStoreLeft e → e.taking_after ≡ e.taking → status ≡ 3 → MigrateCourse name e status
+  exhausted : IsStoreLeft (HasBegunIt name) e → e.taking_after ≡ e.taking → status ≡ 3 → MigrateCourse name e status
 
 -- ---- on a mount
 
@@ -108,5 +112,5 @@ IsReported text decided taking taking_after status =
 
 -- a migration was made, and reported; or memory was refused in it
 pub data MigratesOn (name : List ℕ) (start : State) (taking : Taking) (end : State) (taking_after : Taking) (status : ℕ) : Type 0 where
-  ended_so : (ended : Result Migrated Stuck) → IsMigration name start ended end → CallsOn start end → IsReported (said_text (said_of ended)) (said_status (said_of ended)) taking taking_after status → MigratesOn name start taking end taking_after status
-  starved : CallsOn start end → taking_after ≡ taking → status ≡ 3 → MigratesOn name start taking end taking_after status
+  ended_so : (ended : Result Migrated Stuck) → IsMigration name start ended end → IsReported (said_text (said_of ended)) (said_status (said_of ended)) taking taking_after status → MigratesOn name start taking end taking_after status
+  starved : BeginsToMake (migrate_program name) start end → taking_after ≡ taking → status ≡ 3 → MigratesOn name start taking end taking_after status

@@ -1,5 +1,5 @@
 -- How a script's actors make their calls, and which lines the script then has.
-use Rattle.std.specs.Prelude.{List}
+use Rattle.std.specs.Prelude.{◌⊎◌, List}
 use Rattle.mount_model.specs.State.{State}
 use Rattle.mount_sound.specs.Ledger.{Ledger}
 use Rattle.mount_sound.specs.Sound.{IsSoundFor}
@@ -7,6 +7,8 @@ use Rattle.command_line.specs.declared.commands.Command.{Command}
 use Rattle.command_line.specs.declared.commands.Command.TheVariants.{Play, Run}
 use Rattle.script_lang.specs.declared.line.Line.{Line}
 use Rattle.script_lang.specs.declared.script.Script.{Script}
+use Rattle.run_core.specs.Breaking.{IsPlayBroken}
+use Rattle.run_core.specs.Leading.{GoesOn}
 use Rattle.run_core.specs.Play.{IsPlay, IsRight}
 use Rattle.play_laws.specs.Readers.{PlayShows, ReadersShow}
 
@@ -24,6 +26,15 @@ command_of on_threads = Run
 abbrev pub HasLines : Way → Script → State → List Line → State → Type 0
 HasLines by_turns script start lines end = IsPlay script start lines end
 HasLines on_threads script start lines end = IsRight script start lines end
+
+-- It was broken off, since memory was wanting. By turns the calls are a front of a play's; on threads they are lawful ones.
+abbrev pub IsBrokenOff : Way → Script → State → State → Type 0
+IsBrokenOff by_turns script start end = IsPlayBroken script start end
+IsBrokenOff on_threads script start end = GoesOn start end
+
+-- the script was played so to its end, or until it was broken off
+abbrev pub HasBegun : Way → Script → State → State → Type 0
+HasBegun way script start end = ((lines : List Line) × HasLines way script start lines end) ⊎ IsBrokenOff way script start end
 
 -- The lines of the actors show so, for what had been issued before.
 pub record RightShows (script : Script) (start : State) (lines : List Line) (end : State) (right : IsRight script start lines end) : Type 0 where

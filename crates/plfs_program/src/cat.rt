@@ -3,7 +3,6 @@ ghost use Rattle.std.specs.Prelude.{◌≡◌, ◌<◌, ◌*◌, ◌^◌, ◌⊎
 ghost use Rattle.plfs_types.specs.Names.{IsLogicalName};
 ghost use Rattle.script_lang.specs.declared.line.Line.{Line as TheLine};
 ghost use Rattle.report_text.specs.Text.{HaveText, text_of};
-ghost use Rattle.run_core.specs.Leading.{GoesOn};
 ghost use Rattle.run_core.specs.Making.{IsAtRest};
 ghost use Rattle.plfs_program.specs.Cat.{opening as opening_of, reading as reading_of, reader_size as size_told, content_of as content_in, is_read};
 ghost use Rattle.plfs_program.specs.Catting.{CatsOn, Writes, FailsAt};

@@ -4,11 +4,8 @@ ghost use Rattle.plfs_types.specs.Counts.{HasRisen};
 ghost use Rattle.plfs_program.specs.Input.{IsWholeInput, HasMore};
 
 use edge_io::{Failed, Source};
-use plfs_types::NoMemory;
+use plfs_types::{MAX_SCRIPT, NoMemory};
 use std::alloc::{AllocError, Global};
-
-/// The most bytes of a script.
-pub(crate) const MAX_SCRIPT: usize = 1 << 20;
 
 // How many bytes one read asks for at most.
 const PIECE: usize = 1 << 16;
@@ -78,7 +75,7 @@ fn read_piece<I: Source>(
     ensures size { vec_len buffer.new ≡ 2 ^ 16 }
     ensures more { IfOk result (λ n. HasMore n bytes.old.items bytes.new.items (I.given input.old) (I.given input.new)) }
     ensures limit { OnOk result (vec_len bytes.new ≤ 2 ^ 20 + 1) }
-    ensures faults { (I.given input.old).faults ≤ (I.given input.new).faults }
+    ensures faults { OnOk result ((I.given input.new).faults ≡ (I.given input.old).faults) }
     ensures cause { IsErrOf result NoInput.Failed → HasRisen (I.given input.old).faults (I.given input.new).faults }
 {
     let room = PIECE.min(MAX_SCRIPT + 1 - bytes.len());

@@ -10,6 +10,7 @@ ghost use Rattle.mount_model.specs.Failing.{FailsToMount};
 ghost use Rattle.mount_sound.specs.Sound.{IsSoundTree};
 ghost use Rattle.script_lang.specs.declared.line.Line.{Line};
 ghost use Rattle.script_lang.specs.declared.script.Script.{Script};
+ghost use Rattle.run_core.specs.Leading.{GoesOn};
 ghost use Rattle.plfs_program.specs.Calling.{IsPlayedOn, IsRun};
 ghost use Rattle.plfs_program.specs.Mounting.{AreSpent, AreDamagedAt, AreWhy, HaveNext, listed_marks};
 ghost use Rattle.plfs_program.specs.Ways.{Way};
@@ -35,6 +36,6 @@ pub fn marks_are_why()
 /// A law: where the store told a sound tree and a mount was made of it, the tree that the calls left is sound. The calls of a
 /// play are such calls, by turns and on threads.
 pub fn a_run_leaves_a_sound_tree()
-    ensures play { (way : Way) (times : Option (List ℕ)) (before after : Stored) (script : Script) (lines : List Line) → IsPlayedOn way times before script lines after → IsRun times before after }
-    ensures sound { (times : Option (List ℕ)) (before after : Stored) (tree : Tree) → IsRun times before after → before.tree ≡ Some tree → IsSoundTree tree → (left : Tree) × (after.tree ≡ Some left) × IsSoundTree left }
+    ensures play { (way : Way) (times : Option (List ℕ)) (before after : Stored) (script : Script) (lines : List Line) → IsPlayedOn way times before script lines after → IsRun GoesOn times before after }
+    ensures sound { (times : Option (List ℕ)) (before after : Stored) (tree : Tree) → IsRun GoesOn times before after → before.tree ≡ Some tree → IsSoundTree tree → (left : Tree) × (after.tree ≡ Some left) × IsSoundTree left }
 {}

@@ -9,7 +9,7 @@ ghost use Rattle.plfs_program.specs.Lines.{AreLinesOf};
 ghost use Rattle.plfs_program.specs.Mounting.{unmounted_of, IsUnmounted};
 ghost use Rattle.plfs_program.specs.Outcomes.{has_line, is_damage, is_fault};
 ghost use Rattle.plfs_program.specs.SoundTrees.{TellsSoundTree};
-ghost use Rattle.plfs_program.specs.Ways.{by_turns, on_threads};
+ghost use Rattle.plfs_program.specs.Ways.{HasBegun, by_turns, on_threads};
 
 use edge_io::{Clock, Gate};
 use mount_core::{Mount, MountTrouble};
@@ -74,7 +74,7 @@ pub(crate) fn work<S: Store + Drop, C: Clock + Drop>(
     script: &Script,
 ) -> Worked<S>
     requires { IsPlayable script.now }
-    ensures left { Leaves (C.times clock) (S.stored store) (S.stored result.store) }
+    ensures left { Leaves (HasBegun by_turns script.now) (C.times clock) (S.stored store) (S.stored result.store) }
     ensures in_turn { IfOk result.lines (AreLinesOf by_turns (C.times clock) (S.stored store) (S.stored result.store) script.now) }
     ensures text { IfOk result.lines HaveText }
     ensures cause { IfOk result.lines (λ lines. has_line is_fault lines ≡ true → HasRisen (S.stored store).faults (S.stored result.store).faults) }
@@ -104,7 +104,7 @@ pub(crate) fn work_on_threads<
     G: Gate + Sync,
 >(rt: &R, alloc: Global, store: S, clock: C, script: &Script, gate: &G) -> Worked<S>
     requires { IsPlayable script.now }
-    ensures left { Leaves (C.times clock) (S.stored store) (S.stored result.store) }
+    ensures left { Leaves (HasBegun on_threads script.now) (C.times clock) (S.stored store) (S.stored result.store) }
     ensures right { IfOk result.lines (AreLinesOf on_threads (C.times clock) (S.stored store) (S.stored result.store) script.now) }
     ensures text { IfOk result.lines HaveText }
     ensures cause { IfOk result.lines (λ lines. has_line is_fault lines ≡ true → HasRisen (S.stored store).faults (S.stored result.store).faults) }

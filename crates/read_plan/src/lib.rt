@@ -11,3 +11,4 @@ mod searching;
 
 pub use part::{Part, PartList};
 pub use planning::plan;
+pub use searching::first_past;

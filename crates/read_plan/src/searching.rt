@@ -24,7 +24,7 @@ struct Bracket {
 
 /// The place of the first piece that ends past this byte of the file, or else the number n of pieces.
 /// It looks at no more than 4 pieces in each of its rounds, and then at no more than log2 n + 1.
-pub(crate) fn first_past(pieces: &[Piece], at: u64) -> usize
+pub fn first_past(pieces: &[Piece], at: u64) -> usize
     requires { AreRuns pieces.now }
     ensures within { result ≤ length pieces.now }
     ensures first { EndsPast at (drop result pieces.now) }

@@ -16,9 +16,9 @@ use Rattle.read_plan.specs.declared.part.Part.{Part}
 use Rattle.read_plan.specs.declared.part.Part.TheVariants.{Hole, From}
 use Rattle.story.specs.Calls.{AreCallsOf}
 use Rattle.flow.specs.Running.{asking}
-use Rattle.index_reader.specs.declared.listing.Dropping.{Dropping as Listed}
-use Rattle.index_reader.specs.Listing.{host_of}
-use Rattle.index_reader.specs.Replies.{bytes_in}
+use Rattle.flow.specs.Replies.{bytes_in}
+use Rattle.plain_file.specs.declared.parts.WriterHost.{WriterHost as Listed}
+use Rattle.index_reader.specs.Hosts.{host_of}
 use Rattle.index_reader.specs.Reading.{placed_all, spells, read_program}
 use Rattle.gathering.specs.Seen.{Asked, asked_in}
 use Rattle.gathering.specs.Gathering.{Gathered}

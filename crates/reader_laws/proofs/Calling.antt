@@ -16,7 +16,8 @@ use Rattle.story.specs.Program.{done}
 use Rattle.story.specs.Calls.{AreCallsOf}
 use Rattle.flow.specs.declared.stuck.Stuck.{Stuck}
 use Rattle.flow.specs.Running.{asking}
-use Rattle.index_reader.specs.Replies.{Tries, given, names_in, number_in, bytes_in}
+use Rattle.flow.specs.Replies.{Tries, given, names_in, bytes_in}
+use Rattle.index_reader.specs.Replies.{number_in}
 use Rattle.gathering.specs.Moments.{Moment}
 use Rattle.gathering.specs.Seen.{Asked, asked_in, calls_of, IsSeen}
 use Rattle.gathering.proofs.Facts.{answers_as, read_told}

@@ -27,7 +27,7 @@ use Rattle.reader_laws.specs.Sharing.{cover_before, covers_with}
 use Rattle.reader_laws.proofs.Checking.{cover_with-append}
 use Rattle.reader_laws.proofs.Cuts.{unmap}
 
-abbrev writer_of : Cover → ℕ
+abbrev pub writer_of : Cover → ℕ
 writer_of c = c.writer
 
 -- ---- what is right of a flattened index's covers
@@ -38,7 +38,7 @@ pub record AreRightFor (end : Moment) (cut : List Gathered) (covers : List Cover
   pub within : (c : Cover) → Among c covers → (g : Gathered) × Among g cut × (g.dropping.writer ≡ c.writer)
   pub some : (c : Cover) → Among c covers → 1 ≤ c.count
 
-take_none : (es : List Entry) → take 0 es ≡ []
+pub take_none : (es : List Entry) → take 0 es ≡ []
 take_none [] = refl
 take_none (e ∷ es) = refl
 
@@ -147,11 +147,11 @@ item_among w (x ∷ a) c h = elim (nat_eq x.writer w) as (λ t. nat_eq x.writer 
 another : (a b : ℕ) → (a ≡ b → ⊥) → nat_eq a b ≡ false
 another a b other = grind (arith, nat_tests)
 
-itself : (a : ℕ) → nat_eq a a ≡ true
+pub itself : (a : ℕ) → nat_eq a a ≡ true
 itself a = grind (arith, nat_tests)
 
 -- a cover that counts entries, by its writer
-covered_other : (w : ℕ) (c : Cover) → (c.writer ≡ w → ⊥) → item_of writer_of w (covered c) ≡ None
+pub covered_other : (w : ℕ) (c : Cover) → (c.writer ≡ w → ⊥) → item_of writer_of w (covered c) ≡ None
 covered_other w c other = elim (nat_eq c.count 0) as (λ t. item_of writer_of w (if t then [] else c ∷ []) ≡ None) [
   | true ↦ refl
   | false ↦ cond-false (nat_eq c.writer w) (Some c) None (another c.writer w other)
@@ -165,12 +165,12 @@ covered_none c h = elim (nat_eq c.count 0) as (λ t. nat_eq c.count 0 ≡ t → 
 
 -- ---- in what was gathered
 
-none_in : (end : Moment) (w : ℕ) (gs : List Gathered) → ((h : Gathered) → Among h gs → item_of writer_of w (covered (its_cover end h)) ≡ None) → item_of writer_of w (counts_in end gs) ≡ None
+pub none_in : (end : Moment) (w : ℕ) (gs : List Gathered) → ((h : Gathered) → Among h gs → item_of writer_of w (covered (its_cover end h)) ≡ None) → item_of writer_of w (counts_in end gs) ≡ None
 none_in end w [] none = refl
 none_in end w (g ∷ gs) none = item_rest w (covered (its_cover end g)) (counts_in end gs) (none g (inl refl)) ∙ none_in end w gs (λ h a. none h (inr a))
 
 -- the cover of the one of its writer
-one_in : (end : Moment) (gs : List Gathered) (g : Gathered) → Among g gs → ((h : Gathered) → Among h gs → h.dropping.writer ≡ g.dropping.writer → h ≡ g) → item_of writer_of g.dropping.writer (counts_in end gs) ≡ item_of writer_of g.dropping.writer (covered (its_cover end g))
+pub one_in : (end : Moment) (gs : List Gathered) (g : Gathered) → Among g gs → ((h : Gathered) → Among h gs → h.dropping.writer ≡ g.dropping.writer → h ≡ g) → item_of writer_of g.dropping.writer (counts_in end gs) ≡ item_of writer_of g.dropping.writer (covered (its_cover end g))
 one_in end [] g a one = absurd a
 one_in end (h ∷ gs) g a one = elim (cases_eq h.dropping.writer g.dropping.writer) as (λ _. item_of writer_of g.dropping.writer (counts_in end (h ∷ gs)) ≡ item_of writer_of g.dropping.writer (covered (its_cover end g))) [
   | inl same ↦ first (one h (inl refl) same)
@@ -258,7 +258,7 @@ counts_rise end room (g ∷ cut) rise = elim (nat_eq (its_cover end g).count 0) 
 
 -- ---- the covers of a reader
 
-of_writer : (w : ℕ) (gs : List Gathered) → ((g : Gathered) × Among g gs × (g.dropping.writer ≡ w)) ⊎ ((g : Gathered) → Among g gs → g.dropping.writer ≡ w → ⊥)
+pub of_writer : (w : ℕ) (gs : List Gathered) → ((g : Gathered) × Among g gs × (g.dropping.writer ≡ w)) ⊎ ((g : Gathered) → Among g gs → g.dropping.writer ≡ w → ⊥)
 of_writer w [] = inr (λ g a. absurd a)
 of_writer w (g ∷ gs) = elim (cases_eq g.dropping.writer w) as (λ _. ((h : Gathered) × Among h (g ∷ gs) × (h.dropping.writer ≡ w)) ⊎ ((h : Gathered) → Among h (g ∷ gs) → h.dropping.writer ≡ w → ⊥)) [
   | inl e ↦ inl (g, inl refl, e)

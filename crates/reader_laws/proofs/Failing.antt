@@ -11,7 +11,7 @@ use Rattle.mount_sound.specs.Owed.{IsLawful}
 use Rattle.flow.specs.declared.stuck.Stuck.{Stuck}
 use Rattle.flow.specs.declared.stuck.Stuck.TheVariants as stuck
 use Rattle.flow.specs.Running.{Runs}
-use Rattle.index_reader.specs.Replies.{Tries, given, trouble}
+use Rattle.flow.specs.Replies.{Tries, given, trouble}
 use Rattle.gathering.specs.Moments.{Moment, moment_after}
 use Rattle.gathering.proofs.Facts.{follows}
 use Rattle.reader_laws.specs.Failing.{FailsByStore}

@@ -13,7 +13,7 @@ use Rattle.mount_model.specs.History.{Event}
 use Rattle.story.specs.Program.{done}
 use Rattle.story.specs.Calls.{AreCallsOf}
 use Rattle.flow.specs.Running.{asking}
-use Rattle.index_reader.specs.Replies.{bytes_in}
+use Rattle.flow.specs.Replies.{bytes_in}
 use Rattle.index_reader.specs.FileReads.{next_part, parts_of, parts}
 use Rattle.gathering.specs.Moments.{Moment, file_then}
 use Rattle.gathering.specs.Seen.{IsSeen}

@@ -24,8 +24,9 @@ use Rattle.story.specs.Program.{done}
 use Rattle.story.specs.Calls.{AreCallsOf}
 use Rattle.flow.specs.declared.stuck.Stuck.{Stuck}
 use Rattle.flow.specs.Running.{asking, Runs}
+use Rattle.flow.specs.Replies.{Tries, on_ok}
 use Rattle.flow.proofs.Facts.{runs_in_two}
-use Rattle.index_reader.specs.Replies.{Tries, on_ok, number_in}
+use Rattle.index_reader.specs.Replies.{number_in}
 use Rattle.index_reader.specs.FileReads.{parts_of, bytes_left}
 use Rattle.index_reader.specs.FlatRules.{flat_told}
 use Rattle.index_reader.specs.Items.{flat_item}

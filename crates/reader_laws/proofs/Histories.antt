@@ -9,6 +9,7 @@ use Rattle.mount_model.specs.History.{Event}
 use Rattle.mount_sound.specs.Owed.{IsLawful}
 use Rattle.story.specs.Program.{Program, ask}
 use Rattle.flow.specs.Running.{unbroken, Runs}
+use Rattle.flow.specs.Replies.{names_in}
 use Rattle.flow.proofs.Facts.{runs_next}
 use Rattle.turn_object.specs.Callers.{made_by}
 use Rattle.index_reader.specs.declared.opened.OpenReader.{OpenReader}
@@ -19,7 +20,6 @@ use Rattle.gathering.specs.Opening.{ListsTruncs}
 use Rattle.gathering.proofs.Facts.{its_call, legal_first, legal_rest, seen, sound_after}
 use Rattle.reader_laws.specs.Listing.{HasListedTruncs}
 use Rattle.story.proofs.Facts.{entries_not_first}
-use Rattle.index_reader.specs.Replies.{names_in}
 use Rattle.reader_laws.proofs.Calling.{asked_all, calls_append, calls_are, given_so, FitsRead, reads_fit}
 use Rattle.reader_laws.proofs.Truncating.{truncs_told}
 

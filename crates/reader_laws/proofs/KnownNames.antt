@@ -16,10 +16,11 @@ use Rattle.store_laws.specs.There.{AreNamesOf}
 use Rattle.mount_model.specs.Paths.{Name, flats, metadata, truncs}
 use Rattle.mount_shape.specs.Container.{IsContainer, IsContainerFolder, IsItemFile}
 use Rattle.flow.specs.declared.stuck.Stuck.{Stuck}
+use Rattle.flow.specs.Replies.{damage}
+use Rattle.flow.specs.Listed.{file_in}
 use Rattle.index_reader.specs.Items.{flat_item, hostdir_item, is_flats, is_of_hostdir}
 use Rattle.index_reader.specs.Newest.{flats_path, greater_id, if_flat, newest_in}
-use Rattle.index_reader.specs.Replies.{damage}
-use Rattle.index_reader.specs.Scanning.{file_in, foreign_in, foreign_or, unless_foreign}
+use Rattle.index_reader.specs.Scanning.{foreign_in, foreign_or, unless_foreign}
 use Rattle.index_reader.specs.Searching.{has_name, same_bytes}
 use Rattle.index_reader.specs.Tops.{access, foreign_at_top, hostdirs, required, shown, top_names, top_shows}
 use Rattle.index_reader.proofs.Facts.{same_bytes-itself}

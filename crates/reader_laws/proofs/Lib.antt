@@ -1,19 +1,19 @@
 pub mod Facts
-mod Calling
+pub mod Calling
 mod Checking
 mod Tails
 mod Answers
 mod Truncating
 mod Pieces
-mod Shares
+pub mod Shares
 mod Portions
-mod Histories
-mod Cuts
-mod Openings
+pub mod Histories
+pub mod Cuts
+pub mod Openings
 mod NamedPacks
-mod Listings
-mod Counts
-mod Readers
+pub mod Listings
+pub mod Counts
+pub mod Readers
 mod Workers
 mod Troubles
 mod LogReads
@@ -23,19 +23,19 @@ mod FlatRuns
 mod PackFacts
 mod PackRuns
 mod Scanning
-mod LookEnds
+pub mod LookEnds
 mod Failing
-mod TruncFails
+pub mod TruncFails
 mod NoBreaks
-mod TailFails
+pub mod TailFails
 mod PackFails
-mod ShareFails
+pub mod ShareFails
 mod Folders
 mod HadItems
 mod KnownNames
 mod ScanOwners
 mod ScanStands
-mod ScanFails
+pub mod ScanFails
 mod ShownFails
 mod ListingFails
 mod OpeningFails

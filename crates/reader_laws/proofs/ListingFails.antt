@@ -47,6 +47,8 @@ use Rattle.story.specs.Program.{done}
 use Rattle.flow.specs.declared.stuck.Stuck.{Stuck}
 use Rattle.flow.specs.declared.stuck.Stuck.TheVariants as stuck
 use Rattle.flow.specs.Running.{Runs}
+use Rattle.flow.specs.Replies.{Tries, given, names_in, on_ok, room_in, trouble}
+use Rattle.flow.specs.Listed.{file_in}
 use Rattle.flow.proofs.Facts.{runs_in_two}
 use Rattle.index_reader.specs.declared.listing.Listing.{Listing}
 use Rattle.index_reader.specs.FileReads.{bytes_left, parts_of}
@@ -54,8 +56,7 @@ use Rattle.index_reader.specs.FlatRules.{flat_told}
 use Rattle.index_reader.specs.Items.{flat_item}
 use Rattle.index_reader.specs.Newest.{flats_path, newest_in}
 use Rattle.index_reader.specs.Opening.{flat_bytes, flat_or_damage, flat_program, if_newest, no_flat, open_at_program, open_read_program, top_program}
-use Rattle.index_reader.specs.Replies.{Tries, given, names_in, number_in, on_ok, room_in, trouble}
-use Rattle.index_reader.specs.Scanning.{file_in}
+use Rattle.index_reader.specs.Replies.{number_in}
 use Rattle.index_reader.proofs.Facts.{flat_item-here, flat_told-valid}
 use Rattle.turn_object.specs.Callers.{made_by}
 use Rattle.gathering.specs.Flats.{IsFlatName}

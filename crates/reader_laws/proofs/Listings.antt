@@ -15,6 +15,8 @@ use Rattle.mount_sound.specs.Owed.{IsLawful}
 use Rattle.turn_object.specs.Callers.{made_by}
 use Rattle.flow.specs.declared.stuck.Stuck.{Stuck}
 use Rattle.flow.specs.Running.{Runs}
+use Rattle.flow.specs.Replies.{Tries, damage, on_ok, names_in, room_in}
+use Rattle.flow.specs.Listed.{file_in}
 use Rattle.flow.proofs.Facts.{runs_in_two}
 use Rattle.index_reader.specs.declared.listing.Dropping.{Dropping as Listed}
 use Rattle.index_reader.specs.declared.listing.Listing.{Listing}
@@ -22,8 +24,7 @@ use Rattle.index_reader.specs.declared.scanning.Scan.{Scan}
 use Rattle.index_reader.specs.Listing.{AreByWriter}
 use Rattle.index_reader.specs.Newest.{newest_in}
 use Rattle.index_reader.specs.Opening.{no_flat, flat_program, uncovered, lone_pack, dropping_of, listing_of, unless_uncovered, unless_lone, listed, scans, top_program, if_newest, open_at_program, open_read_program}
-use Rattle.index_reader.specs.Replies.{Tries, damage, on_ok, names_in, room_in}
-use Rattle.index_reader.specs.Scanning.{file_in, nothing_found, unless_foreign, scanned}
+use Rattle.index_reader.specs.Scanning.{nothing_found, unless_foreign, scanned}
 use Rattle.index_reader.specs.Searching.{same_bytes, has_name}
 use Rattle.index_reader.specs.Tops.{access, hostdirs, foreign_at_top, required, shown, top_shows}
 use Rattle.index_reader.proofs.Facts.{same_bytes-itself, same_bytes-eq}

@@ -25,11 +25,11 @@ use Rattle.mount_sound.specs.Owed.{IsLawful}
 use Rattle.flow.specs.declared.stuck.Stuck.{Stuck}
 use Rattle.flow.specs.declared.stuck.Stuck.TheVariants as stuck
 use Rattle.flow.specs.Running.{Runs}
-use Rattle.index_reader.specs.declared.listing.Dropping.{Dropping as Listed}
+use Rattle.flow.specs.Replies.{given, bytes_in, damage, trouble}
+use Rattle.plain_file.specs.declared.parts.WriterHost.{WriterHost as Listed}
 use Rattle.index_reader.specs.declared.opened.OpenReader.{OpenReader}
 use Rattle.index_reader.specs.Found.{item_of}
-use Rattle.index_reader.specs.Listing.{host_in, host_of}
-use Rattle.index_reader.specs.Replies.{given, bytes_in, damage, trouble}
+use Rattle.index_reader.specs.Hosts.{host_in, host_of}
 use Rattle.index_reader.specs.Reading.{placed_all, ends_at, spells, read_program}
 use Rattle.gathering.specs.Moments.{Moment, IsSoundAt, Dropping, Grows, issued_by, moment_after, next_moment}
 use Rattle.gathering.specs.Gathering.{Gathered}
@@ -39,7 +39,7 @@ use Rattle.gathering.specs.View.{IsAnswer, view, WritersRise}
 use Rattle.gathering.proofs.Facts.{alike, any_found, follows, grows_after, grows_trans, is_among, legal_first, legal_rest, log_ends, one_gathered, plan_within, sound_after, view_answers}
 use Rattle.reader_laws.specs.Failing.{FailsByStore}
 use Rattle.reader_laws.specs.Opened.{HasOpenReader}
-use Rattle.reader_laws.specs.Sharing.{in_room}
+use Rattle.reader_laws.specs.Sharing.{host_in_room as in_room}
 use Rattle.reader_laws.proofs.Answers.{HasHost, answer_run}
 use Rattle.reader_laws.proofs.Calling.{asked_all, calls_are, FitsRead}
 use Rattle.reader_laws.proofs.Cuts.{dropping_of}
@@ -94,14 +94,14 @@ hosted end room ds cut (From writer at len ∷ parts) are rise within =
 -- ---- what a read gives
 
 pub reads_bytes : (caller : ℕ) (start end : Moment) (reader : OpenReader) (cut : List Gathered) (between reading : List Event) (at len : ℕ) (bytes : List ℕ) → IsLawful end.state (between ++ reading) → IsSoundAt end → HasOpenReader start end reader cut
-    → Runs caller (read_program reader.room reader.droppings (plan_of reader.pieces reader.size at len)) reading (Ok bytes) → bytes ≡ slice (view end cut reader.truncs) at len
+    → Runs caller (read_program reader.room reader.hosts (plan_of reader.pieces reader.size at len)) reading (Ok bytes) → bytes ≡ slice (view end cut reader.truncs) at len
 reads_bytes caller start end reader cut between reading at len bytes lawful s has runs =
     let parts : List Part = plan_of reader.pieces reader.size at len in
     let from : Moment = moment_after end between in
     let s1 : IsSoundAt from = sound_after end between (legal_first end between reading lawful) s in
     let reads = fit caller from reading (legal_rest end between reading lawful) s1 in
     let answer : IsAnswer cut parts (asked_all (made_by caller reading)) bytes =
-    answer_run reader.room reader.droppings cut parts bytes (made_by caller reading) (hosted end reader.room reader.droppings cut parts has.droppings has.view.rise (plan_within end cut reader.truncs reader.pieces reader.size at len s has.pieces))
+    answer_run reader.room reader.hosts cut parts bytes (made_by caller reading) (hosted end reader.room reader.hosts cut parts has.hosts has.view.rise (plan_within end cut reader.truncs reader.pieces reader.size at len s has.pieces))
     (subst (AllByRecursion FitsRead) (calls_are caller reading) reads) runs in
     view_answers caller reader.room start end cut reader.truncs between reading [] at len bytes (subst (λ l. IsLawful end.state (between ++ l)) (sym (append-nil reading)) lawful) s has.view
     (record { pieces = reader.pieces; size = reader.size; runs = has.pieces; sized = has.size; made = subst (λ calls. IsAnswer cut parts calls bytes) (sym (calls_are caller reading)) answer })
@@ -163,10 +163,10 @@ module _ (caller : ℕ) (start end : Moment) (room : ℕ) (ds : List Listed) (cu
       ])
 
 pub reads_trouble : (caller : ℕ) (start end : Moment) (reader : OpenReader) (cut : List Gathered) (between reading : List Event) (at len : ℕ) (why : Stuck) → IsLawful end.state (between ++ reading) → IsSoundAt end → HasOpenReader start end reader cut
-    → Runs caller (read_program reader.room reader.droppings (plan_of reader.pieces reader.size at len)) reading (Err why) → FailsByStore caller (state_after end.state between) reading why
+    → Runs caller (read_program reader.room reader.hosts (plan_of reader.pieces reader.size at len)) reading (Err why) → FailsByStore caller (state_after end.state between) reading why
 reads_trouble caller start end reader cut between reading at len why lawful s has runs =
     let parts : List Part = plan_of reader.pieces reader.size at len in
     let from : Moment = moment_after end between in
     let l1 = legal_first end between reading lawful in
     subst (λ st. FailsByStore caller st reading why) (follows end between).0
-    (reads_fail caller start end reader.room reader.droppings cut reader.truncs has.view has.droppings from reading parts [] why (grows_after end between l1 s) (sound_after end between l1 s) (legal_rest end between reading lawful) (plan_within end cut reader.truncs reader.pieces reader.size at len s has.pieces) runs)
+    (reads_fail caller start end reader.room reader.hosts cut reader.truncs has.view has.hosts from reading parts [] why (grows_after end between l1 s) (sound_after end between l1 s) (legal_rest end between reading lawful) (plan_within end cut reader.truncs reader.pieces reader.size at len s has.pieces) runs)

@@ -15,11 +15,12 @@ use Rattle.mount_model.specs.History.{Event}
 use Rattle.story.specs.Calls.{AreCallsOf}
 use Rattle.flow.specs.declared.stuck.Stuck.{Stuck}
 use Rattle.flow.specs.Running.{asking}
+use Rattle.flow.specs.Replies.{Tries}
+use Rattle.flow.specs.Entries.{is_next}
 use Rattle.story.specs.Program.{done}
 use Rattle.index_reader.specs.declared.listing.Dropping.{Dropping as Listed}
 use Rattle.index_reader.specs.declared.entries.Tail.{Tail}
-use Rattle.index_reader.specs.Replies.{Tries}
-use Rattle.index_reader.specs.Entries.{is_next, longer, checked}
+use Rattle.index_reader.specs.Entries.{longer, checked}
 use Rattle.index_reader.specs.Tails.{if_checked}
 use Rattle.reader_laws.specs.Covering.{cover_with}
 use Rattle.reader_laws.proofs.Checking.{cover_with-append}

@@ -5,7 +5,7 @@ use Rattle.mount_model.specs.History.{Event, state_after}
 use Rattle.mount_sound.specs.Owed.{IsLawful}
 use Rattle.flow.specs.declared.stuck.Stuck.{Stuck}
 use Rattle.flow.specs.Running.{Runs}
-use Rattle.index_reader.specs.Replies.{Tries}
+use Rattle.flow.specs.Replies.{Tries}
 use Rattle.index_reader.specs.declared.listing.Listing.{Listing}
 use Rattle.gathering.specs.Moments.{Moment, IsSoundAt}
 use Rattle.gathering.proofs.Facts.{legal_first}
@@ -14,7 +14,8 @@ use Rattle.reader_laws.specs.Opening.{Lists}
 use Rattle.reader_laws.specs.Troubled.{IsStuckBehind, IsStuckInShare, IsStuckInTruncs, OpensInTrouble}
 use Rattle.reader_laws.proofs.ListingFails.{listing_fails}
 use Rattle.reader_laws.proofs.ShareFails.{shares_fail, truncates_fail}
-use Rattle.reader_laws.proofs.Troubles.{fails_first, fails_rest, lawful_rest}
+use Rattle.mount_sound.proofs.Facts.{lawful_rest}
+use Rattle.reader_laws.proofs.Troubles.{fails_first, fails_rest}
 
 behind_fails : (lister caller : ℕ) (program : Tries Listing) (start : Moment) (events : List Event) (why : Stuck) → IsLawful start.state events → IsSoundAt start → Lists program → IsStuckBehind lister caller program events why → FailsByStore caller start.state events why
 behind_fails lister caller program start events why lawful sound lists b =

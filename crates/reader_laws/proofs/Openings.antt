@@ -40,7 +40,8 @@ use Rattle.gathering.proofs.Facts.{alike, all_at, among, among_left, among_right
 use Rattle.reader_laws.specs.Listing.{AreListed, HasListed, IsPackedAs}
 use Rattle.reader_laws.specs.Opened.{IsReaderOf, HasOpenReader}
 use Rattle.reader_laws.specs.Opening.{AreDealt, Portion, droppings_of, ReadsInTurn}
-use Rattle.reader_laws.specs.Sharing.{in_room, cover_before, IsShareOf}
+use Rattle.index_reader.specs.Hosts.{hosts_of}
+use Rattle.reader_laws.specs.Sharing.{in_room, host_in_room, cover_before, IsShareOf}
 use Rattle.reader_laws.proofs.Calling.{calls_append}
 use Rattle.reader_laws.proofs.Cuts.{same_head, same_rest, dropping_of, either_part, all_by, matching, IsPicked, WasGathered, picked, cut_rises, all_picked}
 use Rattle.reader_laws.proofs.Portions.{HasEach, all_of, HasAllOf, gathers-append}
@@ -182,6 +183,11 @@ cut_pieces end room cut gathered each flat lists pieces s rise tails same of_fla
 
 -- ---- the reader
 
+-- the hosts that droppings tell, in a room
+pub hosts_in_room : (room : ℕ) (ds : List Listed) → map (host_in_room room) (hosts_of ds) ≡ map (in_room room) ds
+hosts_in_room room [] = refl
+hosts_in_room room (d ∷ ds) = ap (λ l. in_room room d ∷ l) (hosts_in_room room ds)
+
 pub reader_of : (start end : Moment) (listing : Listing) (portions : List Portion) (shares : List Share) (truncs : List Trunc) (parts : Parts) (reader : OpenReader) (gathered cut : List Gathered) (each : List (List Entry)) → IsSoundAt end → HasView start end listing.room cut truncs → IsPicked listing.room gathered listing.droppings cut
     → SameElements (tails_of cut) (tails_of gathered) → ArePieces (covered_in end cut) [] listing.flat.pieces → ArePiecesOfEach each (pieces_of_each shares) → joined each ≡ tails_of gathered
     → IsGatheredOf listing shares truncs parts → IsReaderOf parts reader → parts.flat.covers ≡ counts_in end cut → HasOpenReader start end reader cut
@@ -192,7 +198,7 @@ reader_of start end listing portions shares truncs parts reader gathered cut eac
     let size : reader.size ≡ plain_size (changes_in end cut truncs) = made.size ∙ ap (size_from parts.flat.pieces) is.truncates ∙ sym (size_of_pieces end listing.room cut truncs parts.flat.pieces s view.rise pieces) in
     record {
       view = subst (λ r. HasView start end r cut reader.truncs) (sym room) (subst (λ ts. HasView start end listing.room cut ts) (sym told) view);
-      droppings = ap (λ ds. map (in_room reader.room) ds) (made.droppings ∙ is.droppings) ∙ ap (λ r. map (in_room r) listing.droppings) room ∙ sym picks.are;
+      hosts = ap (λ hs. map (host_in_room reader.room) hs) (made.hosts ∙ ap hosts_of is.droppings) ∙ hosts_in_room reader.room listing.droppings ∙ ap (λ r. map (in_room r) listing.droppings) room ∙ sym picks.are;
       pieces = subst (λ ts. ArePieces (entries_in (writes_in end cut)) ts reader.pieces) (sym made.truncates) (made.pieces (entries_in (writes_in end cut)) pieces);
       size = size ∙ ap (λ ts. plain_size (changes_in end cut ts)) (sym told);
       covers = made.covers ∙ covers;

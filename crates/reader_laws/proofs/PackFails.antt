@@ -24,13 +24,14 @@ use Rattle.story.specs.Program.{done}
 use Rattle.turn_object.specs.Callers.{made_by}
 use Rattle.flow.specs.declared.stuck.Stuck.{Stuck}
 use Rattle.flow.specs.Running.{Runs}
+use Rattle.flow.specs.Replies.{Tries, given, on_ok, damage, bytes_in, trouble}
 use Rattle.flow.proofs.Facts.{runs_in_two}
 use Rattle.index_reader.specs.declared.listing.Dropping.{Dropping as Listed}
 use Rattle.index_reader.specs.declared.entries.Tail.{Tail}
 use Rattle.index_reader.specs.FileReads.{next_part, parts_of, parts, bytes_left}
 use Rattle.index_reader.specs.PackRules.{pack_told}
 use Rattle.index_reader.specs.Packs.{no_tail, packed_path, head_fault, begins_covered, tail_past, writer_of, pack_tail, pack_rest, if_headed, head_then, pack_program, run_place}
-use Rattle.index_reader.specs.Replies.{Tries, given, on_ok, damage, number_in, bytes_in, trouble}
+use Rattle.index_reader.specs.Replies.{number_in}
 use Rattle.index_reader.proofs.Facts.{pack_told-packs}
 use Rattle.gathering.specs.Moments.{Moment, IsSoundAt, Dropping, IsNamed, Stood, Grows, HadItem, file_in_room, file_told, file_then, landed_by, landed, issued_by, moment_after, next_moment}
 use Rattle.gathering.specs.Seen.{IsSeen}

@@ -21,11 +21,12 @@ use Rattle.mount_shape.specs.Shape.{IsDrawnBy}
 use Rattle.mount_sound.specs.Owed.{IsLawful}
 use Rattle.flow.specs.declared.stuck.Stuck.{Stuck}
 use Rattle.flow.specs.Running.{Runs}
+use Rattle.flow.specs.Replies.{Tries, given, names_in, on_ok, trouble}
+use Rattle.flow.specs.Listed.{file_in}
 use Rattle.index_reader.specs.declared.listing.Listing.{Listing}
 use Rattle.index_reader.specs.declared.scanning.Scan.{Scan}
 use Rattle.index_reader.specs.Opening.{listed, listing_of, scans, top_program}
-use Rattle.index_reader.specs.Replies.{Tries, given, names_in, on_ok, trouble}
-use Rattle.index_reader.specs.Scanning.{file_in, nothing_found, scanned}
+use Rattle.index_reader.specs.Scanning.{nothing_found, scanned}
 use Rattle.index_reader.specs.Searching.{has_name}
 use Rattle.index_reader.specs.Tops.{hostdirs, shown, top_shows}
 use Rattle.gathering.specs.Moments.{Moment, IsSoundAt, Grows, HadItem, moment_after, next_moment}

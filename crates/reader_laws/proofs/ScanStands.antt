@@ -17,11 +17,12 @@ use Rattle.store_laws.proofs.Facts.{ordered_differ}
 use Rattle.mount_model.specs.Paths.{Name, index_path}
 use Rattle.flat_format.specs.declared.flat.Flat.{Flat}
 use Rattle.flow.specs.declared.stuck.Stuck.{Stuck}
+use Rattle.flow.specs.Listed.{file_in}
 use Rattle.index_reader.specs.declared.listing.Listing.{Listing}
 use Rattle.index_reader.specs.declared.scanning.Scan.{Scan}
 use Rattle.index_reader.specs.Items.{hostdir_item}
 use Rattle.index_reader.specs.Opening.{has_owner, is_of_host, listed, listing_of, lone_pack, uncovered, unless_lone, unless_uncovered}
-use Rattle.index_reader.specs.Scanning.{file_in, has_writer, owner, scanned, taken_all, unless_foreign}
+use Rattle.index_reader.specs.Scanning.{has_writer, owner, scanned, taken_all, unless_foreign}
 use Rattle.index_reader.specs.Searching.{has_name}
 use Rattle.index_reader.proofs.Facts.{hostdir_item-here}
 use Rattle.gathering.specs.Listing.{IsIndexName}

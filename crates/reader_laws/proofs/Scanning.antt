@@ -15,10 +15,11 @@ use Rattle.container_layout.specs.Paths.{IsAt, hostdir_of}
 use Rattle.container_layout.proofs.Facts.{one_item}
 use Rattle.mount_model.specs.Paths.{Name}
 use Rattle.flow.specs.declared.stuck.Stuck.{Stuck}
+use Rattle.flow.specs.Replies.{damage}
+use Rattle.flow.specs.Listed.{file_in}
 use Rattle.index_reader.specs.declared.scanning.Scan.{Scan}
 use Rattle.index_reader.specs.Items.{hostdir_item}
-use Rattle.index_reader.specs.Replies.{damage}
-use Rattle.index_reader.specs.Scanning.{file_in, nothing_found, owner, has_writer, placed, taken, taken_all, foreign_in, unless_foreign, scanned, owner_of}
+use Rattle.index_reader.specs.Scanning.{nothing_found, owner, has_writer, placed, taken, taken_all, foreign_in, unless_foreign, scanned, owner_of}
 use Rattle.index_reader.proofs.Facts.{hostdir_item-at, hostdir_item-here}
 use Rattle.gathering.specs.Moments.{Dropping, IsNamed}
 use Rattle.gathering.specs.Listing.{AreDroppingsOf}

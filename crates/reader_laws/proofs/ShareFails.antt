@@ -18,6 +18,7 @@ use Rattle.mount_model.specs.History.{Event, state_after}
 use Rattle.mount_sound.specs.Owed.{IsLawful}
 use Rattle.flow.specs.declared.stuck.Stuck.{Stuck}
 use Rattle.flow.specs.Running.{Runs}
+use Rattle.flow.specs.Replies.{Tries, on_ok}
 use Rattle.flow.proofs.Facts.{runs_in_two}
 use Rattle.index_reader.specs.declared.listing.Dropping.{Dropping as Listed}
 use Rattle.index_reader.specs.declared.listing.Listing.{Listing}
@@ -26,7 +27,6 @@ use Rattle.index_reader.specs.declared.sharing.Share.{Share}
 use Rattle.index_reader.specs.declared.sharing.Sofar.{Sofar}
 use Rattle.index_reader.specs.Covered.{cover_of}
 use Rattle.index_reader.specs.Packs.{no_tail, packed_path, pack_program}
-use Rattle.index_reader.specs.Replies.{Tries, on_ok}
 use Rattle.index_reader.specs.Sharing.{nothing, added, share_of, dropping_program, gathers, share_program}
 use Rattle.index_reader.specs.Tails.{tail_program}
 use Rattle.index_reader.specs.Truncs.{trunc_program}
@@ -92,7 +92,7 @@ one_fails caller room covers d m events why s lawful safe runs =
           (subst (λ p. Runs caller p events (Err why)) (cond-false d.packed (pack_program room (packed_path d.host d.writer) cover) (tail_program room d (no_tail cover)) unpacked) runs)
     ]
 
-gathers_fail : (caller room : ℕ) (covers : List Cover) (ds : List Listed) (m : Moment) (events : List Event) (old : Sofar) (why : Stuck) → IsSoundAt m → IsLawful m.state events → AllByRecursion (IsSafe m room covers) ds → Runs caller (gathers room covers ds old) events (Err why) → FailsByStore caller m.state events why
+pub gathers_fail : (caller room : ℕ) (covers : List Cover) (ds : List Listed) (m : Moment) (events : List Event) (old : Sofar) (why : Stuck) → IsSoundAt m → IsLawful m.state events → AllByRecursion (IsSafe m room covers) ds → Runs caller (gathers room covers ds old) events (Err why) → FailsByStore caller m.state events why
 gathers_fail caller room covers [] m events old why s lawful safe runs = absurd (no_ok (share_of old) why runs.1)
 gathers_fail caller room covers (d ∷ ds) m events old why s lawful safe runs =
     let next = on_ok (λ tail. gathers room covers ds (added tail old)) in

@@ -11,13 +11,13 @@ use Rattle.turn_object.specs.Callers.{made_by}
 use Rattle.mount_model.specs.History.{Event}
 use Rattle.flow.specs.declared.stuck.Stuck.{Stuck}
 use Rattle.flow.specs.Running.{Runs}
+use Rattle.flow.specs.Replies.{on_ok}
 use Rattle.flow.proofs.Facts.{runs_in_two}
 use Rattle.index_reader.specs.declared.listing.Dropping.{Dropping as Listed}
 use Rattle.index_reader.specs.declared.entries.Tail.{Tail}
 use Rattle.index_reader.specs.declared.sharing.Share.{Share}
 use Rattle.index_reader.specs.declared.sharing.Sofar.{Sofar}
 use Rattle.index_reader.specs.Covered.{cover_of}
-use Rattle.index_reader.specs.Replies.{on_ok}
 use Rattle.index_reader.specs.Runs.{pieces_of, merged_of}
 use Rattle.index_reader.specs.Sharing.{nothing, covered, added, share_of, dropping_program, gathers, share_program}
 use Rattle.index_reader.specs.Packs.{no_tail, packed_path, pack_program}

@@ -24,12 +24,13 @@ use Rattle.mount_sound.specs.Owed.{IsLawful}
 use Rattle.mount_sound.proofs.Facts.{in_order_take, logged_append, logged_take, order_append, order_drop, take_less}
 use Rattle.flow.specs.declared.stuck.Stuck.{Stuck}
 use Rattle.flow.specs.Running.{Runs}
+use Rattle.flow.specs.Replies.{Tries, bytes_in, damage, given, trouble}
 use Rattle.story.specs.Program.{done}
 use Rattle.turn_object.specs.Callers.{made_by}
 use Rattle.index_reader.specs.declared.listing.Dropping.{Dropping as Listed}
 use Rattle.index_reader.specs.declared.entries.Tail.{Tail}
 use Rattle.index_reader.specs.Packs.{no_tail}
-use Rattle.index_reader.specs.Replies.{Tries, bytes_in, damage, given, log_length_in, number_in, trouble}
+use Rattle.index_reader.specs.Replies.{log_length_in, number_in}
 use Rattle.index_reader.specs.Tails.{if_checked, if_logged, if_told, log_then as log_program, looked, next_read, reads_left, reads_on, tail_program}
 use Rattle.index_reader.proofs.TailLemmas.{reads_going_on}
 use Rattle.gathering.specs.Failing.{BytesOrTrouble}

@@ -17,10 +17,12 @@ use Rattle.story.specs.Program.{done}
 use Rattle.story.specs.Calls.{AreCallsOf}
 use Rattle.flow.specs.declared.stuck.Stuck.{Stuck}
 use Rattle.flow.specs.Running.{asking}
+use Rattle.flow.specs.Replies.{Tries, damage, bytes_in}
+use Rattle.flow.specs.Entries.{is_next}
 use Rattle.index_reader.specs.declared.listing.Dropping.{Dropping as Listed}
 use Rattle.index_reader.specs.declared.entries.Tail.{Tail}
-use Rattle.index_reader.specs.Replies.{Tries, damage, log_length_in, number_in, bytes_in}
-use Rattle.index_reader.specs.Entries.{is_next, longer, checked}
+use Rattle.index_reader.specs.Replies.{log_length_in, number_in}
+use Rattle.index_reader.specs.Entries.{longer, checked}
 use Rattle.index_reader.specs.Packs.{no_tail}
 use Rattle.index_reader.specs.Tails.{next_read, if_checked, looked, reads_left, reads_on, log_then, tail_program}
 use Rattle.index_reader.proofs.TailLemmas.{reads_going_on}

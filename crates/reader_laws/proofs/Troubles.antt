@@ -11,6 +11,7 @@ use Rattle.mount_model.specs.Step.{Answers, IsStep}
 use Rattle.mount_model.specs.History.{Event, state_after}
 use Rattle.mount_model.proofs.Facts.{step_cases, step_causes}
 use Rattle.mount_sound.specs.Owed.{IsLawful}
+use Rattle.mount_sound.proofs.Facts.{lawful_first, lawful_rest}
 use Rattle.flow.specs.declared.stuck.Stuck.{Stuck}
 use Rattle.flow.specs.declared.stuck.Stuck.TheVariants as stuck
 use Rattle.flow.specs.Running.{unbroken}
@@ -84,14 +85,6 @@ fails_later caller start before e later why lawful (is, inr memory) =
     (is, inr (found_any (λ (x : Event). (x.caller ≡ caller) × (x.reply ≡ NoMemory)) (before ++ e ∷ later) m.0 (among_later m.0 before e later m.1) m.2))
 
 -- ---- parts of a history
-
-pub lawful_rest : (start : State) (first rest : List Event) → IsLawful start (first ++ rest) → IsLawful (state_after start first) rest
-lawful_rest start [] rest lawful = lawful
-lawful_rest start (e ∷ first) rest lawful = lawful_rest e.after first rest lawful.2
-
-lawful_first : (start : State) (first rest : List Event) → IsLawful start (first ++ rest) → IsLawful start first
-lawful_first start [] rest lawful = tt
-lawful_first start (e ∷ first) rest lawful = (lawful.0, lawful.1, lawful_first e.after first rest lawful.2)
 
 among_first : (x : Event) (first rest : List Event) → Among x first → Among x (first ++ rest)
 among_first x [] rest a = absurd a

@@ -21,9 +21,10 @@ use Rattle.mount_sound.specs.Owed.{IsLawful}
 use Rattle.story.specs.Program.{done}
 use Rattle.flow.specs.declared.stuck.Stuck.{Stuck}
 use Rattle.flow.specs.Running.{Runs}
-use Rattle.index_reader.specs.Replies.{given, names_in, trouble}
-use Rattle.index_reader.specs.Truncs.{if_trunc, inserted, trunc_in, truncs_of, truncs_path, trunc_program}
-use Rattle.index_reader.proofs.Facts.{trunc_in-is}
+use Rattle.flow.specs.Replies.{given, names_in, trouble}
+use Rattle.flow.specs.Names.{trunc_in}
+use Rattle.index_reader.specs.Truncs.{if_trunc, inserted, truncs_of, truncs_path, trunc_program}
+use Rattle.flow.proofs.Facts.{trunc_in-is}
 use Rattle.gathering.specs.Moments.{Moment, IsSoundAt, moment_after}
 use Rattle.gathering.proofs.Facts.{file_of, grows_after, legal_first, named_file}
 use Rattle.reader_laws.specs.Failing.{FailsByStore, IsContainerAt}

@@ -24,9 +24,10 @@ use Rattle.mount_model.specs.History.{Event}
 use Rattle.mount_sound.specs.Items.{HasItem}
 use Rattle.flow.specs.declared.stuck.Stuck.{Stuck}
 use Rattle.flow.specs.Running.{unbroken}
-use Rattle.index_reader.specs.Replies.{damage, names_in}
-use Rattle.index_reader.specs.Truncs.{trunc_in, is_before, place_of, inserted, truncs_path, truncs_of, if_trunc}
-use Rattle.index_reader.proofs.Facts.{trunc_in-found, trunc_in-is}
+use Rattle.flow.specs.Replies.{damage, names_in}
+use Rattle.flow.specs.Names.{trunc_in}
+use Rattle.index_reader.specs.Truncs.{is_before, place_of, inserted, truncs_path, truncs_of, if_trunc}
+use Rattle.flow.proofs.Facts.{trunc_in-found, trunc_in-is}
 use Rattle.gathering.specs.Moments.{Moment, IsSoundAt}
 use Rattle.gathering.specs.Seen.{asked_in}
 use Rattle.gathering.specs.Listing.{IsTruncName, StampsRise, AreTruncsOf}

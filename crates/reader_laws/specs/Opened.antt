@@ -14,12 +14,13 @@ use Rattle.gathering.specs.Gathering.{Gathered}
 use Rattle.gathering.specs.View.{writes_in, changes_in}
 use Rattle.gathering.specs.Opening.{HasView, ListsTruncs}
 use Rattle.reader_laws.specs.Covering.{counts_in}
-use Rattle.reader_laws.specs.Sharing.{in_room}
+use Rattle.index_reader.specs.Hosts.{hosts_of}
+use Rattle.reader_laws.specs.Sharing.{host_in_room}
 
 -- The reader is what is made of what was gathered, as `OpenReader::new` makes it.
 pub record IsReaderOf (parts : Parts) (reader : OpenReader) : Type 0 where
   pub room : reader.room ≡ parts.room
-  pub droppings : reader.droppings ≡ parts.droppings
+  pub hosts : reader.hosts ≡ hosts_of parts.droppings
   pub covers : reader.covers ≡ parts.flat.covers
   pub truncates : reader.truncs ≡ parts.truncs
   pub size : reader.size ≡ size_from parts.flat.pieces parts.truncs
@@ -30,7 +31,7 @@ pub record IsReaderOf (parts : Parts) (reader : OpenReader) : Type 0 where
 -- truncates leave, its size is that of their plain file, and its covers are the cut's counts.
 pub record HasOpenReader (start end : Moment) (reader : OpenReader) (cut : List Gathered) : Type 0 where
   pub view : HasView start end reader.room cut reader.truncs
-  pub droppings : map (in_room reader.room) reader.droppings ≡ map (λ (g : Gathered). g.dropping) cut
+  pub hosts : map (host_in_room reader.room) reader.hosts ≡ map (λ (g : Gathered). g.dropping) cut
   pub pieces : ArePieces (entries_in (writes_in end cut)) reader.truncs reader.pieces
   pub size : reader.size ≡ plain_size (changes_in end cut reader.truncs)
   pub covers : reader.covers ≡ counts_in end cut

@@ -3,6 +3,7 @@ use Rattle.std.specs.Prelude.{◌≡◌, ℕ, List, [], ◌∷◌, ◌++◌, map
 use Rattle.std.specs.List.{AllByRecursion}
 use Rattle.plfs_types.specs.declared.entries.Cover.{Cover}
 use Rattle.plain_file.specs.Runs.{ArePieces}
+use Rattle.plain_file.specs.declared.parts.WriterHost.{WriterHost}
 use Rattle.index_reader.specs.declared.listing.Dropping.{Dropping as Listed}
 use Rattle.index_reader.specs.declared.entries.Tail.{Tail}
 use Rattle.index_reader.specs.declared.sharing.Share.{Share}
@@ -16,6 +17,10 @@ use Rattle.reader_laws.specs.Covering.{cover_with}
 -- a dropping that was listed, in its room
 abbrev pub in_room : ℕ → Listed → Dropping
 in_room room d = record { room = room; host = d.host; writer = d.writer }
+
+-- a writer in its room, by its host
+abbrev pub host_in_room : ℕ → WriterHost → Dropping
+host_in_room room h = record { room = room; host = h.host; writer = h.writer }
 
 -- the tail behind what a cover counts, as it was gathered of a dropping
 abbrev pub gathered_of : ℕ → Listed → Cover → Tail → Gathered

@@ -4,9 +4,9 @@ use Rattle.std.specs.List.{All}
 use Rattle.mount_model.specs.History.{Event}
 use Rattle.flow.specs.declared.stuck.Stuck.{Stuck}
 use Rattle.flow.specs.Running.{Runs}
+use Rattle.flow.specs.Replies.{Tries}
 use Rattle.index_reader.specs.declared.listing.Dropping.{Dropping as Listed}
 use Rattle.index_reader.specs.declared.listing.Listing.{Listing}
-use Rattle.index_reader.specs.Replies.{Tries}
 use Rattle.index_reader.specs.Sharing.{share_program}
 use Rattle.index_reader.specs.Truncs.{trunc_program}
 use Rattle.gathering.specs.Listing.{IsAmong}

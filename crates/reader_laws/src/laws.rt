@@ -10,6 +10,7 @@ ghost use Rattle.mount_model.specs.History.{Event, state_after};
 ghost use Rattle.mount_sound.specs.Owed.{IsLawful};
 ghost use Rattle.flow.specs.declared.stuck.Stuck.{Stuck};
 ghost use Rattle.flow.specs.Running.{Runs};
+ghost use Rattle.flow.specs.Replies.{Tries};
 ghost use Rattle.index_reader.specs.declared.gathered.Gathered.{Gathered as Parts};
 ghost use Rattle.index_reader.specs.declared.listing.Dropping.{Dropping as Listed};
 ghost use Rattle.index_reader.specs.declared.listing.Listing.{Listing};
@@ -17,7 +18,6 @@ ghost use Rattle.index_reader.specs.declared.opened.OpenReader.{OpenReader};
 ghost use Rattle.index_reader.specs.declared.sharing.Share.{Share};
 ghost use Rattle.index_reader.specs.Gathered.{IsGatheredOf, IsJoinedOf};
 ghost use Rattle.index_reader.specs.Reading.{read_program};
-ghost use Rattle.index_reader.specs.Replies.{Tries};
 ghost use Rattle.index_reader.specs.Sharing.{share_program};
 ghost use Rattle.index_reader.specs.Truncs.{trunc_program};
 ghost use Rattle.gathering.specs.Moments.{Moment, IsSoundAt, IsNamed, moment_after};
@@ -82,11 +82,11 @@ pub fn a_reader_opens_by_workers()
 pub fn an_open_reader_reads_its_file()
     ensures bytes { (caller : ℕ) (start end : Moment) (reader : OpenReader) (cut : List Gathered) (between reading : List Event) (at len : ℕ) (bytes : List ℕ)
         → IsLawful end.state (between ++ reading) → IsSoundAt end → HasOpenReader start end reader cut
-        → Runs caller (read_program reader.room reader.droppings (plan_of reader.pieces reader.size at len)) reading (Ok bytes)
+        → Runs caller (read_program reader.room reader.hosts (plan_of reader.pieces reader.size at len)) reading (Ok bytes)
         → bytes ≡ slice (view end cut reader.truncs) at len }
     ensures trouble { (caller : ℕ) (start end : Moment) (reader : OpenReader) (cut : List Gathered) (between reading : List Event) (at len : ℕ) (why : Stuck)
         → IsLawful end.state (between ++ reading) → IsSoundAt end → HasOpenReader start end reader cut
-        → Runs caller (read_program reader.room reader.droppings (plan_of reader.pieces reader.size at len)) reading (Err why)
+        → Runs caller (read_program reader.room reader.hosts (plan_of reader.pieces reader.size at len)) reading (Err why)
         → FailsByStore caller (state_after end.state between) reading why }
 {}
 

@@ -12,7 +12,7 @@ use crate::fields::{cut, number_field};
 use crate::printing::append_body;
 use crate::reading_outcomes::outcome;
 use crate::trouble::{ReportTrouble, Trouble};
-use plfs_types::{LogicalName, Name};
+use plfs_types::Name;
 use script_lang::{Line, Lines, Outcome};
 use std::alloc::Global;
 
@@ -100,11 +100,5 @@ fn lists_logical_names(outcome: &Outcome) -> bool
 fn are_logical(names: &[Name]) -> bool
     ensures { IsTrue result ↔ All IsLogicalName names.now }
 {
-    names.iter().all(|name| is_logical(name))
-}
-
-fn is_logical(name: &Name) -> bool
-    ensures { IsTrue result ↔ IsLogicalName name.now }
-{
-    LogicalName::read(name.bytes()).is_some()
+    names.iter().all(|name| name.is_logical())
 }

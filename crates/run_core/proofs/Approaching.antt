@@ -17,10 +17,10 @@ use Rattle.actor_core.specs.Progress.{Progress, idle, going, asked, handed, told
 use Rattle.actor_core.specs.Standings.{progress_of}
 use Rattle.run_core.specs.declared.player.Player.{Player}
 use Rattle.run_core.specs.Course.{Course}
-use Rattle.run_core.specs.Leading.{AreBy, GoesOn, MadeCall}
+use Rattle.run_core.specs.Leading.{AreBy, MadeCall}
 use Rattle.run_core.specs.Players.{course_at, course_left, IsSafeProgress, IsMade, IsFit, in_progress, lines_left}
 use Rattle.run_core.specs.Moving.{Approaches, Passes, Begins, IsDone}
-use Rattle.run_core.proofs.Leading.{leads_none, leads_both, by_both, went, went_both}
+use Rattle.run_core.proofs.Leading.{leads_none, leads_both, by_both}
 use Rattle.share_workers.proofs.Facts.{memory_both}
 use Rattle.run_core.proofs.Fitness.{idle_fit}
 use Rattle.run_core.proofs.Works.{AsksNext, TellsNext, its_line, same_some}
@@ -63,7 +63,7 @@ nearer old now new start mid end question reply so_far a made memory is same =
       left = same_left now new same (ap in_progress reached ∙ sym a.busy) ∙ so_far.left;
     }
 
-to_end : (n m : ℕ) (ahead after : List Line) (p q : Course) (calls : List Event) (line : Line) → ahead ≡ [] → after ≡ [] → m ≡ n → Finishes n p calls line q → ToEnd ahead line (performer n p ahead) calls (performer m q after)
+pub to_end : (n m : ℕ) (ahead after : List Line) (p q : Course) (calls : List Event) (line : Line) → ahead ≡ [] → after ≡ [] → m ≡ n → Finishes n p calls line q → ToEnd ahead line (performer n p ahead) calls (performer m q after)
 to_end n m ahead after p q calls line none none_after same t =
     let P : List Line × List Line × ℕ → Type 0 = λ z. ToEnd z.0 line (performer n p z.0) calls (performer z.2 q z.1) in
     subst P (λ i. (sym none i, sym none_after i, sym same i)) (q, t, refl)
@@ -148,12 +148,6 @@ not_done old new b some none done =
     let busy : in_progress (progress_of new.actor) ≡ 0 = is_none (progress_of new.actor) done.idle in
     let left : lines_left new ≡ lines_left old = b.left in
     omega (arith, ahead, queue, busy, left, some)
-
-pub went_near : (old now : Player) (start mid end : State) → Approaches old start now mid → GoesOn mid end → GoesOn start end
-went_near old now start mid end a further_on = went_both start mid end (went start mid a.events a.leads) further_on
-
-pub went_passed : (old new : Player) (start end : State) (line : Line) → Passes line old start new end → GoesOn start end
-went_passed old new start end line p = went start end p.events p.leads
 
 -- the statement in progress is at its end, with this line
 pub line_passes : (old now new : Player) (mid : Progress) (start end : State) (line : Line) → Approaches old start now end → (IsIdle (progress_of now.actor) → ⊥) → None ≡ ask_of (progress_of now.actor) → mid ≡ given (progress_of now.actor)

@@ -1,4 +1,5 @@
 -- What other crates may cite of this crate's proofs.
+pub use Rattle.run_core.proofs.BrokenPlays.{one_breaks}
 pub use Rattle.run_core.proofs.Capacity.{capacity}
 pub use Rattle.run_core.proofs.Caused.{none_has, play_caused, well_or_risen}
 pub use Rattle.run_core.proofs.Dealing.{own_both}

@@ -18,9 +18,8 @@ use Rattle.run_core.specs.Course.{own, through}
 use Rattle.run_core.specs.Written.{whose}
 use Rattle.run_core.specs.Players.{course_left, playing, lines_left, Stands}
 use Rattle.run_core.specs.Moving.{Passes}
-use Rattle.run_core.specs.Leading.{GoesOn}
 use Rattle.run_core.specs.World.{AllStand, At, CameToEnd, Tells, PassesAt}
-use Rattle.run_core.proofs.Leading.{leads_none, leads_both, went, went_both}
+use Rattle.run_core.proofs.Leading.{leads_none, leads_both}
 use Rattle.share_workers.proofs.Facts.{memory_both}
 use Rattle.run_core.proofs.Tables.{map_here, at_all, own_yes, own_no, fit_at, stand_fit}
 
@@ -110,7 +109,7 @@ came_both places more lines others between left old mid new start now end a b = 
 pub tells_none : (left : List Numbered) (lines : List Line) (players : List Player) (now : State) → AllStand left players now → Tells [] left lines players now lines players now
 tells_none left lines players now stand = record { told = []; lines = sym (append-nil lines); came = came_none left players now stand }
 
-whose_both : (first rest : List Numbered) → whose (first ++ rest) ≡ whose first ++ whose rest
+pub whose_both : (first rest : List Numbered) → whose (first ++ rest) ≡ whose first ++ whose rest
 whose_both [] rest = refl
 whose_both (s ∷ first) rest = ap (λ z. s.actor ∷ z) (whose_both first rest)
 
@@ -130,6 +129,3 @@ tells_more statements i s l m n old mid new start now end taken left a p =
       lines = p.lines ∙ (ap (λ z. z ++ p.line ∷ []) a.lines ∙ append_assoc l a.told (p.line ∷ []));
       came = subst (λ z. CameToEnd z (a.told ++ p.line ∷ []) rest old start new end) (sym places) both;
     }
-
-pub went_told : (of : List ℕ) (left : List Numbered) (l m : List Line) (old new : List Player) (start mid end : State) → Tells of left l old start m new mid → GoesOn mid end → GoesOn start end
-went_told of left l m old new start mid end t further_on = went_both start mid end (went start mid t.came.events t.came.leads) further_on

@@ -1,5 +1,7 @@
 pub mod Facts
 mod Approaching
+mod BrokenPlays
+mod BrokenTurns
 mod Capacity
 mod Caused
 mod Dealing
@@ -22,6 +24,7 @@ mod Works
 mod WorksCaused
 mod WorksText
 mod UnowedCalls
+mod LoneBreaks
 mod LoneWorks
 mod LoneSteps
 mod LonePlays

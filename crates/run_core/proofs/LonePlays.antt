@@ -24,10 +24,10 @@ use Rattle.run_core.proofs.Leading.{leads_none, leads_both}
 use Rattle.share_workers.proofs.Facts.{memory_both}
 use Rattle.run_core.specs.Making.{Makes, HasMade, lone_script}
 
-abbrev One : Type 0
+abbrev pub One : Type 0
 One = Performer Ask Reply (Result Share Stuck) Line
 
-abbrev lone : Course → List One
+abbrev pub lone : Course → List One
 lone left = performer 0 left [] ∷ []
 
 -- ---- one statement more
@@ -36,7 +36,7 @@ lone left = performer 0 left [] ∷ []
 pub made_none : (declared : ActorDecl) (now : State) → HasMade declared [] now [] (fresh declared.host declared.cap) now
 made_none declared now = record { events = []; leads = leads_none now; had_memory = tt; made = λ next. (refl, refl) }
 
-whose_both : (first rest : List Numbered) → whose (first ++ rest) ≡ whose first ++ whose rest
+pub whose_both : (first rest : List Numbered) → whose (first ++ rest) ≡ whose first ++ whose rest
 whose_both [] rest = refl
 whose_both (s ∷ first) rest = ap (λ z. s.actor ∷ z) (whose_both first rest)
 
@@ -50,7 +50,7 @@ ends_append (place ∷ places) more (line ∷ lines) others old mid new xs ys a 
     (a.0, a.1 ++ ys, a.2, ap (λ z. z ++ ys) a.3 ∙ append_assoc a.0 a.1 ys, a.4, ends_append places more lines others a.2 mid new a.1 ys a.5 b)
 
 -- what is done by statements is done by the first ones, and then by the others
-parted : (first rest : List Numbered) (next : Kept → Course) (kept : Kept) → one_by_one (first ++ rest) next kept ≡ one_by_one first (one_by_one rest next) kept
+pub parted : (first rest : List Numbered) (next : Kept → Course) (kept : Kept) → one_by_one (first ++ rest) next kept ≡ one_by_one first (one_by_one rest next) kept
 parted [] rest next kept = refl
 parted (s ∷ first) rest next kept = ap (λ (later : Kept → Course). then_line s.line later (work_of kept s.statement)) (λ i left. parted first rest next left i)
 
@@ -91,10 +91,10 @@ made_more declared statements s start now end lines line kept after place h m = 
 
 -- ---- a play
 
-abbrev IsFirst : Numbered → Type 0
+abbrev pub IsFirst : Numbered → Type 0
 IsFirst s = s.actor ≡ 0
 
-own_all : (statements : List Numbered) → All IsFirst statements → own 0 statements ≡ statements
+pub own_all : (statements : List Numbered) → All IsFirst statements → own 0 statements ≡ statements
 own_all [] all = refl
 own_all (s ∷ ss) all =
     let first : s.actor ≡ 0 = All-head IsFirst s ss all in

@@ -16,8 +16,8 @@ use Rattle.actor_core.specs.Progress.{Progress, idle, going, asked, handed, told
 use Rattle.actor_core.specs.Standings.{progress_of}
 use Rattle.actor_core.specs.Statements.{work_of}
 use Rattle.run_core.specs.Course.{Course}
-use Rattle.run_core.specs.Leading.{GoesOn, MadeCall}
-use Rattle.run_core.proofs.Leading.{leads_none, leads_both, went, went_both}
+use Rattle.run_core.specs.Leading.{MadeCall}
+use Rattle.run_core.proofs.Leading.{leads_none, leads_both}
 use Rattle.share_workers.proofs.Facts.{memory_both}
 use Rattle.run_core.specs.declared.lone_reader.LoneReader.{LoneReader}
 use Rattle.run_core.specs.Making.{Keeps, HasMadeOne}
@@ -92,12 +92,6 @@ nearer old now new start mid end question reply so_far a made memory is =
           let before = so_far.nears next (e ∷ more) line left (a.finishes next e more line left refl refl there) in
           subst (λ (z : List Event). Finishes 0 (rest_of (progress_of old.actor) next) z line left) (sym (append_assoc so_far.events (e ∷ []) more)) before;
     }
-
-pub went_near : (old now : LoneReader) (start mid end : State) → Nears old start now mid → GoesOn mid end → GoesOn start end
-went_near old now start mid end so_far further_on = went_both start mid end (went start mid so_far.events so_far.leads) further_on
-
-pub came_near : (old now : LoneReader) (start mid : State) → Nears old start now mid → GoesOn start mid
-came_near old now start mid so_far = went start mid so_far.events so_far.leads
 
 -- ---- its line
 

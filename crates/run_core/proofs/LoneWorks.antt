@@ -64,7 +64,7 @@ opens_comes kept stop name workers None = carried_comes (open_read_program name)
 reads_comes : (kept : Kept) (stop : Option Stop) (at len : ℕ) (reader : Option OpenReader) → ComesToLine (reads kept stop at len reader)
 reads_comes kept stop at len None = tt
 reads_comes kept stop at len (Some reader) =
-    carried_comes (read_program reader.room reader.droppings (plan_of reader.pieces reader.size at len)) stop (λ left result. finishes (read_from kept at result)) (finishes (stopped kept)) (λ left result. tt) tt
+    carried_comes (read_program reader.room reader.hosts (plan_of reader.pieces reader.size at len)) stop (λ left result. finishes (read_from kept at result)) (finishes (stopped kept)) (λ left result. tt) tt
 
 does_comes : (kept : Kept) (stop : Option Stop) (statement : Statement) → IsReading statement → ComesToLine (does kept stop statement)
 does_comes kept stop (Ropen name workers) is = opens_comes kept stop name workers kept.reader

@@ -6,6 +6,7 @@ use Rattle.store_api.specs.declared.step.Answer.{Answer}
 use Rattle.store_api.specs.declared.step.Answer.TheVariants as answer
 use Rattle.flow.specs.declared.stuck.Stuck.{Stuck}
 use Rattle.flow.specs.declared.stuck.Stuck.TheVariants as stuck
+use Rattle.flow.specs.Replies.{Tries, given, on_ok, room_in, trouble}
 use Rattle.story.specs.Program.{Program, done, ask, followed_by}
 use Rattle.mount_model.specs.declared.call.Call.{Call}
 use Rattle.mount_model.specs.declared.call.Call.TheVariants.{Find, Look}
@@ -15,7 +16,6 @@ use Rattle.mount_model.specs.declared.reply.Reply.{Reply}
 use Rattle.mount_model.specs.declared.reply.Reply.TheVariants.{Fault, NoMemory, Looked}
 use Rattle.mount_model.specs.Paths.{Name}
 use Rattle.mount_model.specs.Replies.{FitsCall, IsTrouble, refused, damaged, fault, no_memory}
-use Rattle.index_reader.specs.Replies.{Tries, given, on_ok, room_in, trouble}
 use Rattle.run_core.proofs.EndsWell.{is_no_fault}
 
 -- the result is no fault

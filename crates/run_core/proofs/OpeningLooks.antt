@@ -1,10 +1,10 @@
 -- The shares and the truncates of a reader that its actor opens by itself end in a fault only where one was answered.
 use Rattle.std.proofs.Common.{ℕ, ◌-◌, List, [], ◌∷◌, ◌++◌, map, Ok, refl}
 use Rattle.std.specs.List.{range_with_len}
+use Rattle.flow.specs.Replies.{Tries}
 use Rattle.story.specs.Program.{done}
 use Rattle.index_reader.specs.declared.listing.Listing.{Listing}
 use Rattle.index_reader.specs.declared.sharing.Share.{Share}
-use Rattle.index_reader.specs.Replies.{Tries}
 use Rattle.index_reader.specs.Truncs.{trunc_program}
 use Rattle.gather_flow.specs.Dealing.{dealt_to}
 use Rattle.actor_core.specs.Opened.{opens, if_truncs}

@@ -1,5 +1,5 @@
 -- Phases, one after the other.
-use Rattle.std.proofs.Common.{◌≡◌, ℕ, zero, suc, ◌+◌, List, [], ◌∷◌, ◌++◌, length, Some, refl, sym, ap, ◌∙◌, subst, map, append_assoc, append-nil, take, arith}
+use Rattle.std.proofs.Common.{◌≡◌, ℕ, zero, suc, ◌+◌, inr, List, [], ◌∷◌, ◌++◌, length, Some, refl, sym, ap, ◌∙◌, subst, map, append_assoc, append-nil, take, arith}
 use Rattle.std.specs.Prelude.{slice_get, All, Result}
 use Rattle.std.proofs.lemmas.List.Elements.{All-nil, All-cons}
 use Rattle.mount_model.specs.declared.call.Ask.{Ask}
@@ -22,11 +22,11 @@ use Rattle.run_core.specs.declared.player.Player.{Player}
 use Rattle.run_core.specs.Course.{Course, through, course_of}
 use Rattle.run_core.specs.Written.{is_greeting, whose, turns_of, written_of}
 use Rattle.run_core.specs.Cast.{cast_from}
-use Rattle.run_core.specs.Leading.{GoesOn}
+use Rattle.run_core.specs.Breaking.{BreakInOrder}
 use Rattle.run_core.specs.Play.{IsPlay}
 use Rattle.run_core.specs.Players.{course_at, playing, resting, IsMade, in_progress, Stands}
 use Rattle.run_core.specs.World.{AllStand, Dealt, TookTurns, Tells, PlayedPhase, PlayedSoFar, IsCast}
-use Rattle.run_core.proofs.Leading.{leads_none, leads_both, went, went_both}
+use Rattle.run_core.proofs.Leading.{leads_none, leads_both}
 use Rattle.share_workers.proofs.Facts.{memory_both}
 use Rattle.mount_sound.specs.Sound.{IsFine}
 use Rattle.run_core.proofs.Fitness.{idle_fit}
@@ -56,6 +56,13 @@ all_of_map P f (x ∷ xs) each = All-cons P (f x) (map f xs) (each 0 x refl) (al
 none_ahead : (later : List Phase) (players : List Player) (now : State) → AllStand [] players now → NoneAhead (map (resting later) players)
 none_ahead later players now stand = all_of_map (λ (one : Performer Ask Reply (Result Share Stuck) Line). one.ahead ≡ []) (resting later) players (λ i player here. (rests_of i player now (stand i player here)).ahead)
 
+-- whose statements of a phase were dealt has them still to make
+pub dealt_begins : (phase : Phase) (later : List Phase) (old dealt : List Player) (start : State) → AllStand [] old start → Dealt phase.statements old dealt → map (resting (phase ∷ later)) old ≡ map (playing later) dealt
+dealt_begins phase later old dealt start stand d =
+    alike (resting (phase ∷ later)) (playing later) old dealt d.long (λ i player here.
+    let b = d.each i player here in
+    (b.0, b.1, dealt_course i phase later b.0 player start (stand i b.0 b.1) b.2))
+
 -- the statements were dealt, the turns taken, and the rest was carried to its end
 pub played_phase : (phase : Phase) (l m : List Line) (old dealt turned new : List Player) (start between end : State) → AllStand [] old start → Dealt phase.statements old dealt → TookTurns (turns_of phase.turns) dealt start turned between
     → Tells (whose phase.statements) [] l turned between m new end → PlayedPhase phase l old start m new end
@@ -66,10 +73,7 @@ played_phase phase l m old dealt turned new start between end stand d t e = reco
   leads = leads_both start between end t.events e.came.events t.leads e.came.leads;
   had_memory = memory_both t.events e.came.events t.had_memory e.came.had_memory;
   played = λ later.
-      let begins : map (resting (phase ∷ later)) old ≡ map (playing later) dealt =
-      alike (resting (phase ∷ later)) (playing later) old dealt d.long (λ i player here.
-      let b = d.each i player here in
-      (b.0, b.1, dealt_course i phase later b.0 player start (stand i b.0 b.1) b.2)) in
+      let begins = dealt_begins phase later old dealt start stand d in
       let pauses : map (playing later) new ≡ map paused (map (resting later) new) =
       alike (playing later) (λ p. paused (resting later p)) new new refl (λ i player here. (player, here, waits i later player end (e.came.stand i player here)))
       ∙ sym (mapped_twice (resting later) paused new) in
@@ -92,6 +96,7 @@ no_phase players now stand = record {
   leads = leads_none now;
   had_memory = tt;
   played = λ later more others t. t;
+  begins = λ later more b. b;
   stand = stand;
   long = refl;
 }
@@ -109,6 +114,10 @@ one_phase_more phases i phase l m old mid new start between end taken a p =
           let T : List Phase × List Event × List Line → Type 0 = λ z. InTurns is_greeting (map written_of z.0) (map (resting z.0) old) z.1 z.2 in
           let lines : l ++ (p.told ++ others) ≡ m ++ others = sym (append_assoc l p.told others) ∙ ap (λ z. z ++ others) (sym p.lines) in
           subst T (λ k. (sym (append_assoc first (phase ∷ []) later) k, sym (append_assoc a.events p.events more) k, lines k)) here;
+      begins = λ later more b.
+          let here = a.begins (phase ∷ later) (p.events ++ more) (inr (p.events, more, p.told, map (resting later) new, refl, p.played later, b)) in
+          let T : List Phase × List Event → Type 0 = λ z. BreakInOrder is_greeting (map written_of z.0) (map (resting z.0) old) z.1 in
+          subst T (λ k. (sym (append_assoc first (phase ∷ []) later) k, sym (append_assoc a.events p.events more) k)) here;
       stand = p.stand;
       long = p.long ∙ a.long;
     } in
@@ -189,9 +198,3 @@ cast_more actors i one players player taken c number progress queue ahead =
           (at_end P 0 players player (λ j q there. subst (λ m. P m q) (sym (zero_more j)) (c.stand now fine j q there)) (subst (λ m. P m player) (number ∙ sym (zero_more (length players))) (stands now fine)) n p here);
       long = length_both players player ∙ (ap (λ n. n + 1) c.long ∙ (sym (length_both first one) ∙ ap length (sym taken)));
     }
-
-pub went_phase : (phases : List Phase) (lines : List Line) (old new : List Player) (start mid end : State) → PlayedSoFar phases lines old start new mid → GoesOn mid end → GoesOn start end
-went_phase phases lines old new start mid end p further_on = went_both start mid end (went start mid p.events p.leads) further_on
-
-pub went_played : (phase : Phase) (l m : List Line) (old new : List Player) (start end : State) → PlayedPhase phase l old start m new end → GoesOn start end
-went_played phase l m old new start end p = went start end p.events p.leads

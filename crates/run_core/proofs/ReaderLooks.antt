@@ -5,6 +5,7 @@ use Rattle.plfs_types.specs.declared.entries.Cover.{Cover}
 use Rattle.plfs_types.specs.declared.entries.Entry.{Entry}
 use Rattle.plfs_types.specs.declared.entries.Trunc.{Trunc}
 use Rattle.plfs_types.specs.declared.names.Path.{Path}
+use Rattle.plain_file.specs.declared.parts.WriterHost.{WriterHost}
 use Rattle.container_layout.specs.declared.items.Item.{Item}
 use Rattle.container_layout.specs.declared.items.Item.TheVariants as item
 use Rattle.container_layout.specs.Paths.{hostdir_of}
@@ -13,6 +14,9 @@ use Rattle.index_pack.specs.declared.trouble.TheConstants.{HEAD_SIZE}
 use Rattle.flat_format.specs.declared.flat.Flat.{Flat}
 use Rattle.read_plan.specs.declared.part.Part.{Part}
 use Rattle.flow.specs.declared.stuck.Stuck.{Stuck}
+use Rattle.flow.specs.Replies.{Tries, on_ok, names_in, bytes_in, damage}
+use Rattle.flow.specs.Entries.{is_next}
+use Rattle.flow.specs.Listed.{file_in}
 use Rattle.story.specs.Program.{done, followed_by}
 use Rattle.mount_model.specs.declared.call.Look.TheVariants.{Top, Length, Read, List as ListFolder}
 use Rattle.mount_model.specs.Paths.{Name, flats, metadata, truncs, flat_path, index_path, log_path}
@@ -22,9 +26,9 @@ use Rattle.index_reader.specs.declared.placing.Placed.{Placed}
 use Rattle.index_reader.specs.declared.placing.Placed.TheVariants.{Zeros, Logged}
 use Rattle.index_reader.specs.declared.scanning.Scan.{Scan}
 use Rattle.index_reader.specs.declared.sharing.Sofar.{Sofar}
-use Rattle.index_reader.specs.Replies.{Tries, on_ok, names_in, number_in, log_length_in, bytes_in, damage}
+use Rattle.index_reader.specs.Replies.{number_in, log_length_in}
 use Rattle.index_reader.specs.Covered.{cover_of}
-use Rattle.index_reader.specs.Entries.{is_next, longer, checked}
+use Rattle.index_reader.specs.Entries.{longer, checked}
 use Rattle.index_reader.specs.FileReads.{next_part, parts, parts_of, bytes_left}
 use Rattle.index_reader.specs.FlatRules.{flat_told}
 use Rattle.index_reader.specs.Items.{flat_item, hostdir_item}
@@ -33,12 +37,13 @@ use Rattle.index_reader.specs.Opening.{flat_or_damage, flat_program, if_newest, 
 use Rattle.index_reader.specs.PackRules.{pack_told}
 use Rattle.index_reader.specs.Packs.{begins_covered, head_fault, head_then, if_headed, no_tail, pack_program, pack_rest, pack_tail, packed_path, run_place, tail_past, writer_of}
 use Rattle.index_reader.specs.Reading.{placed_all, ends_at, spells, read_program}
-use Rattle.index_reader.specs.Scanning.{file_in, foreign_in, has_writer, nothing_found, scanned, taken, taken_all, unless_foreign}
+use Rattle.index_reader.specs.Scanning.{foreign_in, has_writer, nothing_found, scanned, taken, taken_all, unless_foreign}
 use Rattle.index_reader.specs.Searching.{has_name}
 use Rattle.index_reader.specs.Sharing.{added, dropping_program, gathers, nothing, share_program}
 use Rattle.index_reader.specs.Tails.{if_checked, if_logged, if_told, log_then, looked, next_read, reads, reads_of, tail_program}
 use Rattle.index_reader.specs.Tops.{access, foreign_at_top, hostdirs, required, shown, top_shows}
-use Rattle.index_reader.specs.Truncs.{if_trunc, inserted, trunc_in, trunc_program, truncs_of, truncs_path}
+use Rattle.flow.specs.Names.{trunc_in}
+use Rattle.index_reader.specs.Truncs.{if_trunc, inserted, trunc_program, truncs_of, truncs_path}
 use Rattle.run_core.proofs.Looking.{IsFine, Looks, either_of, either_looks, on_ok_looks, then_looks, look_looks, find_looks}
 
 -- ---- a file
@@ -212,5 +217,5 @@ spells_look room (Zeros len ∷ parts) sofar well = spells_look room parts (sofa
 spells_look room (Logged p ∷ parts) sofar well = look_looks well room (Read (log_path p.host p.writer) p.at p.len) bytes_in (log_path p.host p.writer) _
     (λ more bytes. either_looks more (nat_lt (length bytes) p.len) (done (Err (damage (log_path p.host p.writer) (ends_at p (length bytes))))) (spells room parts (sofar ++ take p.len bytes)) (λ w. refl) (spells_look room parts (sofar ++ take p.len bytes) more))
 
-pub read_looks : (room : ℕ) (ds : List Dropping) (parts : List Part) (well : Type 0) → Looks well (read_program room ds parts)
-read_looks room ds parts well = spells_look room (placed_all ds parts) [] well
+pub read_looks : (room : ℕ) (hosts : List WriterHost) (parts : List Part) (well : Type 0) → Looks well (read_program room hosts parts)
+read_looks room hosts parts well = spells_look room (placed_all hosts parts) [] well

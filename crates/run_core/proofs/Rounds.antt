@@ -18,9 +18,8 @@ use Rattle.run_core.specs.Course.{through}
 use Rattle.run_core.specs.Written.{is_greeting, turns_of}
 use Rattle.run_core.specs.Players.{course_left, playing}
 use Rattle.run_core.specs.Moving.{Turns, Advances, IsDone}
-use Rattle.run_core.specs.Leading.{GoesOn}
 use Rattle.run_core.specs.World.{AllFit, At, TookTurns}
-use Rattle.run_core.proofs.Leading.{leads_none, leads_both, went, went_both}
+use Rattle.run_core.proofs.Leading.{leads_none, leads_both}
 use Rattle.share_workers.proofs.Facts.{memory_both}
 use Rattle.run_core.proofs.Tables.{map_here, set_same, set_found, keep_all, keep_both, keep_at, fit_at}
 use Rattle.run_core.proofs.Turning.{done_turn}
@@ -115,7 +114,7 @@ pub one_turn_more : (taken place : ℕ) (old mid new : List Player) (start betwe
 one_turn_more taken place old mid new start between end a b =
     subst (λ z. TookTurns z old start new end) (replicate-append-replicate taken 1 place) (took_both (replicate taken place) (place ∷ []) old mid new start between end a b)
 
-turns_of_both : (first rest : List Turned) → turns_of (first ++ rest) ≡ turns_of first ++ turns_of rest
+pub turns_of_both : (first rest : List Turned) → turns_of (first ++ rest) ≡ turns_of first ++ turns_of rest
 turns_of_both [] rest = refl
 turns_of_both (t ∷ first) rest = ap (λ z. replicate t.count t.actor ++ z) (turns_of_both first rest) ∙ sym (append_assoc (replicate t.count t.actor) (turns_of first) (turns_of rest))
 
@@ -125,9 +124,6 @@ one_line_more turns i turned old mid new start between end is a b =
     let lines : turns_of (take (i + 1) turns) ≡ turns_of (take i turns) ++ replicate turned.count turned.actor =
     ap turns_of is ∙ (turns_of_both (take i turns) (turned ∷ []) ∙ ap (λ z. turns_of (take i turns) ++ z) (append-nil (replicate turned.count turned.actor))) in
     subst (λ z. TookTurns z old start new end) (sym lines) (took_both (turns_of (take i turns)) (replicate turned.count turned.actor) old mid new start between end a b)
-
-pub went_took : (turns : List ℕ) (old new : List Player) (start mid end : State) → TookTurns turns old start new mid → GoesOn mid end → GoesOn start end
-went_took turns old new start mid end t further_on = went_both start mid end (went start mid t.events t.leads) further_on
 
 -- one turn more
 pub turn_more : (taken place : ℕ) (old mid new : List Player) (start between end : State) → TookTurns (replicate taken place) old start mid between → At place mid (λ before after. Advances Turns before between after end) new → TookTurns (replicate (taken + 1) place) old start new end

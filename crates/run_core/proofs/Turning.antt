@@ -17,12 +17,12 @@ use Rattle.actor_core.specs.Standings.{progress_of}
 use Rattle.run_core.specs.declared.player.Player.{Player}
 use Rattle.run_core.specs.Course.{Course}
 use Rattle.run_core.specs.Written.{is_greeting}
-use Rattle.run_core.specs.Leading.{GoesOn, MadeCall}
+use Rattle.run_core.specs.Leading.{MadeCall}
 use Rattle.run_core.specs.Players.{course_at, course_left, IsSafeProgress, IsMade, IsFit, in_progress, lines_left}
 use Rattle.run_core.specs.Moving.{Comes, Turns, Advances, IsDone, Begins}
 use Rattle.mount_sound.specs.Sound.{IsFine}
 use Rattle.mount_sound.proofs.Facts.{step_fine}
-use Rattle.run_core.proofs.Leading.{leads_none, leads_both, by_then, went, went_both}
+use Rattle.run_core.proofs.Leading.{leads_none, leads_both, by_then}
 use Rattle.share_workers.proofs.Facts.{memory_both}
 use Rattle.std.specs.Option.{option_to_list}
 use Rattle.std.proofs.lemmas.List.Elements.{All-tail}
@@ -260,13 +260,6 @@ done_turn player now fit done = record {
   fit = fit;
   left = refl;
 }
-
--- what the calls led to, where it came no further
-pub went_on : (old now : Player) (start mid end : State) → Advances Comes old start now mid → GoesOn mid end → GoesOn start end
-went_on old now start mid end a further_on = went_both start mid end (went start mid a.events a.leads) further_on
-
-pub went_turned : (old now : Player) (start mid : State) → Advances Turns old start now mid → GoesOn start mid
-went_turned old now start mid a = went start mid a.events a.leads
 
 -- the next statement was begun after its calls
 pub begun : (old now next new : Player) (start mid end : State) → Advances Comes old start now mid → Advances Comes now mid next end → Begins next new → Advances Comes old start new end

@@ -13,6 +13,7 @@ use Rattle.mount_model.specs.declared.reply.Reply.TheVariants.{Fault as Faulted,
 use Rattle.mount_model.specs.Replies.{FitsCall, FitsAsk}
 use Rattle.flow.specs.declared.stuck.Stuck.{Stuck}
 use Rattle.flow.specs.declared.stuck.Stuck.TheVariants as stuck
+use Rattle.flow.specs.Replies.{on_ok}
 use Rattle.read_plan.specs.Plan.{plan_of}
 use Rattle.writer_flow.specs.declared.handle.WriterHandle.{WriterHandle}
 use Rattle.writer_flow.specs.Opening.{open_program}
@@ -34,7 +35,6 @@ use Rattle.index_reader.specs.Reading.{read_program}
 use Rattle.index_reader.specs.declared.listing.Listing.{Listing}
 use Rattle.index_reader.specs.declared.opened.OpenReader.{OpenReader}
 use Rattle.index_reader.specs.declared.sharing.Share.{Share}
-use Rattle.index_reader.specs.Replies.{on_ok}
 use Rattle.gather_flow.specs.Dealing.{dealt_to}
 use Rattle.script_lang.specs.declared.line.Outcome.{Outcome}
 use Rattle.script_lang.specs.declared.line.Outcome.TheVariants as of
@@ -225,14 +225,14 @@ reads_caused : (kept : Kept) (stop : Option Stop) (at len : ℕ) (reader : Optio
 reads_caused kept stop at len None = refused_none kept
 reads_caused kept stop at len (Some reader) =
     let plan = plan_of reader.pieces reader.size at len in
-    looked_caused ⊤ (read_program reader.room reader.droppings plan) stop (λ left result. finishes (read_from kept at result)) (finishes (stopped kept)) tt (read_looks reader.room reader.droppings plan ⊤)
+    looked_caused ⊤ (read_program reader.room reader.hosts plan) stop (λ left result. finishes (read_from kept at result)) (finishes (stopped kept)) tt (read_looks reader.room reader.hosts plan ⊤)
     (λ left result fine. or_stuck_none (λ content. of.Read at content) result (λ content is. absurd (cc)) fine) (stops_none kept)
 
 verifies_caused : (kept : Kept) (stop : Option Stop) (at : ℕ) (content : Data) (reader : Option OpenReader) → IsCaused (verifies kept stop at content reader)
 verifies_caused kept stop at content None = refused_none kept
 verifies_caused kept stop at content (Some reader) =
     let plan = plan_of reader.pieces reader.size at (length_of content) in
-    looked_caused ⊤ (read_program reader.room reader.droppings plan) stop (λ left result. finishes (verified kept at content result)) (finishes (stopped kept)) tt (read_looks reader.room reader.droppings plan ⊤)
+    looked_caused ⊤ (read_program reader.room reader.hosts plan) stop (λ left result. finishes (verified kept at content result)) (finishes (stopped kept)) tt (read_looks reader.room reader.hosts plan ⊤)
     (λ left result fine. or_stuck_none (λ found. difference at (first_difference 0 (bytes_of content) found)) result (λ found. difference_none at (first_difference 0 (bytes_of content) found)) fine) (stops_none kept)
 
 maps_caused : (kept : Kept) (reader : Option OpenReader) → IsCaused (maps kept reader)

@@ -11,6 +11,7 @@ use Rattle.mount_model.specs.State.{State}
 use Rattle.mount_model.specs.History.{Event}
 use Rattle.flow.specs.declared.stuck.Stuck.{Stuck}
 use Rattle.flow.specs.declared.stuck.Stuck.TheVariants as stuck
+use Rattle.flow.specs.Replies.{on_ok}
 use Rattle.writer_flow.specs.declared.handle.WriterHandle.{WriterHandle}
 use Rattle.read_plan.specs.Plan.{plan_of}
 use Rattle.writer_flow.specs.Opening.{open_program}
@@ -32,7 +33,6 @@ use Rattle.index_reader.specs.Reading.{read_program}
 use Rattle.index_reader.specs.declared.listing.Listing.{Listing}
 use Rattle.index_reader.specs.declared.opened.OpenReader.{OpenReader}
 use Rattle.index_reader.specs.declared.sharing.Share.{Share}
-use Rattle.index_reader.specs.Replies.{on_ok}
 use Rattle.script_lang.specs.declared.line.Line.{Line}
 use Rattle.script_lang.specs.declared.line.Outcome.{Outcome}
 use Rattle.script_lang.specs.declared.line.Outcome.TheVariants as of
@@ -135,12 +135,12 @@ opens_reader_text kept stop name workers None = carried_text (open_read_program 
 
 reads_text : (kept : Kept) (stop : Option Stop) (at len : ℕ) (reader : Option OpenReader) → HasText (reads kept stop at len reader)
 reads_text kept stop at len None = tt
-reads_text kept stop at len (Some reader) = carried_text (read_program reader.room reader.droppings (plan_of reader.pieces reader.size at len)) stop (λ left result. finishes (read_from kept at result)) (finishes (stopped kept)) (λ left result. or_stuck_text (λ content. of.Read at content) result (λ content. tt)) tt
+reads_text kept stop at len (Some reader) = carried_text (read_program reader.room reader.hosts (plan_of reader.pieces reader.size at len)) stop (λ left result. finishes (read_from kept at result)) (finishes (stopped kept)) (λ left result. or_stuck_text (λ content. of.Read at content) result (λ content. tt)) tt
 
 verifies_text : (kept : Kept) (stop : Option Stop) (at : ℕ) (content : Data) (reader : Option OpenReader) → HasText (verifies kept stop at content reader)
 verifies_text kept stop at content None = tt
 verifies_text kept stop at content (Some reader) =
-    carried_text (read_program reader.room reader.droppings (plan_of reader.pieces reader.size at (length_of content))) stop (λ left result. finishes (verified kept at content result)) (finishes (stopped kept)) (λ left result. or_stuck_text (λ found. difference at (first_difference 0 (bytes_of content) found)) result (λ found. difference_text at (first_difference 0 (bytes_of content) found))) tt
+    carried_text (read_program reader.room reader.hosts (plan_of reader.pieces reader.size at (length_of content))) stop (λ left result. finishes (verified kept at content result)) (finishes (stopped kept)) (λ left result. or_stuck_text (λ found. difference at (first_difference 0 (bytes_of content) found)) result (λ found. difference_text at (first_difference 0 (bytes_of content) found))) tt
 
 maps_text : (kept : Kept) (reader : Option OpenReader) → HasText (maps kept reader)
 maps_text kept None = tt

@@ -3,6 +3,8 @@ pub mod Written
 pub mod Cast
 pub mod Leading
 pub mod Play
+pub mod Breaking
+pub mod Broken
 pub mod Conditions
 pub mod Faults
 pub mod Players

@@ -16,6 +16,7 @@ use Rattle.run_core.specs.Leading.{Leads}
 use Rattle.share_workers.specs.Passes.{HadMemory}
 use Rattle.run_core.specs.declared.lone_reader.LoneReader.{LoneReader}
 use Rattle.run_core.specs.Making.{Keeps}
+use Rattle.run_core.specs.Broken.{BreaksOff}
 
 -- whatever is replied, its calls owe nothing of the mount's state, and it comes to its line
 abbrev pub IsPlain : Work → Type 0
@@ -51,3 +52,8 @@ pub record Nears (old : LoneReader) (start : State) (now : LoneReader) (mid : St
   pub leads : Leads start events mid
   pub had_memory : HadMemory events
   pub nears : (next : Kept → Course) (more : List Event) (line : Line) (left : Course) → Finishes 0 (rest_of (progress_of now.actor) next) more line left → Finishes 0 (rest_of (progress_of old.actor) next) (events ++ more) line left
+
+-- It was broken off: its calls, which lead from one state to the other, are a front of those that lead to its line. Only the last one may have been refused memory.
+abbrev pub IsBroken : LoneReader → State → State → Type 0
+IsBroken old start end =
+    BreaksOff (λ events. (next : Kept → Course) → (more : List Event) × (line : Line) × (left : Course) × Finishes 0 (rest_of (progress_of old.actor) next) (events ++ more) line left) start end

@@ -11,6 +11,7 @@ use Rattle.actor_core.specs.Standings.{progress_of}
 use Rattle.run_core.specs.declared.player.Player.{Player}
 use Rattle.run_core.specs.Written.{is_greeting, written_of}
 use Rattle.run_core.specs.Leading.{Leads}
+use Rattle.run_core.specs.Breaking.{BreakInOrder}
 use Rattle.share_workers.specs.Passes.{HadMemory}
 use Rattle.script_lang.specs.declared.script.ActorDecl.{ActorDecl}
 use Rattle.run_core.specs.Cast.{cast_from}
@@ -98,6 +99,9 @@ pub record PlayedSoFar (phases : List Phase) (lines : List Line) (old : List Pla
   pub played : (later : List Phase) (more : List Event) (others : List Line)
       → InTurns is_greeting (map written_of later) (map (resting later) new) more others
       → InTurns is_greeting (map written_of (phases ++ later)) (map (resting (phases ++ later)) old) (events ++ more) (lines ++ others)
+  pub begins : (later : List Phase) (more : List Event)
+      → BreakInOrder is_greeting (map written_of later) (map (resting later) new) more
+      → BreakInOrder is_greeting (map written_of (phases ++ later)) (map (resting (phases ++ later)) old) (events ++ more)
   pub stand : AllStand [] new end
   pub long : length new ≡ length old
 

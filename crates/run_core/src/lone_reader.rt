@@ -1,11 +1,10 @@
 //! A reader by itself on a mount: one actor opens a file and reads it piece by piece, and who drives it may choose each
 //! statement by the lines before.
-ghost use Rattle.std.specs.Prelude.{IfOk};
+ghost use Rattle.std.specs.Prelude.{IfOk, OnErr};
 ghost use Rattle.script_lang.specs.Ranges.{FitsActor, FitsStatement};
 ghost use Rattle.actor_core.specs.declared.kept.Kept.{Kept};
 ghost use Rattle.actor_core.specs.Progress.{fresh};
 ghost use Rattle.actor_core.specs.Standings.{progress_of};
-ghost use Rattle.run_core.specs.Leading.{GoesOn};
 
 use crate::unowed::call_unowed;
 use actor_core::Actor;
@@ -24,7 +23,8 @@ pub struct LoneReader {
 
 impl LoneReader {
     ghost use Rattle.run_core.specs.Making.{Keeps, IsAtRest, IsReading, HasMadeOne};
-    ghost use Rattle.run_core.specs.Working.{IsPlainProgress, Carries};
+    ghost use Rattle.run_core.specs.Broken.{OneIsBroken};
+    ghost use Rattle.run_core.specs.Working.{IsPlainProgress, Carries, IsBroken};
 
     /// One that has done nothing yet.
     pub fn new(alloc: Global, declared: ActorDecl) -> LoneReader
@@ -37,8 +37,8 @@ impl LoneReader {
         }
     }
 
-    /// Opens a reader, or reads from the one that is open, by calls of actor 0. After `NoMemory` it makes no further
-    /// statement.
+    /// Opens a reader, or reads from the one that is open, by calls of actor 0. After `NoMemory` it has made a front
+    /// of the statement's calls, and makes no further statement.
     pub fn make<S: Store + Drop, C: Clock + Drop>(
         &mut self,
         mount: &mut Mount<S, C>,
@@ -49,7 +49,7 @@ impl LoneReader {
         requires reads { IsReading statement.statement }
         ensures made { IfOk result (λ line. (kept : Kept) → Keeps self.old kept → HasMadeOne statement kept mount.old line self.new mount.new) }
         ensures rests { IfOk result (λ line. IsAtRest self.new) }
-        ensures goes_on { GoesOn mount.old mount.new }
+        ensures broken { OnErr result ((kept : Kept) → Keeps self.old kept → OneIsBroken statement kept mount.old mount.new) }
     {
         let Numbered {
             line,
@@ -68,7 +68,7 @@ impl LoneReader {
     ) -> Result<Line, NoMemory>
         requires { IsPlainProgress (progress_of self.old.actor) }
         ensures carries { IfOk result (λ line. Carries self.old mount.old line self.new mount.new) }
-        ensures goes_on { GoesOn mount.old mount.new }
+        ensures broken { OnErr result (IsBroken self.old mount.old mount.new) }
     {
         while let Some(ask) = self.actor.next()? {
             let reply = call_unowed(mount, &ask);

@@ -1,7 +1,7 @@
 //! One phase.
-ghost use Rattle.std.specs.Prelude.{◌≡◌, ◌<◌, [], OnOk, All, length};
+ghost use Rattle.std.specs.Prelude.{◌≡◌, ◌<◌, [], OnOk, OnErr, All, length};
 ghost use Rattle.script_lang.specs.Ranges.{FitsPhase};
-ghost use Rattle.run_core.specs.Leading.{GoesOn};
+ghost use Rattle.run_core.specs.Broken.{PhaseIsBroken, PlayIsBroken};
 ghost use Rattle.run_core.specs.World.{AllStand, Dealt, PlayedPhase, PlayedSoFar};
 
 use crate::ending::finish;
@@ -44,7 +44,7 @@ pub(crate) fn play_phase<S: Store + Drop, C: Clock + Drop>(
     requires fits { FitsPhase (length players.old) phase.now }
     requires stand { AllStand [] players.old mount.old }
     ensures plays { OnOk result (PlayedPhase phase.now lines.old players.old mount.old lines.new players.new mount.new) }
-    ensures goes_on { GoesOn mount.old mount.new }
+    ensures broken { OnErr result (PhaseIsBroken phase.now players.old mount.old mount.new) }
 {
     let statements = phase.statements.as_slice();
     deal(alloc, players, statements)?;
@@ -66,7 +66,7 @@ pub(crate) fn play_all<S: Store + Drop, C: Clock + Drop>(
     requires stand { AllStand [] players.old mount.old }
     requires empty { lines.old ≡ [] }
     ensures played { OnOk result (PlayedSoFar phases.now lines.new players.old mount.old players.new mount.new) }
-    ensures goes_on { GoesOn mount.old mount.new }
+    ensures broken { OnErr result (PlayIsBroken phases.now players.old mount.old mount.new) }
 {
     for phase in phases {
         play_phase(alloc, mount, players, phase, lines)?;

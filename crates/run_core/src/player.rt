@@ -1,5 +1,5 @@
 //! One actor of a run.
-ghost use Rattle.std.specs.Prelude.{◌≡◌, [], ◌∷◌, ◌++◌, true, false, All, IfOk, OnOk, List};
+ghost use Rattle.std.specs.Prelude.{◌≡◌, [], ◌∷◌, ◌++◌, true, false, All, IfOk, OnOk, OnErr, List};
 ghost use Rattle.std.specs.Option.{option_to_list};
 ghost use Rattle.actor_core.specs.Progress.{idle, fresh, IsIdle, waiting_line, line_taken};
 ghost use Rattle.actor_core.specs.Standings.{progress_of};
@@ -72,7 +72,7 @@ impl Player {
 
 impl Player {
     ghost use Rattle.std.specs.Prelude.{◌<◌, length};
-    ghost use Rattle.run_core.specs.Leading.{GoesOn};
+    ghost use Rattle.run_core.specs.Broken.{TurnBreaks};
     ghost use Rattle.run_core.specs.Players.{IsFit, IsMade};
     ghost use Rattle.run_core.specs.Moving.{Advances, Comes, Turns, Begins, IsDone};
 
@@ -86,7 +86,7 @@ impl Player {
         ensures ended { IfOk result (λ called. called ≡ false → Advances Comes self.old mount.old self.new mount.new) }
         ensures idle { IfOk result (λ called. called ≡ false → IsIdle (progress_of self.new.actor)) }
         ensures queue { OnOk result (self.new.queue.items ≡ self.old.queue.items) }
-        ensures goes_on { GoesOn mount.old mount.new }
+        ensures broken { OnErr result (TurnBreaks self.old mount.old mount.new) }
     {
         while let Some(ask) = self.actor.next()? {
             let free = greets(&ask.call);
@@ -129,7 +129,7 @@ impl Player {
         requires { IsFit self.old mount.old }
         ensures turns { OnOk result (Advances Turns self.old mount.old self.new mount.new) }
         ensures done { IfOk result (λ called. called ≡ false → IsDone self.new) }
-        ensures goes_on { GoesOn mount.old mount.new }
+        ensures broken { OnErr result (TurnBreaks self.old mount.old mount.new) }
     {
         'turn: loop {
             if self.go_on(mount)? {
@@ -144,7 +144,7 @@ impl Player {
 
 impl Player {
     ghost use Rattle.std.specs.Prelude.{◌≤◌};
-    ghost use Rattle.run_core.specs.Leading.{GoesOn};
+    ghost use Rattle.run_core.specs.Broken.{PassBreaks};
     ghost use Rattle.run_core.specs.Players.{IsFit, IsMade, lines_left};
     ghost use Rattle.run_core.specs.Moving.{Begins, Passes};
 
@@ -171,7 +171,7 @@ impl Player {
         requires busy { IsIdle (progress_of self.old.actor) → ⊥ }
         requires none_ahead { self.old.ahead.items ≡ [] }
         ensures passes { IfOk result (λ line. Passes line self.old mount.old self.new mount.new) }
-        ensures goes_on { GoesOn mount.old mount.new }
+        ensures broken { OnErr result (PassBreaks self.old mount.old mount.new) }
     {
         while let Some(ask) = self.actor.next()? {
             let reply = call(mount, self.number, &ask);
@@ -192,7 +192,7 @@ impl Player {
         requires fit { IsFit self.old mount.old }
         requires some { 1 ≤ lines_left self.old }
         ensures passes { IfOk result (λ line. Passes line self.old mount.old self.new mount.new) }
-        ensures goes_on { GoesOn mount.old mount.new }
+        ensures broken { OnErr result (PassBreaks self.old mount.old mount.new) }
     {
         if let Some(line) = self.ahead.pop_front() {
             return Ok(line);

@@ -1,11 +1,11 @@
 //! Playing a script.
-ghost use Rattle.std.specs.Prelude.{◌≡◌, [], IfOk, All, length};
+ghost use Rattle.std.specs.Prelude.{◌≡◌, [], IfOk, OnErr, All, length};
 ghost use Rattle.plfs_types.specs.Counts.{HasRisen};
 ghost use Rattle.mount_sound.specs.Sound.{IsFine};
 ghost use Rattle.script_lang.specs.Ranges.{FitsActor};
 ghost use Rattle.report_text.specs.Text.{HaveText};
 ghost use Rattle.run_core.specs.Conditions.{IsPlayable};
-ghost use Rattle.run_core.specs.Leading.{GoesOn};
+ghost use Rattle.run_core.specs.Breaking.{IsPlayBroken};
 ghost use Rattle.run_core.specs.Play.{IsPlay};
 ghost use Rattle.run_core.specs.Faults.{HasFault};
 ghost use Rattle.run_core.specs.World.{IsCast};
@@ -40,7 +40,8 @@ fn cast_of(alloc: Global, actors: &[ActorDecl]) -> Result<Vec<Player>, NoMemory>
 }
 
 /// Plays the script's actors by their written turns, each under its place in the declarations, and tells one line a statement, in the order in which the script has
-/// the statements. Statements go on after a fault or damage. Want of memory ends it. The mount's state is fine, as each is
+/// the statements. Statements go on after a fault or damage. Want of memory ends it: the calls that
+/// were made until then are a front of those of a play, and only the last one may have been refused memory. The mount's state is fine, as each is
 /// that was mounted and that its calls lead to.
 pub fn play<S: Store + Drop, C: Clock + Drop>(
     alloc: Global,
@@ -50,7 +51,7 @@ pub fn play<S: Store + Drop, C: Clock + Drop>(
     requires playable { IsPlayable script.now }
     requires fine { IsFine mount.old }
     ensures plays { IfOk result (λ lines. IsPlay script.now mount.old lines mount.new) }
-    ensures goes_on { GoesOn mount.old mount.new }
+    ensures broken { OnErr result (IsPlayBroken script.now mount.old mount.new) }
     ensures text { IfOk result HaveText }
     ensures cause { IfOk result (λ lines. HasFault lines → HasRisen mount.old.store.faults mount.new.store.faults) }
 {

@@ -1,6 +1,6 @@
 //! The written turns of a phase.
-ghost use Rattle.std.specs.Prelude.{◌≡◌, ◌<◌, [], ◌∷◌, false, Some, IfOk, OnOk, All, length, replicate, slice_get};
-ghost use Rattle.run_core.specs.Leading.{GoesOn};
+ghost use Rattle.std.specs.Prelude.{◌≡◌, ◌<◌, [], ◌∷◌, false, Some, IfOk, OnOk, OnErr, All, length, replicate, slice_get};
+ghost use Rattle.run_core.specs.Broken.{BreaksAt, TurnBreaks, TurnsBreak};
 ghost use Rattle.run_core.specs.Written.{turns_of as written_turns};
 ghost use Rattle.run_core.specs.Moving.{Advances, Turns, IsDone};
 ghost use Rattle.run_core.specs.World.{AllFit, At, TookTurns};
@@ -23,7 +23,7 @@ fn turn<S: Store + Drop, C: Clock + Drop>(
     requires fit { AllFit players.old mount.old }
     ensures turned { OnOk result (At place players.old (λ before after. Advances Turns before mount.old after mount.new) players.new) }
     ensures done { IfOk result (λ called. called ≡ false → (player : ThePlayer) → slice_get players.new place ≡ Some player → IsDone player) }
-    ensures goes_on { GoesOn mount.old mount.new }
+    ensures broken { OnErr result (BreaksAt (λ player. TurnBreaks player mount.old mount.new) place players.old) }
 {
     let player = &mut players[place];
     let called = player.take_turn(mount)?;
@@ -39,7 +39,7 @@ fn turns_of<S: Store + Drop, C: Clock + Drop>(
     requires there { turned.actor < length players.old }
     requires fit { AllFit players.old mount.old }
     ensures took { OnOk result (TookTurns (replicate turned.count turned.actor) players.old mount.old players.new mount.new) }
-    ensures goes_on { GoesOn mount.old mount.new }
+    ensures broken { OnErr result (TurnsBreak (replicate turned.count turned.actor) players.old mount.old mount.new) }
 {
     for _i in 0..turned.count {
         if !turn(mount, players, turned.actor as usize)? {
@@ -58,7 +58,7 @@ pub(crate) fn take_turns<S: Store + Drop, C: Clock + Drop>(
     requires there { All (λ turned. turned.actor < length players.old) turns.now }
     requires fit { AllFit players.old mount.old }
     ensures took { OnOk result (TookTurns (written_turns turns.now) players.old mount.old players.new mount.new) }
-    ensures goes_on { GoesOn mount.old mount.new }
+    ensures broken { OnErr result (TurnsBreak (written_turns turns.now) players.old mount.old mount.new) }
 {
     for turned in turns {
         turns_of(mount, players, *turned)?;

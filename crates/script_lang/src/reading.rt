@@ -14,10 +14,8 @@ use crate::flaw::Flaw;
 use crate::script::Script;
 use crate::trouble::{Kind, ScriptTrouble};
 use crate::words::cut;
+use plfs_types::MAX_SCRIPT;
 use std::alloc::Global;
-
-/// The most bytes of a script.
-const MAX_SCRIPT: usize = 1 << 20;
 
 // The flaw of the line of this number.
 fn trouble(line: u64, flaw: Flaw) -> ScriptTrouble

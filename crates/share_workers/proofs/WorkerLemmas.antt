@@ -19,8 +19,8 @@ use Rattle.story.specs.Safe.{PassSafe}
 use Rattle.story.specs.Going.{HasMade}
 use Rattle.story.proofs.Facts.{made_more, made_none, pass_goes, pass_may}
 use Rattle.share_workers.specs.Passes.{HadMemory, ThePass, TheTurn}
-use Rattle.share_workers.specs.Workers.{HasRead, IsWithin}
-use Rattle.share_workers.proofs.Facts.{memory_both}
+use Rattle.share_workers.specs.Workers.{HasBegun, HasRead, IsWithin}
+use Rattle.share_workers.proofs.Facts.{before_last, memory_both, none_refused}
 
 abbrev ready_at : {X : Type 0} → Program Call Reply X → Standing Call Reply X
 ready_at program = ready program
@@ -104,6 +104,25 @@ module _ {P : Type 0} (turn : TheTurn P) {X : Type 0} where
         mine = called.mine ∙ (ap (λ (z : List Event). z ++ entry called.caller (unbroken call) reply called.after ∷ []) w.mine ∙ append_assoc (mine_of first) w.calls (entry called.caller (unbroken call) reply called.after ∷ []));
         memory = memory_both w.calls (entry called.caller (unbroken call) reply called.after ∷ []) w.memory (memory, tt);
         safe = pass_goes IsStep Permits (start_of turn) (front now) (front next) (unbroken call) k reply w.after.known.own called legal a.safe;
+      }
+
+  -- broken off, without a call more
+  pub within_begun : (first now : ThePass) (program : Program Call Reply X) (s : Standing Call Reply X) → IsWithin turn first program now s → HasBegun (front first) (asking program) (front now)
+  within_begun first now program s w = record { left = asking w.left; made = w.made; calls = w.calls; mine = w.mine; memory = none_refused w.calls w.memory }
+
+  -- behind a call more
+  pub within_breaks : (first now next : ThePass) (program : Program Call Reply X) (s : Standing Call Reply X) (call : Call) (reply : Reply) → IsWithin turn first program now s → Some call ≡ next_of s
+      → IsCalled IsStep Permits (start_of turn) (front now) (unbroken call) reply (front next) → HasBegun (front first) (asking program) (front next)
+  within_breaks first now next program s call reply w some called =
+      let a = within_asks first now program s call w some in
+      let k : Reply → Program Ask Reply X = λ r. asking (a.next r) in
+      let e : Event = entry called.caller (unbroken call) reply called.after in
+      record {
+        left = k reply;
+        made = made_more IsStep Permits (start_of turn) (front first) (front now) (front next) (asking program) (unbroken call) k reply w.after.known.own a.made called;
+        calls = w.calls ++ e ∷ [];
+        mine = called.mine ∙ (ap (λ (z : List Event). z ++ e ∷ []) w.mine ∙ append_assoc (mine_of first) w.calls (e ∷ []));
+        memory = before_last w.calls e w.memory;
       }
 
   ends_so : (first now : ThePass) (program : Program Call Reply X) (left : Program Call Reply X) (result : X) → HasMade (front first) (asking program) (front now) (asking left) → (calls : List Event) → mine_of now ≡ mine_of first ++ calls → HadMemory calls

@@ -2,10 +2,10 @@
 use Rattle.std.proofs.Common.{◌≡◌, ℕ, zero, suc, ◌+◌, ◌<◌, arith, true, Bool, List, [], ◌∷◌, ◌++◌, length, take, map, Result, refl, sym, ap, ◌∙◌, subst, length-append, append_assoc}
 use Rattle.std.proofs.Math.Seq.{take-append_seam}
 use Rattle.std.proofs.lemmas.List.{append-nil, length-map, map-append}
-use Rattle.std.proofs.lemmas.List.Elements.{All-nil, All-push}
+use Rattle.std.proofs.lemmas.List.Elements.{All-cons, All-head, All-nil, All-push, All-tail}
 use Rattle.std.specs.List.{All}
 use Rattle.std.specs.Prelude.{slice_index_or, Ok, Err, IfOk}
-use Rattle.turn_object.specs.History.{StartsWith, state_after}
+use Rattle.turn_object.specs.History.{StartsWith, entry, state_after}
 use Rattle.turn_object.specs.Ended.{as_ended}
 use Rattle.turn_object.specs.Front.{IsLegalFront}
 use Rattle.turn_object.specs.Pass.{start_of, front, parts_of, mine_of, seen_of, ended_of, IsPassOf}
@@ -13,14 +13,16 @@ use Rattle.turn_object.proofs.Facts.{legal_given}
 use Rattle.flow.specs.declared.stuck.Stuck.{Stuck}
 use Rattle.flow.specs.Running.{asking}
 use Rattle.flow.specs.Standing.{ready}
+use Rattle.flow.specs.Replies.{Tries}
+use Rattle.mount_model.specs.declared.reply.Reply.TheVariants.{NoMemory}
+use Rattle.mount_model.specs.State.{State}
 use Rattle.mount_model.specs.Step.{IsStep}
 use Rattle.mount_model.specs.History.{Event}
 use Rattle.mount_sound.specs.Owed.{Permits}
 use Rattle.index_reader.specs.declared.sharing.Share.{Share}
 use Rattle.index_reader.specs.declared.sharing.ShareRead.{ShareRead}
-use Rattle.index_reader.specs.Replies.{Tries}
 use Rattle.index_reader.specs.Stages.{share_standing}
-use Rattle.story.specs.Program.{done}
+use Rattle.story.specs.Program.{ask, done}
 use Rattle.story.specs.Safe.{AreFree, IsSafe, PassSafe}
 use Rattle.story.specs.Calls.{AreCallsOf, AreCallsOfEach}
 use Rattle.story.specs.MakesCalls.{with_numbers}
@@ -28,9 +30,9 @@ use Rattle.story.specs.Going.{IsNewTo, HasJoined}
 use Rattle.story.proofs.Facts.{absent_made, took_more, took_none}
 use Rattle.gather_flow.specs.Workers.{Reading, IsMachineOf, AreMachinesOf}
 use Rattle.share_workers.specs.declared.worker.Part.TheVariants.{ToRead, Read}
-use Rattle.share_workers.specs.Passes.{HadMemory, View, ThePass, TheTurn, IsAfter}
+use Rattle.share_workers.specs.Passes.{HadMemory, HadMemoryBeforeLast, View, ThePass, TheTurn, IsAfter}
 use Rattle.share_workers.proofs.WorkerLemmas.{same_ready}
-use Rattle.share_workers.specs.Workers.{Reader, HasRead, IsGiven, MayRead, CanRead, Works, EachWorks, HasWorked, EachHasWorked, CanJoin, HaveRead, calls_of_worker, Joins, Gathers}
+use Rattle.share_workers.specs.Workers.{AreFrontOf, AreFrontsOfEach, EachHasStarted, HasBegun, HasStarted, HaveBegun, Reader, HasRead, IsGiven, MayRead, CanRead, Works, EachWorks, HasWorked, EachHasWorked, CanJoin, HaveRead, calls_of_worker, Joins, Gathers}
 
 same_flow : (a b : ShareRead) → ToRead a ≡ ToRead b → a ≡ b
 same_flow a b e = cc
@@ -65,6 +67,14 @@ as_long [] (flow ∷ works) machines = absurd machines
 as_long (program ∷ programs) [] machines = absurd machines
 as_long (program ∷ programs) (flow ∷ works) machines = ap (λ n. suc n) (as_long programs works machines.1)
 
+-- whatever a program has asked, it can come to its end
+comes_to_end : (program : Reading) (now : State) → (more : List Event) × (result : Result Share Stuck) × AreCallsOf program more result
+comes_to_end (done result) now = ([], result, (refl, refl))
+comes_to_end (ask question k) now =
+    let later = comes_to_end (k NoMemory) now in
+    let e : Event = entry 0 question NoMemory now in
+    (e ∷ later.0, later.1, (refl, later.2))
+
 module _ {P : Type 0} (turn : TheTurn P) where
   -- the machine of a worker's share stands at its beginning, and its calls are allowed
   pub reads_safe : (program : Reading) (worker : Reader) (flow : ShareRead) → MayRead turn program worker → worker.part ≡ ToRead flow
@@ -77,8 +87,9 @@ module _ {P : Type 0} (turn : TheTurn P) where
   -- what a worker does once its machine is through
   pub works_so : (old new : Reader) (flow : ShareRead) → old.part ≡ ToRead flow → IsAfter turn old.pass new.pass → ended_of new.pass ≡ ended_of old.pass
       → ((result : Result Share Stuck) → new.part ≡ Read result → (own : Tries Share) → share_standing flow ≡ ready own → HasRead (front old.pass) (asking own) (front new.pass) result)
+      → ((own : Tries Share) → share_standing flow ≡ ready own → HasBegun (front old.pass) (asking own) (front new.pass))
       → Works turn old new
-  works_so old new flow is after ended reads = record {
+  works_so old new flow is after ended reads begins = record {
     after = after;
     ended = ended;
     read = λ program result may told.
@@ -86,6 +97,11 @@ module _ {P : Type 0} (turn : TheTurn P) where
         let stands : share_standing flow ≡ ready may.machine.own = ap (λ (f : ShareRead). share_standing f) (sym same) ∙ may.machine.stands in
         let Q : Reading → Type 0 = λ p. HasRead (front old.pass) p (front new.pass) result in
         subst Q (sym may.machine.asks) (reads result told may.machine.own stands);
+    begun = λ program may.
+        let same : may.flow ≡ flow = same_flow may.flow flow (sym may.part ∙ is) in
+        let stands : share_standing flow ≡ ready may.machine.own = ap (λ (f : ShareRead). share_standing f) (sym same) ∙ may.machine.stands in
+        let Q : Reading → Type 0 = λ p. HasBegun (front old.pass) p (front new.pass) in
+        subst Q (sym may.machine.asks) (begins may.machine.own stands);
   }
 
   -- it has worked, by a pass that was split off
@@ -111,6 +127,21 @@ module _ {P : Type 0} (turn : TheTurn P) where
     where
       mine : (result : Result Share Stuck) (is : new.part ≡ Read result) → mine_of new.pass ≡ (works.read program result may is).made.calls
       mine result is = (works.read program result may is).made.mine ∙ ap (λ (z : List Event). z ++ (works.read program result may is).made.calls) given.mine
+
+  -- it has begun, by a pass that was split off
+  has_started : (seen : List Event) (program : Reading) (old new : Reader) → IsGiven turn seen old → MayRead turn program old → Works turn old new → HasStarted seen program new
+  has_started seen program old new given may works =
+      let b = works.begun program may in
+      let later = comes_to_end b.left (start_of turn) in
+      let made : mine_of new.pass ≡ b.made.calls = b.made.mine ∙ ap (λ (z : List Event). z ++ b.made.calls) given.mine in
+      let all : mine_of new.pass ≡ b.calls = b.mine ∙ ap (λ (z : List Event). z ++ b.calls) given.mine in
+      let F : List Event → Type 0 = λ calls. AreFrontOf program calls in
+      let N : List Event → Type 0 = λ before. IsNewTo before (mine_of new.pass) in
+      record {
+        front_of = subst F (sym made) (later.0, later.1, b.made.made later.0 later.1 later.2);
+        new_to = subst N given.sees (absent_made (front old.pass) (front new.pass) program b.left b.made given.mine works.after.known.own);
+        memory = subst HadMemoryBeforeLast (sym all) b.memory;
+      }
 
   pub joins_none : (first : ThePass) → IsPassOf turn first → IsLegalFront IsStep Permits (start_of turn) (front first) → Joins turn first first []
   joins_none first pass known = record { pass = pass; known = known; took = took_none (front first) (front first) refl refl refl; parts = omega arith }
@@ -197,6 +228,15 @@ module _ {P : Type 0} (turn : TheTurn P) where
           has_worked (seen_of pass) (slice_index_or programs k p) (slice_index_or workers k d) (slice_index_or news k d) (given k d below) (may_at k p d below) (works_each.each k d below);
     }
 
+    pub each_started : (news : List Reader) → EachWorks turn workers news → EachHasStarted (seen_of pass) programs news
+    each_started news works_each = record {
+      len = long ∙ sym works_each.len;
+      each = λ k p d lt.
+          let l = works_each.len in
+          let below : k < length workers = omega (arith, l, lt) in
+          has_started (seen_of pass) (slice_index_or programs k p) (slice_index_or workers k d) (slice_index_or news k d) (given k d below) (may_at k p d below) (works_each.each k d below);
+    }
+
   -- all were joined, and have read
   pub whole_read : (programs : List Reading) (first now : ThePass) (joined : List Reader) (results : List (Result Share Stuck)) → Joins turn first now joined → Gathers turn programs first joined results true
       → HaveRead (front first) programs (front now) results
@@ -261,4 +301,62 @@ read_from v u w programs results seen mine ended r = record {
   made = r.made;
   new_to = subst (λ z. All (IsNewTo z) r.calls) seen r.new_to;
   memory = r.memory;
+}
+
+-- ---- workers that were broken off
+
+-- of each worker by its place, and so of the list
+started_all : (seen : List Event) (programs : List Reading) (workers : List Reader) → EachHasStarted seen programs workers
+    → AreFrontsOfEach programs (map calls_of_worker workers) × All (IsNewTo seen) (map calls_of_worker workers) × All HadMemoryBeforeLast (map calls_of_worker workers)
+started_all seen programs [] s = (tt, All-nil (IsNewTo seen), All-nil HadMemoryBeforeLast)
+started_all seen [] (w ∷ ws) s = absurd (let l = s.len in omega (arith, l))
+started_all seen (p ∷ ps) (w ∷ ws) s =
+    let first = s.each 0 p w (omega arith) in
+    let l = s.len in
+    let rest = started_all seen ps ws (record { len = omega (arith, l); each = λ k q d lt. s.each (suc k) q d (omega (arith, lt)) }) in (
+      (first.front_of, rest.0),
+      All-cons (IsNewTo seen) (calls_of_worker w) (map calls_of_worker ws) first.new_to rest.1,
+      All-cons HadMemoryBeforeLast (calls_of_worker w) (map calls_of_worker ws) first.memory rest.2,
+    )
+
+pub started_begun : (v w : View) (programs : List Reading) (workers : List Reader) → HasJoined v w (map calls_of_worker workers) → EachHasStarted v.seen programs workers → HaveBegun v programs w
+started_begun v w programs workers joined s =
+    let all = started_all v.seen programs workers s in
+    record { calls = map calls_of_worker workers; joined = joined; fronts = all.0; new_to = all.1; memory = all.2 }
+
+none_front : (now : State) (programs : List Reading) (calls : List Event) → calls ≡ [] → (others : List (List Event)) → ((ps : List Reading) → AreFrontsOfEach ps others) → AreFrontsOfEach programs (calls ∷ others)
+none_front now [] calls is others rest = (is, rest [])
+none_front now (p ∷ ps) calls is others rest =
+    let later = comes_to_end p now in
+    let F : List Event → Type 0 = λ z. AreFrontOf p z in
+    (subst F (sym is) (later.0, later.1, later.2), rest ps)
+
+module _ {P : Type 0} (turn : TheTurn P) where
+  given_fronts : (seen : List Event) (workers : List Reader) → All (IsGiven turn seen) workers → (programs : List Reading) → AreFrontsOfEach programs (map calls_of_worker workers)
+  given_fronts seen [] given programs = tt
+  given_fronts seen (w ∷ ws) given programs =
+      none_front (start_of turn) programs (calls_of_worker w) (All-head (IsGiven turn seen) w ws given).mine (map calls_of_worker ws) (given_fronts seen ws (All-tail (IsGiven turn seen) w ws given))
+
+  given_new : (seen : List Event) (workers : List Reader) → All (IsGiven turn seen) workers → All (IsNewTo seen) (map calls_of_worker workers)
+  given_new seen [] given = All-nil (IsNewTo seen)
+  given_new seen (w ∷ ws) given =
+      let N : List Event → Type 0 = λ z. IsNewTo seen z in
+      All-cons (IsNewTo seen) (calls_of_worker w) (map calls_of_worker ws) (subst N (sym (All-head (IsGiven turn seen) w ws given).mine) tt) (given_new seen ws (All-tail (IsGiven turn seen) w ws given))
+
+  given_memory : (seen : List Event) (workers : List Reader) → All (IsGiven turn seen) workers → All HadMemoryBeforeLast (map calls_of_worker workers)
+  given_memory seen [] given = All-nil HadMemoryBeforeLast
+  given_memory seen (w ∷ ws) given =
+      All-cons HadMemoryBeforeLast (calls_of_worker w) (map calls_of_worker ws) (subst HadMemoryBeforeLast (sym (All-head (IsGiven turn seen) w ws given).mine) tt) (given_memory seen ws (All-tail (IsGiven turn seen) w ws given))
+
+  -- workers that made no call
+  pub given_begun : (v w : View) (programs : List Reading) (workers : List Reader) → HasJoined v w (map calls_of_worker workers) → All (IsGiven turn v.seen) workers → HaveBegun v programs w
+  given_begun v w programs workers joined given =
+      record { calls = map calls_of_worker workers; joined = joined; fronts = given_fronts v.seen workers given programs; new_to = given_new v.seen workers given; memory = given_memory v.seen workers given }
+
+-- where a pass only gave parts away, what was joined since is what was joined since before
+pub joined_from : (v u w : View) (calls : List (List Event)) → u.seen ≡ v.seen → u.mine ≡ v.mine → u.ended ≡ v.ended → HasJoined u w calls → HasJoined v w calls
+joined_from v u w calls seen mine ended j = record {
+  seen = subst (λ z. StartsWith w.seen z) seen j.seen;
+  mine = j.mine ∙ mine;
+  ended = j.ended ∙ ap (λ z. z ++ with_numbers calls) ended;
 }

@@ -1,5 +1,5 @@
 -- What the passes of a mount's turn know, and what calls by them leave.
-use Rattle.std.specs.Prelude.{◌≡◌, ◌≢◌, List, Option}
+use Rattle.std.specs.Prelude.{◌≡◌, ◌≢◌, List, [], ◌∷◌, Option}
 use Rattle.std.specs.List.{AllByRecursion}
 use Rattle.std.specs.declared.snapshot.Snapshot.{Snapshot}
 use Rattle.turn_object.specs.declared.front.Front.{Front}
@@ -29,6 +29,12 @@ TheTurn P = Lock (Option (Resting Ask Reply State)) (Front Ask Reply State) (Sna
 -- none of these calls was refused memory
 abbrev pub HadMemory : List Event → Type 0
 HadMemory events = AllByRecursion (λ (event : Event). event.reply ≢ NoMemory) events
+
+-- none was, but for the last one perhaps
+abbrev pub HadMemoryBeforeLast : List Event → Type 0
+HadMemoryBeforeLast [] = Unit {0}
+HadMemoryBeforeLast (event ∷ []) = Unit {0}
+HadMemoryBeforeLast (event ∷ next ∷ later) = (event.reply ≢ NoMemory) × HadMemoryBeforeLast (next ∷ later)
 
 module _ {P : Type 0} (turn : TheTurn P) where
   -- the pass after calls

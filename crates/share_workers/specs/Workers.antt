@@ -1,5 +1,5 @@
 -- Workers that read the shares of a reader, each by a pass of its own.
-use Rattle.std.specs.Prelude.{◌≡◌, ◌<◌, ◌+◌, ℕ, Bool, true, List, [], ◌++◌, All, Result, length, map, slice_index_or}
+use Rattle.std.specs.Prelude.{◌≡◌, ◌<◌, ◌+◌, ℕ, Bool, true, List, [], ◌∷◌, ◌++◌, All, Result, length, map, slice_index_or}
 use Rattle.turn_object.specs.Front.{IsLegalFront}
 use Rattle.turn_object.specs.Pass.{start_of, front, parts_of, mine_of, seen_of, ended_of, IsPassOf}
 use Rattle.flow.specs.declared.stuck.Stuck.{Stuck}
@@ -20,7 +20,7 @@ use Rattle.story.specs.Going.{IsNewTo, HasJoined, HasMade}
 use Rattle.gather_flow.specs.Workers.{Reading, IsMachineOf}
 use Rattle.share_workers.specs.declared.worker.Worker.{Worker}
 use Rattle.share_workers.specs.declared.worker.Part.TheVariants.{ToRead, Read}
-use Rattle.share_workers.specs.Passes.{HadMemory, View, ThePass, TheTurn, IsAfter}
+use Rattle.share_workers.specs.Passes.{HadMemory, HadMemoryBeforeLast, View, ThePass, TheTurn, IsAfter}
 
 -- a worker with its pass
 abbrev pub Reader : Type 0
@@ -32,6 +32,14 @@ pub record HasRead {X : Type 0} (v : View) (program : Program Ask Reply X) (w : 
   pub calls : List Event
   pub mine : w.mine ≡ v.mine ++ calls
   pub memory : HadMemory calls
+
+-- The pass went from v to w, and made a front of the calls of the program. Only the last one may have been refused memory.
+pub record HasBegun {X : Type 0} (v : View) (program : Program Ask Reply X) (w : View) : Type 0 where
+  pub left : Program Ask Reply X
+  pub made : HasMade v program w left
+  pub calls : List Event
+  pub mine : w.mine ≡ v.mine ++ calls
+  pub memory : HadMemoryBeforeLast calls
 
 module _ {P : Type 0} (turn : TheTurn P) where
   -- so far within the program of a machine, which stands so
@@ -73,6 +81,7 @@ module _ {P : Type 0} (turn : TheTurn P) where
     pub after : IsAfter turn old.pass new.pass
     pub ended : ended_of new.pass ≡ ended_of old.pass
     pub read : (program : Reading) (result : Result Share Stuck) → MayRead program old → new.part ≡ Read result → HasRead (front old.pass) program (front new.pass) result
+    pub begun : (program : Reading) → MayRead program old → HasBegun (front old.pass) program (front new.pass)
 
   pub record EachWorks (old new : List Reader) : Type 0 where
     pub len : length new ≡ length old
@@ -123,3 +132,33 @@ module _ {P : Type 0} (turn : TheTurn P) where
     pub made : whole ≡ true → AreCallsOfEach programs (map calls_of_worker joined) results
     pub new_to : whole ≡ true → All (IsNewTo (seen_of first)) (map calls_of_worker joined)
     pub memory : whole ≡ true → All HadMemory (map calls_of_worker joined)
+
+-- these calls are a front of those of the program
+abbrev pub AreFrontOf : Reading → List Event → Type 0
+AreFrontOf program calls = (more : List Event) × (result : Result Share Stuck) × AreCallsOf program (calls ++ more) result
+
+-- the same of several programs, each with its calls; who has no program made none
+abbrev pub AreFrontsOfEach : List Reading → List (List Event) → Type 0
+AreFrontsOfEach programs [] = Unit {0}
+AreFrontsOfEach [] (calls ∷ others) = (calls ≡ []) × AreFrontsOfEach [] others
+AreFrontsOfEach (program ∷ programs) (calls ∷ others) = AreFrontOf program calls × AreFrontsOfEach programs others
+
+-- Workers began these programs between v and w, each as a caller of its own that nobody was in v: each made a front of its program's calls, of which only the
+-- last one may have been refused memory.
+pub record HaveBegun (v : View) (programs : List Reading) (w : View) : Type 0 where
+  pub calls : List (List Event)
+  pub joined : HasJoined v w calls
+  pub fronts : AreFrontsOfEach programs calls
+  pub new_to : All (IsNewTo v.seen) calls
+  pub memory : All HadMemoryBeforeLast calls
+
+-- a worker that has begun its share, of a pass that had seen this
+pub record HasStarted (seen : List Event) (program : Reading) (worker : Reader) : Type 0 where
+  pub front_of : AreFrontOf program (calls_of_worker worker)
+  pub new_to : IsNewTo seen (calls_of_worker worker)
+  pub memory : HadMemoryBeforeLast (calls_of_worker worker)
+
+-- the same of each worker and the program at its place
+pub record EachHasStarted (seen : List Event) (programs : List Reading) (workers : List Reader) : Type 0 where
+  pub len : length programs ≡ length workers
+  pub each : (k : ℕ) (p : Reading) (d : Reader) → k < length workers → HasStarted seen (slice_index_or programs k p) (slice_index_or workers k d)

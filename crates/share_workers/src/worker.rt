@@ -11,7 +11,7 @@ ghost use Rattle.turn_object.specs.Pass.{start_of, front, ended_of, IsPassOf};
 ghost use Rattle.story.specs.Program.{Program};
 ghost use Rattle.story.specs.Safe.{PassSafe};
 ghost use Rattle.share_workers.specs.Passes.{IsAfter};
-ghost use Rattle.share_workers.specs.Workers.{HasRead, CanRead, Works};
+ghost use Rattle.share_workers.specs.Workers.{HasBegun, HasRead, CanRead, Works};
 
 use edge_io::{Clock, Gate};
 use flow::{Flow, Stuck};
@@ -56,7 +56,7 @@ impl<P> Worker<P> {
     }
 }
 
-/// Makes the calls of a machine, each after the gate, and gives its result.
+/// Makes the calls of a machine, each after the gate, and gives its result. After `NoMemory` they are a front of those.
 fn read_through<S: Store + Drop, C: Clock + Drop, F: Flow + Drop, G: Gate, W: Wait>(
     rt: &W,
     turn: &Turn<Mount<S, C>>,
@@ -71,6 +71,7 @@ fn read_through<S: Store + Drop, C: Clock + Drop, F: Flow + Drop, G: Gate, W: Wa
     requires safe { (program : Program ACall AReply F.Out) × (F.standing flow ≡ ready program) × PassSafe IsStep Permits (start_of turn.now) (front pass.old) (asking program) }
     ensures after { IsAfter turn.now pass.old pass.new }
     ensures ended { ended_of pass.new ≡ ended_of pass.old }
+    ensures begun { (program : Program ACall AReply F.Out) → F.standing flow ≡ ready program → HasBegun (front pass.old) (asking program) (front pass.new) }
     ensures read { IfOk result (λ out. (program : Program ACall AReply F.Out) → F.standing flow ≡ ready program → HasRead (front pass.old) (asking program) (front pass.new) out) }
 {
     let mut machine = flow;

@@ -1,5 +1,5 @@
 //! The workers of a reader, each on a thread and with a pass of its own.
-ghost use Rattle.std.specs.Prelude.{◌≡◌, ◌<◌, ◌+◌, ℕ, List, [], ◌∷◌, ◌++◌, true, All, length, map, vec_len, IfOk, OnOk, Result as AResult};
+ghost use Rattle.std.specs.Prelude.{◌≡◌, ◌<◌, ◌+◌, ℕ, List, [], ◌∷◌, ◌++◌, true, All, length, map, vec_len, IfOk, OnOk, OnErr, Result as AResult};
 ghost use Rattle.flow.specs.declared.stuck.Stuck.{Stuck as AStuck};
 ghost use Rattle.index_reader.specs.declared.sharing.Share.{Share as AShare};
 ghost use Rattle.mount_model.specs.Step.{IsStep};
@@ -10,7 +10,8 @@ ghost use Rattle.turn_object.specs.Pass.{start_of, front, parts_of, mine_of, see
 ghost use Rattle.story.specs.Safe.{AreFree};
 ghost use Rattle.gather_flow.specs.Workers.{Reading, AreMachinesOf, IsOutcomeOf};
 ghost use Rattle.share_workers.specs.declared.worker.Part.TheVariants.{ToRead, Read as HasRead};
-ghost use Rattle.share_workers.specs.Workers.{IsGiven, CanRead, EachWorks, EachHasWorked, CanJoin, HaveRead};
+ghost use Rattle.story.specs.Going.{HasJoined};
+ghost use Rattle.share_workers.specs.Workers.{IsGiven, CanRead, EachWorks, EachHasWorked, CanJoin, HaveBegun, HaveRead, calls_of_worker};
 ghost use Rattle.share_workers.specs.Passes.{IsAfter};
 
 use crate::outcome::outcome_of;
@@ -109,6 +110,7 @@ fn join_all<S: Store + Drop, C: Clock + Drop>(
     ensures pass { IsPassOf turn.now pass.new }
     ensures known { IsLegalFront IsStep Permits (start_of turn.now) (front pass.new) }
     ensures parts { parts_of pass.new ≡ parts_of pass.old + vec_len workers }
+    ensures joined { HasJoined (front pass.old) (front pass.new) (map calls_of_worker workers.items) }
     ensures read { IfOk result (λ results. (programs : List Reading) → EachHasWorked turn.now (seen_of pass.old) programs workers.items → HaveRead (front pass.old) programs (front pass.new) results.items) }
 {
     let mut results = Vec::new(alloc);
@@ -121,7 +123,8 @@ fn join_all<S: Store + Drop, C: Clock + Drop>(
     if whole { Ok(results) } else { Err(NoMemory) }
 }
 
-/// Has workers read these shares, each on a thread and with a pass of its own, and joins what they read.
+/// Has workers read these shares, each on a thread and with a pass of its own, and joins what they read. After `NoMemory` each has
+/// made a front of the calls of its share.
 pub fn read_by_workers<
     S: Store + Drop + Send,
     C: Clock + Drop + Send,
@@ -141,6 +144,7 @@ pub fn read_by_workers<
     requires free { (programs : List Reading) × AreMachinesOf programs works × AreFree IsStep Permits programs (state_after (start_of turn.now) (seen_of pass.old)) }
     requires parts { length works < parts_of pass.old }
     ensures after { IsAfter turn.now pass.old pass.new }
+    ensures broken { OnErr result ((programs : List Reading) → AreMachinesOf programs works → HaveBegun (front pass.old) programs (front pass.new)) }
     ensures read { IfOk result (λ outcome. (programs : List Reading) → AreMachinesOf programs works
         → (results : List (AResult AShare AStuck)) × HaveRead (front pass.old) programs (front pass.new) results × IsOutcomeOf results outcome) }
 {

@@ -5,6 +5,7 @@ use Rattle.story.specs.Program.{Program, done, ask}
 use Rattle.mount_model.specs.declared.call.Call.{Call}
 use Rattle.mount_model.specs.declared.reply.Reply.{Reply}
 use Rattle.flow.specs.declared.stuck.Stuck.{Stuck}
+use Rattle.flow.specs.Replies.{on_ok}
 use Rattle.read_plan.specs.Plan.{plan_of}
 use Rattle.writer_flow.specs.declared.handle.WriterHandle.{WriterHandle}
 use Rattle.writer_flow.specs.Opening.{open_program}
@@ -22,7 +23,6 @@ use Rattle.index_reader.specs.Reading.{read_program}
 use Rattle.index_reader.specs.declared.listing.Listing.{Listing}
 use Rattle.index_reader.specs.declared.opened.OpenReader.{OpenReader}
 use Rattle.index_reader.specs.declared.sharing.Share.{Share}
-use Rattle.index_reader.specs.Replies.{on_ok}
 use Rattle.flatten_core.specs.Flattening.{flatten_program}
 use Rattle.script_lang.specs.declared.script.Data.{Data}
 use Rattle.script_lang.specs.declared.script.Statement.{Statement}
@@ -102,13 +102,13 @@ reads_comes : (kept : Kept) (stop : Option Stop) (at len : ℕ) (reader : Option
 reads_comes kept stop at len None = tt
 reads_comes kept stop at len (Some reader) =
     let plan = plan_of reader.pieces reader.size at len in
-    carried_comes (read_program reader.room reader.droppings plan) stop (λ left result. finishes (read_from kept at result)) (finishes (stopped kept)) (λ left result. tt) tt
+    carried_comes (read_program reader.room reader.hosts plan) stop (λ left result. finishes (read_from kept at result)) (finishes (stopped kept)) (λ left result. tt) tt
 
 verifies_comes : (kept : Kept) (stop : Option Stop) (at : ℕ) (content : Data) (reader : Option OpenReader) → ComesToLine (verifies kept stop at content reader)
 verifies_comes kept stop at content None = tt
 verifies_comes kept stop at content (Some reader) =
     let plan = plan_of reader.pieces reader.size at (length_of content) in
-    carried_comes (read_program reader.room reader.droppings plan) stop (λ left result. finishes (verified kept at content result)) (finishes (stopped kept)) (λ left result. tt) tt
+    carried_comes (read_program reader.room reader.hosts plan) stop (λ left result. finishes (verified kept at content result)) (finishes (stopped kept)) (λ left result. tt) tt
 
 maps_comes : (kept : Kept) (reader : Option OpenReader) → ComesToLine (maps kept reader)
 maps_comes kept None = tt

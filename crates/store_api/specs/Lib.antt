@@ -7,3 +7,5 @@ pub mod Leaves
 pub mod Loss
 pub mod Acts
 pub mod Messages
+pub mod AllKept
+pub mod Owned

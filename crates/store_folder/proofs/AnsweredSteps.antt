@@ -1,5 +1,5 @@
 -- Where a step is answered, none of the calls that it made failed.
-use Rattle.std.proofs.Common.{◌≡◌, ℕ, inl, inr, List, length, true, false, Option, Some, None, Ok, refl, ap, ◌∙◌, arith, rules}
+use Rattle.std.proofs.Common.{◌≡◌, ℕ, Bool, inl, inr, List, length, true, false, Option, Some, None, Ok, refl, ap, ◌∙◌, arith, rules}
 use Rattle.std.proofs.lemmas.Bool.{cases_lt}
 use Rattle.store_api.specs.declared.step.Answer.{Answer}
 use Rattle.store_api.specs.declared.step.Answer.TheVariants.{Made, Old, Absent, NoRoom, NoFolder, NotEmpty, TargetThere, Names, Number, Bytes, Beyond}
@@ -8,7 +8,8 @@ use Rattle.folder_calls.specs.declared.held.Held.{Held}
 use Rattle.folder_calls.specs.declared.cache.FileKey.{FileKey}
 use Rattle.folder_calls.specs.Calls.{Log}
 use Rattle.folder_calls.specs.Opened.{held_at}
-use Rattle.folder_calls.specs.OpenFiles.{ReadsOpen, WritesOpen, CutsOpen, SyncsOpen, ActsOpen, given_at}
+use Rattle.folder_calls.specs.Own.{is_own}
+use Rattle.folder_calls.specs.OpenFiles.{ReadsOpen, GoesOver, WritesOpen, CutsOpen, SyncsOpen, ActsOpen, given_at, over_at}
 use Rattle.store_folder.specs.declared.disk.Disk.{Disk}
 use Rattle.store_folder.specs.Paths.{folder_path}
 use Rattle.store_folder.specs.Places.{IsNamed, ActsAt, once_opened, not_there, unopened}
@@ -35,9 +36,15 @@ module _ {F : Type 0} (held : Held F) (log later : Log F) where
   bytes_read at len (Number value) made = absurd made
   bytes_read at len Beyond made = absurd made
 
+  gone_over : (at : ℕ) (bytes : List ℕ) (between : Log F) → GoesOver held at bytes log between → NoneFailed log between
+  gone_over at bytes between over = elim (cases_lt 0 (over_at held at bytes)) [
+    | inl some ↦ one _ _ _ (over.same (omega (arith, some))) refl
+    | inr none ↦ unchanged (over.none (omega (arith, none)))
+  ]
+
   bytes_written : (at : ℕ) (bytes : List ℕ) (answer : Answer) → WritesOpen held log later at bytes (Ok answer) → NoneFailed log later
   bytes_written at bytes Beyond made = unchanged made.1
-  bytes_written at bytes Made made = one _ _ _ made.1 refl
+  bytes_written at bytes Made made = one _ _ _ made.1.2 refl ∙ gone_over at bytes made.1.0 made.1.1
   bytes_written at bytes (Old number) made = absurd made
   bytes_written at bytes Absent made = absurd made
   bytes_written at bytes NoRoom made = absurd made
@@ -93,11 +100,11 @@ module _ {F : Type 0} (held : Held F) (log later : Log F) where
   acted_on (replace room folder from to) answer made = unchanged made.1
 
 -- a step on a file that is open, or is opened for it
-acted_at : {F : Type 0} (place : Option (Held F)) (log later : Log F) (named : Type 0) (room folder file : List ℕ) (step : Step) (answer : Answer) → ActsAt place log later named room folder file step (Ok answer) → NoneFailed log later
-acted_at (Some held) log later named room folder file step answer acts = acted_on held log later step answer acts
-acted_at None log later named room folder file step answer (once_opened held between opens acts) = acted_on held between later step answer acts ∙ four _ _ _ _ _ _ opens refl refl refl refl
-acted_at None log later named room folder file step answer (not_there told is finds) = no_file_found log later room folder file told finds
-acted_at None log later named room folder file step answer (unopened failure is fails) = absurd (search (rules, is))
+acted_at : {F : Type 0} (place : Option (Held F)) (is_own : Bool) (log later : Log F) (named : Type 0) (room folder file : List ℕ) (step : Step) (answer : Answer) → ActsAt place is_own log later named room folder file step (Ok answer) → NoneFailed log later
+acted_at (Some held) is_own log later named room folder file step answer acts = acted_on held log later step answer acts
+acted_at None is_own log later named room folder file step answer (once_opened held between opens acts) = acted_on held between later step answer acts ∙ four _ _ _ _ _ _ opens.1 refl refl refl refl
+acted_at None is_own log later named room folder file step answer (not_there told is finds) = no_file_found log later room folder file told finds
+acted_at None is_own log later named room folder file step answer (unopened failure is fails) = absurd (search (rules, is))
 
 -- a step in a room of this number, or there is none
 in_room : {C F : Type 0} (disk : Disk C F) (room : ℕ) (answer : Answer) (log later : Log F) (says : List ℕ → Type 0) → ((path : List ℕ) → says path → NoneFailed log later) → InRoom disk room answer log later says → NoneFailed log later
@@ -109,7 +116,7 @@ in_room disk room answer log later says well told = elim (cases_lt room (length 
 module _ {C F : Type 0} (log_of : C → Log F) (old new : Disk C F) where
   on_file : (key : FileKey) (step : Step) (answer : Answer) → PerformsOnFile old new (log_of old.calls) (log_of new.calls) key step answer → NoneFailed (log_of old.calls) (log_of new.calls)
   on_file key step answer told =
-      in_room old key.room answer _ _ _ (λ path. acted_at (held_at old.open key) _ _ (IsNamed old key) path (folder_path path key.folder) key.file step answer) told.1
+      in_room old key.room answer _ _ _ (λ path. acted_at (held_at old.open key) (is_own old.own key) _ _ (IsNamed old key) path (folder_path path key.folder) key.file step answer) told.1
 
   -- one line for each step
   pub performed : (step : Step) (answer : Answer) → Performs old new (log_of old.calls) (log_of new.calls) step answer → NoneFailed (log_of old.calls) (log_of new.calls)

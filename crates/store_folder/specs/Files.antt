@@ -1,5 +1,5 @@
 -- What a step on a file's name asks of the system and answers. There is a line for each answer.
-use Rattle.std.specs.Prelude.{◌≡◌, ℕ, List, [], ◌∷◌, nat_eq, if◌then◌else◌, true, false, Some, None, Result, Ok, Err}
+use Rattle.std.specs.Prelude.{◌≡◌, ℕ, List, [], ◌∷◌, nat_eq, if◌then◌else◌, Bool, true, false, Some, None, Result, Ok, Err}
 use Rattle.std.specs.Cmp.Lexicographic.{pointwise}
 use Rattle.store_api.specs.declared.step.Answer.{Answer}
 use Rattle.store_api.specs.declared.step.Answer.TheVariants.{Made, Old, Absent, NoFolder}
@@ -10,6 +10,7 @@ use Rattle.store_folder.specs.declared.files.Found.TheVariants.{There, Not}
 use Rattle.folder_calls.specs.declared.reason.Kind.{Kind}
 use Rattle.folder_calls.specs.declared.reason.Kind.TheVariants.{Absent as Nothing, File, Folder, Other}
 use Rattle.folder_calls.specs.Calls.{Call, Log, Makes, looked_at, opened_file, measured_file, created_file, synced_folder, removed_file, renamed_item}
+use Rattle.folder_calls.specs.OpenFiles.{met_of}
 use Rattle.store_folder.specs.Folders.{FindsNoFolder, FailsToEnter}
 use Rattle.store_folder.specs.Paths.{item_of}
 
@@ -65,8 +66,9 @@ module _ {F : Type 0} (log later : Log F) where
     opening : Makes (looked_at room (Ok Folder) ∷ looked_at folder (Ok Folder) ∷ opened_file (item_of folder file) (Err failure) ∷ []) log later → FailsToOpen named room folder file failure
     measuring : (made : F) → Makes (looked_at room (Ok Folder) ∷ looked_at folder (Ok Folder) ∷ opened_file (item_of folder file) (Ok (Some made)) ∷ measured_file made (Err failure) ∷ []) log later → FailsToOpen named room folder file failure
 
-  -- a file was opened by its path in a folder that is there, and measured, or it isn't there
-  abbrev pub OpensFile : List ℕ → List ℕ → List ℕ → Found F → Type 0
-  OpensFile room folder file (There held) =
-      Makes (looked_at room (Ok Folder) ∷ looked_at folder (Ok Folder) ∷ opened_file (item_of folder file) (Ok (Some held.file)) ∷ measured_file held.file (Ok held.len) ∷ []) log later
-  OpensFile room folder file (Not answer) = FindsNoFile room folder file answer
+  -- A file was opened by its path in a folder that is there, and measured, or it isn't there. All its bytes are of
+  -- earlier runs, but where it is this run's own.
+  abbrev pub OpensFile : Bool → List ℕ → List ℕ → List ℕ → Found F → Type 0
+  OpensFile is_own room folder file (There held) =
+      (held.met ≡ met_of is_own held.len) × Makes (looked_at room (Ok Folder) ∷ looked_at folder (Ok Folder) ∷ opened_file (item_of folder file) (Ok (Some held.file)) ∷ measured_file held.file (Ok held.len) ∷ []) log later
+  OpensFile is_own room folder file (Not answer) = FindsNoFile room folder file answer

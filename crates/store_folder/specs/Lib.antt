@@ -9,5 +9,8 @@ pub mod Rooms
 pub mod StepPlaces
 pub mod Places
 pub mod Steps
+pub mod Syncing
+pub mod Made
+pub mod Ends
 pub mod Counting
 pub mod Stored

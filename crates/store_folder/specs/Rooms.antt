@@ -49,11 +49,11 @@ module _ {C F : Type 0} where
 
   -- the files that are open are the same, and rooms have numbers or not as before
   abbrev pub HasFiles : Disk C F → Disk C F → Type 0
-  HasFiles old new = (new.root ≡ old.root) × (new.is_numbered ≡ old.is_numbered) × (new.open ≡ old.open)
+  HasFiles old new = (new.root ≡ old.root) × (new.is_numbered ≡ old.is_numbered) × (new.open ≡ old.open) × (new.own ≡ old.own)
 
   -- the rooms and the open files are the same, so that only the system's state may differ
   abbrev pub IsStill : Disk C F → Disk C F → Type 0
-  IsStill old new = HasRooms old new × (new.open ≡ old.open)
+  IsStill old new = HasRooms old new × (new.open ≡ old.open) × (new.own ≡ old.own)
 
   -- what is said of the room of this number by its path, or there is none, and no call was made
   abbrev pub InRoom : Disk C F → ℕ → Answer → Log F → Log F → (List ℕ → Type 0) → Type 0

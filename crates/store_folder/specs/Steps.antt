@@ -12,6 +12,7 @@ use Rattle.store_folder.specs.Folders.{MakesFolder, RemovesFolder, TellsFolder}
 use Rattle.store_folder.specs.Listings.{TellsNames}
 use Rattle.store_folder.specs.Paths.{folder_path}
 use Rattle.folder_calls.specs.Opened.{held_at}
+use Rattle.folder_calls.specs.Own.{is_own}
 use Rattle.store_folder.specs.Places.{ActsAt, IsNamed}
 use Rattle.store_folder.specs.Rooms.{ListsRooms, HasFiles, HasRooms, IsStill, InRoom, AddsRoom, RenamesRoom}
 
@@ -23,12 +24,13 @@ module _ {C F : Type 0} where
     pub first : old.is_numbered ≡ false → ListsRooms (string_bytes old.root) new.rooms.items log later
     pub root : new.root ≡ old.root
     pub kept_open : new.open ≡ old.open
+    pub kept_own : new.own ≡ old.own
 
   module _ (old new : Disk C F) (log later : Log F) where
     -- a step on a file, by its key
     abbrev pub PerformsOnFile : FileKey → Step → Answer → Type 0
     PerformsOnFile key step answer =
-        HasRooms old new × InRoom old key.room answer log later (λ path. ActsAt (held_at old.open key) log later (IsNamed old key) path (folder_path path key.folder) key.file step (Ok answer))
+        HasRooms old new × InRoom old key.room answer log later (λ path. ActsAt (held_at old.open key) (is_own old.own key) log later (IsNamed old key) path (folder_path path key.folder) key.file step (Ok answer))
 
     -- one line for each step
     abbrev pub Performs : Step → Answer → Type 0

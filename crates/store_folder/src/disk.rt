@@ -1,12 +1,13 @@
 //! What a store keeps of its folder, and each step's way to the system.
-ghost use Rattle.std.specs.Prelude.{◌≡◌, [], true, false, IfOk, IfErr, IfSome, string_bytes};
+ghost use Rattle.std.specs.Prelude.{◌≡◌, ◌⊎◌, [], true, false, IfOk, IfErr, IfSome, string_bytes};
 ghost use Rattle.store_api.specs.Step.{step_of};
 ghost use Rattle.folder_calls.specs.Calls.{failed_calls};
-ghost use Rattle.store_folder.specs.Places.{file_of, ActsOnFile};
+ghost use Rattle.folder_calls.specs.Own.{is_own};
+ghost use Rattle.store_folder.specs.Places.{file_of, ActsOnFile, BecomesOwn, takes_name};
 ghost use Rattle.store_folder.specs.StepPlaces.{room_name, place_of};
 ghost use Rattle.store_folder.specs.Steps.{Numbers, Performs};
 
-use folder_calls::{Calls, Failure, FileKey, OpenFiles, Place};
+use folder_calls::{Calls, Failure, FileKey, OpenFiles, OwnFiles, Place};
 use plfs_types::{Name, Word};
 use std::alloc::Global;
 use store_api::{Answer, Step};
@@ -21,6 +22,8 @@ pub struct Disk<C, F> {
     pub(crate) rooms: Vec<Name>,
     pub(crate) is_numbered: bool,
     pub(crate) open: OpenFiles<F>,
+    // Of which files all bytes are this run's.
+    pub(crate) own: OwnFiles,
 }
 
 impl<C: Calls<File = F> + Drop, F: Drop> Disk<C, F> {
@@ -30,6 +33,7 @@ impl<C: Calls<File = F> + Drop, F: Drop> Disk<C, F> {
         ensures root { IfOk result (λ disk. string_bytes disk.root ≡ root.now) }
         ensures rooms { IfOk result (λ disk. (disk.rooms.items ≡ []) × (disk.is_numbered ≡ false)) }
         ensures closed { IfOk result (λ disk. disk.open.files.entries ≡ []) }
+        ensures none_own { IfOk result (λ disk. (key : FileKey) → is_own disk.own key ≡ false) }
         ensures memory { IfErr result (λ failure. failure ≡ Failure.NoMemory) }
     {
         Ok(Disk {
@@ -39,6 +43,7 @@ impl<C: Calls<File = F> + Drop, F: Drop> Disk<C, F> {
             rooms: Vec::new(alloc),
             is_numbered: false,
             open: OpenFiles::new(alloc)?,
+            own: OwnFiles::new(alloc),
         })
     }
 
@@ -47,6 +52,9 @@ impl<C: Calls<File = F> + Drop, F: Drop> Disk<C, F> {
         ensures performs { IfOk result (λ answer. (numbered : Disk C F) × Numbers self.old numbered (C.log self.old.calls) (C.log numbered.calls) × Performs numbered self.new (C.log numbered.calls) (C.log self.new.calls) (step_of step.now) answer) }
         ensures on_file { self.old.is_numbered ≡ true → IfSome (file_of (step_of step.now)) (λ key. ActsOnFile self.old key (C.log self.old.calls) (C.log self.new.calls) (step_of step.now) result) }
         ensures well { IfOk result (λ _. failed_calls (C.log self.new.calls) ≡ failed_calls (C.log self.old.calls)) }
+        ensures root { self.new.root ≡ self.old.root }
+        ensures own { self.old.is_numbered ≡ true → (key : FileKey) → is_own self.new.own key ≡ true → (is_own self.old.own key ≡ true) ⊎ BecomesOwn self.old (file_of (step_of step.now)) key (C.log self.old.calls) }
+        ensures renames { self.old.is_numbered ≡ true → (key : FileKey) → takes_name (step_of step.now) key ≡ true → is_own self.new.own key ≡ false }
     {
         self.number_rooms()?;
         self.perform(step)
@@ -56,6 +64,9 @@ impl<C: Calls<File = F> + Drop, F: Drop> Disk<C, F> {
     fn perform(&mut self, step: &Step<'_>) -> Result<Answer, Failure>
         ensures performs { IfOk result (Performs self.old self.new (C.log self.old.calls) (C.log self.new.calls) (step_of step.now)) }
         ensures on_file { IfSome (file_of (step_of step.now)) (λ key. ActsOnFile self.old key (C.log self.old.calls) (C.log self.new.calls) (step_of step.now) result) }
+        ensures root { self.new.root ≡ self.old.root }
+        ensures own { (key : FileKey) → is_own self.new.own key ≡ true → (is_own self.old.own key ≡ true) ⊎ BecomesOwn self.old (file_of (step_of step.now)) key (C.log self.old.calls) }
+        ensures renames { (key : FileKey) → takes_name (step_of step.now) key ≡ true → is_own self.new.own key ≡ false }
     {
         match *step {
             Step::Rooms => self.room_names(),

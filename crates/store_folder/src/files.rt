@@ -1,5 +1,5 @@
 //! The steps of files.
-ghost use Rattle.std.specs.Prelude.{◌≡◌, ◌≤◌, ◌<◌, ◌∷◌, [], ℕ, length, None, Ok, IfOk, IfErr, IfSome, OnOk, OnErr, Result, string_bytes, ⊤};
+ghost use Rattle.std.specs.Prelude.{◌≡◌, ◌⊎◌, ◌||◌, ◌≤◌, ◌<◌, ◌∷◌, [], ℕ, length, true, false, None, Some, Ok, IfOk, IfErr, IfSome, OnOk, OnErr, Result, string_bytes, ⊤};
 ghost use Rattle.store_api.specs.Step.{step_of};
 ghost use Rattle.std.specs.Map.{remove_entry};
 ghost use Rattle.folder_calls.specs.Calls.{Makes, looked_at};
@@ -7,12 +7,13 @@ ghost use Rattle.store_folder.specs.Files.{IsNoFile, CreatesFile, RemovesFile, R
 ghost use Rattle.folder_calls.specs.Keys.{same_file, with_name};
 ghost use Rattle.store_folder.specs.Paths.{room_path, folder_path, item_of};
 ghost use Rattle.folder_calls.specs.Opened.{held_at};
-ghost use Rattle.store_folder.specs.Places.{FindsFile, IsNamed, ActsAt, ActsOnFile};
+ghost use Rattle.folder_calls.specs.Own.{is_own};
+ghost use Rattle.store_folder.specs.Places.{FindsFile, IsNamed, ActsAt, ActsOnFile, BecomesOwn};
 ghost use Rattle.store_folder.specs.Rooms.{IsStill, HasRooms, InRoom};
 
 use crate::disk::Disk;
 use crate::folders::{Spot, enter, item_path};
-use folder_calls::{Calls, Failure, FileKey, Held, Kind, OpenFiles};
+use folder_calls::{Calls, Failure, FileKey, Held, Kind, OpenFiles, OwnFiles};
 use plfs_types::Name;
 use std::alloc::Global;
 use store_api::{Answer, Step};
@@ -31,6 +32,7 @@ impl<C: Calls<File = F>, F: Drop> Disk<C, F> {
         ensures rooms { HasRooms self.old self.new }
         ensures closed { OnErr result (self.new.open.files.entries ≡ remove_entry (same_file key.now) self.old.open.files.entries) }
         ensures gone { OnErr result (held_at self.new.open key.now ≡ None) }
+        ensures own { self.new.own ≡ self.old.own }
     {
         drop(self.open.take(key));
         let Some(spot) = self.spot(key.room, &key.folder)? else {
@@ -48,8 +50,11 @@ impl<C: Calls<File = F>, F: Drop> Disk<C, F> {
         ensures rooms { HasRooms self.old self.new }
         ensures closed { self.new.open.files.entries ≡ remove_entry (same_file key.now) self.old.open.files.entries }
         ensures gone { held_at self.new.open key.now ≡ None }
+        ensures own { (other : FileKey) → is_own self.new.own other ≡ true → is_own self.old.own other ≡ true }
+        ensures not_own { (other : FileKey) → same_file key.now other ≡ true → is_own self.new.own other ≡ false }
     {
         drop(self.open.take(key));
+        self.own.remove(key);
         let Some(spot) = self.spot(key.room, &key.folder)? else {
             return Ok(Answer::NoRoom);
         };
@@ -66,15 +71,18 @@ impl<C: Calls<File = F>, F: Drop> Disk<C, F> {
         ensures rooms { HasRooms self.old self.new }
         ensures closed { self.new.open.files.entries ≡ remove_entry (same_file (with_name from.now to.now)) (remove_entry (same_file from.now) self.old.open.files.entries) }
         ensures gone { (held_at self.new.open from.now ≡ None) × (held_at self.new.open (with_name from.now to.now) ≡ None) }
+        ensures own { (other : FileKey) → is_own self.new.own other ≡ true → is_own self.old.own other ≡ true }
+        ensures not_own { (other : FileKey) → (same_file from.now other || same_file (with_name from.now to.now) other) ≡ true → is_own self.new.own other ≡ false }
     {
+        let target = FileKey {
+            room: from.room,
+            folder: from.folder,
+            file: *to,
+        };
         drop(self.open.take(from));
-        drop(
-            self.open.take(&FileKey {
-                room: from.room,
-                folder: from.folder,
-                file: *to,
-            }),
-        );
+        drop(self.open.take(&target));
+        self.own.remove(from);
+        self.own.remove(&target);
         let Some(spot) = self.spot(from.room, &from.folder)? else {
             return Ok(Answer::NoRoom);
         };
@@ -86,11 +94,12 @@ impl<C: Calls<File = F>, F: Drop> Disk<C, F> {
     // The file, from among the open ones where it is.
     fn find(&mut self, key: &FileKey) -> Result<Found<F>, Failure>
         ensures no_room { length self.old.rooms.items ≤ key.now.room → (result ≡ Ok (Found.Not Answer.NoRoom)) × (C.log self.new.calls ≡ C.log self.old.calls) }
-        ensures finds { let room = room_path self.old key.now.room in key.now.room < length self.old.rooms.items → IfOk result (FindsFile (held_at self.old.open key.now) (C.log self.old.calls) (C.log self.new.calls) room (folder_path room key.now.folder) key.now.file) }
+        ensures finds { let room = room_path self.old key.now.room in key.now.room < length self.old.rooms.items → IfOk result (FindsFile (held_at self.old.open key.now) (is_own self.old.own key.now) (C.log self.old.calls) (C.log self.new.calls) room (folder_path room key.now.folder) key.now.file) }
         ensures open_file { key.now.room < length self.old.rooms.items → IfSome (held_at self.old.open key.now) (λ held. (result ≡ Ok (Found.There held)) × (C.log self.new.calls ≡ C.log self.old.calls)) }
         ensures rooms { HasRooms self.old self.new }
         ensures closed { self.new.open.files.entries ≡ remove_entry (same_file key.now) self.old.open.files.entries }
         ensures gone { held_at self.new.open key.now ≡ None }
+        ensures own { self.new.own ≡ self.old.own }
         ensures fails { let room = room_path self.old key.now.room in IfErr result (FailsToOpen (C.log self.old.calls) (C.log self.new.calls) (IsNamed self.old key.now) room (folder_path room key.now.folder) key.now.file) }
     {
         let open = self.open.take(key);
@@ -105,7 +114,7 @@ impl<C: Calls<File = F>, F: Drop> Disk<C, F> {
 
     // Opens the file by its path.
     fn open_file(&mut self, key: &FileKey) -> Result<Found<F>, Failure>
-        ensures opens { let room = room_path self.old key.now.room in key.now.room < length self.old.rooms.items → IfOk result (OpensFile (C.log self.old.calls) (C.log self.new.calls) room (folder_path room key.now.folder) key.now.file) }
+        ensures opens { let room = room_path self.old key.now.room in key.now.room < length self.old.rooms.items → IfOk result (OpensFile (C.log self.old.calls) (C.log self.new.calls) (is_own self.old.own key.now) room (folder_path room key.now.folder) key.now.file) }
         ensures still { IsStill self.old self.new }
         ensures fails { let room = room_path self.old key.now.room in IfErr result (FailsToOpen (C.log self.old.calls) (C.log self.new.calls) (IsNamed self.old key.now) room (folder_path room key.now.folder) key.now.file) }
     {
@@ -113,18 +122,20 @@ impl<C: Calls<File = F>, F: Drop> Disk<C, F> {
             return Ok(Found::Not(Answer::NoRoom));
         };
         let path = item_path(self.alloc, spot.folder.as_str(), &key.file)?;
-        let found = open_in(&mut self.calls, &spot, &key.file, path.as_str());
+        let is_own = self.own.has(key);
+        let found = open_in(&mut self.calls, &spot, &key.file, path.as_str(), is_own);
         drop((path, spot));
         found
     }
 
     /// Makes a step on an open file. After a failure the file is closed, so that its length is asked again.
     pub fn act_at(&mut self, key: &FileKey, step: &Step<'_>) -> Result<Answer, Failure>
-        ensures acts { IfOk result (λ answer. InRoom self.old key.now.room answer (C.log self.old.calls) (C.log self.new.calls) (λ room. ActsAt (held_at self.old.open key.now) (C.log self.old.calls) (C.log self.new.calls) (IsNamed self.old key.now) room (folder_path room key.now.folder) key.now.file (step_of step.now) (Ok answer))) }
+        ensures acts { IfOk result (λ answer. InRoom self.old key.now.room answer (C.log self.old.calls) (C.log self.new.calls) (λ room. ActsAt (held_at self.old.open key.now) (is_own self.old.own key.now) (C.log self.old.calls) (C.log self.new.calls) (IsNamed self.old key.now) room (folder_path room key.now.folder) key.now.file (step_of step.now) (Ok answer))) }
         ensures on_file { ActsOnFile self.old key.now (C.log self.old.calls) (C.log self.new.calls) (step_of step.now) result }
         ensures rooms { HasRooms self.old self.new }
         ensures closed { OnErr result (self.new.open.files.entries ≡ remove_entry (same_file key.now) self.old.open.files.entries) }
         ensures gone { OnErr result (held_at self.new.open key.now ≡ None) }
+        ensures own { (other : FileKey) → is_own self.new.own other ≡ true → (is_own self.old.own other ≡ true) ⊎ BecomesOwn self.old (Some key.now) other (C.log self.old.calls) }
     {
         let found = match self.find(key) {
             Ok(found) => found,
@@ -133,11 +144,22 @@ impl<C: Calls<File = F>, F: Drop> Disk<C, F> {
         match found {
             Found::Not(answer) => Ok(answer),
             Found::There(mut held) => {
+                own_if_empty(&mut self.own, key, &held);
                 let answer = held.act(&mut self.calls, self.alloc, step)?;
                 self.open.keep(*key, held);
                 Ok(answer)
             }
         }
+    }
+}
+
+// Takes the file for this run's own where it has no bytes yet.
+fn own_if_empty<F: Drop>(own: &mut OwnFiles, key: &FileKey, held: &Held<F>)
+    ensures only { (other : FileKey) → is_own own.new other ≡ true → (is_own own.old other ≡ true) ⊎ ((same_file key.now other ≡ true) × (held.now.len ≡ 0)) }
+    ensures lasts { (other : FileKey) → is_own own.old other ≡ true → is_own own.new other ≡ true }
+{
+    if held.is_empty() {
+        own.add(*key);
     }
 }
 
@@ -261,16 +283,17 @@ fn open_in<C: Calls<File = F>, F: Drop>(
     spot: &Spot,
     file: &Name,
     path: &str,
+    is_own: bool,
 ) -> Result<Found<F>, Failure>
     requires path { path.now ≡ item_of (string_bytes spot.now.folder) file.now }
-    ensures opens { IfOk result (OpensFile (C.log calls.old) (C.log calls.new) (string_bytes spot.now.room) (string_bytes spot.now.folder) file.now) }
+    ensures opens { IfOk result (OpensFile (C.log calls.old) (C.log calls.new) is_own (string_bytes spot.now.room) (string_bytes spot.now.folder) file.now) }
     ensures fails { IfErr result (FailsToOpen (C.log calls.old) (C.log calls.new) ⊤ (string_bytes spot.now.room) (string_bytes spot.now.folder) file.now) }
 {
     if !enter(calls, spot)? {
         return Ok(Found::Not(Answer::NoFolder));
     }
     match calls.open(path)? {
-        Some(file) => Ok(Found::There(Held::new(calls, file)?)),
+        Some(file) => Ok(Found::There(Held::new(calls, file, is_own)?)),
         None => Ok(Found::Not(Answer::Absent)),
     }
 }

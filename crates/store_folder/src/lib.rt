@@ -13,6 +13,9 @@ mod folders;
 mod leftovers;
 mod rooms;
 mod store;
+mod syncing;
 
-pub use folder_calls::{Asked, Cause, Kind, Place, Reason, System};
-pub use store::FolderStore;
+pub use folder_calls::{
+    Asked, Calls, Cause, Failure, Kind, Place, Reason, Removal, System, SystemCalls,
+};
+pub use store::{FolderStore, StoreByCalls};

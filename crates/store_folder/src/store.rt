@@ -1,13 +1,27 @@
 //! The store: a folder of the system, and the counts of its acts and faults.
-ghost use Rattle.std.specs.Prelude.{◌≡◌, ◌≤◌, IfOk, IsSome, IsErrOf};
+ghost use Rattle.std.specs.Prelude.{◌≡◌, ◌⊎◌, ◌≤◌, [], true, false, IfOk, IfSome, IsErrOf, Err, Some, unwrap_or};
 ghost use Rattle.store_api.specs.Step.{step_of};
 ghost use Rattle.plfs_types.specs.Counts.{next_count, HasRisen};
 ghost use Rattle.store_api.specs.Acts.{Acts};
+ghost use Rattle.folder_calls.specs.Calls.{failed_calls};
 ghost use Rattle.store_folder.specs.Counting.{untold, CountsFaults};
-ghost use Rattle.store_folder.specs.Stored.{stored_of};
+ghost use Rattle.folder_calls.specs.Doubts.{is_doubted};
+ghost use Rattle.folder_calls.specs.Noted.{noted};
+ghost use Rattle.store_folder.specs.Ends.{Ends};
+ghost use Rattle.store_folder.specs.Made.{MakesStep};
+ghost use Rattle.folder_calls.specs.Own.{is_own};
+ghost use Rattle.store_folder.specs.Places.{file_of, ActsOnFile, BecomesOwn, takes_name};
+ghost use Rattle.store_folder.specs.Rooms.{IsStill};
+ghost use Rattle.store_folder.specs.Steps.{Numbers, Performs};
+ghost use Rattle.store_folder.specs.Syncing.{synced_by, is_refused};
+ghost use Rattle.store_folder.specs.StepPlaces.{place_of};
+ghost use Rattle.store_folder.specs.Stored.{stored_of, root_of};
 
 use crate::disk::Disk;
-use folder_calls::{Cause, Failure, Place, Reason, System, SystemCalls};
+use crate::syncing::{is_refused, synced_by};
+use folder_calls::{
+    Calls, Cause, Doubts, Failure, FileKey, Item, Place, Reason, System, SystemCalls,
+};
 use plfs_types::{NoMemory, Word};
 use std::alloc::Global;
 use std::fs::File;
@@ -21,26 +35,54 @@ struct Counts {
     faults: u64,
 }
 
-/// A backing store on the folder ROOT of the system, which is its own while it lives. It tells no tree.
+/// A backing store on a folder, ROOT, by these calls. The folder is its own while it lives, and it tells no tree.
 #[derive(Drop)]
-pub struct FolderStore<R> {
-    disk: Disk<SystemCalls<R>, File>,
+pub struct StoreByCalls<C, F> {
+    disk: Disk<C, F>,
+    // Of what a sync failed.
+    doubts: Doubts,
     counts: Counts,
     // Where the last step was made, and why the last one failed that did.
     last: Place,
     cause: Option<Cause>,
 }
 
-impl<R: System> FolderStore<R> {
+/// A backing store on a folder of the system.
+pub type FolderStore<R> = StoreByCalls<SystemCalls<R>, File>;
+
+impl<R: System> StoreByCalls<SystemCalls<R>, File> {
     /// A store on the folder of this path. It touches nothing: the first act lists the folder and numbers its rooms.
     ///
     /// `NoMemory` leaves nothing behind.
     pub fn open(rt: R, alloc: Global, root: &Word) -> Result<Self, NoMemory>
         ensures fresh { IfOk result (λ store. stored_of store ≡ untold 0 0) }
+        ensures root { IfOk result (λ store. root_of store ≡ root.now) }
+        ensures unread { IfOk result (λ store. store.disk.is_numbered ≡ false) }
+        ensures closed { IfOk result (λ store. store.disk.open.files.entries ≡ []) }
+        ensures none_own { IfOk result (λ store. (key : FileKey) → is_own store.disk.own key ≡ false) }
+        ensures none_doubted { IfOk result (λ store. (item : Item) → is_doubted store.doubts item ≡ false) }
     {
-        match Disk::new(SystemCalls::new(rt), alloc, root) {
-            Ok(disk) => Ok(FolderStore {
+        StoreByCalls::by(SystemCalls::new(rt), alloc, root)
+    }
+}
+
+impl<C: Calls<File = F> + Drop, F: Drop> StoreByCalls<C, F> {
+    /// A store on the folder of this path, by these calls. It makes none of them.
+    ///
+    /// `NoMemory` leaves nothing behind.
+    pub fn by(calls: C, alloc: Global, root: &Word) -> Result<Self, NoMemory>
+        ensures fresh { IfOk result (λ store. stored_of store ≡ untold 0 0) }
+        ensures root { IfOk result (λ store. root_of store ≡ root.now) }
+        ensures calls { IfOk result (λ store. store.disk.calls ≡ calls) }
+        ensures unread { IfOk result (λ store. store.disk.is_numbered ≡ false) }
+        ensures closed { IfOk result (λ store. store.disk.open.files.entries ≡ []) }
+        ensures none_own { IfOk result (λ store. (key : FileKey) → is_own store.disk.own key ≡ false) }
+        ensures none_doubted { IfOk result (λ store. (item : Item) → is_doubted store.doubts item ≡ false) }
+    {
+        match Disk::new(calls, alloc, root) {
+            Ok(disk) => Ok(StoreByCalls {
                 disk,
+                doubts: Doubts::new(alloc),
                 counts: Counts { acts: 0, faults: 0 },
                 last: Place::root(),
                 cause: None,
@@ -50,7 +92,7 @@ impl<R: System> FolderStore<R> {
     }
 }
 
-impl<R> FolderStore<R> {
+impl<C, F> StoreByCalls<C, F> {
     /// How many acts were answered otherwise than by want of memory, up to 2^64 - 1.
     pub fn acts(&self) -> u64
         ensures { result ≡ (stored_of self.now).acts }
@@ -80,30 +122,44 @@ impl<R> FolderStore<R> {
     }
 }
 
-impl<R: System> Store for FolderStore<R> {
+impl<C: Calls<File = F> + Drop, F: Drop> Store for StoreByCalls<C, F> {
     ghost stored = { λ store. stored_of store };
 
     /// Makes one step, and answers it. `Fault` comes where the system failed the step, where a name of the step
     /// can't stand in a path or can't be a room's, where a listed name is no text in UTF-8 or longer than 96 bytes,
     /// or where below ROOT a link or the like stands in the way. At a `Fault` the count of faults rises by one, up to
     /// 2^64 - 1, and in no other act, and `cause` tells of it.
+    ///
+    /// A sync that failed is final: from then on each step is a `Fault`, with no call of the system, that would sync
+    /// the same file, folder or ROOT, or would give the file another name.
+    ///
+    /// Bytes that an earlier run left in a file are never changed: a write that reaches into them is a `Fault`, which
+    /// calls no write, unless it would put the same bytes there.
     fn act(&mut self, step: &Step<'_>) -> Result<Answer, Trouble>
         ensures told { Acts (step_of step.now) (stored_of self.old) (stored_of self.new) result }
         ensures counted { CountsFaults (stored_of self.old) (stored_of self.new) result }
-        ensures cause { IsErrOf result Trouble.Fault → IsSome self.new.cause }
+        ensures performs { IfOk result (λ answer. MakesStep C.log self.old.disk self.new.disk (step_of step.now) answer) }
+        ensures ends { Ends C.log self.old self.new (step_of step.now) result }
+        ensures refused { is_refused self.old.doubts (step_of step.now) ≡ true → IsErrOf result Trouble.Fault }
+        ensures still { is_refused self.old.doubts (step_of step.now) ≡ true → IsStill self.old.disk self.new.disk × (C.log self.new.disk.calls ≡ C.log self.old.disk.calls) × (C.told self.new.disk.calls ≡ Some Reason.Unsynced) }
+        ensures lasts { (item : Item) → is_doubted self.old.doubts item ≡ true → is_doubted self.new.doubts item ≡ true }
+        ensures well { IfOk result (λ _. failed_calls (C.log self.new.disk.calls) ≡ failed_calls (C.log self.old.disk.calls)) }
+        ensures root { root_of self.new ≡ root_of self.old }
+        ensures place { self.new.last ≡ place_of self.new.disk (step_of step.now) }
+        ensures cause { IsErrOf result Trouble.Fault → self.new.cause ≡ Some (record { place = self.new.last; reason = unwrap_or (C.told self.new.disk.calls) Reason.Unnameable }) }
     {
         self.disk.calls.forget();
-        let end = self.disk.make(step);
+        let end = attempt(&mut self.disk, &mut self.doubts, step);
         self.last = self.disk.place_of(step);
         match end {
             Ok(answer) => {
                 self.counts.count_act();
                 Ok(answer)
             }
-            Err(Failure::Failed) => {
+            Err(Failure::Failed | Failure::Unsynced) => {
                 self.cause = Some(Cause {
                     place: self.last,
-                    reason: self.disk.calls.last().unwrap_or(Reason::Unnameable),
+                    reason: self.disk.calls.reason().unwrap_or(Reason::Unnameable),
                 });
                 self.counts.count_act();
                 self.counts.count_fault();
@@ -111,6 +167,39 @@ impl<R: System> Store for FolderStore<R> {
             }
             Err(Failure::NoMemory) => Err(Trouble::NoMemory),
         }
+    }
+}
+
+// Makes the step on the folder, unless it would sync what an earlier sync failed of.
+fn attempt<C: Calls<File = F> + Drop, F: Drop>(
+    disk: &mut Disk<C, F>,
+    doubts: &mut Doubts,
+    step: &Step<'_>,
+) -> Result<Answer, Failure>
+    ensures performs { IfOk result (λ answer. (numbered : Disk C F) × Numbers disk.old numbered (C.log disk.old.calls) (C.log numbered.calls) × Performs numbered disk.new (C.log numbered.calls) (C.log disk.new.calls) (step_of step.now) answer) }
+    ensures on_file { disk.old.is_numbered ≡ true → is_refused doubts.old (step_of step.now) ≡ false → IfSome (file_of (step_of step.now)) (λ key. ActsOnFile disk.old key (C.log disk.old.calls) (C.log disk.new.calls) (step_of step.now) result) }
+    ensures well { IfOk result (λ _. failed_calls (C.log disk.new.calls) ≡ failed_calls (C.log disk.old.calls)) }
+    ensures root { disk.new.root ≡ disk.old.root }
+    ensures refused { is_refused doubts.old (step_of step.now) ≡ true → result ≡ Err Failure.Failed }
+    ensures still { is_refused doubts.old (step_of step.now) ≡ true → IsStill disk.old disk.new × (C.log disk.new.calls ≡ C.log disk.old.calls) × (C.told disk.new.calls ≡ noted (C.told disk.old.calls) Reason.Unsynced) }
+    ensures doubted { result ≡ Err Failure.Unsynced → (synced_by (step_of step.now) ≡ Item.Nothing) ⊎ (is_doubted doubts.new (synced_by (step_of step.now)) ≡ true) }
+    ensures only { (result ≡ Err Failure.Unsynced) ⊎ (doubts.new ≡ doubts.old) }
+    ensures own { disk.old.is_numbered ≡ true → (key : FileKey) → is_own disk.new.own key ≡ true → (is_own disk.old.own key ≡ true) ⊎ BecomesOwn disk.old (file_of (step_of step.now)) key (C.log disk.old.calls) }
+    ensures renames { disk.old.is_numbered ≡ true → is_refused doubts.old (step_of step.now) ≡ false → (key : FileKey) → takes_name (step_of step.now) key ≡ true → is_own disk.new.own key ≡ false }
+    ensures lasts { (item : Item) → is_doubted doubts.old item ≡ true → is_doubted doubts.new item ≡ true }
+{
+    if is_refused(doubts, step) {
+        disk.calls.tell(Reason::Unsynced);
+        return Err(Failure::Failed);
+    }
+    match disk.make(step) {
+        Ok(answer) => Ok(answer),
+        Err(Failure::Unsynced) => {
+            doubts.add(&synced_by(step));
+            Err(Failure::Unsynced)
+        }
+        Err(Failure::Failed) => Err(Failure::Failed),
+        Err(Failure::NoMemory) => Err(Failure::NoMemory),
     }
 }
 

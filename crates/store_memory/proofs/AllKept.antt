@@ -4,7 +4,7 @@ use Rattle.store_api.specs.declared.tree.File.{File}
 use Rattle.store_api.specs.declared.tree.Room.{Room}
 use Rattle.store_api.specs.declared.tree.Tree.{Tree}
 use Rattle.store_api.specs.Kept.{synced}
-use Rattle.store_memory.specs.AllKept.{room_kept}
+use Rattle.store_api.specs.AllKept.{room_kept}
 use Rattle.store_memory.proofs.Places.{next_changed, length_changed}
 
 -- the room with so many files kept

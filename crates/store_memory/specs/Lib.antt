@@ -1,4 +1,3 @@
-pub mod AllKept
 pub mod Broken
 pub mod InRoom
 pub mod Lost

@@ -1,7 +1,7 @@
 //! A tree of which all is kept.
 ghost use Rattle.std.specs.Prelude.{◌≡◌};
 ghost use Rattle.store_api.specs.Kept.{synced};
-ghost use Rattle.store_memory.specs.AllKept.{room_kept, all_kept};
+ghost use Rattle.store_api.specs.AllKept.{room_kept, all_kept};
 
 use store_api::{File, Room, Tree};
 

@@ -38,7 +38,7 @@ pub struct MemoryStore {
 
 impl MemoryStore {
     ghost use Rattle.store_memory.specs.MemoryStore.{tree_in, acts_of, faults_of, fails_of, last_of};
-    ghost use Rattle.store_memory.specs.AllKept.{all_kept};
+    ghost use Rattle.store_api.specs.AllKept.{all_kept};
     ghost use Rattle.store_memory.specs.Lost.{lost};
     ghost use Rattle.store_api.specs.Loss.{Loses};
 

@@ -11,6 +11,10 @@ mod acts;
 #[cfg(test)]
 mod causes;
 #[cfg(test)]
+mod earlier;
+#[cfg(test)]
+mod failing;
+#[cfg(test)]
 mod folder;
 #[cfg(test)]
 mod links;
@@ -26,5 +30,7 @@ mod opening;
 mod playing;
 #[cfg(test)]
 mod several;
+#[cfg(test)]
+mod syncs;
 #[cfg(test)]
 mod telling;

@@ -1,24 +1,38 @@
 //! A store on a folder of the system, and what is made beside it there.
 use crate::acts::{Act, act_on};
+use crate::failing::FailingCalls;
 use crate::playing::{Row, Site, holds};
 use crate::telling::{count, note};
+use folder_calls::SystemCalls;
 use plfs_types::{NoMemory, Word};
+use std::fs::File;
 use std::os::unix::fs::symlink;
 use std::process::Abort;
 use std::test::Fail;
 use std::{fs, mem};
-use store_folder::FolderStore;
+use store_folder::{FolderStore, StoreByCalls};
 use test_lines::Line;
+
+type FailingStore = StoreByCalls<FailingCalls<HostRuntime>, File>;
 
 #[derive(Drop)]
 struct OnFolder {
     rt: HostRuntime,
-    store: FolderStore<HostRuntime>,
+    store: FailingStore,
 }
 
 /// A store on this folder, which need not be there.
 pub(crate) fn open(rt: HostRuntime, root: &str) -> Result<FolderStore<HostRuntime>, NoMemory> {
     FolderStore::open(rt, rt.alloc(), &Word::copy(rt.alloc(), root)?)
+}
+
+// The same, whose syncs can fail.
+fn open_failing(rt: HostRuntime, root: &str) -> Result<FailingStore, NoMemory> {
+    let calls = FailingCalls {
+        rt,
+        calls: SystemCalls::new(rt),
+    };
+    StoreByCalls::by(calls, rt.alloc(), &Word::copy(rt.alloc(), root)?)
 }
 
 // What stands at the path, where links are followed.
@@ -32,7 +46,7 @@ fn kind_of(rt: HostRuntime, path: &str) -> &'static str {
 
 impl OnFolder {
     fn open(&mut self, root: &str, line: &mut Line) {
-        match open(self.rt, root) {
+        match open_failing(self.rt, root) {
             Ok(store) => drop(mem::replace(&mut self.store, store)),
             Err(NoMemory) => note(line, false),
         }
@@ -88,7 +102,7 @@ pub(crate) fn on_folders<R: Abort>(
     for (root, rows) in tables {
         let _ = fs::remove_dir_all(&rt, root);
         fs::create_dir(&rt, root)?;
-        let store = open(rt, root)?;
+        let store = open_failing(rt, root)?;
         let mut site = OnFolder { rt, store };
         holds(abort, rt.alloc(), &mut site, rows);
         drop(site);

@@ -1,4 +1,3 @@
-pub mod Queues
 pub mod Entries
 pub mod Writers
 pub mod Words

@@ -2,6 +2,7 @@
 -- of its log and Reads of the whole entries; Mend where the index dropping isn't just its landed entries; where there are
 -- some, SyncDropping of the log and of the index dropping, and MendMeta; then Bury.
 use Rattle.std.specs.Prelude.{ℕ, zero, suc, ◌+◌, ◌-◌, ◌*◌, ◌/◌, ◌==◌, nat_le, min, Bool, true, false, if◌then◌else◌, length, Result, Ok, Err}
+use Rattle.plfs_types.specs.declared.limits.TheConstants.{ENTRIES_A_READ}
 use Rattle.flow.specs.declared.stuck.Stuck.{Stuck}
 use Rattle.story.specs.Program.{done, ask}
 use Rattle.mount_model.specs.declared.call.Call.TheVariants.{Look, SyncDropping, Inspect, Mend, MendMeta, Bury}
@@ -61,11 +62,11 @@ found room e told run = if told == 40 * run.cover.count then keeps room e run el
 
 -- how many Reads so many entries take, 4096 by each
 abbrev pub reads_of : ℕ → ℕ
-reads_of left = (left + 4095) / 4096
+reads_of left = (left + (ENTRIES_A_READ - 1)) / ENTRIES_A_READ
 
 -- how many entries the next Read asks for
 abbrev pub next_read : ℕ → ℕ
-next_read left = min left 4096
+next_read left = min left ENTRIES_A_READ
 
 -- After a Read: an entry that breaks a rule is damage at its first byte. Else it goes on, unless the Read was short.
 abbrev pub if_checked : OpenEntry → (Run → Tries Fate) → (Bool → Run → Tries Fate) → Bool → Went × Run → Tries Fate

@@ -8,7 +8,6 @@
 mod entries;
 mod fates;
 mod listing;
-mod queue;
 mod recovering;
 mod runs;
 mod steps;

@@ -10,7 +10,6 @@ ghost use Rattle.torn_tail.specs.Stages.{recovering, calls_left, recover_standin
 
 use crate::fates::Fate;
 use crate::listing::listed;
-use crate::queue::Queue;
 use crate::steps::Step;
 use crate::writers::After;
 use container_layout::openhosts;
@@ -18,7 +17,7 @@ use flow::{
     Flow, OpenEntry, OpenEntryList, Stuck, entries_by_writer, failure, is_no_folder, room_in,
 };
 use mount_model::{Call, Look, Reply};
-use plfs_types::{CountList, IdList, LogicalName, NoMemory, WriterCount};
+use plfs_types::{CountList, IdList, LogicalName, NoMemory, Queue, WriterCount};
 use std::alloc::Global;
 use std::mem;
 

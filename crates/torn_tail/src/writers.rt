@@ -16,10 +16,7 @@ use crate::steps::Step;
 use container_layout::{Item, print};
 use flow::{OpenEntry, Stuck, bytes_in, damage, failure, length_in, trouble};
 use mount_model::{Call, Look, Refusal, Reply};
-use plfs_types::Path;
-
-/// How many entries one Read asks for at most.
-const MAX_READ: u64 = 4096;
+use plfs_types::{ENTRIES_A_READ, Path};
 
 /// What comes after a reply.
 #[derive(Clone, Copy)]
@@ -49,7 +46,7 @@ fn log_path(entry: OpenEntry) -> Path
 fn next_read(left: u64) -> u64
     ensures { result ≡ read_next left }
 {
-    left.min(MAX_READ)
+    left.min(ENTRIES_A_READ)
 }
 
 impl Step {

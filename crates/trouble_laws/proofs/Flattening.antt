@@ -16,12 +16,11 @@ use Rattle.flow.specs.declared.stuck.Stuck.{Stuck}
 use Rattle.flow.specs.declared.stuck.Stuck.TheVariants as stuck
 use Rattle.flow.specs.Running.{Runs}
 use Rattle.flow.proofs.Facts.{runs_in_two}
-use Rattle.flow.specs.Replies.{Tries, failure, given, on_ok, room_in}
+use Rattle.flow.specs.Replies.{Tries, failure, given, on_ok, room_in, on_ok as then_on_ok}
 use Rattle.index_reader.specs.declared.listing.Dropping.{Dropping as Listed}
 use Rattle.index_reader.specs.declared.listing.Listing.{Listing}
 use Rattle.index_reader.specs.declared.sharing.Share.{Share}
 use Rattle.index_reader.specs.Opening.{no_flat, open_at_program, scan_program}
-use Rattle.index_reader.specs.Replies.{on_ok as then_on_ok}
 use Rattle.index_reader.specs.Sharing.{share_program}
 use Rattle.index_reader.specs.Truncs.{trunc_program}
 use Rattle.gathering.specs.Moments.{Moment, IsSoundAt, Grows, moment_after}

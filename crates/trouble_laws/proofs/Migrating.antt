@@ -28,11 +28,10 @@ use Rattle.flow.specs.declared.names.Metadata.{Metadata}
 use Rattle.flow.specs.Listed.{file_in, or_trouble, told_by}
 use Rattle.flow.specs.Names.{meta_in}
 use Rattle.flow.specs.Order.{metadata_by_writer}
-use Rattle.flow.specs.Replies.{Tries, bytes_in, damage, failure, given, on_ok, trouble}
+use Rattle.flow.specs.Replies.{Tries, bytes_in, damage, failure, given, on_ok, trouble, names_in}
 use Rattle.index_reader.specs.declared.listing.Dropping.{Dropping as Listed}
 use Rattle.index_reader.specs.declared.listing.Listing.{Listing}
 use Rattle.index_reader.specs.Opening.{no_flat, scans}
-use Rattle.index_reader.specs.Replies as replies
 use Rattle.index_reader.specs.Scanning.{nothing_found}
 use Rattle.index_reader.specs.Tops.{hostdirs, shown, top_shows}
 use Rattle.migrate_core.specs.declared.migrated.Migrated.{Migrated}
@@ -280,10 +279,10 @@ module _ (caller number : ℕ) where
   top_path = file_in [] []
 
   abbrev Behind : List Name → Tries Migrated
-  Behind names = replies.on_ok (migrates_shown number) (top_shows names)
+  Behind names = on_ok (migrates_shown number) (top_shows names)
 
   abbrev AtTop : Reply → Tries Migrated
-  AtTop reply = replies.given (replies.names_in reply) (replies.trouble top_path reply) Behind
+  AtTop reply = given (names_in reply) (trouble top_path reply) Behind
 
   top_leads : (issued : Ledger) (state : State) (reply : Reply) (after : State) → May state caller top_call → IsStep state caller top_call reply after → IsSoundFor issued state → Ends caller IsUndamaged (AtTop reply) after
   top_leads issued state reply after may step s = elim (top_ends issued state s caller number reply after step) as (λ _. Ends caller IsUndamaged (AtTop reply) after) [
@@ -291,11 +290,11 @@ module _ (caller number : ℕ) where
         let t = shown_at issued state s number names l.lists l.apart l.is in
         let ks : List ℕ = shown names hostdirs in
         subst (λ r. Ends caller IsUndamaged (AtTop r) after) (sym is)
-        (subst (λ r. Ends caller IsUndamaged (replies.on_ok (migrates_shown number) r) after) (sym t.0)
+        (subst (λ r. Ends caller IsUndamaged (on_ok (migrates_shown number) r) after) (sym t.0)
         (lists_end ks after (shown_stays number ks issued state after caller top_call reply may step s t.1)))
     | inr (inl (l, is)) ↦ absurd (let clash : true ≡ false = l.lacks.none in cc)
-    | inr (inr plain) ↦ subst (λ o. Ends caller IsUndamaged (replies.given o (replies.trouble top_path reply) Behind) after) (sym (plain_names reply plain))
-        (ends_done caller IsUndamaged (Err (replies.trouble top_path reply)) (plain_top_trouble top_path reply plain) after)
+    | inr (inr plain) ↦ subst (λ o. Ends caller IsUndamaged (given o (trouble top_path reply) Behind) after) (sym (plain_names reply plain))
+        (ends_done caller IsUndamaged (Err (trouble top_path reply)) (plain_top_trouble top_path reply plain) after)
   ]
 
   at_ends : (state : State) → Ends caller IsUndamaged (migrate_at_program number) state

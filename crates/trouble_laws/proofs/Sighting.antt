@@ -30,8 +30,7 @@ use Rattle.mount_sound.specs.Sound.{IsSoundFor}
 use Rattle.mount_sound.proofs.Facts.{some_room}
 use Rattle.flow.specs.Running.{unbroken}
 use Rattle.flow.specs.declared.names.Metadata.{Metadata}
-use Rattle.flow.specs.Replies.{bytes_in, trouble}
-use Rattle.index_reader.specs.Replies as replies
+use Rattle.flow.specs.Replies.{bytes_in, trouble, names_in}
 use Rattle.migrate_core.specs.Writers.{number_in}
 use Rattle.gathering.specs.Moments.{Moment, file_in_room, file_told, file_then}
 use Rattle.gathering.proofs.Facts.{read_ends}
@@ -52,7 +51,7 @@ plain_trouble path (Looked found_) plain = absurd plain
 plain_trouble path (Damaged folder file) plain = absurd plain
 plain_trouble path reply plain = tt
 
-pub plain_top_trouble : (path : Path) (reply : Reply) → IsPlain reply → IsNoDamage (replies.trouble path reply)
+pub plain_top_trouble : (path : Path) (reply : Reply) → IsPlain reply → IsNoDamage (trouble path reply)
 plain_top_trouble path (Looked found_) plain = absurd plain
 plain_top_trouble path (Damaged folder file) plain = absurd plain
 plain_top_trouble path reply plain = tt
@@ -67,7 +66,7 @@ plain_bytes (Looked found_) plain = absurd plain
 plain_bytes (Damaged folder file) plain = absurd plain
 plain_bytes reply plain = refl
 
-pub plain_names : (reply : Reply) → IsPlain reply → replies.names_in reply ≡ None
+pub plain_names : (reply : Reply) → IsPlain reply → names_in reply ≡ None
 plain_names (Looked found_) plain = absurd plain
 plain_names (Damaged folder file) plain = absurd plain
 plain_names reply plain = refl

@@ -12,6 +12,7 @@ use Rattle.mount_model.specs.State.{State}
 use Rattle.mount_model.specs.History.{Event, state_after}
 use Rattle.mount_model.specs.Step.{Answers}
 use Rattle.mount_sound.specs.Owed.{IsLawful}
+use Rattle.mount_sound.proofs.Facts.{lawful_first, lawful_rest}
 use Rattle.writer_flow.specs.declared.handle.WriterHandle.{WriterHandle}
 use Rattle.writer_flow.specs.declared.handle.WriterOut.{WriterOut}
 use Rattle.writer_flow.specs.Handle.{closing_of}
@@ -25,15 +26,6 @@ use Rattle.turn_object.proofs.Facts.{state_append}
 use Rattle.flow.proofs.Facts.{runs_in_two}
 use Rattle.writer_laws.proofs.Own.{put_meta_own, exit_own}
 use Rattle.writer_laws.proofs.Machines.{reached, finished, sync_ends}
-
--- what is lawful in two parts, one after the other
-pub lawful_first : (start : State) (first rest : List Event) → IsLawful start (first ++ rest) → IsLawful start first
-lawful_first start [] rest l = tt
-lawful_first start (event ∷ first) rest l = (l.0, l.1, lawful_first event.after first rest l.2)
-
-pub lawful_rest : (start : State) (first rest : List Event) → IsLawful start (first ++ rest) → IsLawful (state_after start first) rest
-lawful_rest start [] rest l = l
-lawful_rest start (event ∷ first) rest l = lawful_rest event.after first rest l.2
 
 some_handle : (a b : WriterHandle) (o : Option WriterHandle) → o ≡ Some a → o ≡ Some b → a ≡ b
 some_handle a b o e f = cc

@@ -27,7 +27,7 @@ use Rattle.writer_flow.specs.Opening.{Opening, finds_floor, if_done, if_entered,
 use Rattle.writer_laws.specs.Counting.{StaysIn, StaysInAt}
 use Rattle.writer_laws.specs.Knowing.{HasRow}
 use Rattle.writer_laws.proofs.Rows.{some_eq}
-use Rattle.writer_laws.proofs.Closes.{lawful_first, lawful_rest}
+use Rattle.mount_sound.proofs.Facts.{lawful_first, lawful_rest}
 use Rattle.writer_laws.proofs.Opens.{enter_own}
 use Rattle.writer_laws.proofs.Stops.{whole_answers}
 use Rattle.writer_laws.proofs.Telling.{call_of, calls, goes, told_stays}

@@ -1,5 +1,5 @@
 -- What other crates may cite of this crate's proofs.
-pub use Rattle.writer_laws.proofs.Closes.{close_ends, lawful_first}
+pub use Rattle.writer_laws.proofs.Closes.{close_ends}
 pub use Rattle.writer_laws.proofs.Enterings.{EnteredBy, entered_by}
 pub use Rattle.writer_laws.proofs.Leavings.{CloseTold, ClosedBy, HasSynced, closed_by, writes_both}
 pub use Rattle.writer_laws.proofs.Machines.{sync_ends, write_ends}

@@ -23,7 +23,7 @@ use Rattle.writer_flow.specs.Syncing.{sync_program}
 use Rattle.writer_flow.specs.Closing.{after_sync, close_from, close_program, exits, if_kept, if_left, if_put, puts_meta}
 use Rattle.writer_laws.specs.Counting.{entry_count, writes_told, StaysIn, StaysInAt}
 use Rattle.writer_laws.specs.Knowing.{Knows}
-use Rattle.writer_laws.proofs.Closes.{lawful_first}
+use Rattle.mount_sound.proofs.Facts.{lawful_first}
 use Rattle.writer_laws.proofs.Machines.{sync_ends}
 use Rattle.writer_laws.proofs.Telling.{Spares, SyncedBy, err_not_ok, ok_not_err, spares_more, spares_none, sync_list, synced_by, told_stays, told_writes}
 

@@ -1,8 +1,8 @@
 pub mod Facts
 mod Rows
 mod Steps
-mod Own
-mod Stops
+pub mod Own
+pub mod Stops
 mod Histories
 mod Machines
 mod Closes

@@ -1,6 +1,6 @@
 use Rattle.std.proofs.Common.{rules}
 use Rattle.std.proofs.lemmas.List.Elements.{filter_from_retain}
-use Rattle.actor_core.specs.Names.{is_logical}
+use Rattle.plfs_types.specs.Names.{is_logical}
 use Rattle.actor_core.proofs.names.logical.Goals as goal
 
 pub returns : goal.returns

@@ -1,16 +1,16 @@
 use Rattle.std.proofs.Common.{ap, sym, ◌∙◌}
 use Rattle.flow.specs.Replies.{on_ok}
 use Rattle.index_reader.specs.OpenStages.{open_standing}
+use Rattle.flow.specs.Composed.{is_awaiting}
 use Rattle.flatten_core.specs.Flattening.{gathers}
-use Rattle.flatten_core.specs.Stages.{is_awaiting}
-use Rattle.flatten_core.proofs.PartLemmas.{again_then, next_then, rest_then}
+use Rattle.flow.proofs.Composing.{again_then, next_then, same_rest}
 use Rattle.flatten_core.proofs.giving.give_look.Goals as goal
 
 pub returns-clause-call : goal.returns-clause-call
 returns-clause-call c = c.in_ok-scan.ensures.call ∙ sym (next_then (on_ok (gathers c.args.started)) (open_standing c.args.scan) c.requires)
 
 pub returns-clause-rest : goal.returns-clause-rest
-returns-clause-rest c = rest_then (on_ok (gathers c.args.started)) (open_standing c.in_ok-scan.scan) (open_standing c.args.scan) c.in_ok-scan.ensures.rest
+returns-clause-rest c = same_rest (on_ok (gathers c.args.started)) (open_standing c.in_ok-scan.scan) (open_standing c.args.scan) c.in_ok-scan.ensures.rest
 
 pub returns-clause-again : goal.returns-clause-again
 returns-clause-again c =

@@ -3,7 +3,7 @@ use Rattle.flow.specs.Standing.{ready}
 use Rattle.flow.specs.Replies.{on_ok}
 use Rattle.flatten_core.specs.Flattening.{lists}
 use Rattle.flatten_core.specs.StartStages.{starting}
-use Rattle.flatten_core.proofs.PartLemmas.{next_then}
+use Rattle.flow.proofs.Composing.{next_then}
 use Rattle.flatten_core.proofs.giving.give_start.Goals as goal
 
 pub returns-clause-call : goal.returns-clause-call

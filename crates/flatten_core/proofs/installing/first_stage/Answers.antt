@@ -6,7 +6,7 @@ use Rattle.flow.specs.Replies.{on_ok}
 use Rattle.index_reader.specs.Opening.{scan_program}
 use Rattle.index_reader.specs.OpenStages.{open_rest}
 use Rattle.flatten_core.specs.Installing.{install_program, syncs_listed}
-use Rattle.flatten_core.proofs.FollowLemmas.{ready_same}
+use Rattle.flow.proofs.Composing.{ready_same}
 use Rattle.flatten_core.proofs.installing.first_stage.Goals as goal
 
 pub returns-clause-standing : goal.returns-clause-standing

@@ -2,16 +2,17 @@ use Rattle.std.proofs.Common.{◌≡◌, Option, ap, ◌∙◌}
 use Rattle.std.specs.Prelude.{Result}
 use Rattle.flow.specs.declared.stuck.Stuck.{Stuck}
 use Rattle.flow.specs.Standing.{Standing, ready, replied, rest_of}
+use Rattle.flow.specs.Composed.{calling, then_on}
 use Rattle.mount_model.specs.declared.call.Call.{Call}
 use Rattle.mount_model.specs.declared.reply.Reply.{Reply}
 use Rattle.flow.specs.Replies.{on_ok}
 use Rattle.gather_flow.specs.declared.all_read.AllRead.{AllRead}
-use Rattle.gather_flow.specs.Gathering.{gather_rest, gather_standing, then_on}
+use Rattle.gather_flow.specs.Gathering.{gather_rest, gather_standing}
 use Rattle.flatten_core.specs.declared.parts.Part.{Part}
 use Rattle.flatten_core.specs.Flattening.{installs_gathered}
-use Rattle.flatten_core.specs.Parts.{calling, parted}
-use Rattle.flatten_core.proofs.FollowLemmas.{ok_so}
-use Rattle.flatten_core.proofs.PartLemmas.{fresh_so, reply_calling}
+use Rattle.flatten_core.specs.Parts.{parted}
+use Rattle.std.proofs.lemmas.Result.{IfOk-weaker}
+use Rattle.flow.proofs.Composing.{fresh_so, reply_calling}
 use Rattle.flatten_core.proofs.parts.after_call.Goals as goal
 
 pub gather_on-requires : goal.gather_on-requires
@@ -19,10 +20,9 @@ gather_on-requires c = fresh_so (gather_standing c.in_ok-gathering.gathering) (r
 
 pub returns-clause-goes_on : goal.returns-clause-goes_on
 returns-clause-goes_on c =
-    ok_so
+    IfOk-weaker c.gather_on.result
     (λ (part : Part). parted part ≡ then_on (gather_standing c.in_ok-gathering.gathering) (on_ok (installs_gathered c.args.started)))
     (λ (part : Part). (call : Option Call) → parted part ≡ ready (replied (rest_of (calling call (gather_rest c.args.gathering) (on_ok (installs_gathered c.args.started)))) c.args.reply))
-    c.gather_on.result
     (λ part h call. h
     ∙ ap (λ (s : Standing Call Reply (Result AllRead Stuck)). then_on s (on_ok (installs_gathered c.args.started))) c.in_ok-gathering.ensures.goes_on
     ∙ ap ready (reply_calling (on_ok (installs_gathered c.args.started)) call (gather_rest c.args.gathering) c.args.reply c.requires))

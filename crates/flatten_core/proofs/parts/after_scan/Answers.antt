@@ -2,26 +2,25 @@ use Rattle.std.proofs.Common.{◌≡◌, ap, ◌∙◌}
 use Rattle.std.specs.Prelude.{Result}
 use Rattle.flow.specs.declared.stuck.Stuck.{Stuck}
 use Rattle.flow.specs.Standing.{Standing, ready, replied, rest_of}
+use Rattle.flow.specs.Composed.{then_on}
 use Rattle.mount_model.specs.declared.call.Call.{Call}
 use Rattle.mount_model.specs.declared.reply.Reply.{Reply}
 use Rattle.flow.specs.Replies.{on_ok}
 use Rattle.index_reader.specs.declared.listing.Listing.{Listing as Listed}
 use Rattle.index_reader.specs.OpenStages.{open_standing}
-use Rattle.gather_flow.specs.Gathering.{then_on}
 use Rattle.flatten_core.specs.declared.parts.Part.{Part}
 use Rattle.flatten_core.specs.declared.parts.Part.TheVariants.{Listing}
 use Rattle.flatten_core.specs.Flattening.{gathers}
 use Rattle.flatten_core.specs.Parts.{parted}
-use Rattle.flatten_core.proofs.FollowLemmas.{ok_so}
-use Rattle.flatten_core.proofs.PartLemmas.{reply_then}
+use Rattle.std.proofs.lemmas.Result.{IfOk-weaker}
+use Rattle.flow.proofs.Composing.{reply_then}
 use Rattle.flatten_core.proofs.parts.after_scan.Goals as goal
 
 pub returns-in-Ok-clause-goes_on : goal.returns-in-Ok-clause-goes_on
 returns-in-Ok-clause-goes_on c =
-    ok_so
+    IfOk-weaker c.list_on.result
     (λ (part : Part). parted part ≡ then_on (open_standing c.take.new.self) (on_ok (gathers c.args.started)))
     (λ (part : Part). parted part ≡ ready (replied (rest_of (parted (Listing c.args.scan c.args.started))) c.args.reply))
-    c.list_on.result
     (λ part h. h
     ∙ ap (λ (s : Standing Call Reply (Result Listed Stuck)). then_on s (on_ok (gathers c.args.started))) c.in-Ok.ensures.goes_on
     ∙ ap ready (reply_then (on_ok (gathers c.args.started)) (open_standing c.args.scan) c.args.reply c.requires))

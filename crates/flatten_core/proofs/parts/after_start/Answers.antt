@@ -5,7 +5,7 @@ use Rattle.flow.specs.Replies.{Tries, on_ok}
 use Rattle.flatten_core.specs.declared.starting.Started.{Started}
 use Rattle.flatten_core.specs.Flattening.{lists}
 use Rattle.flatten_core.specs.StartStages.{starting}
-use Rattle.flatten_core.proofs.PartLemmas.{reply_then}
+use Rattle.flow.proofs.Composing.{reply_then}
 use Rattle.flatten_core.proofs.parts.after_start.Goals as goal
 
 pub returns-clause-goes_on : goal.returns-clause-goes_on

@@ -2,6 +2,7 @@ use Rattle.std.proofs.Common.{◌≡◌, ap, sym, ◌∙◌, subst}
 use Rattle.std.specs.Prelude.{Result}
 use Rattle.flow.specs.declared.stuck.Stuck.{Stuck}
 use Rattle.flow.specs.Standing.{Standing, ready}
+use Rattle.flow.specs.Composed.{then_on}
 use Rattle.story.specs.Program.{done}
 use Rattle.mount_model.specs.declared.call.Call.{Call}
 use Rattle.mount_model.specs.declared.reply.Reply.{Reply}
@@ -10,12 +11,12 @@ use Rattle.gather_flow.specs.declared.all_read.AllRead.{AllRead}
 use Rattle.gather_flow.specs.declared.gathering.Called.{Called}
 use Rattle.gather_flow.specs.declared.gathering.Called.TheVariants.{Asks}
 use Rattle.gather_flow.specs.Called.{IsCalled}
-use Rattle.gather_flow.specs.Gathering.{gather_rest, gather_standing, then_on}
+use Rattle.gather_flow.specs.Gathering.{gather_rest, gather_standing}
 use Rattle.flatten_core.specs.declared.parts.Part.{Part}
 use Rattle.flatten_core.specs.Flattening.{installs_gathered}
 use Rattle.flatten_core.specs.Parts.{parted}
-use Rattle.flatten_core.proofs.FollowLemmas.{ok_so}
-use Rattle.flatten_core.proofs.PartLemmas.{calls_awaits, calls_then}
+use Rattle.std.proofs.lemmas.Result.{IfOk-weaker}
+use Rattle.flow.proofs.Composing.{calls_awaits, calls_then}
 use Rattle.flatten_core.proofs.parts.gather_on.Goals as goal
 
 pub returns-in-Asks-clause-goes_on : goal.returns-in-Asks-clause-goes_on
@@ -34,9 +35,8 @@ pub returns-in-Over-clause-goes_on : goal.returns-in-Over-clause-goes_on
 returns-in-Over-clause-goes_on c =
     let P : Called → Type 0 = λ k. IsCalled c.args.gathering k in
     let ended : gather_standing c.args.gathering ≡ ready (done c.in-Over.made) = subst P c.in-Over.is c.in_ok-called.ensures in
-    ok_so
+    IfOk-weaker c.after_gathering.result
     (λ (part : Part). parted part ≡ ready ((on_ok (installs_gathered c.args.started)) c.in-Over.made))
     (λ (part : Part). parted part ≡ then_on (gather_standing c.args.gathering) (on_ok (installs_gathered c.args.started)))
-    c.after_gathering.result
     (λ part h. h ∙ sym (ap (λ (s : Standing Call Reply (Result AllRead Stuck)). then_on s (on_ok (installs_gathered c.args.started))) ended))
     c.after_gathering.ensures.goes_on

@@ -3,14 +3,13 @@ use Rattle.std.specs.Prelude.{Result}
 use Rattle.flow.specs.declared.stuck.Stuck.{Stuck}
 use Rattle.story.specs.Program.{followed_by}
 use Rattle.flow.specs.Standing.{Standing, ready, rest_of}
+use Rattle.flow.specs.Composed.{is_awaiting, then_on}
 use Rattle.mount_model.specs.declared.call.Call.{Call}
 use Rattle.mount_model.specs.declared.reply.Reply.{Reply}
 use Rattle.flat_format.specs.Spelling.{flat_spelling}
-use Rattle.gather_flow.specs.Gathering.{then_on}
 use Rattle.flatten_core.specs.declared.flattening.Flattened.{Flattened}
 use Rattle.flatten_core.specs.Flattening.{tells}
 use Rattle.flatten_core.specs.Installing.{install_program}
-use Rattle.flatten_core.specs.Stages.{is_awaiting}
 use Rattle.flatten_core.proofs.parts.install_index.Goals as goal
 
 pub returns-clause-goes_on : goal.returns-clause-goes_on

@@ -2,14 +2,13 @@ use Rattle.std.proofs.Common.{ap, sym, ◌∙◌}
 use Rattle.std.specs.Prelude.{Result}
 use Rattle.flow.specs.declared.stuck.Stuck.{Stuck}
 use Rattle.flow.specs.Standing.{Standing, ready, rest_of}
+use Rattle.flow.specs.Composed.{is_awaiting, then_on}
 use Rattle.mount_model.specs.declared.call.Call.{Call}
 use Rattle.mount_model.specs.declared.reply.Reply.{Reply}
 use Rattle.flow.specs.Replies.{on_ok}
 use Rattle.index_reader.specs.declared.listing.Listing.{Listing}
-use Rattle.gather_flow.specs.Gathering.{then_on}
 use Rattle.flatten_core.specs.declared.starting.Started.{Started}
 use Rattle.flatten_core.specs.Flattening.{gathers, lists}
-use Rattle.flatten_core.specs.Stages.{is_awaiting}
 use Rattle.flatten_core.proofs.parts.list_begun.Goals as goal
 
 pub returns-in-Ok-clause-goes_on : goal.returns-in-Ok-clause-goes_on

@@ -1,20 +1,19 @@
 use Rattle.std.proofs.Common.{◌≡◌, sym, ◌∙◌}
 use Rattle.flow.specs.Standing.{ready}
+use Rattle.flow.specs.Composed.{then_on}
 use Rattle.flow.specs.Replies.{on_ok}
 use Rattle.index_reader.specs.OpenStages.{open_standing}
-use Rattle.gather_flow.specs.Gathering.{then_on}
-use Rattle.gather_flow.proofs.Throughs.{leads_then}
+use Rattle.std.proofs.lemmas.Result.{IfOk-weaker}
+use Rattle.flow.proofs.Composing.{leads_then}
 use Rattle.flatten_core.specs.declared.parts.Part.{Part}
 use Rattle.flatten_core.specs.Flattening.{gathers}
 use Rattle.flatten_core.specs.Parts.{parted}
-use Rattle.flatten_core.proofs.FollowLemmas.{ok_so}
 use Rattle.flatten_core.proofs.parts.list_over.Goals as goal
 
 pub returns-clause-goes_on : goal.returns-clause-goes_on
 returns-clause-goes_on c =
-    ok_so
+    IfOk-weaker c.after_listing.result
     (λ (part : Part). parted part ≡ ready (on_ok (gathers c.args.started) c.out.result))
     (λ (part : Part). parted part ≡ then_on (open_standing c.args.scan) (on_ok (gathers c.args.started)))
-    c.after_listing.result
-    (λ part h. h ∙ sym (leads_then (open_standing c.args.scan) (on_ok (gathers c.args.started)) c.out.result c.out.ensures.is))
+    (λ part h. h ∙ sym (leads_then (on_ok (gathers c.args.started)) (open_standing c.args.scan) c.out.result c.out.ensures.is))
     c.after_listing.ensures.goes_on

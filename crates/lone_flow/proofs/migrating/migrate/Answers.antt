@@ -1,4 +1,4 @@
-use Rattle.lone_flow.proofs.Packs.{all_caused, all_made, all_undamaged, may_migrate}
+use Rattle.lone_flow.proofs.Packs.{all_broken, all_caused, all_made, all_undamaged, may_migrate}
 use Rattle.lone_flow.proofs.migrating.migrate.Goals as goal
 
 pub drive-requires : goal.drive-requires
@@ -12,3 +12,6 @@ returns-clause-cause g c = all_caused c.args.name c.args.mount.now c.drive.new.m
 
 pub returns-clause-undamaged : goal.returns-clause-undamaged
 returns-clause-undamaged g c = all_undamaged c.args.name c.args.mount.now c.drive.new.mount _ c.new.ensures c.drive.result (c.a_statement_shows_no_damage.ensures.migrate c.args.name) c.requires.fine c.drive.ensures.drives
+
+pub returns-clause-broken_off : goal.returns-clause-broken_off
+returns-clause-broken_off g c = all_broken c.args.name c.args.mount.now c.drive.new.mount _ c.new.ensures c.drive.result c.drive.ensures.broken_off

@@ -1,7 +1,7 @@
 use Rattle.std.proofs.Common.{sym, ◌∙◌}
-use Rattle.index_reader.specs.OpenStages.{open_rest}
-use Rattle.migrate_core.proofs.FollowLemmas.{next_followed}
+use Rattle.index_reader.specs.OpenStages.{open_standing}
+use Rattle.flow.proofs.Composing.{next_then}
 use Rattle.migrate_core.proofs.going.give_look.Goals as goal
 
 pub returns-clause-call : goal.returns-clause-call
-returns-clause-call c = λ k. c.in-Ok.ensures.call ∙ sym (next_followed (open_rest c.args.scan) k c.requires)
+returns-clause-call c = λ k. c.in-Ok.ensures.call ∙ sym (next_then k (open_standing c.args.scan) c.requires)

@@ -8,7 +8,7 @@ invariant-loop-buffer g l =
     let given = g.I.Source.given in
     record {
       handed : HandsOver l.bytes.items (given l.fn.input).left (given l.input).left;
-      faults : (given l.fn.input).faults ≤ (given l.input).faults;
+      faults : (given l.input).faults ≡ (given l.fn.input).faults;
       within : vec_len l.bytes ≤ 2 ^ 20 + 1;
       size : vec_len l.buffer ≡ 2 ^ 16;
     }

@@ -8,5 +8,5 @@ loop-done-preserved g c =
       within = grind (arith, c.in-Ok.ensures.within, c.loop-done-test.true);
       bytes = taken_on c.loop-done.done c.in-Ok.count c.args.text.now _ _ _ c.loop-done.invariant.bytes c.in-Ok.ensures.bytes;
       faults = omega (arith, c.loop-done.invariant.faults, c.in-Ok.ensures.faults);
-      stalls = omega (arith, c.loop-done.invariant.stalls, c.in-Ok.ensures.stalls);
+      stalls = grind (arith, c.loop-done.invariant.stalls, c.in-Ok.ensures.unstalled);
     }

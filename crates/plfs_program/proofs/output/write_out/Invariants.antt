@@ -1,4 +1,4 @@
-use Rattle.std.proofs.Common.{◌≤◌, ◌-◌, length, take}
+use Rattle.std.proofs.Common.{◌≡◌, ◌≤◌, ◌-◌, length, take}
 use Rattle.edge_io.specs.Sink.{TakesOn}
 use Rattle.plfs_program.proofs.output.write_out.Given as goal
 
@@ -9,8 +9,8 @@ invariant-loop-done g l =
     record {
       within : l.done ≤ length l.text;
       bytes : TakesOn (take l.done l.text) (taking l.fn.out).taken (taking l.out).taken;
-      faults : (taking l.fn.out).faults ≤ (taking l.out).faults;
-      stalls : (taking l.fn.out).stalls ≤ (taking l.out).stalls;
+      faults : (taking l.out).faults ≡ (taking l.fn.out).faults;
+      stalls : (taking l.out).stalls ≡ (taking l.fn.out).stalls;
     }
 
 abbrev pub decreases-loop-done : goal.decreases-loop-done

@@ -1,7 +1,8 @@
 use Rattle.plfs_types.specs.Counts.{HasRisen}
 use Rattle.mount_sound.proofs.Facts.{mounted_fine}
-use Rattle.plfs_program.specs.Calling.{broke_off}
-use Rattle.plfs_program.specs.Ways.{by_turns}
+use Rattle.plfs_program.specs.Calling.{broke_off, ran}
+use Rattle.plfs_program.specs.Ways.{HasBegun, by_turns}
+use Rattle.plfs_program.proofs.Calls.{begun_so, was_run}
 use Rattle.plfs_program.proofs.Lines.{play_cause}
 use Rattle.plfs_program.proofs.MountLemmas.{all_mounted, all_undamaged, all_unmounted, all_caused}
 use Rattle.plfs_program.proofs.SoundMarks.{all_unmounted_undamaged}
@@ -9,6 +10,11 @@ use Rattle.plfs_program.proofs.work.work.Goals as goal
 
 pub play-lines-requires-clause-fine : goal.play-lines-requires-clause-fine
 play-lines-requires-clause-fine g c = mounted_fine 0 (g.C.Clock.times c.args.clock) (g.S.Store.stored c.args.store) c.in-Ok.mount c.in-Ok.ensures.ok
+
+pub returns-in-Ok-clause-left : goal.returns-in-Ok-clause-left
+returns-in-Ok-clause-left g c =
+    ran (was_run (HasBegun by_turns c.args.script.now) (g.C.Clock.times c.args.clock) (g.S.Store.stored c.args.store) (g.S.Store.stored c.close.result) c.in-Ok.mount c.play-lines.new.mount c.in-Ok.ensures.ok
+    (begun_so c.args.script.now c.in-Ok.mount c.play-lines.new.mount c.play-lines.result c.play-lines.ensures.plays c.play-lines.ensures.broken) c.close.ensures)
 
 pub returns-in-Ok-clause-in_turn : goal.returns-in-Ok-clause-in_turn
 returns-in-Ok-clause-in_turn g c =

@@ -1,10 +1,11 @@
-use Rattle.std.proofs.Common.{◌+◌, List, subst, take, drop}
+use Rattle.share_workers.proofs.Facts.{on_err}
+use Rattle.std.proofs.Common.{◌+◌, List, subst, drop}
 use Rattle.script_lang.specs.declared.script.Numbered.{Numbered}
-use Rattle.run_core.specs.Written.{whose}
 use Rattle.run_core.specs.World.{AllStand}
 use Rattle.share_workers.proofs.Facts.{taken_item}
 use Rattle.run_core.proofs.Tables.{left_item}
-use Rattle.run_core.proofs.Finishing.{tells_none, tells_more, has_line, went_told}
+use Rattle.run_core.proofs.Finishing.{tells_none, tells_more, has_line}
+use Rattle.run_core.proofs.BrokenPlays.{next_end_breaks}
 use Rattle.run_core.proofs.ending.finish.Goals as goal
 
 pub loop-statement-init : goal.loop-statement-init
@@ -18,9 +19,10 @@ pass-requires-clause-some g c = λ player here.
     has_line c.statement-item.result (drop (c.loop-statement.statement-index + 1) c.args.statements.now) c.loop-statement.players player c.loop-statement.mount
     (subst (λ (z : List Numbered). AllStand z c.loop-statement.players c.loop-statement.mount) (left_item c.args.statements.now c.loop-statement.statement-index c.statement-item.result c.loop-statement-test.true c.statement-item.is) c.loop-statement.invariant.came.stand) here
 
-pub returns-in_err-pass-clause-goes_on : goal.returns-in_err-pass-clause-goes_on
-returns-in_err-pass-clause-goes_on g c =
-    went_told (whose (take c.loop-statement.statement-index c.args.statements.now)) (drop c.loop-statement.statement-index c.args.statements.now) c.args.lines.now c.loop-statement.lines c.args.players.now c.loop-statement.players c.args.mount.now c.loop-statement.mount c.pass.new.mount c.loop-statement.invariant c.in_err-pass.ensures.goes_on
+pub returns-in_err-pass-clause-broken : goal.returns-in_err-pass-clause-broken
+returns-in_err-pass-clause-broken g c = on_err c.from_residual.result _ (
+    next_end_breaks c.args.statements.now c.loop-statement.statement-index c.statement-item.result c.args.lines.now c.loop-statement.lines c.args.players.now c.loop-statement.players c.args.mount.now c.loop-statement.mount c.pass.new.mount
+    (left_item c.args.statements.now c.loop-statement.statement-index c.statement-item.result c.loop-statement-test.true c.statement-item.is) c.loop-statement.invariant c.in_err-pass.ensures.broken)
 
 pub loop-statement-preserved : goal.loop-statement-preserved
 loop-statement-preserved g c =

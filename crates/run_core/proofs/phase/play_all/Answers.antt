@@ -1,10 +1,13 @@
-use Rattle.std.proofs.Common.{ℕ, List, [], length, take, sym, subst}
+use Rattle.share_workers.proofs.Facts.{on_err}
+use Rattle.std.proofs.Common.{ℕ, List, [], length, sym, subst}
 use Rattle.script_lang.specs.declared.line.Line.{Line}
 use Rattle.script_lang.specs.declared.script.Phase.{Phase}
 use Rattle.script_lang.specs.Ranges.{FitsPhase}
 use Rattle.run_core.specs.World.{PlayedSoFar}
 use Rattle.share_workers.proofs.Facts.{taken_item}
-use Rattle.run_core.proofs.Phases.{no_phase, one_phase_more, went_phase}
+use Rattle.run_core.proofs.Phases.{no_phase, one_phase_more}
+use Rattle.run_core.proofs.Tables.{left_item}
+use Rattle.run_core.proofs.BrokenPlays.{next_phase_breaks}
 use Rattle.run_core.proofs.phase.play_all.Goals as goal
 
 pub loop-phase-init : goal.loop-phase-init
@@ -15,8 +18,10 @@ play_phase-requires-clause-fits g c =
     let fits : FitsPhase (length c.args.players.now) c.phase-item.result = subst (λ (z : Phase). FitsPhase (length c.args.players.now) z) (sym c.phase-item.is) (c.requires.fits c.loop-phase.phase-index c.phase-item.result c.loop-phase-test.true) in
     subst (λ (n : ℕ). FitsPhase n c.phase-item.result) (sym c.loop-phase.invariant.long) fits
 
-pub returns-in_err-play_phase-clause-goes_on : goal.returns-in_err-play_phase-clause-goes_on
-returns-in_err-play_phase-clause-goes_on g c = went_phase (take c.loop-phase.phase-index c.args.phases.now) c.loop-phase.lines c.args.players.now c.loop-phase.players c.args.mount.now c.loop-phase.mount c.play_phase.new.mount c.loop-phase.invariant c.in_err-play_phase.ensures.goes_on
+pub returns-in_err-play_phase-clause-broken : goal.returns-in_err-play_phase-clause-broken
+returns-in_err-play_phase-clause-broken g c = on_err c.from_residual.result _ (
+    next_phase_breaks c.args.phases.now c.loop-phase.phase-index c.phase-item.result c.loop-phase.lines c.args.players.now c.loop-phase.players c.args.mount.now c.loop-phase.mount c.play_phase.new.mount
+    (left_item c.args.phases.now c.loop-phase.phase-index c.phase-item.result c.loop-phase-test.true c.phase-item.is) c.loop-phase.invariant c.in_err-play_phase.ensures.broken)
 
 pub loop-phase-preserved : goal.loop-phase-preserved
 loop-phase-preserved g c =

@@ -1,3 +1,4 @@
+use Rattle.share_workers.proofs.Facts.{on_err}
 use Rattle.std.proofs.Common.{refl, sym, subst, get_or}
 use Rattle.std.proofs.lemmas.Option.{slice_get-get_or}
 use Rattle.run_core.specs.Moving.{IsDone}
@@ -18,3 +19,11 @@ returns-clause-turned g c = record {
 
 pub returns-clause-done : goal.returns-clause-done
 returns-clause-done g c = λ none player here. subst IsDone (sym (set_here c.args.players.now c.args.place c.take_turn.new.self player here)) (c.in_ok-called.ensures.done none)
+
+pub returns-in_err-called-clause-broken : goal.returns-in_err-called-clause-broken
+returns-in_err-called-clause-broken g c = on_err c.from_residual.result _ (
+    record {
+      player = get_or c.args.players.now c.args.place c.index-players-place.result;
+      here = slice_get-get_or c.args.players.now c.args.place c.index-players-place.result c.requires.there;
+      breaks = c.in_err-called.ensures.broken;
+    })

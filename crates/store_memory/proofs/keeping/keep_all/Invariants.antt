@@ -1,5 +1,5 @@
 use Rattle.std.proofs.Common.{◌≡◌, ◌++◌, take, drop, map}
-use Rattle.store_memory.specs.AllKept.{room_kept}
+use Rattle.store_api.specs.AllKept.{room_kept}
 use Rattle.store_memory.proofs.keeping.keep_all.Given as goal
 
 abbrev pub invariant-loop-number : goal.invariant-loop-number

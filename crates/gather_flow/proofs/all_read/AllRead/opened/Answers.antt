@@ -11,6 +11,6 @@ returns c =
     let P : List Piece → Type 0 = λ pieces. AreRuns pieces in
     reader_is c.take.result c.args.self.shares c.args.self.truncs c.in_ok-gathered.gathered c.in_ok-reader.reader
     c.in_ok-gathered.ensures c.as_slice-merged.ensures.runs
-    (record { room = reader.room; droppings = reader.droppings; covers = reader.covers; truncs = reader.truncs; size = reader.size; kept = reader.kept })
+    (record { room = reader.room; hosts = reader.hosts; covers = reader.covers; truncs = reader.truncs; size = reader.size; kept = reader.kept })
     (subst P c.pieces.ensures c.as_slice-clipped.ensures.runs)
     ∙ ap (λ listing. reader_of listing c.args.self.shares c.args.self.truncs) c.take.ensures.value

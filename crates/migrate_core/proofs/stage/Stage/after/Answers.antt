@@ -1,17 +1,19 @@
 use Rattle.std.proofs.Common.{◌≡◌, true, ap, subst, sym, ◌∙◌}
+use Rattle.std.proofs.lemmas.Result.{IfOk-weaker}
 use Rattle.std.specs.Prelude.{IfOk, Result}
 use Rattle.story.specs.Program.{followed_by}
 use Rattle.flow.specs.Standing.{ready, replied, rest_of}
+use Rattle.flow.specs.Composed.{is_awaiting}
 use Rattle.flow.specs.declared.stuck.Stuck.{Stuck}
+use Rattle.flow.proofs.Composing.{reply_then}
 use Rattle.flow.specs.Replies.{Tries, on_ok}
 use Rattle.index_reader.specs.declared.listing.Listing.{Listing}
-use Rattle.index_reader.specs.OpenStages.{open_rest, open_standing}
+use Rattle.index_reader.specs.OpenStages.{open_standing}
 use Rattle.migrate_core.specs.declared.migrated.Migrated.{Migrated}
 use Rattle.migrate_core.specs.declared.stage.Stage.{Stage}
 use Rattle.migrate_core.specs.declared.stage.Stage.TheVariants.{Scanning}
 use Rattle.migrate_core.specs.Migrating.{migrates_listed}
-use Rattle.migrate_core.specs.Stages.{IsUnderway, is_awaiting, migrating}
-use Rattle.migrate_core.proofs.FollowLemmas.{ok_so, reply_followed}
+use Rattle.migrate_core.specs.Stages.{IsUnderway, migrating}
 use Rattle.migrate_core.proofs.stage.Stage.after.Goals as goal
 
 pub returns-in-Scanning-clause-goes_on : goal.returns-in-Scanning-clause-goes_on
@@ -20,10 +22,9 @@ returns-in-Scanning-clause-goes_on c =
     let k : Result Listing Stuck → Tries Migrated = on_ok (migrates_listed c.in-Scanning.room c.in-Scanning.metas) in
     subst P (sym c.in-Scanning.is)
     (λ (under : is_awaiting (rest_of (open_standing c.in-Scanning.scan)) ≡ true).
-    ok_so
+    IfOk-weaker c.after_scan.result
     (λ (stage : Stage). migrating stage ≡ ready (followed_by (replied (rest_of (open_standing c.in-Scanning.scan)) c.args.reply) k))
     (λ (stage : Stage). migrating stage ≡ ready (replied (rest_of (migrating (Scanning c.in-Scanning.room c.in-Scanning.scan c.in-Scanning.metas))) c.args.reply))
-    c.after_scan.result
-    (λ stage h. h ∙ ap ready (reply_followed (open_rest c.in-Scanning.scan) k c.args.reply under))
+    (λ stage h. h ∙ ap ready (reply_then k (open_standing c.in-Scanning.scan) c.args.reply under))
     c.after_scan.ensures.goes_on)
     c.requires.underway

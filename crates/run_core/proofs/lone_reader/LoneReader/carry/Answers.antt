@@ -1,8 +1,9 @@
+use Rattle.share_workers.proofs.Facts.{on_err}
 use Rattle.std.proofs.Common.{sym, ap, ◌∙◌}
 use Rattle.actor_core.specs.Progress.{with_reply}
 use Rattle.actor_core.specs.Standings.{progress_of}
-use Rattle.run_core.proofs.Leading.{went}
-use Rattle.run_core.proofs.LoneSteps.{asks_next, is_out, not_near, nearer, went_near, no_line_left, carries}
+use Rattle.run_core.proofs.LoneSteps.{asks_next, is_out, not_near, nearer, no_line_left, carries}
+use Rattle.run_core.proofs.LoneBreaks.{lone_stops, lone_stops_at}
 use Rattle.share_workers.proofs.Facts.{not_refused}
 use Rattle.run_core.proofs.lone_reader.LoneReader.carry.Goals as goal
 
@@ -15,8 +16,13 @@ call_unowed-reply-requires-clause-unowed g c = (asks_next (progress_of c.loop-as
 pub take-requires : goal.take-requires
 take-requires g c = is_out (progress_of c.loop-ask.self.actor) c.in-Some.ask (asks_next (progress_of c.loop-ask.self.actor) c.in-Some.ask c.loop-ask.invariant.so_far.plain (sym c.in-Some.is ∙ c.in_ok-ask.ensures.ask)) (progress_of c.next.new.self) c.in_ok-ask.ensures.goes_on
 
-pub returns-in_err-take-clause-goes_on : goal.returns-in_err-take-clause-goes_on
-returns-in_err-take-clause-goes_on g c = went_near c.args.self.now c.loop-ask.self c.args.mount.now c.loop-ask.mount c.call_unowed-reply.new.mount c.loop-ask.invariant.so_far (went c.loop-ask.mount c.call_unowed-reply.new.mount _ c.call_unowed-reply.ensures)
+pub returns-in_err-ask-clause-broken : goal.returns-in_err-ask-clause-broken
+returns-in_err-ask-clause-broken g c = on_err c.from_residual.result _ (
+    lone_stops c.args.self.now c.loop-ask.self c.args.mount.now c.loop-ask.mount c.loop-ask.invariant.so_far)
+
+pub returns-in_err-take-clause-broken : goal.returns-in_err-take-clause-broken
+returns-in_err-take-clause-broken g c = on_err c.from_residual-in_err-take.result _ (
+    lone_stops_at c.args.self.now c.loop-ask.self c.args.mount.now c.loop-ask.mount c.call_unowed-reply.new.mount c.in-Some.ask c.call_unowed-reply.result c.loop-ask.invariant.so_far (asks_next (progress_of c.loop-ask.self.actor) c.in-Some.ask c.loop-ask.invariant.so_far.plain (sym c.in-Some.is ∙ c.in_ok-ask.ensures.ask)) c.call_unowed-reply.ensures)
 
 pub loop-ask-preserved : goal.loop-ask-preserved
 loop-ask-preserved g c = record {

@@ -1,8 +1,10 @@
+use Rattle.share_workers.proofs.Facts.{on_err}
 use Rattle.std.proofs.Common.{◌≤◌, sym, subst}
 use Rattle.actor_core.specs.declared.kept.Kept.{Kept}
 use Rattle.actor_core.specs.Standings.{progress_of}
 use Rattle.run_core.specs.Working.{IsPlainProgress}
 use Rattle.run_core.proofs.LoneSteps.{idle_kept, begins, makes, is_idle}
+use Rattle.run_core.proofs.LoneBreaks.{begun_one_breaks, one_not_begun}
 use Rattle.run_core.proofs.LoneWorks.{its_own, work_plain}
 use Rattle.run_core.proofs.lone_reader.LoneReader.make.Goals as goal
 
@@ -19,3 +21,11 @@ returns-clause-made g c = λ kept keeps. makes c.args.self.now (record { actor =
 
 pub returns-clause-rests : goal.returns-clause-rests
 returns-clause-rests g c = is_idle c.carry.new.self c.in_ok-line.ensures.carries.kept c.in_ok-line.ensures.carries.keeps
+
+pub returns-in_err-begin-clause-broken : goal.returns-in_err-begin-clause-broken
+returns-in_err-begin-clause-broken g c = on_err c.from_residual.result _ (
+    λ kept keeps. one_not_begun c.args.statement kept c.args.mount.now)
+
+pub returns-in_err-line-clause-broken : goal.returns-in_err-line-clause-broken
+returns-in_err-line-clause-broken g c = on_err c.from_residual-in_err-line.result _ (
+    λ kept keeps. begun_one_breaks c.args.self.now (record { actor = c.begin.new.self }) kept c.args.statement c.args.mount.now c.carry.new.mount keeps c.in_ok-begin.ensures c.in_err-line.ensures.broken)

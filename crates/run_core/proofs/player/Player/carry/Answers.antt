@@ -1,11 +1,12 @@
+use Rattle.share_workers.proofs.Facts.{on_err}
 use Rattle.std.proofs.Common.{refl, sym, ap, ◌∙◌}
 use Rattle.actor_core.specs.Progress.{with_reply}
 use Rattle.actor_core.specs.Standings.{progress_of}
-use Rattle.run_core.proofs.Leading.{went}
 use Rattle.share_workers.proofs.Facts.{not_refused}
 use Rattle.run_core.proofs.Works.{asks_next, is_out, not_idle, no_line_left}
 use Rattle.run_core.proofs.Turning.{after_reply}
-use Rattle.run_core.proofs.Approaching.{not_near, nearer, went_near, line_passes}
+use Rattle.run_core.proofs.Approaching.{not_near, nearer, line_passes}
+use Rattle.run_core.proofs.BrokenTurns.{pass_stops, pass_stops_at}
 use Rattle.run_core.proofs.player.Player.carry.Goals as goal
 
 pub loop-ask-init : goal.loop-ask-init
@@ -17,8 +18,13 @@ call-reply-requires g c = (asks_next c.loop-ask.self.number c.loop-ask.mount (pr
 pub take-requires : goal.take-requires
 take-requires g c = is_out c.loop-ask.self.number c.loop-ask.mount (progress_of c.loop-ask.self.actor) c.in-Some.ask (asks_next c.loop-ask.self.number c.loop-ask.mount (progress_of c.loop-ask.self.actor) c.in-Some.ask c.loop-ask.invariant.so_far.fit.safe (sym c.in-Some.is ∙ c.in_ok-ask.ensures.ask)) (progress_of c.next.new.self) c.in_ok-ask.ensures.goes_on
 
-pub returns-in_err-take-clause-goes_on : goal.returns-in_err-take-clause-goes_on
-returns-in_err-take-clause-goes_on g c = went_near c.args.self.now c.loop-ask.self c.args.mount.now c.loop-ask.mount c.call-reply.new.mount c.loop-ask.invariant.so_far (went c.loop-ask.mount c.call-reply.new.mount _ c.call-reply.ensures)
+pub returns-in_err-ask-clause-broken : goal.returns-in_err-ask-clause-broken
+returns-in_err-ask-clause-broken g c = on_err c.from_residual.result _ (
+    pass_stops c.args.self.now c.loop-ask.self c.args.mount.now c.loop-ask.mount c.loop-ask.invariant.so_far c.loop-ask.invariant.busy c.requires.none_ahead)
+
+pub returns-in_err-take-clause-broken : goal.returns-in_err-take-clause-broken
+returns-in_err-take-clause-broken g c = on_err c.from_residual-in_err-take.result _ (
+    pass_stops_at c.args.self.now c.loop-ask.self c.args.mount.now c.loop-ask.mount c.call-reply.new.mount c.in-Some.ask c.call-reply.result c.loop-ask.invariant.so_far (asks_next c.loop-ask.self.number c.loop-ask.mount (progress_of c.loop-ask.self.actor) c.in-Some.ask c.loop-ask.invariant.so_far.fit.safe (sym c.in-Some.is ∙ c.in_ok-ask.ensures.ask)) c.call-reply.ensures c.requires.none_ahead)
 
 pub loop-ask-preserved : goal.loop-ask-preserved
 loop-ask-preserved g c = record {

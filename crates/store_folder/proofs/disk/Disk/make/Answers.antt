@@ -13,12 +13,12 @@ pub returns-clause-performs : goal.returns-clause-performs
 returns-clause-performs g c =
     let told = c.in_ok-number_rooms.ensures in
     let numbers : Numbers c.args.self.now c.number_rooms.new.self (g.C.Calls.log c.args.self.now.calls) (g.C.Calls.log c.number_rooms.new.self.calls) =
-    record { numbered = told.numbered; before = λ is. (told.done is).1; first = told.listed; root = told.root; kept_open = told.open } in
+    record { numbered = told.numbered; before = λ is. (told.done is).1; first = told.listed; root = told.root; kept_open = told.open; kept_own = told.own } in
     with_answer c.perform.result _ _ (λ answer performs. (c.number_rooms.new.self, numbers, performs)) c.perform.ensures.performs
 
 pub returns-clause-well : goal.returns-clause-well
 returns-clause-well g c =
     let told = c.in_ok-number_rooms.ensures in
     let numbers : Numbers c.args.self.now c.number_rooms.new.self (g.C.Calls.log c.args.self.now.calls) (g.C.Calls.log c.number_rooms.new.self.calls) =
-    record { numbered = told.numbered; before = λ is. (told.done is).1; first = told.listed; root = told.root; kept_open = told.open } in
+    record { numbered = told.numbered; before = λ is. (told.done is).1; first = told.listed; root = told.root; kept_open = told.open; kept_own = told.own } in
     with_answer c.perform.result _ _ (λ answer performs. performed g.C.Calls.log c.number_rooms.new.self c.perform.new.self _ answer performs ∙ numbered g.C.Calls.log c.args.self.now c.number_rooms.new.self numbers) c.perform.ensures.performs

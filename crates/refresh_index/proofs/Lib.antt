@@ -1,0 +1,4 @@
+pub mod HostLemmas
+pub mod LookLemmas
+mod TruncLemmas
+mod UnpackedLemmas

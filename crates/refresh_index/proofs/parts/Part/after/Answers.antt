@@ -1,0 +1,18 @@
+use Rattle.std.proofs.Common.{◌≡◌, Option, ap, sym, ◌∙◌}
+use Rattle.flow.specs.Standing.{ready, replied, rest_of}
+use Rattle.flow.specs.Composed.{calling}
+use Rattle.mount_model.specs.declared.call.Call.{Call}
+use Rattle.gather_flow.specs.Gathering.{gather_rest}
+use Rattle.refresh_index.specs.declared.parts.Part.{Part}
+use Rattle.refresh_index.specs.Refreshing.{if_gathered}
+use Rattle.refresh_index.specs.Parts.{parted}
+use Rattle.std.proofs.lemmas.Result.{IfOk-weaker}
+use Rattle.refresh_index.proofs.parts.Part.after.Goals as goal
+
+pub returns-in-Gathering-clause-goes_on : goal.returns-in-Gathering-clause-goes_on
+returns-in-Gathering-clause-goes_on c =
+    IfOk-weaker c.after_call.result
+    (λ (part : Part). (call : Option Call) → parted part ≡ ready (replied (rest_of (calling call (gather_rest c.in-Gathering.gathering) (if_gathered c.in-Gathering.held))) c.args.reply))
+    (λ (part : Part). parted part ≡ ready (replied (rest_of (parted c.args.self)) c.args.reply))
+    (λ part h. h _ ∙ ap (λ (p : Part). ready (replied (rest_of (parted p)) c.args.reply)) (sym c.in-Gathering.is))
+    c.after_call.ensures.goes_on

@@ -1,0 +1,8 @@
+mod FormerLemmas
+mod RefreshLemmas
+mod AlikeLemmas
+mod TroubleLemmas
+mod StayLemmas
+mod MadeLemmas
+mod EndLemmas
+mod WholeLemmas

@@ -1,0 +1,8 @@
+pub mod Facts
+mod Acting
+mod Listing
+mod Making
+mod Stopping
+mod Steps
+mod Mounting
+mod Failing

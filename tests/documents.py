@@ -1,0 +1,291 @@
+#!/usr/bin/env python3
+"""What the documents must keep: short sentences, links that lead somewhere, and the same words as the program.
+
+    tests/documents.py
+
+Prints a line for each fault, and ends with their number, at most 99. It reads files of the repository alone, and needs no
+program; tests/run has it as one of its checks."""
+
+import re
+import sys
+from pathlib import Path
+
+MOST_WORDS = 40
+README_WORDS = 1200
+INDEX_LINES = 40
+# Crates without code whose README tells the theorem, and two whose definitions all laws stand on.
+LAWS = ["gathering", "mount_shape", "mount_losses", "mount_undamaged", "mount_sound", "mount_model", "story"]
+
+
+def documents(top):
+    """Every page in Markdown that is handed to a reader."""
+    pages = [top / name for name in ("README.md", "CONTRIBUTING.md", "CHANGES.md")]
+    for folder in ("docs", "bench", "examples", "tests"):
+        pages += sorted((top / folder).glob("*.md"))
+    return [page for page in pages + sorted(top.glob("crates/*/README.md")) if page.exists()]
+
+
+def count(text):
+    """How many words: what has a letter or a digit in it. A piece of code is one word."""
+    text = re.sub(r"``.*?``|`[^`]*`", "code", text)
+    text = re.sub(r"!?\[([^\]]*)\]\([^)]*\)", r"\1", text)
+    text = re.sub(r"<[^>]*>", " ", text)
+    return sum(bool(re.search(r"\w", word)) for word in text.split())
+
+
+def sentences(text):
+    """The sentences of a paragraph. A full stop within a name, a number or a piece of code ends none."""
+    code = []
+    text = re.sub(r"``.*?``|`[^`]*`", lambda it: code.append(it[0]) or f"code{len(code)}", text)
+    parts = re.split(r"(?<=[.!?])[*_)]*\s+|(?<=[.!?]\))\s+|(?<=[.!?]\*\*)\s+", text)
+    return [re.sub(r"code(\d+)", lambda it: code[int(it[1]) - 1], part) for part in parts if part.strip()]
+
+
+def blocks(text):
+    """The paragraphs, list items, headings and cells of a page, each with the number of its first line and its kind."""
+    found, held, began, fenced = [], [], 0, False
+
+    def close():
+        if held:
+            found.append((began, "sentence", " ".join(held)))
+            held.clear()
+
+    for number, line in enumerate(text.split("\n"), 1):
+        if line.lstrip().startswith("```"):
+            fenced = not fenced
+            close()
+        elif fenced:
+            continue
+        elif re.match(r"\s*\|", line):
+            close()
+            if not re.fullmatch(r"[\s|:-]*", line):
+                cells = re.split(r"(?<!\\)\|", line.strip().strip("|"))
+                found += [(number, "cell", cell) for cell in cells]
+        elif not line.strip() or line.startswith("    ") and not held or line.startswith("#"):
+            close()
+        else:
+            if re.match(r"\s*(>\s*)?([-*]|\d+\.)\s", line) or line.strip() == ">":
+                close()
+            if not held:
+                began = number
+            held.append(re.sub(r"^\s*(>\s*)?([-*]\s|\d+\.\s)?", "", line))
+    close()
+    return found
+
+
+def long_ones(top):
+    for page in documents(top):
+        for number, kind, text in blocks(page.read_text()):
+            for one in [text] if kind == "cell" else sentences(text):
+                if count(one) > MOST_WORDS:
+                    yield f"{page.relative_to(top)}:{number}: a {kind} of {count(one)} words: {one.strip()[:60]} .."
+
+
+def long_first_page(top):
+    words = sum(bool(re.search(r"\w", word)) for word in (top / "README.md").read_text().split())
+    if words > README_WORDS:
+        yield f"README.md: {words} words, and at most {README_WORDS} are wanted"
+
+
+def plain(page):
+    """The text of the manual without what lays it out: a font, a heading, a quoted word."""
+    lines = []
+    for line in page.split("\n"):
+        line = re.sub(r"\\c$|\\&", "", line).replace("\\-", "-").replace("\\en", "\\n")
+        if re.match(r"\.(SH|SS|TP|PP|nf|fi|RS|RE|br|TH)\b", line):
+            lines.append("\n" + (line if line.startswith(".S") else ""))
+        elif match := re.match(r"\.[BIR]{1,2} (.*)", line):
+            lines.append(match[1].replace('"', ""))
+        else:
+            lines.append(line)
+    return "\n".join(lines)
+
+
+def long_manual(top):
+    for block in re.split(r"\n\s*\n", plain((top / "docs" / "plfs.1").read_text())):
+        for one in sentences(" ".join(block.split())):
+            if count(one) > MOST_WORDS:
+                yield f"docs/plfs.1: a sentence of {count(one)} words: {one[:60]} .."
+
+
+def anchors(page):
+    """The places of a page that a link may name."""
+    text = page.read_text()
+    found = set(re.findall(r'<a id="([^"]+)">', text))
+    for head in re.findall(r"^#+ (.*)$", re.sub(r"^```.*?^```", "", text, flags=re.M | re.S), re.M):
+        found.add(re.sub(r"[^\w\- ]", "", head.lower()).replace(" ", "-"))
+    return found
+
+
+def broken_links(top):
+    for page in documents(top):
+        text = re.sub(r"^```.*?^```", "", page.read_text(), flags=re.M | re.S)
+        for target in re.findall(r"\]\(([^)\s]+)\)", text):
+            if re.match(r"https?:", target):
+                continue
+            path, _, place = target.partition("#")
+            file = (page.parent / path).resolve() if path else page
+            if not file.exists():
+                yield f"{page.relative_to(top)}: the link {target} leads nowhere"
+            elif place and file.suffix == ".md" and place not in anchors(file):
+                yield f"{page.relative_to(top)}: the link {target} names no place of that page"
+
+
+def crates(top):
+    rows = [line.partition("#")[0] for line in (top / "crates.txt").read_text().split("\n")]
+    return [re.match(r"\w+", row)[0] for row in rows if ":" in row]
+
+
+def untold_crates(top):
+    text = (top / "docs" / "ARCHITECTURE.md").read_text()
+    told = re.findall(r"^\| `(\w+)` \|", text, re.M)
+    for crate in crates(top):
+        if told.count(crate) != 1:
+            yield f"docs/ARCHITECTURE.md: the crate {crate} has {told.count(crate)} rows, and one is wanted"
+    for crate in set(told) - set(crates(top)):
+        yield f"docs/ARCHITECTURE.md: {crate} is no crate of crates.txt"
+
+
+def laws(top):
+    """Each public law: a function without parameters and with an empty body, whose contract is the law."""
+    for file in sorted(top.glob("crates/*/src/**/*.rt")):
+        for name in re.findall(r"^pub fn (\w+)(?:<[^\n]*>)?\(\)\n(?:(?:[ ].*)?\n)+?\{\}", file.read_text(), re.M):
+            yield file.relative_to(top).parts[1], name
+
+
+def untold_laws(top):
+    text = (top / "docs" / "PROMISES.md").read_text()
+    for crate, name in laws(top):
+        if not re.search(rf"\b{name}\b", text):
+            yield f"docs/PROMISES.md: the law {crate}::{name} is named nowhere"
+
+
+def untold_theorems(top):
+    for crate in crates(top):
+        if (crate.endswith("_laws") or crate in LAWS) and not (top / "crates" / crate / "README.md").exists():
+            yield f"crates/{crate}: there is no README.md"
+    for page in top.glob("crates/*/README.md"):
+        text = page.read_text()
+        crate = page.parent.name
+        for owner, name in laws(top):
+            if owner == crate and not re.search(rf"\b{name}\b", text):
+                yield f"crates/{crate}/README.md: the law {name} is named nowhere"
+        for file in re.findall(r"`(proofs/\w+|specs/\w+)`", text):
+            if not any((page.parent / f"{file}{end}").exists() for end in (".antt", "")):
+                yield f"crates/{crate}/README.md: there is no {file}"
+
+
+def dead_names(top):
+    """A function or a definition that a page names with its crate has to stand there."""
+    texts = {}
+    for page in documents(top):
+        for crate, path in set(re.findall(r"`([a-z]\w+)::([\w:]+)`", page.read_text())):
+            if crate in crates(top):
+                if crate not in texts:
+                    files = [file for part in ("src", "specs") for file in (top / "crates" / crate / part).rglob("*") if file.suffix in (".rt", ".antt")]
+                    texts[crate] = "\n".join(file.read_text() for file in files)
+                if not all(re.search(rf"\b{name}\b", texts[crate]) for name in path.split("::")):
+                    yield f"{page.relative_to(top)}: {crate} has no {path}"
+
+
+def long_index(top):
+    index = (top / "docs" / "PROMISES.md").read_text().split("\n## ")[1]
+    lines = len(re.findall(r"^- ", index, re.M))
+    if not index.startswith("Index") or lines > INDEX_LINES:
+        yield f"docs/PROMISES.md: the index has {lines} lines, and at most {INDEX_LINES} are wanted"
+
+
+def glossary(top):
+    words = re.findall(r"^\| \*\*(.+?)\*\* \|", (top / "docs" / "WORDS.md").read_text(), re.M)
+    for word in sorted({it for it in words if words.count(it) > 1}):
+        yield f"docs/WORDS.md: {word} stands twice"
+    if words != sorted(words, key=str.lower):
+        yield "docs/WORDS.md: the words are not in order"
+
+
+def section(text, name):
+    return text.split(f".SH {name}\n")[1].split("\n.SH ")[0]
+
+
+def told_commands(top):
+    """The commands that each paper tells, by the name of the paper."""
+    readme = (top / "README.md").read_text()
+    script = (top / "plfs").read_text()
+    synopsis = plain(section((top / "docs" / "plfs.1").read_text(), "SYNOPSIS"))
+    helped = re.search(r"^usage:.*?\n\n", script, re.M | re.S)[0]
+    course = (top / "crates/plfs_program/specs/Course.antt").read_text()
+    usage = re.search(r'usage: plfs ROOT ([^"\\]*)', course)[1]
+    table = readme.split("\n## Commands\n")[1].split("\n## ")[0]
+    spoken = re.sub(r"\b(ROOT|SCRIPT|NAME|SIZE|OLD|NEW|N|plfs|usage|br)\b|--\w+", " ", helped)
+    told = {
+        "the program's usage line": re.split(r"\|", re.sub(r" [A-Z ]+", "", usage)),
+        "README.md": re.findall(r"^\| `([a-z]+)", table, re.M),
+        "--help": re.findall(r"[a-z]+", spoken),
+        "the manual": re.findall(r"\b[a-z]+\b", re.sub(r"\b(plfs|br)\b|--\w+", " ", synopsis)),
+    }
+    for file in sorted((top / "completions").iterdir()):
+        text = file.read_text()
+        words = re.findall(r"\b[a-z]+\b", " ".join(line for line in text.split("\n") if "migrate" in line or "rename" in line))
+        told[f"completions/{file.name}"] = words
+    return told
+
+
+def differing_commands(top):
+    told = told_commands(top)
+    wanted = sorted(set(told["the program's usage line"]))
+    for paper, words in told.items():
+        text = set(words)
+        missing = [word for word in wanted if word not in text]
+        if paper.startswith("completions/"):
+            whole = (top / paper).read_text()
+            missing = [word for word in wanted if not re.search(rf"\b{word}\b", whole)]
+            text = set(wanted)
+        for word in missing:
+            yield f"{paper} lacks the command {word}"
+        for word in sorted(text - set(wanted)):
+            yield f"{paper} has the command {word}, which the program lacks"
+
+
+def differing_options(top):
+    script = (top / "plfs").read_text()
+    wanted = re.findall(r"^    (--\w+)\)$", script, re.M)
+    manual = (top / "docs" / "plfs.1").read_text()
+    parts = {"the manual's SYNOPSIS": section(manual, "SYNOPSIS"), "the manual's Options": manual.split(".SS Options\n")[1].split("\n.SH ")[0]}
+    for paper in ["README.md"] + [f"completions/{file.name}" for file in sorted((top / "completions").iterdir())]:
+        parts[paper] = (top / paper).read_text()
+    for paper, text in parts.items():
+        text = text.replace("\\-", "-")
+        found = set(re.findall(r"--[a-z]+\b", text)) | {f"--{it}" for it in re.findall(r"-l (\w+)", text) if paper.endswith(".fish")}
+        for option in wanted:
+            if option not in found:
+                yield f"{paper} lacks the option {option}"
+    helped = re.search(r"cat <<'END'\n(.*?)^END$", script, re.M | re.S)[1]
+    for option in set(re.findall(r"--[a-z]+\b", helped)) ^ set(wanted):
+        yield f"--help and the options that the script serves differ in {option}"
+
+
+def differing_versions(top):
+    version = re.search(r"^version=(\S+)$", (top / "plfs").read_text(), re.M)[1]
+    manual = re.search(r'^\.TH PLFS 1 \S+ "?Rigtolai (\S+?)"? ', (top / "docs" / "plfs.1").read_text(), re.M)
+    changes = re.search(r"^## ([\d.]+\d)", (top / "CHANGES.md").read_text(), re.M)
+    for paper, found in (("docs/plfs.1", manual), ("CHANGES.md", changes)):
+        if not found or found[1] != version:
+            yield f"{paper} is of the version {found and found[1]}, and ./plfs --version tells {version}"
+
+
+RULES = [long_ones, long_first_page, long_manual, broken_links, untold_crates, untold_laws, untold_theorems, dead_names, long_index,
+         glossary,
+         differing_commands, differing_options, differing_versions]
+
+
+def faults(top):
+    """All faults of the documents of the repository at this place, a line each."""
+    return [fault for rule in RULES for fault in rule(Path(top))]
+
+
+if __name__ == "__main__":
+    found = faults(Path(__file__).resolve().parent.parent)
+    for fault in found:
+        print(f"documents: {fault}")
+    print(f"documents: {len(found)} faults")
+    sys.exit(min(len(found), 99))
