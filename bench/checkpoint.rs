@@ -4,11 +4,13 @@
 //! checkpoint make FOLDER W E          a container of W writers and E strided entries, whose logs are holes
 //! checkpoint open FOLDER              its index droppings read and merged by a heap, in order of logical offsets
 //! checkpoint flat FOLDER              the pieces of its newest flattened index, read into a list
+//! checkpoint refresh FOLDER K R       a reader that R times takes in K entries of a new writer, over blocks that it has
 //!
-//! FOLDER is what `plfs` takes as ROOT, and the container in it is `f`. Each prints the seconds that it took, and `open` and `flat` the pieces.
+//! FOLDER is what `plfs` takes as ROOT, and the container in it is `f`. Each prints the seconds that it took, `open` and `flat` the
+//! pieces, and `refresh` the entries that came and the seconds of the refreshes alone.
 //! It runs on Unix.
 
-use std::collections::BinaryHeap;
+use std::collections::{BinaryHeap, HashMap};
 use std::fs::{self, File, OpenOptions};
 use std::io::{self, Error, ErrorKind, Result};
 use std::os::unix::fs::FileExt;
@@ -27,6 +29,8 @@ const FLAT_READ: usize = 1 << 20;
 const FLAT_HEAD: usize = 24;
 const COVER: usize = 32;
 const STRIDE: u64 = 4096;
+/// From one block that is written anew to the next, in blocks.
+const FAR: u64 = 997;
 
 #[derive(Clone, Copy, PartialEq, Eq, PartialOrd, Ord)]
 struct Entry {
@@ -212,6 +216,98 @@ fn merged(lists: Vec<Vec<Entry>>) -> Vec<Entry> {
     all
 }
 
+/// A reader by hand: the pieces of all entries so far, and the droppings of each writer.
+#[derive(Default)]
+struct Reader {
+    pieces: Vec<Entry>,
+    droppings: HashMap<u64, Dropping>,
+}
+
+struct Dropping {
+    index: File,
+    log: File,
+    held: usize,
+}
+
+impl Dropping {
+    /// The entries that came since.
+    fn tail(&mut self) -> Result<Vec<Entry>> {
+        let whole = self.index.metadata()?.len() as usize / ENTRY;
+        let log = self.log.metadata()?.len();
+        let mut bytes = vec![0; (whole - self.held) * ENTRY];
+        self.index.read_exact_at(&mut bytes, (self.held * ENTRY) as u64)?;
+        let entries: Vec<Entry> = bytes.chunks_exact(ENTRY).map(Entry::read).collect();
+        if entries.iter().any(|entry| entry.len == 0 || entry.physical + entry.len > log) {
+            return Err(wrong("an entry past its log"));
+        }
+        self.held = whole;
+        Ok(entries)
+    }
+}
+
+impl Reader {
+    /// Lists the folders again, reads of each index what came since, and lays it over the pieces. Returns how many entries came.
+    fn refresh(&mut self, container: &Path) -> Result<usize> {
+        let mut lists = Vec::new();
+        for folder in fs::read_dir(container)? {
+            let folder = folder?;
+            if !folder.file_name().to_string_lossy().starts_with("hostdir.") {
+                continue;
+            }
+            for file in fs::read_dir(folder.path())? {
+                let name = file?.file_name().to_string_lossy().into_owned();
+                let Some(of) = name.strip_prefix("index.") else { continue };
+                let id = of.split('.').nth(1).and_then(|id| id.parse().ok()).ok_or_else(|| wrong(&name))?;
+                if !self.droppings.contains_key(&id) {
+                    let index = File::open(folder.path().join(&name))?;
+                    let log = File::open(folder.path().join(format!("log.{of}")))?;
+                    self.droppings.insert(id, Dropping { index, log, held: 0 });
+                }
+                lists.push(self.droppings.get_mut(&id).ok_or_else(|| wrong(&name))?.tail()?);
+            }
+        }
+        fs::read_dir(container.join("truncs"))?.count();
+        let mut came = if self.pieces.is_empty() { merged(lists) } else { lists.concat() };
+        let count = came.len();
+        if self.pieces.is_empty() {
+            self.pieces = came;
+        } else if count > 0 {
+            came.sort_unstable_by_key(|entry| entry.at);
+            self.pieces = laid_over(&self.pieces, &came)?;
+        }
+        Ok(count)
+    }
+}
+
+/// The pieces of the new list, and what they leave of those of the old one. The pieces of each are in order, and those of the new
+/// one are later.
+fn laid_over(old: &[Entry], new: &[Entry]) -> Result<Vec<Entry>> {
+    let part = |piece: &Entry, from: u64, to: u64| Entry { at: from, len: to - from, physical: piece.physical + from - piece.at, ..*piece };
+    let mut all = Vec::with_capacity(old.len() + 2 * new.len());
+    let (mut next, mut over) = (0, 0);
+    for piece in old {
+        let (mut at, end) = (piece.at.max(over), piece.at + piece.len);
+        while next < new.len() && new[next].at < end {
+            let later = &new[next];
+            if later.stamp <= piece.stamp {
+                return Err(wrong("an earlier write"));
+            }
+            if at < later.at {
+                all.push(part(piece, at, later.at));
+            }
+            all.push(*later);
+            over = later.at + later.len;
+            at = at.max(over);
+            next += 1;
+        }
+        if at < end {
+            all.push(part(piece, at, end));
+        }
+    }
+    all.extend_from_slice(&new[next..]);
+    Ok(all)
+}
+
 /// The pieces of the flattened index with the greatest number, which rise and don't overlap.
 fn flattened(container: &Path) -> Result<Vec<Entry>> {
     let mut newest = None;
@@ -289,6 +385,30 @@ fn make(root: &Path, writers: u64, entries: u64) -> Result<()> {
     Ok(())
 }
 
+/// A new writer writes so many blocks over those that are there, and a reader is refreshed; all that so many times. What is told is
+/// how many entries came, and the seconds of the refreshes.
+fn refresh(root: &Path, count: u64, times: u64) -> Result<String> {
+    let container = root.join("f");
+    let mut reader = Reader::default();
+    let blocks = reader.refresh(&container)? as u64;
+    let mut writer = Writer::open(&container, FOLDERS * 2)?;
+    let (mut came, mut spent) = (0, 0.0);
+    for turn in 0..times {
+        for k in turn * count..(turn + 1) * count {
+            writer.note(k * FAR % blocks * STRIDE, STRIDE, blocks + k + 1);
+        }
+        writer.log.set_len(writer.stored)?;
+        writer.flush()?;
+        let begun = Instant::now();
+        came += reader.refresh(&container)?;
+        spent += begun.elapsed().as_secs_f64();
+    }
+    if reader.pieces.len() as u64 != blocks {
+        return Err(wrong("a piece"));
+    }
+    Ok(format!(" {came} {spent:.6}"))
+}
+
 fn run(words: &[String]) -> Result<String> {
     let words: Vec<&str> = words.iter().map(String::as_str).collect();
     let number = |word: &str| word.parse::<u64>().map_err(|_| Error::new(ErrorKind::InvalidInput, "a number"));
@@ -297,7 +417,11 @@ fn run(words: &[String]) -> Result<String> {
         ["make", root, writers, entries] => make(Path::new(root), number(writers)?, number(entries)?).map(|()| String::new()),
         ["open", root] => opened(&Path::new(root).join("f")).map(|(entries, _)| format!(" {}", entries.len())),
         ["flat", root] => flattened(&Path::new(root).join("f")).map(|pieces| format!(" {}", pieces.len())),
-        _ => Err(Error::new(ErrorKind::InvalidInput, "usage: checkpoint write FOLDER N | make FOLDER W E | open FOLDER | flat FOLDER")),
+        ["refresh", root, count, times] => refresh(Path::new(root), number(count)?, number(times)?),
+        _ => {
+            let usage = "usage: checkpoint write FOLDER N | make FOLDER W E | open FOLDER | flat FOLDER | refresh FOLDER K R";
+            Err(Error::new(ErrorKind::InvalidInput, usage))
+        }
     }
 }
 

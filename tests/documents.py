@@ -2,15 +2,17 @@
 """What the documents must keep: short sentences, links that lead somewhere, and the same words as the program.
 
     tests/documents.py
+    tests/documents.py --borders
 
 Prints a line for each fault, and ends with their number, at most 99. It reads files of the repository alone, and needs no
-program; tests/run has it as one of its checks."""
+program; tests/run has it as one of its checks. With --borders it prints ARCHITECTURE's table of the inner modules that
+other crates cite, as the sources have it."""
 
 import re
 import sys
 from pathlib import Path
 
-MOST_WORDS = 40
+SENTENCE_WORDS, CELL_WORDS = 25, 40
 README_WORDS = 1200
 INDEX_LINES = 40
 # Crates without code whose README tells the theorem, and two whose definitions all laws stand on.
@@ -77,7 +79,7 @@ def long_ones(top):
     for page in documents(top):
         for number, kind, text in blocks(page.read_text()):
             for one in [text] if kind == "cell" else sentences(text):
-                if count(one) > MOST_WORDS:
+                if count(one) > (CELL_WORDS if kind == "cell" else SENTENCE_WORDS):
                     yield f"{page.relative_to(top)}:{number}: a {kind} of {count(one)} words: {one.strip()[:60]} .."
 
 
@@ -102,9 +104,10 @@ def plain(page):
 
 
 def long_manual(top):
-    for block in re.split(r"\n\s*\n", plain((top / "docs" / "plfs.1").read_text())):
+    page = re.sub(r"^\.nf\n.*?^\.fi$", "", (top / "docs" / "plfs.1").read_text(), flags=re.M | re.S)
+    for block in re.split(r"\n\s*\n", plain(re.sub(r"^\.S[HS] .*$", ".PP", page, flags=re.M))):
         for one in sentences(" ".join(block.split())):
-            if count(one) > MOST_WORDS:
+            if count(one) > SENTENCE_WORDS:
                 yield f"docs/plfs.1: a sentence of {count(one)} words: {one[:60]} .."
 
 
@@ -131,6 +134,19 @@ def broken_links(top):
                 yield f"{page.relative_to(top)}: the link {target} names no place of that page"
 
 
+def misnamed_promises(top):
+    """A promise has one name, which its row shows and each link to it."""
+    page = top / "docs" / "PROMISES.md"
+    rows = re.findall(r'<a id="([^"]+)"></a>(\w+)', page.read_text())
+    for place, name in rows:
+        if name.lower() != place or [it for it, _ in rows].count(place) > 1:
+            yield f"docs/PROMISES.md: the row {name} has the place {place}, or it stands twice"
+    for other in documents(top):
+        for name, place in re.findall(r"\[([A-Z]+\d+)\]\([^)\s]*#(\w+)\)", other.read_text()):
+            if name.lower() != place:
+                yield f"{other.relative_to(top)}: a link to {place} shows {name}"
+
+
 def crates(top):
     rows = [line.partition("#")[0] for line in (top / "crates.txt").read_text().split("\n")]
     return [re.match(r"\w+", row)[0] for row in rows if ":" in row]
@@ -144,6 +160,40 @@ def untold_crates(top):
             yield f"docs/ARCHITECTURE.md: the crate {crate} has {told.count(crate)} rows, and one is wanted"
     for crate in set(told) - set(crates(top)):
         yield f"docs/ARCHITECTURE.md: {crate} is no crate of crates.txt"
+
+
+def borders(top):
+    """The modules of a crate's proofs, other than Facts, that other crates cite: (crate, module) and who cites it."""
+    known, found = set(crates(top)), {}
+    for part in ("src", "specs", "proofs"):
+        for file in (top / "crates").glob(f"*/{part}/**/*"):
+            if file.suffix in (".rt", ".antt"):
+                citing = file.relative_to(top).parts[1]
+                for crate, module in re.findall(r"\buse Rattle\.(\w+)\.proofs\.(\w+)", file.read_text()):
+                    if crate in known and crate != citing and module != "Facts":
+                        found.setdefault((crate, module), set()).add(citing)
+    return found
+
+
+def border_rows(top):
+    """The rows of ARCHITECTURE's table: the modules of a crate that the same crates cite stand in one row."""
+    rows = {}
+    for (crate, module), citing in borders(top).items():
+        rows.setdefault((crate, tuple(sorted(citing))), []).append(module)
+    listed = lambda names: ", ".join(f"`{name}`" for name in sorted(names))
+    return [f"| {crate} | {listed(modules)} | {listed(citing)} |" for (crate, citing), modules in sorted(rows.items())]
+
+
+def untold_borders(top):
+    text = (top / "docs" / "ARCHITECTURE.md").read_text()
+    told = text.split("| Crate | Modules | Cited by |\n|---|---|---|\n")[1].split("\n\n")[0].strip().split("\n")
+    wanted = border_rows(top)
+    for row in wanted:
+        if row not in told:
+            yield f"docs/ARCHITECTURE.md: the table of inner modules lacks the row {row}"
+    for row in told:
+        if row not in wanted:
+            yield f"docs/ARCHITECTURE.md: the table of inner modules has a row that the sources don't have: {row}"
 
 
 def laws(top):
@@ -273,7 +323,7 @@ def differing_versions(top):
             yield f"{paper} is of the version {found and found[1]}, and ./plfs --version tells {version}"
 
 
-RULES = [long_ones, long_first_page, long_manual, broken_links, untold_crates, untold_laws, untold_theorems, dead_names, long_index,
+RULES = [long_ones, long_first_page, long_manual, broken_links, misnamed_promises, untold_crates, untold_borders, untold_laws, untold_theorems, dead_names, long_index,
          glossary,
          differing_commands, differing_options, differing_versions]
 
@@ -284,6 +334,9 @@ def faults(top):
 
 
 if __name__ == "__main__":
+    if sys.argv[1:] == ["--borders"]:
+        print("\n".join(border_rows(Path(__file__).resolve().parent.parent)))
+        sys.exit(0)
     found = faults(Path(__file__).resolve().parent.parent)
     for fault in found:
         print(f"documents: {fault}")

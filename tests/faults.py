@@ -76,9 +76,9 @@ def files_of(folder):
     return {path: content for path, content in listed(folder).items() if not path.startswith(".plfs/mounts/")}
 
 
-def is_reason(said, kind):
-    """Whether this is said of a call that failed. A file of which a sync failed isn't synced again, which is told last."""
-    return ": Input/output error" in said or kind == "sync" and said.endswith(": a sync of it or of its folder failed before\n")
+def is_reason(said):
+    """Whether this is said of a call that failed, or of a sync that is refused since one failed, whose reason stays."""
+    return ": Input/output error" in said
 
 
 def each_call_is_failed(trial, before, script, words, contents):
@@ -98,7 +98,7 @@ def each_call_is_failed(trial, before, script, words, contents):
         what = f"{words} with {kind} {number} of {call.path.removeprefix(str(trial.root))} failed"
         same(f"{what}: the end ({ended.out!r})", (ended.status, ended.err.count("\n")), (4, 1))
         true(f"{what}: no fault is told: {ended.out!r}", re.search(r"^[0-9]+ fault$", ended.out, re.M))
-        true(f"{what}: the reason is {ended.err!r}", ended.err.startswith(f"plfs: {trial.root}") and is_reason(ended.err, kind))
+        true(f"{what}: the reason is {ended.err!r}", ended.err.startswith(f"plfs: {trial.root}") and is_reason(ended.err))
         same(f"{what}: how often it failed", sum(it.end == "EIO" for it in made), 1)
         if files_of(trial.root) == was:
             continue
@@ -178,6 +178,33 @@ def a_call_that_a_signal_interrupts_is_made_again(trial):
     trial.holds()
 
 
+# The kinds of calls that a signal may interrupt and that aren't made again, each with a path on which the work below calls it.
+ENDED = [
+    ("look", "*/f/hostdir.0"), ("list", "*/f/truncs"), ("open", "*/f/truncs/"), ("mkdir", "*/f/hostdir.0"), ("rename", "*/f"),
+    ("remove", "*/f/openhosts/*"), ("rmdir", "*/f/openhosts"),
+]
+
+
+@check
+def a_look_a_listing_and_a_change_of_names_that_a_signal_interrupts_are_faults(trial):
+    script = BACK + "a rclose\na trunc f 3\na rename f g\n"
+    for kind, path in ENDED:
+        trial.root = trial.folder / f"root.{kind}"
+        trial.root.mkdir()
+        ended, calls = trial.watched(script, f"fail EINTR {kind} 1 {path}", UNSYNCED)
+        what = f"a run in which {kind} of {path} was interrupted"
+        same(f"{what}: the status and how often", (ended.status, sum(it.end == "EINTR" for it in calls)), (4, 1))
+        true(f"{what}: it says {ended.out!r}, {ended.err!r}", " fault\n" in ended.out and ended.err.endswith(": Interrupted system call (os error 4)\n"))
+
+
+@check
+def an_opening_a_making_and_a_cut_of_a_file_that_a_signal_interrupts_are_made_again(trial):
+    torn(trial)
+    for script, words, rules in (("", ("recover", "f"), ["cut 1 */index.*", "open 1 */index.*"]), (BACK, ("play",), ["create 1 */log.*"])):
+        ended, calls = trial.watched(script, *(f"fail EINTR {rule}" for rule in rules), words=words)
+        same("the end", (ended.status, ended.err, sum(it.end == "EINTR" for it in calls)), (0, "", len(rules)))
+
+
 # How a folder's listing can end before its last name: as it is opened, at its first part, and behind it.
 @check
 def a_listing_that_fails_at_any_place_is_a_fault(trial):
@@ -230,7 +257,7 @@ def a_failed_sync_is_a_fault_of_the_statement_that_asked_for_it(trial):
         what = f"{words}, the sync of {item} failed"
         true(f"{what}: it was not asked for", any(it.end == "EIO" for it in calls))
         true(f"{what}: the lines are {ended.out!r}", line in ended.out.splitlines() and ended.status == 4)
-        true(f"{what}: the reason is {ended.err!r}", f"/{item}." in ended.err and is_reason(ended.err, "sync"))
+        true(f"{what}: the reason is {ended.err!r}", f"/{item}." in ended.err and is_reason(ended.err))
         is_kept = before is not empty or re.search(" (synced|closed) 1$", ended.out, re.M)
         true(f"{what}: what is read back", read_back(trial) in ({b"hello"} if is_kept else {b"hello", b""}))
 

@@ -5,8 +5,9 @@ import re
 import resource
 import signal
 import struct
+import time
 
-from trial import READ, WORK, WORKED, check, ignore, listed, same, size_limit, true
+from trial import READ, Skipped, WORK, WORKED, check, ignore, listed, same, size_limit, true
 
 # One actor writes, closes and reads back.
 BACK = WORK + "a ropen f\na read 0 5\n"
@@ -193,3 +194,20 @@ def a_name_in_root_that_is_too_long_is_a_fault(trial):
 def a_name_in_root_that_is_no_text_is_a_fault(trial):
     os.mkdir(os.fsencode(trial.root) + b"/\xff")
     trial.ends(4, WORK, lines="0 fault\n")
+
+
+@check
+def a_flattened_index_of_8_TiB_that_is_none_is_damage_at_once(trial):
+    trial.ends(0, WORK)
+    index = trial.root / "f" / "flats" / "5"
+    for head, place in ((b"", 0), (b"PLFSFLT1" + struct.pack("<2Q", 1, 1), 8)):
+        index.write_bytes(head)
+        try:
+            os.truncate(index, 2**43)
+        except OSError as why:
+            raise Skipped(f"no file of 8 TiB: {why.strerror}") from None
+        begin = time.monotonic()
+        trial.ends(7, READ, lines=f"2 damaged flats/5 {place}\n3 refused not-open\n")
+        taken = time.monotonic() - begin
+        true(f"it took {taken:.1f} seconds to find the damage at {place}", taken < 1)
+        index.unlink()

@@ -1,6 +1,5 @@
 """Small things that users meet: names of ROOT, lines on standard error, limits of the system."""
 
-import os
 import resource
 
 from trial import READ, WORK, WORKED, check, listed, same, true
@@ -65,17 +64,6 @@ def an_output_of_a_file_that_fails_in_its_middle_is_status_6(trial):
 
 @check
 def a_root_by_a_long_path_is_served(trial):
-    place = trial.folder / "long"
-    place.mkdir()
-    os.chdir(place)
-    try:
-        length = len(str(place))
-        while length + 201 < 3900:
-            os.mkdir("d" * 200)
-            os.chdir("d" * 200)
-            length += 201
-        root = os.getcwd()
-        trial.ends(0, WORK, root, lines=WORKED)
-        trial.holds(root=root)
-    finally:
-        os.chdir(trial.folder)
+    root = trial.deep(3900)
+    trial.ends(0, WORK, root, lines=WORKED)
+    trial.holds(root=root)

@@ -152,6 +152,16 @@ class Trial:
         ended = self.ends(0, READ, root)
         same("what is read back", ended.out.splitlines()[1:], [f"3 read 0 {shown}"])
 
+    def deep(self, length):
+        """A new and empty folder, whose path has just so many bytes."""
+        path = str(self.folder / f"deep{length}")
+        while len(path) < length:
+            left = length - len(path) - 1
+            path += "/" + "d" * (left if left <= 200 else min(200, left - 2))
+        os.makedirs(path)
+        same("the length of a path", len(path), length)
+        return path
+
     def is_untouched(self):
         same("what lies in ROOT", listed(self.root), {})
 

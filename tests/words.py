@@ -46,30 +46,12 @@ def a_damage_is_worded_alike_by_all_commands(trial):
 
 @check
 def a_path_of_root_that_is_too_long_for_its_items_is_told_before_anything_is_made(trial):
-    place = trial.folder / "long"
-    place.mkdir()
-    os.chdir(place)
-    try:
-        length = len(str(place))
-        for wanted, status in ((3937, 0), (3938, 4)):
-            while length < wanted:
-                more = min(200, wanted - length - 1) or 1
-                name = "d" * more if more < wanted - length else ""
-                if not name:
-                    os.chdir("..")
-                    length = len(os.getcwd())
-                    name = "d" * (wanted - length - 1)
-                os.mkdir(name)
-                os.chdir(name)
-                length += len(name) + 1
-            root = os.getcwd()
-            same("the length of ROOT", len(root), wanted)
-            ended = trial.run(WORK, root)
-            same(f"the end at {wanted} bytes ({ended.err[-200:]})", (ended.status, ended.out[:7]), (status, "2 open " if not status else "0 fault"))
-        same("standard error", ended.err, f"plfs: {root}: its path is longer than 3937 bytes\n")
-        same("what was made", os.listdir("."), [])
-    finally:
-        os.chdir(trial.folder)
+    for length, status, began in ((3937, 0, "2 open "), (3938, 4, "0 fault")):
+        root = trial.deep(length)
+        ended = trial.run(WORK, root)
+        same(f"the end at {length} bytes ({ended.err[-200:]})", (ended.status, ended.out[:7]), (status, began))
+    same("standard error", ended.err, f"plfs: {root}: its path is longer than 3937 bytes\n")
+    same("what was made", os.listdir(root), [])
 
 
 @check

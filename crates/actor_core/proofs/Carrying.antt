@@ -10,8 +10,15 @@ use Rattle.mount_model.specs.declared.call.Call.TheVariants.{Greet}
 use Rattle.writer_flow.specs.declared.handle.WriterHandle.{WriterHandle}
 use Rattle.writer_flow.specs.declared.handle.WriterOut.{WriterOut}
 use Rattle.writer_flow.specs.Writing.{write_program}
+use Rattle.plain_file.specs.declared.parts.ReaderParts.{ReaderParts}
+use Rattle.index_reader.specs.declared.opened.OpenReader.{OpenReader}
+use Rattle.index_reader.specs.Opened.{parts_of}
+use Rattle.refresh_index.specs.declared.refreshing.RefreshOut.{RefreshOut}
+use Rattle.refresh_index.specs.Refreshing.{refresh_program}
 use Rattle.actor_core.specs.Endings.{wrote, stopped}
+use Rattle.actor_core.specs.Opened.{reader_refreshed}
 use Rattle.actor_core.specs.Writers.{writes}
+use Rattle.actor_core.specs.Readers.{refreshes}
 use Rattle.flow.specs.Standing.{Standing, ready, asked as out, Rest, over, awaits, next_of, rest_of, replied, Awaits, IsOver}
 use Rattle.mount_model.specs.declared.call.Call.{Call}
 use Rattle.mount_model.specs.declared.call.Ask.{Ask}
@@ -146,3 +153,17 @@ pub written : (kept : Kept) (stop : Option Stop) (at len : ℕ) (bytes : List �
 written kept stop at len bytes handle s writer is some may_write counted some_bytes =
     let none : nat_eq (length bytes) 0 ≡ false = grind (arith, nat_tests, counted, some_bytes) in
     rw (is, some, may_write, counted, none) refl
+
+-- a machine that refreshes the reader of these parts, where the actor has this one meanwhile
+abbrev refresh_ready : Kept → Option Stop → Option OpenReader → Standing Call Reply RefreshOut → Underway
+refresh_ready kept stop after s = ready_of s stop (λ left ended. finishes (reader_refreshed (record kept { reader = after }) ended)) (finishes (stopped (record kept { reader = after })))
+
+-- a refresh begins with its machine's program, and the actor has no reader meanwhile
+pub refreshing : (kept : Kept) (stop : Option Stop) (held : ReaderParts) (reader : OpenReader) (was after : Option OpenReader) (s : Standing Call Reply RefreshOut)
+    → s ≡ ready (refresh_program held) → held ≡ parts_of reader → was ≡ Some reader → after ≡ None
+    → ready_of s stop (λ left ended. finishes (reader_refreshed (record kept { reader = after }) ended)) (finishes (stopped (record kept { reader = after }))) ≡ goes (refreshes kept stop was)
+refreshing kept stop held reader was after s is parts some none =
+    ap (λ at. refresh_ready kept stop after at) is
+    ∙ ap (λ these. refresh_ready kept stop after (ready (refresh_program these))) parts
+    ∙ ap (λ keeps. refresh_ready kept stop keeps (ready (refresh_program (parts_of reader)))) none
+    ∙ ap (λ found. goes (refreshes kept stop found)) (sym some)

@@ -15,15 +15,17 @@ use Rattle.trunc_rename.specs.TruncateStages.{truncate_standing}
 use Rattle.trunc_rename.specs.RenameStages.{rename_standing}
 use Rattle.flatten_core.specs.FlattenStages.{flatten_standing}
 use Rattle.torn_tail.specs.Stages.{recover_standing}
+use Rattle.refresh_index.specs.RefreshStages.{refresh_standing}
 use Rattle.actor_core.specs.declared.kept.Stop.{Stop}
 use Rattle.actor_core.specs.declared.kept.Kept.{Kept}
 use Rattle.actor_core.specs.declared.doing.Doing.{Doing}
-use Rattle.actor_core.specs.declared.doing.Doing.TheVariants.{Known, Opening, Writing, Syncing, Closing, Listing, Gathering, Reading, Verifying, Telling, Truncating, Renaming, Recovering, Naming, Flattening}
+use Rattle.actor_core.specs.declared.doing.Doing.TheVariants.{Known, Opening, Writing, Syncing, Closing, Listing, Gathering, Reading, Verifying, Telling, Truncating, Renaming, Recovering, Refreshing, Naming, Flattening}
 use Rattle.gather_flow.specs.declared.gathering.Gathering.{Gathering as Gathers}
 use Rattle.gather_flow.specs.declared.gathering.Gathering.TheVariants.{Shares, Truncs, Ended}
 use Rattle.actor_core.specs.Stopping.{is_due, one_nearer}
 use Rattle.actor_core.specs.declared.purpose.Purpose.{Purpose}
 use Rattle.actor_core.specs.Endings.{stopped, opened, wrote, synced, closed, read_from, verified, truncated, renamed, recovered, names_listed, flattened}
+use Rattle.actor_core.specs.Opened.{reader_refreshed}
 use Rattle.actor_core.specs.Telling.{if_asked}
 use Rattle.actor_core.specs.Purposes.{if_listed_for, ended_for}
 use Rattle.actor_core.specs.Naming.{names_standing}
@@ -49,6 +51,7 @@ has_call_out number kept stop (Truncating flow) is_asked = awaited number (rest_
 has_call_out number kept stop (Flattening flow) is_asked = awaited number (rest_of (flatten_standing flow)) stop (λ left result. finishes (flattened kept result)) (finishes (stopped kept)) is_asked
 has_call_out number kept stop (Renaming flow) is_asked = awaited number (rest_of (rename_standing flow)) stop (λ left result. finishes (renamed kept result)) (finishes (stopped kept)) is_asked
 has_call_out number kept stop (Recovering flow) is_asked = awaited number (rest_of (recover_standing flow)) stop (λ left result. finishes (recovered kept result)) (finishes (stopped kept)) is_asked
+has_call_out number kept stop (Refreshing flow) is_asked = awaited number (rest_of (refresh_standing flow)) stop (λ left result. finishes (reader_refreshed kept result)) (finishes (stopped kept)) is_asked
 has_call_out number kept stop (Naming flow) is_asked = awaited number (rest_of (names_standing flow)) stop (λ left result. finishes (names_listed kept result)) (finishes (stopped kept)) is_asked
 
 -- a statement ends where its actor stops within its call
@@ -69,6 +72,7 @@ stops_there number kept stop (Truncating flow) reply is_asked due = stops_so num
 stops_there number kept stop (Flattening flow) reply is_asked due = stops_so number (rest_of (flatten_standing flow)) stop (λ left result. finishes (flattened kept result)) (finishes (stopped kept)) reply is_asked due
 stops_there number kept stop (Renaming flow) reply is_asked due = stops_so number (rest_of (rename_standing flow)) stop (λ left result. finishes (renamed kept result)) (finishes (stopped kept)) reply is_asked due
 stops_there number kept stop (Recovering flow) reply is_asked due = stops_so number (rest_of (recover_standing flow)) stop (λ left result. finishes (recovered kept result)) (finishes (stopped kept)) reply is_asked due
+stops_there number kept stop (Refreshing flow) reply is_asked due = stops_so number (rest_of (refresh_standing flow)) stop (λ left result. finishes (reader_refreshed kept result)) (finishes (stopped kept)) reply is_asked due
 stops_there number kept stop (Naming flow) reply is_asked due = stops_so number (rest_of (names_standing flow)) stop (λ left result. finishes (names_listed kept result)) (finishes (stopped kept)) reply is_asked due
 
 -- and it may still make a call
@@ -87,6 +91,7 @@ some_left (Truncating flow) is_out = omega arith
 some_left (Flattening flow) is_out = omega arith
 some_left (Renaming flow) is_out = omega arith
 some_left (Recovering flow) is_out = omega arith
+some_left (Refreshing flow) is_out = omega arith
 some_left (Naming flow) is_out = omega arith
 
 -- a statement that was taken for one without a call, and has one out
@@ -109,6 +114,7 @@ same_out number kept stop (Truncating flow) is_asked = out_same number (truncate
 same_out number kept stop (Flattening flow) is_asked = out_same number (flatten_standing flow) stop (λ left result. finishes (flattened kept result)) (finishes (stopped kept)) is_asked
 same_out number kept stop (Renaming flow) is_asked = out_same number (rename_standing flow) stop (λ left result. finishes (renamed kept result)) (finishes (stopped kept)) is_asked
 same_out number kept stop (Recovering flow) is_asked = out_same number (recover_standing flow) stop (λ left result. finishes (recovered kept result)) (finishes (stopped kept)) is_asked
+same_out number kept stop (Refreshing flow) is_asked = out_same number (refresh_standing flow) stop (λ left result. finishes (reader_refreshed kept result)) (finishes (stopped kept)) is_asked
 same_out number kept stop (Naming flow) is_asked = out_same number (names_standing flow) stop (λ left result. finishes (names_listed kept result)) (finishes (stopped kept)) is_asked
 same_out number kept stop (Gathering flow purpose) is_asked = gather_out number kept stop flow purpose is_asked
 

@@ -30,6 +30,7 @@ use Rattle.trunc_rename.specs.TruncateStages.{truncate_standing}
 use Rattle.trunc_rename.specs.RenameStages.{rename_standing}
 use Rattle.flatten_core.specs.FlattenStages.{flatten_standing}
 use Rattle.torn_tail.specs.Stages.{recover_standing}
+use Rattle.refresh_index.specs.RefreshStages.{refresh_standing}
 use Rattle.gather_flow.specs.declared.gathering.Gathering.{Gathering as Gathers}
 use Rattle.gather_flow.specs.Gathering.{reads_truncs, gather_standing, gather_rest}
 use Rattle.gather_flow.specs.OneIndex.{reader_of}
@@ -39,7 +40,7 @@ use Rattle.outcomes.specs.Outcomes.{stuck_outcome}
 use Rattle.actor_core.specs.declared.kept.Stop.{Stop}
 use Rattle.actor_core.specs.declared.kept.Kept.{Kept}
 use Rattle.actor_core.specs.declared.doing.Doing.{Doing}
-use Rattle.actor_core.specs.declared.doing.Doing.TheVariants.{Known, Opening, Writing, Syncing, Closing, Listing, Gathering, Reading, Verifying, Telling, Truncating, Renaming, Recovering, Naming, Flattening}
+use Rattle.actor_core.specs.declared.doing.Doing.TheVariants.{Known, Opening, Writing, Syncing, Closing, Listing, Gathering, Reading, Verifying, Telling, Truncating, Renaming, Recovering, Refreshing, Naming, Flattening}
 use Rattle.actor_core.specs.declared.actor.State.{State}
 use Rattle.actor_core.specs.declared.actor.State.TheVariants.{Idle, Told, Ready, Asked, HandedOut, Greeting, Greeted}
 use Rattle.actor_core.specs.declared.purpose.Purpose.{Purpose}
@@ -47,7 +48,7 @@ use Rattle.actor_core.specs.declared.purpose.Purpose.TheVariants.{Opens, Tells}
 use Rattle.actor_core.specs.Stopping.{carried, stoppable}
 use Rattle.actor_core.specs.Endings.{ending, stopped, opened, wrote, synced, closed, read_from, verified, truncated, renamed, recovered, names_listed, flattened, told_of}
 use Rattle.actor_core.specs.Telling.{if_asked, if_relisted, tells_by}
-use Rattle.actor_core.specs.Opened.{opens, reader_opened}
+use Rattle.actor_core.specs.Opened.{opens, reader_opened, reader_refreshed}
 use Rattle.actor_core.specs.Purposes.{if_listed_for, ended_for}
 use Rattle.actor_core.specs.Naming.{names_standing}
 use Rattle.actor_core.specs.Work.{Work, finishes}
@@ -105,6 +106,7 @@ module _ (number : ℕ) (kept : Kept) (stop : Option Stop) where
   no_shares (Flattening flow) other = none_ready number (flatten_standing flow) stop (λ left result. finishes (flattened kept result)) (finishes (stopped kept)) (λ result. refl)
   no_shares (Renaming flow) other = none_ready number (rename_standing flow) stop (λ left result. finishes (renamed kept result)) (finishes (stopped kept)) (λ result. refl)
   no_shares (Recovering flow) other = none_ready number (recover_standing flow) stop (λ left result. finishes (recovered kept result)) (finishes (stopped kept)) (λ result. refl)
+  no_shares (Refreshing flow) other = none_ready number (refresh_standing flow) stop (λ left result. finishes (reader_refreshed kept result)) (finishes (stopped kept)) (λ result. refl)
   no_shares (Naming flow) other = none_ready number (names_standing flow) stop (λ left result. finishes (names_listed kept result)) (finishes (stopped kept)) (λ result. refl)
 
   none_asked : (doing : Doing) → handing_of (busy number (doing_asked kept stop doing)) ≡ None
@@ -122,6 +124,7 @@ module _ (number : ℕ) (kept : Kept) (stop : Option Stop) where
   none_asked (Flattening flow) = none_out number (rest_of (flatten_standing flow)) stop (λ left result. finishes (flattened kept result)) (finishes (stopped kept))
   none_asked (Renaming flow) = none_out number (rest_of (rename_standing flow)) stop (λ left result. finishes (renamed kept result)) (finishes (stopped kept))
   none_asked (Recovering flow) = none_out number (rest_of (recover_standing flow)) stop (λ left result. finishes (recovered kept result)) (finishes (stopped kept))
+  none_asked (Refreshing flow) = none_out number (rest_of (refresh_standing flow)) stop (λ left result. finishes (reader_refreshed kept result)) (finishes (stopped kept))
   none_asked (Naming flow) = none_out number (rest_of (names_standing flow)) stop (λ left result. finishes (names_listed kept result)) (finishes (stopped kept))
 
   none_greeting : (work : Underway) → handing_of (greeting number work) ≡ None

@@ -14,7 +14,7 @@ use Rattle.actor_core.specs.declared.kept.Stop.{Stop}
 use Rattle.actor_core.specs.declared.kept.Kept.{Kept}
 use Rattle.actor_core.specs.declared.purpose.Purpose.{Purpose}
 use Rattle.actor_core.specs.declared.doing.Doing.{Doing}
-use Rattle.actor_core.specs.declared.doing.Doing.TheVariants.{Known, Opening, Writing, Syncing, Closing, Listing, Gathering, Reading, Verifying, Telling, Truncating, Renaming, Recovering, Naming, Flattening}
+use Rattle.actor_core.specs.declared.doing.Doing.TheVariants.{Known, Opening, Writing, Syncing, Closing, Listing, Gathering, Reading, Verifying, Telling, Truncating, Renaming, Recovering, Refreshing, Naming, Flattening}
 use Rattle.actor_core.specs.Stopping.{stoppable}
 use Rattle.actor_core.specs.Endings.{ending, stopped}
 use Rattle.actor_core.specs.Work.{Work, finishes}
@@ -40,6 +40,7 @@ is_one (Truncating flow) not_known not_listing not_gathering not_telling = tt
 is_one (Flattening flow) not_known not_listing not_gathering not_telling = tt
 is_one (Renaming flow) not_known not_listing not_gathering not_telling = tt
 is_one (Recovering flow) not_known not_listing not_gathering not_telling = tt
+is_one (Refreshing flow) not_known not_listing not_gathering not_telling = tt
 is_one (Naming flow) not_known not_listing not_gathering not_telling = tt
 
 module _ {R : Type 0} where

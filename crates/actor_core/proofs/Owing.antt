@@ -30,7 +30,7 @@ use Rattle.index_reader.specs.declared.opened.OpenReader.{OpenReader}
 use Rattle.index_reader.specs.declared.sharing.Share.{Share}
 use Rattle.script_lang.specs.declared.script.Data.{Data}
 use Rattle.script_lang.specs.declared.script.Statement.{Statement}
-use Rattle.script_lang.specs.declared.script.Statement.TheVariants.{Open, Write, Sync, Close, Ropen, Read, Verify, Map, Rclose, Stat, Flatten, Recover, Trunc, Rename, Ls, Stop as Arms}
+use Rattle.script_lang.specs.declared.script.Statement.TheVariants.{Open, Write, Sync, Close, Ropen, Read, Verify, Map, Refresh, Rclose, Stat, Flatten, Recover, Trunc, Rename, Ls, Stop as Arms}
 use Rattle.actor_core.specs.declared.kept.Stop.{Stop}
 use Rattle.actor_core.specs.declared.kept.Kept.{Kept}
 use Rattle.actor_core.specs.Stopping.{carried, is_due, one_nearer}
@@ -40,9 +40,11 @@ use Rattle.outcomes.specs.Data.{bytes_of, length_of}
 use Rattle.actor_core.specs.Work.{Work, finishes}
 use Rattle.gather_flow.specs.Shares.{by_itself, programs_from, worker_program}
 use Rattle.gather_flow.specs.Workers.{all_of}
-use Rattle.actor_core.specs.Opened.{opens as opens_after, if_truncs, reader_opened}
+use Rattle.actor_core.specs.Opened.{opens as opens_after, if_truncs, reader_opened, reader_refreshed, without_reader}
+use Rattle.index_reader.specs.Opened.{parts_of}
+use Rattle.refresh_index.specs.Refreshing.{refresh_program}
 use Rattle.actor_core.specs.Writers.{opens, writes, writes_bytes, syncs, closes}
-use Rattle.actor_core.specs.Readers.{opens_reader, if_listed, reads, verifies, maps, closes_reader}
+use Rattle.actor_core.specs.Readers.{opens_reader, if_listed, reads, verifies, maps, closes_reader, refreshes}
 use Rattle.actor_core.specs.Names.{names_program}
 use Rattle.gather_flow.specs.OneIndex.{attr_of}
 use Rattle.actor_core.specs.Telling.{tells_by, if_relisted, if_asked, tells_of_file}
@@ -50,7 +52,7 @@ use Rattle.actor_core.specs.ByName.{renames_file, lists_names}
 use Rattle.actor_core.specs.Statements.{is_harmless_statement, does, disarmed, greeted, greeted_work, work_of}
 use Rattle.actor_core.specs.Owed.{IsHarmless, WorkAsksOnly, EachAsksOnly}
 use Rattle.actor_core.proofs.WriterOwing.{IsUnowed, open_unowed, write_unowed, sync_unowed, close_unowed, then_unowed}
-use Rattle.actor_core.proofs.ReaderOwing.{on_ok_unowed, listing_unowed, listing_at_unowed, share_unowed, truncs_unowed, read_unowed}
+use Rattle.actor_core.proofs.ReaderOwing.{on_ok_unowed, listing_unowed, listing_at_unowed, share_unowed, truncs_unowed, read_unowed, refresh_unowed}
 use Rattle.actor_core.proofs.NameOwing.{attr_unowed, rename_unowed, names_unowed}
 
 abbrev Unowed : Work → Type 0
@@ -149,6 +151,10 @@ maps_unowed : (kept : Kept) (reader : Option OpenReader) → Unowed (maps kept r
 maps_unowed kept None = tt
 maps_unowed kept (Some reader) = tt
 
+refreshes_unowed : (kept : Kept) (stop : Option Stop) (reader : Option OpenReader) → Unowed (refreshes kept stop reader)
+refreshes_unowed kept stop None = tt
+refreshes_unowed kept stop (Some reader) = carries (refresh_program (parts_of reader)) stop (λ left out. finishes (reader_refreshed (without_reader kept) out)) (finishes (stopped (without_reader kept))) (refresh_unowed (parts_of reader)) (λ left out. tt) tt
+
 closes_reader_unowed : (kept : Kept) (reader : Option OpenReader) → Unowed (closes_reader kept reader)
 closes_reader_unowed kept None = tt
 closes_reader_unowed kept (Some reader) = tt
@@ -191,6 +197,7 @@ does_unowed kept stop (Ropen name workers) some few harmless = opens_reader_unow
 does_unowed kept stop (Read at len) some few harmless = reads_unowed kept stop at len kept.reader
 does_unowed kept stop (Verify at content) some few harmless = verifies_unowed kept stop at content kept.reader
 does_unowed kept stop Map some few harmless = maps_unowed kept kept.reader
+does_unowed kept stop Refresh some few harmless = refreshes_unowed kept stop kept.reader
 does_unowed kept stop Rclose some few harmless = closes_reader_unowed kept kept.reader
 does_unowed kept stop (Arms call bytes) some few harmless = tt
 does_unowed kept stop (Stat name) some few harmless = tells_unowed kept stop name

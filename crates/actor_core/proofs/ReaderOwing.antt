@@ -20,6 +20,9 @@ use Rattle.index_reader.specs.Reading.{placed_all, ends_at, spells, read_program
 use Rattle.index_reader.specs.Sharing.{share_program}
 use Rattle.index_reader.specs.Truncs.{trunc_program}
 use Rattle.index_reader.proofs.Facts.{IsLook, OnlyLooks, listing_looks, share_looks, truncs_looks}
+use Rattle.plain_file.specs.declared.parts.ReaderParts.{ReaderParts}
+use Rattle.refresh_index.specs.Refreshing.{refresh_program}
+use Rattle.refresh_index.proofs.LookLemmas.{refresh_looks}
 use Rattle.actor_core.specs.Owed.{IsHarmlessCall}
 use Rattle.actor_core.proofs.WriterOwing.{IsUnowed}
 
@@ -43,6 +46,9 @@ share_unowed room share covers = looks_unowed (share_program room share covers) 
 
 pub truncs_unowed : (room : ℕ) → IsUnowed (trunc_program room)
 truncs_unowed room = looks_unowed (trunc_program room) (truncs_looks room)
+
+pub refresh_unowed : (held : ReaderParts) → IsUnowed (refresh_program held)
+refresh_unowed held = looks_unowed (refresh_program held) (refresh_looks held)
 
 pub on_ok_unowed : {A R : Type 0} (next : A → Tries R) → ((a : A) → IsUnowed (next a)) → (result : Result A Stuck) → IsUnowed (on_ok next result)
 on_ok_unowed next goes (Ok a) = goes a

@@ -11,10 +11,11 @@ use Rattle.trunc_rename.specs.TruncateStages.{truncate_standing}
 use Rattle.trunc_rename.specs.RenameStages.{rename_standing}
 use Rattle.flatten_core.specs.FlattenStages.{flatten_standing}
 use Rattle.torn_tail.specs.Stages.{recover_standing}
+use Rattle.refresh_index.specs.RefreshStages.{refresh_standing}
 use Rattle.actor_core.specs.declared.kept.Stop.{Stop}
 use Rattle.actor_core.specs.declared.kept.Kept.{Kept}
 use Rattle.actor_core.specs.declared.doing.Doing.{Doing}
-use Rattle.actor_core.specs.declared.doing.Doing.TheVariants.{Known, Opening, Writing, Syncing, Closing, Listing, Gathering, Reading, Verifying, Telling, Truncating, Renaming, Recovering, Naming, Flattening}
+use Rattle.actor_core.specs.declared.doing.Doing.TheVariants.{Known, Opening, Writing, Syncing, Closing, Listing, Gathering, Reading, Verifying, Telling, Truncating, Renaming, Recovering, Refreshing, Naming, Flattening}
 use Rattle.actor_core.specs.Stopping.{stoppable}
 use Rattle.actor_core.specs.Naming.{names_standing}
 use Rattle.actor_core.specs.Progress.{IsReady, ask_of, given}
@@ -40,6 +41,7 @@ IsAtEnd (Truncating flow) = IsOver (rest_of (truncate_standing flow))
 IsAtEnd (Flattening flow) = IsOver (rest_of (flatten_standing flow))
 IsAtEnd (Renaming flow) = IsOver (rest_of (rename_standing flow))
 IsAtEnd (Recovering flow) = IsOver (rest_of (recover_standing flow))
+IsAtEnd (Refreshing flow) = IsOver (rest_of (refresh_standing flow))
 IsAtEnd (Naming flow) = IsOver (rest_of (names_standing flow))
 IsAtEnd _ = ⊥
 

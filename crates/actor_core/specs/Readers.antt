@@ -13,11 +13,13 @@ use Rattle.actor_core.specs.declared.kept.Kept.{Kept}
 use Rattle.outcomes.specs.Data.{length_of}
 use Rattle.actor_core.specs.Stopping.{carried}
 use Rattle.gather_flow.specs.Shares.{programs_from}
+use Rattle.index_reader.specs.Opened.{parts_of}
+use Rattle.refresh_index.specs.Refreshing.{refresh_program}
 use Rattle.outcomes.specs.Outcomes.{stuck_outcome}
 use Rattle.actor_core.specs.Endings.{ending, refused, stopped, read_from, verified, mapped, reader_closed}
 use Rattle.actor_core.specs.Work.{Work, finishes}
 use Rattle.actor_core.specs.Sharing.{shared}
-use Rattle.actor_core.specs.Opened.{opens, reader_opened}
+use Rattle.actor_core.specs.Opened.{opens, reader_opened, reader_refreshed, without_reader}
 
 -- ---- it is opened
 
@@ -54,3 +56,10 @@ maps kept (Some reader) = finishes (mapped kept reader.pieces)
 abbrev pub closes_reader : Kept → Option OpenReader → Work
 closes_reader kept None = finishes (refused kept NotOpen)
 closes_reader kept (Some reader) = finishes (reader_closed kept)
+
+-- It is brought to what a new opening would see. An actor that is stopped meanwhile keeps no reader.
+abbrev pub refreshes : Kept → Option Stop → Option OpenReader → Work
+refreshes kept stop None = finishes (refused kept NotOpen)
+refreshes kept stop (Some reader) =
+    carried (refresh_program (parts_of reader)) stop
+    (λ left out. finishes (reader_refreshed (without_reader kept) out)) (finishes (stopped (without_reader kept)))

@@ -21,10 +21,11 @@ use Rattle.trunc_rename.specs.TruncateStages.{truncate_standing, truncate_left}
 use Rattle.trunc_rename.specs.RenameStages.{rename_standing, rename_left}
 use Rattle.flatten_core.specs.FlattenStages.{flatten_standing, flatten_left}
 use Rattle.torn_tail.specs.Stages.{recover_standing, recover_left}
+use Rattle.refresh_index.specs.RefreshStages.{refresh_standing, refresh_left}
 use Rattle.actor_core.specs.declared.kept.Stop.{Stop}
 use Rattle.actor_core.specs.declared.kept.Kept.{Kept}
 use Rattle.actor_core.specs.declared.doing.Doing.{Doing}
-use Rattle.actor_core.specs.declared.doing.Doing.TheVariants.{Known, Opening, Writing, Syncing, Closing, Listing, Gathering, Reading, Verifying, Telling, Truncating, Renaming, Recovering, Naming, Flattening}
+use Rattle.actor_core.specs.declared.doing.Doing.TheVariants.{Known, Opening, Writing, Syncing, Closing, Listing, Gathering, Reading, Verifying, Telling, Truncating, Renaming, Recovering, Refreshing, Naming, Flattening}
 use Rattle.actor_core.specs.declared.actor.State.{State}
 use Rattle.actor_core.specs.declared.actor.State.TheVariants.{Idle, Told, Ready, Asked, HandedOut, Greeting, Greeted}
 use Rattle.actor_core.specs.declared.actor.Actor.{Actor}
@@ -35,7 +36,7 @@ use Rattle.actor_core.specs.Purposes.{workers_of, if_listed_for, ended_for}
 use Rattle.actor_core.specs.Naming.{names_standing, names_left}
 use Rattle.gather_flow.specs.Gathering.{gather_standing, gather_rest, gather_left, shares_bound}
 use Rattle.actor_core.specs.Work.{Work, finishes}
-use Rattle.actor_core.specs.Opened.{opens, reader_opened}
+use Rattle.actor_core.specs.Opened.{opens, reader_opened, reader_refreshed}
 use Rattle.gather_flow.specs.Workers.{all_of}
 use Rattle.actor_core.specs.Progress.{Progress, idle, going, asked, handed, told}
 
@@ -55,6 +56,7 @@ AwaitsReply (Truncating flow) = Awaits (rest_of (truncate_standing flow))
 AwaitsReply (Flattening flow) = Awaits (rest_of (flatten_standing flow))
 AwaitsReply (Renaming flow) = Awaits (rest_of (rename_standing flow))
 AwaitsReply (Recovering flow) = Awaits (rest_of (recover_standing flow))
+AwaitsReply (Refreshing flow) = Awaits (rest_of (refresh_standing flow))
 AwaitsReply (Naming flow) = Awaits (rest_of (names_standing flow))
 
 -- It goes on so, or so with the reply to a call that is out.
@@ -89,6 +91,7 @@ doing_ready kept stop (Truncating flow) = ready_of (truncate_standing flow) stop
 doing_ready kept stop (Flattening flow) = ready_of (flatten_standing flow) stop (λ left result. finishes (flattened kept result)) (finishes (stopped kept))
 doing_ready kept stop (Renaming flow) = ready_of (rename_standing flow) stop (λ left result. finishes (renamed kept result)) (finishes (stopped kept))
 doing_ready kept stop (Recovering flow) = ready_of (recover_standing flow) stop (λ left result. finishes (recovered kept result)) (finishes (stopped kept))
+doing_ready kept stop (Refreshing flow) = ready_of (refresh_standing flow) stop (λ left result. finishes (reader_refreshed kept result)) (finishes (stopped kept))
 doing_ready kept stop (Naming flow) = ready_of (names_standing flow) stop (λ left result. finishes (names_listed kept result)) (finishes (stopped kept))
 
 -- the same, where its call is out
@@ -107,6 +110,7 @@ doing_asked kept stop (Truncating flow) = asked_of (rest_of (truncate_standing f
 doing_asked kept stop (Flattening flow) = asked_of (rest_of (flatten_standing flow)) stop (λ left result. finishes (flattened kept result)) (finishes (stopped kept))
 doing_asked kept stop (Renaming flow) = asked_of (rest_of (rename_standing flow)) stop (λ left result. finishes (renamed kept result)) (finishes (stopped kept))
 doing_asked kept stop (Recovering flow) = asked_of (rest_of (recover_standing flow)) stop (λ left result. finishes (recovered kept result)) (finishes (stopped kept))
+doing_asked kept stop (Refreshing flow) = asked_of (rest_of (refresh_standing flow)) stop (λ left result. finishes (reader_refreshed kept result)) (finishes (stopped kept))
 doing_asked kept stop (Naming flow) = asked_of (rest_of (names_standing flow)) stop (λ left result. finishes (names_listed kept result)) (finishes (stopped kept))
 
 -- how a reader is opened with what its workers came to
@@ -159,6 +163,7 @@ doing_left (Truncating flow) = truncate_left flow + 1
 doing_left (Flattening flow) = flatten_left flow + 1
 doing_left (Renaming flow) = rename_left flow + 1
 doing_left (Recovering flow) = recover_left flow + 1
+doing_left (Refreshing flow) = refresh_left flow + 1
 doing_left (Naming flow) = names_left flow + 1
 
 abbrev pub state_left : State → ℕ

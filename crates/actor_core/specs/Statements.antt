@@ -4,14 +4,14 @@ use Rattle.story.specs.Process.{asks}
 use Rattle.flow.specs.Running.{unbroken}
 use Rattle.mount_model.specs.declared.call.Call.TheVariants.{Greet}
 use Rattle.script_lang.specs.declared.script.Statement.{Statement}
-use Rattle.script_lang.specs.declared.script.Statement.TheVariants.{Open, Write, Sync, Close, Ropen, Read, Verify, Map, Rclose, Stat, Flatten, Recover, Trunc, Rename, Ls, Stop as Arms}
+use Rattle.script_lang.specs.declared.script.Statement.TheVariants.{Open, Write, Sync, Close, Ropen, Read, Verify, Map, Refresh, Rclose, Stat, Flatten, Recover, Trunc, Rename, Ls, Stop as Arms}
 use Rattle.actor_core.specs.declared.kept.Stop.{Stop}
 use Rattle.actor_core.specs.declared.kept.Kept.{Kept}
 use Rattle.outcomes.specs.Data.{bytes_of}
 use Rattle.actor_core.specs.Endings.{gone, armed}
 use Rattle.actor_core.specs.Work.{Work, finishes}
 use Rattle.actor_core.specs.Writers.{opens, writes, syncs, closes}
-use Rattle.actor_core.specs.Readers.{opens_reader, reads, verifies, maps, closes_reader}
+use Rattle.actor_core.specs.Readers.{opens_reader, reads, verifies, maps, refreshes, closes_reader}
 use Rattle.actor_core.specs.Telling.{tells_of_file}
 use Rattle.actor_core.specs.ByName.{truncates_file, renames_file, recovers_file, flattens_file, lists_names}
 
@@ -32,6 +32,7 @@ does kept stop (Ropen name workers) = opens_reader kept stop name workers kept.r
 does kept stop (Read at len) = reads kept stop at len kept.reader
 does kept stop (Verify at content) = verifies kept stop at content kept.reader
 does kept stop Map = maps kept kept.reader
+does kept stop Refresh = refreshes kept stop kept.reader
 does kept stop Rclose = closes_reader kept kept.reader
 does kept stop (Stat name) = tells_of_file kept stop name
 does kept stop (Trunc name size) = truncates_file kept stop name size

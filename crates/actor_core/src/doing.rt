@@ -5,6 +5,7 @@ use attr_flow::AttrFlow;
 use flatten_core::FlattenFlow;
 use gather_flow::Gathering;
 use index_reader::{OpenRead, Reading};
+use refresh_index::Refresh;
 use script_lang::{Data, Outcome};
 use torn_tail::RecoverFlow;
 use trunc_rename::{RenameFlow, TruncFlow};
@@ -46,5 +47,6 @@ pub(crate) enum Doing {
     Flattening(FlattenFlow),
     Renaming(RenameFlow),
     Recovering(RecoverFlow),
+    Refreshing(Refresh),
     Naming(NamesRead),
 }

@@ -4,7 +4,10 @@ ghost use Rattle.mount_model.specs.Step.{IsOwed, OwedBy};
 ghost use Rattle.flow.specs.Standing.{next_of, rest_of};
 ghost use Rattle.actor_core.specs.Stopping.{stoppable as stoppable_of};
 ghost use Rattle.actor_core.specs.Progress.{IsReady, ask_of, given, line_of, told};
+ghost use Rattle.index_reader.specs.Covered.{AreByWriter as AreCoversByWriter};
+ghost use Rattle.index_reader.specs.Hosts.{AreByWriter as AreHostsByWriter};
 ghost use Rattle.actor_core.specs.Endings.{ending, opened as opening_ends};
+ghost use Rattle.actor_core.specs.Opened.{reader_refreshed};
 ghost use Rattle.actor_core.specs.Work.{finishes};
 ghost use Rattle.actor_core.specs.Standings.{progress_of, calls_left, busy, goes, doing_ready, doing_left};
 ghost use Rattle.actor_core.specs.Machines.{IsOneMachine, IsAtEnd, GoesOn};
@@ -14,12 +17,14 @@ use crate::doing::Doing;
 use crate::kept::Stop;
 use crate::stopping::stoppable;
 use flow::{Flow, Stuck};
+use index_reader::OpenReader;
 use mount_model::{Ask, Call};
 use outcomes::{
-    close_outcome, flatten_outcome, list_outcome, read_outcome, recover_outcome, rename_outcome,
-    stuck_outcome, sync_outcome, truncate_outcome, verify_outcome, write_outcome,
+    close_outcome, flatten_outcome, list_outcome, read_outcome, reader_outcome, recover_outcome,
+    rename_outcome, stuck_outcome, sync_outcome, truncate_outcome, verify_outcome, write_outcome,
 };
 use plfs_types::NoMemory;
+use refresh_index::RefreshOut;
 use script_lang::{Line, Outcome};
 use writer_flow::WriterHandle;
 
@@ -117,6 +122,7 @@ fn asked(doing: &mut Doing) -> Result<Option<Call>, NoMemory>
         Doing::Flattening(flow) => flow.next(),
         Doing::Renaming(flow) => flow.next(),
         Doing::Recovering(flow) => flow.next(),
+        Doing::Refreshing(flow) => flow.next(),
         Doing::Naming(flow) => flow.next(),
         Doing::Known(_) | Doing::Listing { .. } | Doing::Gathering { .. } | Doing::Telling(_) => {
             unreachable!()
@@ -161,10 +167,28 @@ impl Actor {
             Doing::Flattening(flow) => flatten_outcome(self.alloc, flow.out()),
             Doing::Renaming(flow) => Ok(rename_outcome(flow.out())),
             Doing::Recovering(flow) => Ok(recover_outcome(flow.out())),
+            Doing::Refreshing(flow) => self.refreshed(flow.out()),
             Doing::Naming(flow) => Ok(list_outcome(flow.out())),
             Doing::Known(_) | Doing::Listing { .. } | Doing::Gathering { .. } | Doing::Telling(_) =>
                 unreachable!(),
         }
+    }
+
+    /// What the refresh of a reader comes to. The actor keeps the reader of the parts that it ended with.
+    fn refreshed(&mut self, out: RefreshOut) -> Result<Outcome, NoMemory>
+        requires hosts { AreHostsByWriter out.parts.hosts }
+        requires covers { AreCoversByWriter out.parts.covers }
+        ensures comes_to { IfOk result (λ outcome. ending outcome self.new.kept ≡ reader_refreshed self.old.kept out) }
+        ensures number { OnOk result (self.new.number ≡ self.old.number) }
+    {
+        let RefreshOut { parts, result } = out;
+        let reader = OpenReader::of_parts(parts);
+        let outcome = match result {
+            Ok(()) => reader_outcome(self.alloc, &reader),
+            Err(because) => Ok(stuck_outcome(because)),
+        };
+        drop(self.kept.reader.replace(reader));
+        outcome
     }
 
     /// What the opening of a writer comes to. The actor keeps the writer.

@@ -5,7 +5,7 @@ ghost use Rattle.outcomes.specs.Data.{bytes_of};
 ghost use Rattle.actor_core.specs.Endings.{armed};
 ghost use Rattle.actor_core.specs.Work.{finishes};
 ghost use Rattle.actor_core.specs.Writers.{opens, writes, syncs, closes};
-ghost use Rattle.actor_core.specs.Readers.{opens_reader, reads, verifies, maps, closes_reader};
+ghost use Rattle.actor_core.specs.Readers.{opens_reader, reads, verifies, maps, refreshes, closes_reader};
 ghost use Rattle.actor_core.specs.Statements.{greeted_work};
 ghost use Rattle.actor_core.specs.Standings.{goes, doing_ready};
 
@@ -19,6 +19,7 @@ use flatten_core::FlattenFlow;
 use index_reader::{OpenRead, Reading};
 use outcomes::{block, length, map_text};
 use plfs_types::{LogicalName, NoMemory};
+use refresh_index::Refresh;
 use script_lang::{Data, Outcome, Statement, Why};
 use torn_tail::RecoverFlow;
 use trunc_rename::{RenameFlow, TruncFlow};
@@ -51,6 +52,7 @@ impl Actor {
             Statement::Read { at, len } => self.read(at, len),
             Statement::Verify { at, content } => self.verify(at, content),
             Statement::Map => self.map(),
+            Statement::Refresh => Ok(self.refresh()),
             Statement::Rclose => Ok(self.close_reader()),
             Statement::Stat { name } => Ok(Doing::Telling(AttrFlow::new(self.alloc, name))),
             Statement::Trunc { name, size } => Ok(Doing::Truncating(TruncFlow::new(name, size))),
@@ -179,6 +181,15 @@ impl Actor {
         };
         let pieces = map_text(self.alloc, reader.pieces())?;
         Ok(Doing::Known(Outcome::Map { pieces }))
+    }
+
+    fn refresh(&mut self) -> Doing
+        ensures goes { doing_ready self.new.kept self.new.stop result ≡ goes (refreshes self.old.kept self.old.stop self.old.kept.reader) }
+    {
+        match self.kept.reader.take() {
+            None => refuse(Why::NotOpen),
+            Some(reader) => Doing::Refreshing(Refresh::new(self.alloc, reader.into_parts())),
+        }
     }
 
     fn close_reader(&mut self) -> Doing

@@ -69,6 +69,7 @@ fn reply_taken(doing: &mut Doing, reply: Reply) -> Result<(), NoMemory>
         Doing::Flattening(flow) => flow.take(reply),
         Doing::Renaming(flow) => flow.take(reply),
         Doing::Recovering(flow) => flow.take(reply),
+        Doing::Refreshing(flow) => flow.take(reply),
         Doing::Naming(flow) => flow.take(reply),
     }
 }

@@ -10,7 +10,7 @@
 use crate::gathered::{tell_gathered, tell_joined};
 use crate::machines::Greeter;
 use crate::playing::show;
-use crate::readers::{reading, sharing};
+use crate::readers::{reading, refreshing, sharing};
 use crate::spelling::parts;
 use crate::writers::{handle_of, writing};
 use attr_flow::AttrFlow;
@@ -39,6 +39,7 @@ enum Machine {
     Share { packed: bool },
     Truncates,
     Read,
+    Refresh,
     Joined,
     Gathered,
     Open,
@@ -68,6 +69,8 @@ fn machine_of(word: &str) -> Option<Machine> {
         "truncates" => Some(Machine::Truncates),
         // It reads the bytes of a file of two entries.
         "read" => Some(Machine::Read),
+        // It refreshes the reader of that file.
+        "refresh" => Some(Machine::Refresh),
         // What comes of a set of writes, which stands in place of the rows.
         "joined" => Some(Machine::Joined),
         "gathered" => Some(Machine::Gathered),
@@ -105,6 +108,7 @@ fn play<R: Threads + Sync>(
         Machine::Share { packed } => show(alloc, sharing(alloc, packed, number)?, rows, shown),
         Machine::Truncates => show(alloc, TruncRead::new(alloc, 1), rows, shown),
         Machine::Read => show(alloc, reading(rt, alloc)?, rows, shown),
+        Machine::Refresh => show(alloc, refreshing(rt, alloc)?, rows, shown),
         Machine::Joined => tell_joined(rt, alloc, rows, shown)?,
         Machine::Gathered => tell_gathered(rt, alloc, rows, shown)?,
         Machine::Open => show(alloc, OpenWrite::new(name, 7, 2), rows, shown),

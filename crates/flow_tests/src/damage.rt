@@ -157,6 +157,32 @@ length 10: long 96
 read 10 0 96: bytes PLFSFLT2 1 1 9 1 4 10 0 4 0 10 9
 = damaged flats/10 0
 
+list # none of its bytes are there
+list flats: names 10
+length 10: long 0
+= damaged flats/10 0
+
+# Its letters and its length are judged after the first Read. One of 8 TiB is read no further, and takes no memory.
+
+list # without letters
+list flats: names 10
+length 10: long 8796093022208
+read 10 0 1048576: padded 1048576
+= damaged flats/10 0
+
+list # with numbers that don't fit its length
+list flats: names 10
+length 10: long 8796093022208
+read 10 0 1048576: padded 1048576 PLFSFLT1 1 1 9 1 4 10 0 4 0 10 9
+= damaged flats/10 8
+
+list # with numbers that fit: all of it is read before its covers are judged
+list flats: names 10
+length 10: long 1048600
+read 10 0 1048576: padded 1048576 PLFSFLT1 32768
+read 10 1048576 24: padded 24
+= damaged flats/10 24
+
 # A packed index is damaged where it does not fit.
 
 packed 1 # no more entries than are covered

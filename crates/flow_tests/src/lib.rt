@@ -30,6 +30,8 @@ mod playing;
 #[cfg(test)]
 mod readers;
 #[cfg(test)]
+mod refreshes;
+#[cfg(test)]
 mod replies;
 #[cfg(test)]
 mod sets;

@@ -1,7 +1,8 @@
 //! A reader's machines over sets of writes, against the newest write asked byte by byte.
-ghost use Rattle.std.specs.Prelude.{IfSome};
+ghost use Rattle.std.specs.Prelude.{IfOk, IfSome};
 ghost use Rattle.flow.specs.Standing.{IsFresh};
 ghost use Rattle.index_reader.specs.Covered as covered;
+ghost use Rattle.index_reader.specs.Hosts as hosted;
 ghost use Rattle.index_reader.specs.Listing as listed;
 
 use crate::cases::ends;
@@ -15,6 +16,7 @@ use index_reader::{
 };
 use plain_file::{PieceList, Pieces};
 use plfs_types::{Bytes, CoverList, MAX_SIZE, NoMemory};
+use refresh_index::{Refresh, RefreshOut};
 use std::alloc::Global;
 use std::thread::Threads;
 use test_lines::Line;
@@ -127,6 +129,53 @@ pub(crate) fn opened<R: Threads + Sync>(rt: &R, alloc: Global, set: &Set) -> Opt
     OpenReader::new(alloc, all).ok()
 }
 
+// What was there first: half of the writes, and half of the truncates.
+fn front(alloc: Global, set: &Set) -> Option<Set> {
+    let writes = set.writes.as_slice();
+    let truncs = set.truncs.as_slice();
+    let writes = Vec::from_slice(alloc, &writes[..writes.len() / 2]).ok()?;
+    match Vec::from_slice(alloc, &truncs[..truncs.len() / 2]) {
+        Ok(truncs) => Some(Set {
+            writes,
+            truncs,
+            from: set.from,
+        }),
+        Err(_) => {
+            drop(writes);
+            None
+        }
+    }
+}
+
+// What the refresh of a reader comes to.
+fn brought_on(alloc: Global, set: &Set, reader: OpenReader) -> Result<RefreshOut, NoMemory>
+    ensures hosts { IfOk result (λ out. hosted.AreByWriter out.parts.hosts) }
+    ensures covers { IfOk result (λ out. covered.AreByWriter out.parts.covers) }
+{
+    let mut flow = Refresh::new(alloc, reader.into_parts());
+    while let Some(call) = flow.next()? {
+        let reply = reply_to(alloc, set, &call);
+        drop(call);
+        flow.take(reply)?;
+    }
+    Ok(flow.out())
+}
+
+// A reader of what was there first, once it was refreshed.
+fn refreshed<R: Threads + Sync>(rt: &R, alloc: Global, set: &Set) -> Option<OpenReader> {
+    let front = front(alloc, set)?;
+    let reader = opened(rt, alloc, &front);
+    drop(front);
+    let RefreshOut { parts, result } = brought_on(alloc, set, reader?).ok()?;
+    match result {
+        Ok(()) => Some(OpenReader::of_parts(parts)),
+        Err(why) => {
+            drop((parts, why));
+            None
+        }
+    }
+}
+
 // Whether these are the bytes that are to be read there, up to the end of the file.
 fn are_newest(set: &Set, at: u64, len: u64, bytes: &[u8]) -> bool {
     let end = at.saturating_add(len).min(size(set));
@@ -163,21 +212,23 @@ fn reads(alloc: Global, set: &Set, reader: &OpenReader, at: u64, len: u64) -> bo
 }
 
 // Whether the file is as long as it should be, and all of these reads give its bytes.
-fn is_shown(alloc: Global, set: &Set, reader: &OpenReader) -> bool {
+fn is_shown(alloc: Global, set: &Set, reader: &Option<OpenReader>) -> bool {
+    let Some(reader) = reader else {
+        return false;
+    };
     reader.size() == size(set)
         && reads(alloc, set, reader, 0, 64)
         && reads(alloc, set, reader, 7, 20)
         && reads(alloc, set, reader, 31, 1)
 }
 
+// Whether a reader that was opened shows the file, and so does one that was refreshed.
 fn shows<R: Threads + Sync>(rt: &R, alloc: Global, line: &str, from: u64) -> Option<bool> {
     let set = read(alloc, line, from)?;
     let reader = opened(rt, alloc, &set);
-    let shown = match &reader {
-        Some(reader) => is_shown(alloc, &set, reader),
-        None => false,
-    };
-    drop((reader, set));
+    let later = refreshed(rt, alloc, &set);
+    let shown = is_shown(alloc, &set, &reader) && is_shown(alloc, &set, &later);
+    drop((reader, later, set));
     Some(shown)
 }
 

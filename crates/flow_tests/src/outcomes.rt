@@ -4,7 +4,9 @@ use attr_flow::{Attr, AttrOut};
 use flow::Stuck;
 use index_reader::{Listing, Share};
 use migrate_core::Migrated;
+use plain_file::ReaderParts;
 use plfs_types::{Bytes, TruncList};
+use refresh_index::RefreshOut;
 use test_lines::Line;
 use torn_tail::Recovered;
 use writer_flow::{WriterHandle, WriterOut};
@@ -145,5 +147,34 @@ impl Tell for WriterOut {
             Ok(number) => line.say("ok ", *number),
             Err(why) => trouble(line, why),
         }
+    }
+}
+
+// The size of the file, each writer's host, how many of whose entries are held, and where the pieces are.
+impl Tell for ReaderParts {
+    fn tell(&self, line: &mut Line) {
+        line.say("size ", self.size);
+        for host in self.hosts.as_slice() {
+            pair(line, host.writer, "/", host.host as u64);
+        }
+        for cover in self.covers.as_slice() {
+            pair(line, cover.writer, ":", cover.count);
+        }
+        for piece in self.pieces.as_slice() {
+            pair(line, piece.at, "+", piece.len);
+        }
+        line.push(" ");
+        self.truncs.tell(line);
+    }
+}
+
+impl Tell for RefreshOut {
+    fn tell(&self, line: &mut Line) {
+        match &self.result {
+            Ok(()) => line.push("refreshed"),
+            Err(why) => trouble(line, why),
+        }
+        line.push(", ");
+        self.parts.tell(line);
     }
 }

@@ -4,11 +4,13 @@ ghost use Rattle.flow.specs.Standing.{IsFresh};
 ghost use Rattle.index_reader.specs.Covered as covered;
 ghost use Rattle.index_reader.specs.ReadingStages.{read_standing};
 ghost use Rattle.index_reader.specs.Stages.{share_standing};
+ghost use Rattle.refresh_index.specs.RefreshStages.{refresh_standing};
 
 use crate::newest::opened;
 use crate::sets::read;
-use index_reader::{Dropping, DroppingList, Reading, ShareRead};
+use index_reader::{Dropping, DroppingList, OpenReader, Reading, ShareRead};
 use plfs_types::{Cover, CoverList, MAX_LOG};
+use refresh_index::Refresh;
 use std::alloc::Global;
 use std::thread::Threads;
 
@@ -42,15 +44,28 @@ pub(crate) fn sharing(alloc: Global, packed: bool, covered: u64) -> Option<Share
     Some(ShareRead::new(alloc, 1, droppings, covers))
 }
 
-/// Who reads the file of the two entries of that writer: of 5 bytes, and of 3 that overlap them in the file.
-pub(crate) fn reading<R: Threads + Sync>(rt: &R, alloc: Global) -> Option<Reading>
-    ensures { IfSome result (λ flow. IsFresh (read_standing flow)) }
-{
+// A reader of the two entries of that writer: of 5 bytes, and of 3 that overlap them in the file.
+fn reader<R: Threads + Sync>(rt: &R, alloc: Global) -> Option<OpenReader> {
     let set = read(alloc, "b@11:0+5 b@12:4+3", 0)?;
     let reader = opened(rt, alloc, &set);
     drop(set);
-    let reader = reader?;
+    reader
+}
+
+/// Who reads its file.
+pub(crate) fn reading<R: Threads + Sync>(rt: &R, alloc: Global) -> Option<Reading>
+    ensures { IfSome result (λ flow. IsFresh (read_standing flow)) }
+{
+    let reader = reader(rt, alloc)?;
     let flow = Reading::new(alloc, &reader, 0, 100);
     drop(reader);
     flow.ok()
+}
+
+/// Who refreshes it.
+pub(crate) fn refreshing<R: Threads + Sync>(rt: &R, alloc: Global) -> Option<Refresh>
+    ensures { IfSome result (λ flow. IsFresh (refresh_standing flow)) }
+{
+    let reader = reader(rt, alloc)?;
+    Some(Refresh::new(alloc, reader.into_parts()))
 }

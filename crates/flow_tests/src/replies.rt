@@ -5,7 +5,8 @@ use plfs_types::{Bytes, Name, NameList, NoMemory};
 use std::alloc::Global;
 use store_api::Answer;
 
-fn names(alloc: Global, words: &str) -> Result<Answer, NoMemory> {
+/// The names that are these words.
+pub(crate) fn names(alloc: Global, words: &str) -> Result<Answer, NoMemory> {
     let mut names = NameList::new(alloc);
     for word in words.split_whitespace() {
         names.push(Name::from_bytes(word.as_bytes()).unwrap_or(Name::empty()))?;

@@ -1,4 +1,5 @@
 //! A container with what three writers wrote, as a reader's calls see it; and what its file is, asked byte by byte.
+use crate::replies::names;
 use mount_model::{Call, Look, Reply};
 use plfs_types::{Bytes, Name, NameList, NoMemory};
 use std::alloc::Global;
@@ -90,6 +91,16 @@ fn part(all: &[u8], at: u64, len: u64) -> &[u8] {
     all.get(at as usize..end as usize).unwrap_or(&[])
 }
 
+// The folders of droppings, each with the index dropping in it.
+const FOLDERS: [(&str, &str); 3] = [
+    ("hostdir.0", "index.0.20"),
+    ("hostdir.1", "index.33.3"),
+    ("hostdir.7", "index.7.9"),
+];
+
+// What the container's folder holds.
+const TOP: &str = "access flats hostdir.0 hostdir.1 hostdir.7 metadata truncs";
+
 // The names of the truncates, in byte order.
 fn marks(alloc: Global, set: &Set) -> Result<NameList, NoMemory> {
     let mut names = Vec::new(alloc);
@@ -105,6 +116,16 @@ fn marks(alloc: Global, set: &Set) -> Result<NameList, NoMemory> {
     Ok(NameList::from_vec(names))
 }
 
+// The index in a folder of droppings, or the truncates.
+fn list(alloc: Global, set: &Set, folder: &[u8]) -> Result<Answer, NoMemory> {
+    for (name, index) in FOLDERS {
+        if folder == name.as_bytes() {
+            return names(alloc, index);
+        }
+    }
+    Ok(Answer::Names(marks(alloc, set)?))
+}
+
 fn answer_to(alloc: Global, set: &Set, look: &Look) -> Result<Answer, NoMemory> {
     match look {
         Look::Length { path } => {
@@ -116,7 +137,8 @@ fn answer_to(alloc: Global, set: &Set, look: &Look) -> Result<Answer, NoMemory> 
             let all = file(alloc, set, path.file.bytes())?;
             Ok(Answer::Bytes(Bytes::copy(alloc, part(all.as_slice(), *at, *len))?))
         }
-        _ => Ok(Answer::Names(marks(alloc, set)?)),
+        Look::Top => names(alloc, TOP),
+        Look::List { folder } => list(alloc, set, folder.bytes()),
     }
 }
 

@@ -1,5 +1,6 @@
 pub mod Doubts
 pub mod Calls
+pub mod Syncs
 pub mod Keys
 pub mod Kinds
 pub mod Noted

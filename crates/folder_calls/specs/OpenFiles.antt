@@ -4,7 +4,7 @@ use Rattle.store_api.specs.declared.step.Answer.{Answer}
 use Rattle.store_api.specs.declared.step.Answer.TheVariants.{Made, Number, Bytes, Beyond}
 use Rattle.store_api.specs.Step.{Step, length_of, read_at, write_at, cut, sync}
 use Rattle.folder_calls.specs.declared.failure.Failure.{Failure}
-use Rattle.folder_calls.specs.declared.failure.Failure.TheVariants.{Failed, Unsynced, NoMemory}
+use Rattle.folder_calls.specs.declared.failure.Failure.TheVariants.{Failed, NoMemory}
 use Rattle.folder_calls.specs.declared.held.Held.{Held}
 use Rattle.folder_calls.specs.Calls.{Log, Makes, measured_file, read_bytes, wrote_bytes, resized_file, synced_file}
 
@@ -24,7 +24,6 @@ given_at held at len = min (held.len - at) len
 -- a look at the bytes of a file failed: its one call did, or memory lacks, and no call was made
 abbrev pub FailsToLook : {F : Type 0} → Held F → ℕ → ℕ → Log F → Log F → Failure → Type 0
 FailsToLook held at len log later Failed = Makes (read_bytes held.file at len (Err Failed) ∷ []) log later
-FailsToLook held at len log later Unsynced = ⊥
 FailsToLook held at len log later NoMemory = later ≡ log
 
 -- how many bytes of earlier runs a write of these bytes goes over
@@ -41,7 +40,6 @@ module _ {F : Type 0} (held : Held F) (at : ℕ) (bytes : List ℕ) (log later :
   abbrev pub IsStopped : Failure → Type 0
   IsStopped Failed =
       (1 ≤ over_at held at bytes) × ((there : Result (List ℕ) Failure) × (¬ (there ≡ Ok (take (over_at held at bytes) bytes))) × Makes (read_bytes held.file at (over_at held at bytes) there ∷ []) log later)
-  IsStopped Unsynced = ⊥
   IsStopped NoMemory = (1 ≤ over_at held at bytes) × (later ≡ log)
 
 module _ {F : Type 0} (held : Held F) (log later : Log F) where
@@ -59,7 +57,6 @@ module _ {F : Type 0} (held : Held F) (log later : Log F) where
   ReadsOpen at len (Ok (Bytes bytes)) = ReadsBytes at len bytes
   ReadsOpen at len (Ok other) = ⊥
   ReadsOpen at len (Err NoMemory) = later ≡ log
-  ReadsOpen at len (Err Unsynced) = ⊥
   ReadsOpen at len (Err Failed) = (1 ≤ given_at held at len) × Makes (read_bytes held.file at (given_at held at len) (Err Failed) ∷ []) log later
 
   -- a write that failed: it was not made, since it would change bytes of earlier runs, or its call failed
@@ -86,7 +83,7 @@ module _ {F : Type 0} (held : Held F) (log later : Log F) where
   abbrev pub SyncsOpen : Result Answer Failure → Type 0
   SyncsOpen (Ok Made) = Makes (synced_file held.file (Ok tt) ∷ []) log later
   SyncsOpen (Ok other) = ⊥
-  SyncsOpen (Err failure) = (failure ≡ Unsynced) × Makes (synced_file held.file (Err failure) ∷ []) log later
+  SyncsOpen (Err failure) = (failure ≡ Failed) × Makes (synced_file held.file (Err failure) ∷ []) log later
 
   -- one line for each step on an open file
   abbrev pub ActsOpen : Step → Result Answer Failure → Type 0

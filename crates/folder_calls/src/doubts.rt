@@ -2,12 +2,13 @@
 //!
 //! Read: fsync(2) of Linux, "error reporting": after a failed sync the pages may count as written though no disk has
 //! them, and the next sync answers that all is well. So a sync that failed is never made again.
-ghost use Rattle.std.specs.Prelude.{◌≡◌, ◌⊎◌, false, true};
-ghost use Rattle.folder_calls.specs.Doubts.{is_doubted};
+ghost use Rattle.std.specs.Prelude.{◌≡◌, ◌⊎◌, None, Some, true};
+ghost use Rattle.folder_calls.specs.Doubts.{doubt_of, is_doubted};
 
 use crate::cache::FileKey;
+use crate::reason::Doubt;
 use std::alloc::Global;
-use std::collections::HashSet;
+use std::collections::HashMap;
 
 /// What a step syncs: nothing, ROOT itself, or a file or a folder.
 #[derive(Clone, Copy)]
@@ -18,56 +19,61 @@ pub enum Item {
     Under { key: FileKey },
 }
 
-/// The items of which a sync failed.
+/// The items of which a sync failed, each with why the first one did.
 #[derive(Drop)]
 pub struct Doubts {
-    keys: HashSet<FileKey>,
-    has_root: bool,
+    keys: HashMap<FileKey, Doubt>,
+    root: Option<Doubt>,
     // Memory was refused for one, so that all are in doubt.
-    has_all: bool,
+    all: Option<Doubt>,
 }
 
 impl Doubts {
     /// Nothing is in doubt.
     pub fn new(alloc: Global) -> Doubts
-        ensures none { (item : Item) → is_doubted result item ≡ false }
+        ensures none { (item : Item) → doubt_of result item ≡ None }
     {
         Doubts {
-            keys: HashSet::new(alloc),
-            has_root: false,
-            has_all: false,
+            keys: HashMap::new(alloc),
+            root: None,
+            all: None,
         }
     }
 
-    /// Whether the item is in doubt.
-    pub fn has(&self, item: &Item) -> bool
-        ensures { result ≡ is_doubted self.now item.now }
+    /// Why the item is in doubt, where it is.
+    pub fn of(&self, item: &Item) -> Option<Doubt>
+        ensures { result ≡ doubt_of self.now item.now }
     {
         match *item {
-            Item::Nothing => false,
-            Item::Root => self.has_all || self.has_root,
-            Item::Under { key } => self.has_all || self.keys.contains(&key),
+            Item::Nothing => None,
+            Item::Root => self.root.or(self.all),
+            Item::Under { key } => self.keys.get(&key).copied().or(self.all),
         }
     }
 
-    /// From now on the item is in doubt. Where memory is refused for it, all are.
-    pub fn add(&mut self, item: &Item)
+    /// From now on the item is in doubt. One that was so keeps its first cause. Where memory is refused for it, all are.
+    pub fn add(&mut self, item: &Item, doubt: Doubt)
         ensures added { (item.now ≡ Item.Nothing) ⊎ (is_doubted self.new item.now ≡ true) }
-        ensures lasts { (other : Item) → is_doubted self.old other ≡ true → is_doubted self.new other ≡ true }
+        ensures lasts { (other : Item) → (first : Doubt) → doubt_of self.old other ≡ Some first → doubt_of self.new other ≡ Some first }
     {
+        if self.of(item).is_some() {
+            return;
+        }
         match *item {
             Item::Nothing => {}
-            Item::Root => self.has_root = true,
-            Item::Under { key } => self.add_key(key),
+            Item::Root => self.root = Some(doubt),
+            Item::Under { key } => self.add_key(key, doubt),
         }
     }
 
-    fn add_key(&mut self, key: FileKey)
+    // The key of an item that is not in doubt.
+    fn add_key(&mut self, key: FileKey, doubt: Doubt)
+        requires new { doubt_of self.now (Item.Under key) ≡ None }
         ensures added { is_doubted self.new (Item.Under key) ≡ true }
-        ensures lasts { (other : Item) → is_doubted self.old other ≡ true → is_doubted self.new other ≡ true }
+        ensures lasts { (other : Item) → (first : Doubt) → doubt_of self.old other ≡ Some first → doubt_of self.new other ≡ Some first }
     {
-        if self.keys.insert(key).is_err() {
-            self.has_all = true;
+        if self.keys.insert(key, doubt).is_err() {
+            self.all = Some(doubt);
         }
     }
 }

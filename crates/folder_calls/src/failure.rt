@@ -7,8 +7,6 @@ use std::alloc::{AllocError, AllocFailed};
 pub enum Failure {
     /// The system failed, or a name of the step or of a listing can't be taken.
     Failed,
-    /// A sync failed. What the system keeps of the item is then not known, and a further sync doesn't tell.
-    Unsynced,
     /// Memory was refused before the step did anything.
     NoMemory,
 }

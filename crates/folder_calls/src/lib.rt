@@ -21,5 +21,5 @@ pub use failure::Failure;
 pub use held::Held;
 pub use own::OwnFiles;
 pub use paths::{is_part, is_room_name, join, part};
-pub use reason::{Asked, Cause, Kind, Place, Reason};
+pub use reason::{Asked, Cause, Doubt, Kind, Place, Reason, doubt_by};
 pub use system::{System, SystemCalls};

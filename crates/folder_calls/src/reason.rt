@@ -1,6 +1,7 @@
 //! Why a step failed, and where.
 ghost use Rattle.std.specs.Prelude.{◌≡◌, []};
 ghost use Rattle.folder_calls.specs.Kinds.{is_folder};
+ghost use Rattle.folder_calls.specs.Noted.{doubt_by};
 
 use plfs_types::Name;
 use std::fmt::{Display, Formatter};
@@ -73,13 +74,28 @@ impl Display for Kind {
     }
 }
 
+/// Why a sync failed, where the system told it.
+#[derive(Clone, Copy)]
+pub struct Doubt {
+    pub error: Option<io::Error>,
+}
+
+impl Display for Doubt {
+    fn fmt<W: fmt::Write>(&self, f: &mut Formatter<W>) -> fmt::Result {
+        match self.error {
+            Some(error) => write!(f, ": {error}"),
+            None => Ok(()),
+        }
+    }
+}
+
 /// Why a step failed.
 #[derive(Clone, Copy)]
 pub enum Reason {
     /// No item of a folder can have such a name, or no room.
     Unnameable,
     /// A sync of the item, or of the folder with its name, failed before.
-    Unsynced,
+    Unsynced { doubt: Doubt },
     /// The step would write other bytes over those of an earlier run.
     Overwrites,
     /// This stands where the step needs something else.
@@ -88,12 +104,25 @@ pub enum Reason {
     System { asked: Asked, error: io::Error },
 }
 
+/// Why a sync failed, of what was told in its step.
+pub fn doubt_by(told: Option<Reason>) -> Doubt
+    ensures { result ≡ doubt_by told }
+{
+    match told {
+        Some(Reason::System { error, .. }) => Doubt { error: Some(error) },
+        Some(Reason::Unsynced { doubt }) => doubt,
+        _ => Doubt { error: None },
+    }
+}
+
 impl Display for Reason {
     fn fmt<W: fmt::Write>(&self, f: &mut Formatter<W>) -> fmt::Result {
         match self {
             Reason::Unnameable => write!(f, "no such name can stand there"),
             Reason::Overwrites => write!(f, "would overwrite bytes of an earlier run"),
-            Reason::Unsynced => write!(f, "a sync of it or of its folder failed before"),
+            Reason::Unsynced { doubt } => {
+                write!(f, "a sync of it or of its folder failed before{doubt}")
+            }
             Reason::Found { kind } => write!(f, "{kind}"),
             Reason::System { asked, error } => write!(f, "{asked}: {error}"),
         }

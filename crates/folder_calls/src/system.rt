@@ -3,13 +3,14 @@ ghost use Rattle.std.specs.Prelude.{◌≡◌, None, IfErr, IfOk};
 ghost use Rattle.std.specs.Fs.{file_type, metadata_len};
 ghost use Rattle.folder_calls.specs.Kinds.{IsKindOf};
 ghost use Rattle.folder_calls.specs.Noted.{noted};
+ghost use Rattle.folder_calls.specs.Syncs.{counting};
 
 use crate::calls::{Calls, Removal};
 use crate::failure::Failure;
 use crate::reason::{Asked, Kind, Reason};
 use plfs_types::{Name, NameList};
 use std::alloc::Global;
-use std::fs::{self, DirEntry, File, Metadata, OpenOptions, ReadDir};
+use std::fs::{self, DirEntry, File, Metadata, OpenOptions};
 use std::io::{self, ErrorKind};
 use std::os::unix::fs::{FileExt, MetadataExt};
 use std::rt::Files;
@@ -19,11 +20,13 @@ pub trait System: Files<File = File> + AllocGlobal + Clone + Drop {}
 
 impl<R: Files<File = File> + AllocGlobal + Clone + Drop> System for R {}
 
-/// The system by a runtime. It tells no calls, and keeps why the last one failed or what the last one found.
+/// The system by a runtime. It tells no calls, and keeps why the last one failed or what the last one found, and how
+/// many syncs failed, up to 2^64 - 1.
 #[derive(Drop)]
 pub struct SystemCalls<R> {
     rt: R,
     last: Option<Reason>,
+    unsynced: u64,
 }
 
 // What an item of a folder is, by what the system says of it.
@@ -44,17 +47,40 @@ fn are_one_file(a: &Metadata, b: &Metadata) -> bool {
     a.is_file() && b.is_file() && a.dev() == b.dev() && a.ino() == b.ino()
 }
 
+// The name of a listed item. It fails where that is no text in UTF-8, or longer than 96 bytes.
+fn name_of<R: System>(entry: &DirEntry<R, Global>) -> io::Result<Name> {
+    match Name::from_bytes(entry.file_name().as_bytes()) {
+        Some(name) => Ok(name),
+        None => Err(io::Error::other("a name there is longer than 96 bytes")),
+    }
+}
+
+// The names in a folder. What it has on the stack is not to stand in the frames of its callers.
+#[inline(never)]
+fn names_in<R: System>(rt: &R, alloc: Global, path: &str) -> io::Result<NameList> {
+    let mut names = Vec::new(alloc);
+    for entry in fs::read_dir(rt, path)? {
+        names.push(name_of(&entry?)?)?;
+    }
+    Ok(NameList::from_vec(names))
+}
+
 impl<R> SystemCalls<R> {
     /// The system by this runtime.
     pub fn new(rt: R) -> Self
-        ensures { result ≡ record { rt = rt; last = None } }
+        ensures { result ≡ record { rt = rt; last = None; unsynced = 0 } }
     {
-        SystemCalls { rt, last: None }
+        SystemCalls {
+            rt,
+            last: None,
+            unsynced: 0,
+        }
     }
 
     // Keeps what a call told, unless one failed before: that is why the step fails.
     fn note(&mut self, reason: Reason)
         ensures noted { self.new.last ≡ noted self.old.last reason }
+        ensures syncs { self.new.unsynced ≡ self.old.unsynced }
     {
         if !matches!(self.last, Some(Reason::System { .. })) {
             self.last = Some(reason);
@@ -65,6 +91,7 @@ impl<R> SystemCalls<R> {
     fn fail(&mut self, asked: Asked, error: io::Error) -> Failure
         ensures failed { result ≡ Failure.Failed }
         ensures noted { self.new.last ≡ noted self.old.last (Reason.System asked error) }
+        ensures syncs { self.new.unsynced ≡ self.old.unsynced }
     {
         self.note(Reason::System { asked, error });
         Failure::Failed
@@ -72,7 +99,8 @@ impl<R> SystemCalls<R> {
 
     // A call's end, and why it failed.
     fn ended<T: Drop>(&mut self, asked: Asked, end: io::Result<T>) -> Result<T, Failure>
-        ensures { IfErr result (λ failure. failure ≡ Failure.Failed) }
+        ensures failed { IfErr result (λ failure. failure ≡ Failure.Failed) }
+        ensures syncs { self.new.unsynced ≡ self.old.unsynced }
     {
         match end {
             Ok(value) => Ok(value),
@@ -80,20 +108,16 @@ impl<R> SystemCalls<R> {
         }
     }
 
-    // A sync's end, and why it failed.
-    fn synced<T: Drop>(&mut self, end: io::Result<T>) -> Result<T, Failure>
-        ensures { IfErr result (λ failure. failure ≡ Failure.Unsynced) }
+    // A sync's end, and why it failed. One that did is counted.
+    fn synced(&mut self, end: io::Result<()>) -> Result<(), Failure>
+        ensures failed { IfErr result (λ failure. failure ≡ Failure.Failed) }
+        ensures syncs { self.new.unsynced ≡ counting result self.old.unsynced }
     {
-        match end {
-            Ok(value) => Ok(value),
-            Err(error) => {
-                self.note(Reason::System {
-                    asked: Asked::Sync,
-                    error,
-                });
-                Err(Failure::Unsynced)
-            }
+        let end = self.ended(Asked::Sync, end);
+        if end.is_err() {
+            self.unsynced = self.unsynced.saturating_add(1);
         }
+        end
     }
 
     // A call's end where this error is an answer, and not a failure.
@@ -103,7 +127,8 @@ impl<R> SystemCalls<R> {
         answer: ErrorKind,
         end: io::Result<()>,
     ) -> Result<bool, Failure>
-        ensures { IfErr result (λ failure. failure ≡ Failure.Failed) }
+        ensures failed { IfErr result (λ failure. failure ≡ Failure.Failed) }
+        ensures syncs { self.new.unsynced ≡ self.old.unsynced }
     {
         match end {
             Ok(()) => Ok(true),
@@ -113,7 +138,9 @@ impl<R> SystemCalls<R> {
     }
 
     // Keeps why a listing failed. It changes nothing, so that want of memory in it may be answered as such.
-    fn fail_listing(&mut self, error: io::Error) -> Failure {
+    fn fail_listing(&mut self, error: io::Error) -> Failure
+        ensures syncs { self.new.unsynced ≡ self.old.unsynced }
+    {
         if error.kind() == ErrorKind::OutOfMemory {
             Failure::NoMemory
         } else {
@@ -123,37 +150,11 @@ impl<R> SystemCalls<R> {
 }
 
 impl<R: System> SystemCalls<R> {
-    // The name of a listed item. It fails where that is no text in UTF-8, or longer than 96 bytes.
-    fn name_of(&mut self, entry: &DirEntry<R, Global>) -> Result<Name, Failure> {
-        let name = entry.file_name();
-        match Name::from_bytes(name.as_bytes()) {
-            Some(name) => Ok(name),
-            None => Err(self.fail(
-                Asked::List,
-                io::Error::other("a name there is longer than 96 bytes"),
-            )),
-        }
-    }
-
-    fn names_of(
-        &mut self,
-        alloc: Global,
-        listing: ReadDir<R, Global>,
-    ) -> Result<NameList, Failure> {
-        let mut names = Vec::new(alloc);
-        for entry in listing {
-            match entry {
-                Ok(entry) => names.push(self.name_of(&entry)?)?,
-                Err(error) => return Err(self.fail_listing(error)),
-            }
-        }
-        Ok(NameList::from_vec(names))
-    }
-
     // Opens a plain file. Where a link or another file came to the path meanwhile it fails, before any byte of that
     // is read or written.
     fn open_same(&mut self, path: &str, there: &Metadata) -> Result<Option<File>, Failure>
-        ensures { IfErr result (λ failure. failure ≡ Failure.Failed) }
+        ensures failed { IfErr result (λ failure. failure ≡ Failure.Failed) }
+        ensures syncs { self.new.unsynced ≡ self.old.unsynced }
     {
         let opened = OpenOptions::new()
             .read(true)
@@ -178,6 +179,14 @@ impl<R: System> Calls for SystemCalls<R> {
 
     ghost told = { λ calls. calls.last };
 
+    ghost unsynced = { λ calls. calls.unsynced };
+
+    ghost counted = { λ _. tt };
+
+    fn failed_syncs(&self) -> u64 {
+        self.unsynced
+    }
+
     fn forget(&mut self) {
         self.last = None;
     }
@@ -201,8 +210,8 @@ impl<R: System> Calls for SystemCalls<R> {
     }
 
     fn list(&mut self, alloc: Global, path: &str) -> Result<NameList, Failure> {
-        match fs::read_dir(&self.rt, path) {
-            Ok(listing) => self.names_of(alloc, listing),
+        match names_in(&self.rt, alloc, path) {
+            Ok(names) => Ok(names),
             Err(error) => Err(self.fail_listing(error)),
         }
     }
@@ -259,10 +268,11 @@ impl<R: System> Calls for SystemCalls<R> {
     }
 
     fn sync_folder(&mut self, path: &str) -> Result<(), Failure> {
-        let folder = File::open(&self.rt, path);
-        let folder = self.synced(folder)?;
-        let end = folder.sync_all();
-        self.synced(end)
+        let synced = match File::open(&self.rt, path) {
+            Ok(folder) => folder.sync_all(),
+            Err(error) => Err(error),
+        };
+        self.synced(synced)
     }
 
     fn remove_file(&mut self, path: &str) -> Result<bool, Failure> {

@@ -1,6 +1,7 @@
 -- Reads of the bytes that are left.
-use Rattle.std.proofs.Common.{◌≡◌, ℕ, suc, ◌+◌, ◌-◌, ◌*◌, ◌/◌, ◌<◌, min, List, [], Some, Ok, Err, ap, sym, subst, ◌∙◌, inl, inr, arith}
-use Rattle.std.proofs.lemmas.Bool.{cases_lt}
+use Rattle.std.proofs.Common.{◌≡◌, ℕ, suc, ◌+◌, ◌-◌, ◌*◌, ◌/◌, ◌<◌, ◌≤◌, nat_le, true, false, length, min, List, Some, Ok, Err, ap, sym, subst, ◌∙◌, inl, inr, arith}
+use Rattle.std.proofs.lemmas.Bool.{cases_lt, cond-true, cond-false}
+use Rattle.std.proofs.lemmas.Bool.Decides.{nat_tests}
 use Rattle.std.proofs.Math.Nat.{add-mul-div_right}
 use Rattle.std.proofs.lemmas.Nat.{div-mul-add}
 use Rattle.plfs_types.specs.declared.names.Path.{Path}
@@ -16,10 +17,9 @@ use Rattle.index_reader.specs.declared.flats.FlatStep.TheVariants as step
 use Rattle.index_reader.specs.declared.parts.FileRead.{FileRead}
 use Rattle.index_reader.specs.declared.steps.PackStep.{PackStep}
 use Rattle.index_reader.specs.declared.steps.PackStep.TheVariants as packing
-use Rattle.index_reader.specs.Replies.{number_in}
 use Rattle.index_reader.specs.FileStages.{file_left}
 use Rattle.index_reader.specs.FlatRules.{flat_told}
-use Rattle.index_reader.specs.Opening.{flat_program, flat_bytes, flat_or_damage}
+use Rattle.index_reader.specs.Opening.{flat_or_damage, flat_rest}
 use Rattle.index_reader.specs.OpenStages.{flat_step}
 use Rattle.index_reader.specs.PackRules.{pack_told}
 use Rattle.index_reader.specs.Packs.{pack_tail, pack_rest, if_headed, head_fault, head_then}
@@ -29,7 +29,7 @@ use Rattle.flow.specs.declared.stuck.Stuck.{Stuck}
 use Rattle.flow.specs.Replies.{Tries, given, bytes_in, on_ok, trouble}
 use Rattle.plfs_types.specs.declared.entries.Entry.{Entry}
 use Rattle.index_reader.specs.Stages.{pack_step}
-use Rattle.index_reader.specs.FileReads.{parts_of, next_part, parts, bytes_left, bytes_on}
+use Rattle.index_reader.specs.FileReads.{parts_of, next_part, parts, bytes_left, bytes_on, first_rest}
 
 one_part_less : (left : ℕ) → 0 < left → parts_of left ≡ suc (parts_of (left - next_part left))
 one_part_less left h = elim (cases_lt 1048576 left) [
@@ -45,15 +45,25 @@ one_part_less left h = elim (cases_lt 1048576 left) [
 pub bytes_going_on : (room told left : ℕ) (path : Path) (sofar : List ℕ) → 0 < left → bytes_left room path told left sofar ≡ bytes_on room path told left sofar
 bytes_going_on room told left path sofar h = ap (λ n. parts n room path told left sofar) (one_part_less left h)
 
+-- what follows the first Read
+pub first_full : (room told : ℕ) (path : Path) (first : List ℕ) → next_part told ≤ length first → bytes_left room path told (told - next_part told) first ≡ first_rest room path told first
+first_full room told path first h =
+    let full : nat_le (next_part told) (length first) ≡ true = grind (arith, nat_tests) in
+    sym (cond-true (nat_le (next_part told) (length first)) (bytes_left room path told (told - next_part told) first) (done (Ok first)) full)
+
+pub first_short : (room told : ℕ) (path : Path) (first : List ℕ) → length first < next_part told → done (Ok first) ≡ first_rest room path told first
+first_short room told path first h =
+    let short : nat_le (next_part told) (length first) ≡ false = grind (arith, nat_tests) in
+    sym (cond-false (nat_le (next_part told) (length first)) (bytes_left room path told (told - next_part told) first) (done (Ok first)) short)
+
 -- ---- a flattened index
 
--- the reading of its bytes begins once its length is told
-pub flat_begins : (room id told : ℕ) (path : Path) (sofar : List ℕ) (reply : Reply) (p : Tries (List ℕ)) (q : Tries Flat) → path ≡ flat_path id → sofar ≡ [] → number_in reply ≡ Some told
-    → p ≡ bytes_left room path told told sofar → q ≡ followed_by p (on_ok (λ bytes. done (flat_or_damage id (flat_told bytes)))) → q ≡ replied (rest_of (ready (flat_program room id))) reply
-flat_begins room id told path sofar reply p q is none tells starts then_is =
+-- what follows its first bytes
+pub flat_rest_goes_on : (room id told : ℕ) (path : Path) (first : List ℕ) (p : Tries (List ℕ)) (q : Tries Flat) → path ≡ flat_path id → p ≡ first_rest room path told first
+    → q ≡ followed_by p (on_ok (λ bytes. done (flat_or_damage id (flat_told bytes)))) → q ≡ flat_rest room id told first
+flat_rest_goes_on room id told path first p q is starts then_is =
     let k = on_ok {A = List ℕ} {R = Flat} (λ bytes. done (flat_or_damage id (flat_told bytes))) in
-    then_is ∙ ap (λ r. followed_by r k) (starts ∙ ap (λ (at : Path). bytes_left room at told told sofar) is ∙ ap (λ (s : List ℕ). bytes_left room (flat_path id) told told s) none)
-    ∙ ap (λ o. given o (trouble (flat_path id) reply) (flat_bytes room id)) (sym tells)
+    then_is ∙ ap (λ r. followed_by r k) (starts ∙ ap (λ (at : Path). first_rest room at told first) is)
 
 -- what follows a Read of its bytes
 pub flat_goes_on : (room id : ℕ) (f : FileRead) (at : FlatStep) (reply : Reply) (p : Tries (List ℕ)) (q : Tries Flat) → at ≡ step.Bytes f

@@ -39,13 +39,13 @@ judged_means f flat h = elim (cases_Option (first_break are_covers f.covers)) [
 pub flat_told-means : (bytes : List ℕ) (flat : Flat) → IsBytes bytes → flat_told bytes ≡ Ok flat → IsFlat flat × SpellsFlat bytes flat
 unfolding flat_told
 flat_told-means bytes flat are h = elim (cases_Bool (has_head bytes)) [
-  | inl head ↦ elim (cases_Bool (has_length bytes)) [
+  | inl head ↦ elim (cases_Bool (has_length (length bytes) bytes)) [
     | inl len ↦ (let e : judged (flat_in bytes) ≡ Ok flat =
-        sym (cond-true (has_head bytes) (if has_length bytes then judged (flat_in bytes) else Err 8) (Err 0) head ∙ cond-true (has_length bytes) (judged (flat_in bytes)) (Err 8) len) ∙ h in
+        sym (cond-true (has_head bytes) (if has_length (length bytes) bytes then judged (flat_in bytes) else Err 8) (Err 0) head ∙ cond-true (has_length (length bytes) bytes) (judged (flat_in bytes)) (Err 8) len) ∙ h in
         let means = judged_means (flat_in bytes) flat e in
         let spells : SpellsFlat bytes (flat_in bytes) = spelled_in bytes are ((head_decides bytes).0 head) ((length_decides bytes).0 len) in
         (subst IsFlat means.1 means.0, subst (λ (f : Flat). SpellsFlat bytes f) means.1 spells))
-    | inr other ↦ absurd (wrong 8 flat (sym (cond-true (has_head bytes) (if has_length bytes then judged (flat_in bytes) else Err 8) (Err 0) head ∙ cond-false (has_length bytes) (judged (flat_in bytes)) (Err 8) other) ∙ h))
+    | inr other ↦ absurd (wrong 8 flat (sym (cond-true (has_head bytes) (if has_length (length bytes) bytes then judged (flat_in bytes) else Err 8) (Err 0) head ∙ cond-false (has_length (length bytes) bytes) (judged (flat_in bytes)) (Err 8) other) ∙ h))
   ]
-  | inr other ↦ absurd (wrong 0 flat (sym (cond-false (has_head bytes) (if has_length bytes then judged (flat_in bytes) else Err 8) (Err 0) other) ∙ h))
+  | inr other ↦ absurd (wrong 0 flat (sym (cond-false (has_head bytes) (if has_length (length bytes) bytes then judged (flat_in bytes) else Err 8) (Err 0) other) ∙ h))
 ]

@@ -1,5 +1,7 @@
 -- What is told of the bytes of a flattened index.
-use Rattle.std.proofs.Common.{◌≡◌, ◌<◌, ◌≤◌, ◌+◌, ◌*◌, ◌^◌, inl, inr, ℕ, zero, suc, nat_le, nat_lt, ◌==◌, true, false, if◌then◌else◌, List, [], ◌∷◌, length, take, None, Some, Ok, Err, refl, ap, ◌∙◌, sym}
+use Rattle.std.proofs.Common.{◌≡◌, ◌<◌, ◌≤◌, ◌+◌, ◌-◌, ◌*◌, ◌^◌, inl, inr, ℕ, zero, suc, nat_le, nat_lt, ◌==◌, true, false, if◌then◌else◌, List, [], ◌∷◌, length, drop, take, None, Some, Ok, Err, refl, ap, ◌∙◌, sym, arith}
+use Rattle.std.specs.Int.{from_le_bytes, w64}
+use Rattle.std.proofs.lemmas.List.{drop-take, length-take, take-take}
 use Rattle.std.specs.Bool.{Decides}
 use Rattle.std.specs.List.{AllByRecursion}
 use Rattle.std.proofs.lemmas.Bool.{cond-true, cond-false}
@@ -19,7 +21,7 @@ use Rattle.flat_format.specs.Valid.{AreFlatPieces, IsFlat}
 use Rattle.flat_format.proofs.Facts.{head_spelled, is_in, length_spelled}
 use Rattle.index_reader.specs.Searching.{same_bytes}
 use Rattle.index_reader.specs.Breaks.{first_break, unless_broken}
-use Rattle.index_reader.specs.FlatRules.{is_cover, precedes, are_covers, is_piece, counts, any_counts, joins, ends_before, are_pieces, has_head, has_length, judged, flat_told}
+use Rattle.index_reader.specs.FlatRules.{is_cover, precedes, are_covers, is_piece, counts, any_counts, joins, ends_before, are_pieces, has_head, has_length, judged, flat_fault, flat_told}
 use Rattle.index_reader.proofs.Deciding.{le_decides, bytes_decide, broken, not_decides, or_decides, unbroken, breaks_there}
 
 -- ---- covers
@@ -137,7 +139,7 @@ head_decides bytes =
     Decides-and (nat_le HEAD_SIZE (length bytes)) (same_bytes (take 8 bytes) letters) (le_decides HEAD_SIZE (length bytes)) (bytes_decide (take 8 bytes) letters) in
     (λ t. (let h = d.0 t in record { long = h.0; lettered = h.1 }), λ r. d.1 (r.long, r.lettered))
 
-pub length_decides : (bytes : List ℕ) → Decides (has_length bytes) (HasLength bytes)
+pub length_decides : (bytes : List ℕ) → Decides (has_length (length bytes) bytes) (HasLength bytes)
 length_decides bytes = Decides-eqb (length bytes) (HEAD_SIZE + COVER_SIZE * number_in 8 bytes + ENTRY_SIZE * number_in 16 bytes)
 
 judged-valid : (flat : Flat) → IsFlat flat → judged flat ≡ Ok flat
@@ -165,8 +167,8 @@ judged-broken flat place (inr bad) =
 told-whole : (bytes : List ℕ) → HasHead bytes → HasLength bytes → flat_told bytes ≡ judged (flat_in bytes)
 unfolding flat_told
 told-whole bytes head len =
-    cond-true (has_head bytes) (if has_length bytes then judged (flat_in bytes) else Err 8) (Err 0) ((head_decides bytes).1 head)
-    ∙ cond-true (has_length bytes) (judged (flat_in bytes)) (Err 8) ((length_decides bytes).1 len)
+    cond-true (has_head bytes) (if has_length (length bytes) bytes then judged (flat_in bytes) else Err 8) (Err 0) ((head_decides bytes).1 head)
+    ∙ cond-true (has_length (length bytes) bytes) (judged (flat_in bytes)) (Err 8) ((length_decides bytes).1 len)
 
 -- a valid flattened index that the bytes spell is told
 pub flat_told-valid : (bytes : List ℕ) (flat : Flat) → IsFlat flat → SpellsFlat bytes flat → flat_told bytes ≡ Ok flat
@@ -177,9 +179,29 @@ flat_told-valid bytes flat valid spells =
 pub flat_told-bad : (bytes : List ℕ) (place : ℕ) → IsBadAt bytes place → flat_told bytes ≡ Err place
 unfolding flat_told
 flat_told-bad bytes place (inl bad) =
-    cond-false (has_head bytes) (if has_length bytes then judged (flat_in bytes) else Err 8) (Err 0) (broken (has_head bytes) (head_decides bytes) bad.0) ∙ ap Err (sym bad.1)
+    cond-false (has_head bytes) (if has_length (length bytes) bytes then judged (flat_in bytes) else Err 8) (Err 0) (broken (has_head bytes) (head_decides bytes) bad.0) ∙ ap Err (sym bad.1)
 flat_told-bad bytes place (inr (inl bad)) =
-    cond-true (has_head bytes) (if has_length bytes then judged (flat_in bytes) else Err 8) (Err 0) ((head_decides bytes).1 bad.0)
-    ∙ cond-false (has_length bytes) (judged (flat_in bytes)) (Err 8) (broken (has_length bytes) (length_decides bytes) bad.1) ∙ ap Err (sym bad.2)
+    cond-true (has_head bytes) (if has_length (length bytes) bytes then judged (flat_in bytes) else Err 8) (Err 0) ((head_decides bytes).1 bad.0)
+    ∙ cond-false (has_length (length bytes) bytes) (judged (flat_in bytes)) (Err 8) (broken (has_length (length bytes) bytes) (length_decides bytes) bad.1) ∙ ap Err (sym bad.2)
 flat_told-bad bytes place (inr (inr bad)) =
     told-whole bytes (head_spelled bytes bad.0 bad.1) (length_spelled bytes bad.0 bad.1) ∙ ap judged (sym (is_in bytes bad.0 bad.1)) ∙ judged-broken bad.0 place bad.2
+
+-- ---- the first bytes
+
+number_kept : (k n : ℕ) (bytes : List ℕ) → k + 8 ≤ n → number_in k (take n bytes) ≡ number_in k bytes
+number_kept k n bytes h =
+    let whole : k + (n - k) ≡ n = omega (arith, h) in
+    let there : drop k (take n bytes) ≡ take (n - k) (drop k bytes) = ap (λ m. drop k (take m bytes)) (sym whole) ∙ drop-take k (n - k) bytes in
+    ap (λ b. from_le_bytes w64 (take 8 b)) there ∙ ap (from_le_bytes w64) (take-take 8 (n - k) (drop k bytes) (omega (arith, h)))
+
+-- the first bytes of a flattened index have no fault
+pub flat_fault-none : (bytes : List ℕ) (flat : Flat) (n : ℕ) → SpellsFlat bytes flat → 24 ≤ n → flat_fault (length bytes) (take n bytes) ≡ None
+flat_fault-none bytes flat n spells h =
+    let first : List ℕ = take n bytes in
+    let head = head_spelled bytes flat spells in
+    let begins : has_head first ≡ true = (head_decides first).1 (record { long = omega (arith, h, head.long, length-take n bytes); lettered = take-take 8 n bytes (omega (arith, h)) ∙ head.lettered }) in
+    let covers : number_in 8 first ≡ number_in 8 bytes = number_kept 8 n bytes (omega (arith, h)) in
+    let pieces : number_in 16 first ≡ number_in 16 bytes = number_kept 16 n bytes (omega (arith, h)) in
+    let size : length bytes ≡ HEAD_SIZE + COVER_SIZE * number_in 8 first + ENTRY_SIZE * number_in 16 first = length_spelled bytes flat spells ∙ (λ i. HEAD_SIZE + COVER_SIZE * sym covers i + ENTRY_SIZE * sym pieces i) in
+    let d : Decides (has_length (length bytes) first) (length bytes ≡ HEAD_SIZE + COVER_SIZE * number_in 8 first + ENTRY_SIZE * number_in 16 first) = Decides-eqb (length bytes) (HEAD_SIZE + COVER_SIZE * number_in 8 first + ENTRY_SIZE * number_in 16 first) in
+    cond-true (has_head first) (if has_length (length bytes) first then None else Some 8) (Some 0) begins ∙ cond-true (has_length (length bytes) first) None (Some 8) (d.1 size)

@@ -1,6 +1,6 @@
 -- The programs that list a container and read its shares only look at what is there.
 use Rattle.std.proofs.Common.{ℕ, zero, suc, ◌-◌, ◌*◌, ◌/◌, Bool, true, false, List, [], ◌∷◌, ◌++◌, length, nat_le, nat_lt, Option, Some, None, Result, Ok, Err}
-use Rattle.std.specs.Prelude.{if◌then◌else◌}
+use Rattle.std.specs.Prelude.{◌==◌, if◌then◌else◌}
 use Rattle.plfs_types.specs.declared.entries.Cover.{Cover}
 use Rattle.plfs_types.specs.declared.names.Path.{Path}
 use Rattle.container_layout.specs.Paths.{hostdir_of}
@@ -13,24 +13,23 @@ use Rattle.mount_model.specs.declared.call.Call.{Call}
 use Rattle.mount_model.specs.declared.call.Call.TheVariants.{Find, Look}
 use Rattle.mount_model.specs.declared.reply.Reply.{Reply}
 use Rattle.index_reader.specs.declared.entries.Tail.{Tail}
-use Rattle.index_reader.specs.declared.entries.Went.{Went}
-use Rattle.index_reader.specs.declared.entries.Went.TheVariants.{On, Ends, Breaks}
 use Rattle.index_reader.specs.declared.listing.Dropping.{Dropping}
 use Rattle.index_reader.specs.declared.scanning.Scan.{Scan}
 use Rattle.index_reader.specs.declared.sharing.Sofar.{Sofar}
 use Rattle.index_reader.specs.Replies.{number_in, log_length_in}
 use Rattle.index_reader.specs.Covered.{cover_of}
-use Rattle.index_reader.specs.FileReads.{next_part, parts, parts_of, bytes_left}
-use Rattle.index_reader.specs.FlatRules.{flat_told}
+use Rattle.index_reader.specs.FileReads.{first_rest, next_part, parts, parts_of, bytes_left}
+use Rattle.index_reader.specs.FlatRules.{flat_fault, flat_told}
 use Rattle.index_reader.specs.Newest.{newest_in}
-use Rattle.index_reader.specs.Opening.{flat_or_damage, flat_program, if_newest, no_flat, open_at_program, open_read_program, scans, top_program}
+use Rattle.index_reader.specs.Opening.{flat_first, flat_or_damage, flat_program, flat_rest, if_newest, no_flat, open_at_program, open_read_program, scans, top_program, unless_unfit}
 use Rattle.index_reader.specs.PackRules.{pack_told}
 use Rattle.index_reader.specs.Packs.{head_fault, head_then, if_headed, no_tail, pack_program, pack_rest, pack_tail, packed_path}
 use Rattle.index_reader.specs.Scanning.{nothing_found, scanned}
 use Rattle.index_reader.specs.Sharing.{added, dropping_program, gathers, nothing, share_program}
-use Rattle.index_reader.specs.Tails.{if_checked, if_logged, if_told, log_then, looked, next_read, reads, reads_of, tail_program}
+use Rattle.index_reader.specs.Tails.{if_logged, if_told, log_then, looked, next_read, reads, reads_of, tail_program}
 use Rattle.index_reader.specs.Tops.{top_shows}
 use Rattle.index_reader.specs.Truncs.{trunc_program}
+use Rattle.index_reader.proofs.TailLemmas.{if_checked_asks}
 
 -- the call finds a name or looks into a room
 abbrev pub IsLook : Call → Type 0
@@ -74,11 +73,28 @@ bytes_looks room path told left sofar next goes =
 
 -- ---- a listing
 
+rest_looks : (room id told : ℕ) (first : List ℕ) → OnlyLooks (flat_rest room id told first)
+rest_looks room id told first =
+    then_looks (first_rest room (flat_path id) told first) (on_ok (λ bytes. done (flat_or_damage id (flat_told bytes))))
+    (λ result. on_ok_looks (λ bytes. done (flat_or_damage id (flat_told bytes))) (λ bytes. tt) result)
+    (if_looks (nat_le (next_part told) (length first)) _ _ (parts_looks (parts_of (told - next_part told)) room (flat_path id) told (told - next_part told) first) tt)
+
+fit_looks : (id : ℕ) (fault : Option ℕ) (next : Tries Flat) → OnlyLooks next → OnlyLooks (unless_unfit id fault next)
+fit_looks id None next goes = goes
+fit_looks id (Some place) next goes = tt
+
+first_looks : (room id told : ℕ) → OnlyLooks (flat_first room id told)
+first_looks room id told = (
+  tt,
+  λ reply. given_looks (bytes_in reply) (trouble (flat_path id) reply) _
+      (λ first. fit_looks id (flat_fault told first) (flat_rest room id told first) (rest_looks room id told first)),
+)
+
 flat_looks : (room id : ℕ) → OnlyLooks (flat_program room id)
 flat_looks room id = (
   tt,
   λ reply. given_looks (number_in reply) (trouble (flat_path id) reply) _
-      (λ told. bytes_looks room (flat_path id) told told [] (λ bytes. done (flat_or_damage id (flat_told bytes))) (λ bytes. tt)),
+      (λ told. if_looks (told == 0) _ _ tt (first_looks room id told)),
 )
 
 scans_looks : (room id : ℕ) (flat : Flat) (ks : List ℕ) (scan : Scan) → OnlyLooks (scans room id flat ks scan)
@@ -113,18 +129,12 @@ listing_looks name = (tt, λ reply. given_looks (room_in reply) _ open_at_progra
 
 -- ---- a share
 
-if_checked_looks : (d : Dropping) (more : Bool → Tail → Tries Tail) (full : Bool) (went : Went × Tail)
-    → ((past : Bool) (longer : Tail) → OnlyLooks (more past longer)) → OnlyLooks (if_checked d more full went)
-if_checked_looks d more full (Breaks, tail) goes = tt
-if_checked_looks d more full (Ends, tail) goes = if_looks full (more true tail) (done (Ok tail)) (goes true tail) tt
-if_checked_looks d more full (On, tail) goes = if_looks full (more false tail) (done (Ok tail)) (goes false tail) tt
-
 reads_looks : (n room : ℕ) (d : Dropping) (log whole left : ℕ) (ended : Bool) (tail : Tail) → OnlyLooks (reads n room d log whole left ended tail)
 reads_looks zero room d log whole left ended tail = tt
 reads_looks (suc n) room d log whole left ended tail = (
   tt,
   λ reply. given_looks (bytes_in reply) (trouble (index_path d.host d.writer) reply) _
-      (λ bytes. if_checked_looks d (λ past longer. reads n room d log whole (left - next_read left) past longer) (nat_le (40 * next_read left) (length bytes)) (looked ended log (next_read left) bytes tail)
+      (λ bytes. if_checked_asks IsLook d (λ past longer. reads n room d log whole (left - next_read left) past longer) (nat_le (40 * next_read left) (length bytes)) (looked ended log (next_read left) bytes tail)
       (λ past longer. reads_looks n room d log whole (left - next_read left) past longer)),
 )
 

@@ -1,13 +1,16 @@
 -- Reads of the entries that are left.
-use Rattle.std.proofs.Common.{◌≡◌, Bool, ℕ, suc, ◌+◌, ◌-◌, ◌*◌, ◌/◌, ◌<◌, min, refl, ap, sym, ◌∙◌, inl, inr, arith}
+use Rattle.std.proofs.Common.{◌≡◌, Bool, true, false, ℕ, suc, ◌+◌, ◌-◌, ◌*◌, ◌/◌, ◌<◌, min, refl, ap, sym, ◌∙◌, inl, inr, arith}
 use Rattle.std.proofs.lemmas.Bool.{cases_lt}
 use Rattle.std.specs.Prelude.{Result}
 use Rattle.std.proofs.Math.Nat.{add-mul-div_right}
 use Rattle.std.proofs.lemmas.Nat.{div-mul-add}
 use Rattle.index_reader.specs.declared.listing.Dropping.{Dropping}
 use Rattle.index_reader.specs.declared.entries.Tail.{Tail}
-use Rattle.story.specs.Program.{followed_by}
+use Rattle.index_reader.specs.declared.entries.Went.{Went}
+use Rattle.index_reader.specs.declared.entries.Went.TheVariants.{On, Ends, Breaks}
+use Rattle.story.specs.Program.{AsksOnly, followed_by}
 use Rattle.flow.specs.Standing.{ready, rest_of, replied}
+use Rattle.mount_model.specs.declared.call.Call.{Call}
 use Rattle.mount_model.specs.declared.reply.Reply.{Reply}
 use Rattle.plfs_types.specs.declared.entries.Cover.{Cover}
 use Rattle.plfs_types.specs.declared.names.Path.{Path}
@@ -21,7 +24,7 @@ use Rattle.index_reader.specs.declared.sharing.Share.{Share}
 use Rattle.index_reader.specs.Stages.{step_program, pack_step, dropping_left}
 use Rattle.flow.specs.declared.stuck.Stuck.{Stuck}
 use Rattle.flow.specs.Replies.{Tries}
-use Rattle.index_reader.specs.Tails.{reads_of, next_read, reads, reads_left, reads_on}
+use Rattle.index_reader.specs.Tails.{if_checked, reads_of, next_read, reads, reads_left, reads_on}
 
 one_read_less : (left : ℕ) → 0 < left → reads_of left ≡ suc (reads_of (left - next_read left))
 one_read_less left h = elim (cases_lt 4096 left) [
@@ -54,3 +57,12 @@ dropping_later room (from.Packed p) k reply = pack_later room p.path p.cover p.s
 
 pub taken_later : (room : ℕ) (d : DroppingRead) (k : Result Tail Stuck → Tries Share) (reply : Reply) (p : Tries Tail) (q : Tries Share) → p ≡ replied (rest_of (ready (dropping_left room d))) reply → q ≡ followed_by p k → q ≡ replied (rest_of (ready (followed_by (dropping_left room d) k))) reply
 taken_later room d k reply p q is then_is = then_is ∙ ap (λ r. followed_by r k) is ∙ dropping_later room d k reply
+
+-- What follows a Read asks for no other calls than going on does.
+pub if_checked_asks : (these : Call → Type 0) (d : Dropping) (more : Bool → Tail → Tries Tail) (full : Bool) (went : Went × Tail)
+    → ((past : Bool) (longer : Tail) → AsksOnly these (more past longer)) → AsksOnly these (if_checked d more full went)
+if_checked_asks these d more full (Breaks, tail) goes = tt
+if_checked_asks these d more true (Ends, tail) goes = goes true tail
+if_checked_asks these d more false (Ends, tail) goes = tt
+if_checked_asks these d more true (On, tail) goes = goes false tail
+if_checked_asks these d more false (On, tail) goes = tt

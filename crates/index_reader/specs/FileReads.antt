@@ -28,6 +28,10 @@ parts (suc n) room path told left sofar = ask
 abbrev pub bytes_left : ℕ → Path → ℕ → ℕ → List ℕ → Tries (List ℕ)
 bytes_left room path told left sofar = parts (parts_of left) room path told left sofar
 
+-- What follows the first Read of so many bytes, which gave these: the Reads of the others, unless it gave less than it asked for.
+abbrev pub first_rest : ℕ → Path → ℕ → List ℕ → Tries (List ℕ)
+first_rest room path told first = if nat_le (next_part told) (length first) then bytes_left room path told (told - next_part told) first else done (Ok first)
+
 -- the next Read where some are left, and all that follows
 abbrev pub bytes_on : ℕ → Path → ℕ → ℕ → List ℕ → Tries (List ℕ)
 bytes_on room path told left sofar = ask

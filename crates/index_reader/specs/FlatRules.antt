@@ -1,5 +1,5 @@
 -- The flattened index that bytes are, or the place at which they stop being one.
-use Rattle.std.specs.Prelude.{ℕ, ◌+◌, ◌*◌, ◌^◌, ◌&&◌, ◌==◌, nat_le, nat_lt, Bool, true, false, if◌then◌else◌, List, [], ◌∷◌, length, take, Result, Ok, Err}
+use Rattle.std.specs.Prelude.{ℕ, ◌+◌, ◌*◌, ◌^◌, ◌&&◌, ◌==◌, nat_le, nat_lt, Bool, true, false, if◌then◌else◌, List, [], ◌∷◌, length, take, Option, Some, None, Result, Ok, Err}
 use Rattle.plfs_types.specs.declared.entries.Cover.{Cover}
 use Rattle.plfs_types.specs.declared.limits.TheConstants.{ENTRY_SIZE, MAX_LOG, MAX_SIZE, MAX_STAMP}
 use Rattle.plain_file.specs.declared.pieces.Piece.{Piece}
@@ -57,9 +57,13 @@ are_pieces covers (p ∷ pieces) = is_piece p && (any_counts covers p && (ends_b
 abbrev pub has_head : List ℕ → Bool
 has_head bytes = nat_le HEAD_SIZE (length bytes) && same_bytes (take 8 bytes) letters
 
--- as long as the numbers of covers and pieces say
-abbrev pub has_length : List ℕ → Bool
-has_length bytes = length bytes == HEAD_SIZE + COVER_SIZE * number_in 8 bytes + ENTRY_SIZE * number_in 16 bytes
+-- so many bytes are as many as the numbers of covers and pieces say
+abbrev pub has_length : ℕ → List ℕ → Bool
+has_length told bytes = told == HEAD_SIZE + COVER_SIZE * number_in 8 bytes + ENTRY_SIZE * number_in 16 bytes
+
+-- What is wrong with the first bytes, where so many were told: the letters, at 0; a length that isn't as the numbers of covers and pieces say, at 8.
+abbrev pub flat_fault : ℕ → List ℕ → Option ℕ
+flat_fault told first = if has_head first then (if has_length told first then None else Some 8) else Some 0
 
 -- the flattened index, unless a cover or a piece breaks a rule
 abbrev pub judged : Flat → Result Flat ℕ
@@ -69,4 +73,4 @@ judged flat = unless_broken (first_break are_covers flat.covers) (λ index. HEAD
 
 -- The flattened index that the bytes are, or the place of the first fault.
 unfoldable pub flat_told : List ℕ → Result Flat ℕ
-flat_told bytes = if has_head bytes then (if has_length bytes then judged (flat_in bytes) else Err 8) else Err 0
+flat_told bytes = if has_head bytes then (if has_length (length bytes) bytes then judged (flat_in bytes) else Err 8) else Err 0

@@ -22,12 +22,13 @@ use Rattle.index_reader.specs.declared.opening.Stage.TheVariants.{Finding, Flats
 use Rattle.index_reader.specs.Listing.{AreByWriter}
 use Rattle.index_reader.specs.FileStages.{file_left}
 use Rattle.index_reader.specs.FlatRules.{flat_told}
-use Rattle.index_reader.specs.Opening.{flat_program, flat_or_damage, top_program, scans, open_at_program, open_read_program}
+use Rattle.index_reader.specs.Opening.{flat_first, flat_program, flat_or_damage, top_program, scans, open_at_program, open_read_program}
 
 -- ---- the newest flattened index
 
 abbrev pub flat_step : ℕ → ℕ → FlatStep → Tries Flat
 flat_step room id step.Length = flat_program room id
+flat_step room id (step.First told) = flat_first room id told
 flat_step room id (step.Bytes f) = followed_by (file_left room f) (on_ok (λ bytes. done (flat_or_damage id (flat_told bytes))))
 
 abbrev pub flat_left : ℕ → FlatRead → Tries Flat
@@ -44,7 +45,8 @@ IsOfFlat id (Is result) = Unit {0}
 
 -- bounds on the calls that are left
 abbrev pub flat_calls : FlatStep → ℕ
-flat_calls step.Length = 2 ^ 64
+flat_calls step.Length = 2 ^ 64 + 1
+flat_calls (step.First told) = told + 1
 flat_calls (step.Bytes f) = f.left
 
 abbrev pub after_flat_calls : AfterFlat → ℕ

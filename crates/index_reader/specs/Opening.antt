@@ -6,19 +6,19 @@ use Rattle.container_layout.specs.Paths.{hostdir_of}
 use Rattle.flat_format.specs.declared.flat.Flat.{Flat}
 use Rattle.flat_format.specs.declared.flat.TheConstants.{HEAD_SIZE, COVER_SIZE}
 use Rattle.flow.specs.declared.stuck.Stuck.{Stuck}
-use Rattle.flow.specs.Replies.{Tries, given, on_ok, room_in, names_in, damage, trouble}
+use Rattle.flow.specs.Replies.{Tries, given, on_ok, room_in, names_in, damage, trouble, bytes_in}
 use Rattle.flow.specs.Listed.{file_in}
 use Rattle.story.specs.Program.{done, ask, followed_by}
 use Rattle.mount_model.specs.declared.call.Call.TheVariants.{Find, Look}
-use Rattle.mount_model.specs.declared.call.Look.TheVariants.{List as ListFolder, Length, Top}
+use Rattle.mount_model.specs.declared.call.Look.TheVariants.{List as ListFolder, Length, Read, Top}
 use Rattle.mount_model.specs.Paths.{Name, flats, flat_path}
 use Rattle.index_reader.specs.declared.listing.Dropping.{Dropping}
 use Rattle.index_reader.specs.declared.listing.Listing.{Listing}
 use Rattle.index_reader.specs.declared.owners.Owner.{Owner}
 use Rattle.index_reader.specs.declared.scanning.Scan.{Scan}
 use Rattle.index_reader.specs.Replies.{number_in}
-use Rattle.index_reader.specs.FileReads.{bytes_left}
-use Rattle.index_reader.specs.FlatRules.{flat_told}
+use Rattle.index_reader.specs.FileReads.{first_rest, next_part}
+use Rattle.index_reader.specs.FlatRules.{flat_fault, flat_told}
 use Rattle.index_reader.specs.Newest.{newest_in, flats_path}
 use Rattle.index_reader.specs.Packs.{packed_path}
 use Rattle.index_reader.specs.Scanning.{owner_of, has_writer, nothing_found, scanned}
@@ -34,8 +34,27 @@ abbrev pub flat_or_damage : ℕ → Result Flat ℕ → Result Flat Stuck
 flat_or_damage id (Ok flat) = Ok flat
 flat_or_damage id (Err place) = Err (damage (flat_path id) place)
 
+-- the Reads behind the first one, and what all bytes are
+abbrev pub flat_rest : ℕ → ℕ → ℕ → List ℕ → Tries Flat
+flat_rest room id told first = followed_by (first_rest room (flat_path id) told first) (on_ok (λ bytes. done (flat_or_damage id (flat_told bytes))))
+
+-- first bytes with a fault are damage there, before any others are read
+abbrev pub unless_unfit : ℕ → Option ℕ → Tries Flat → Tries Flat
+unless_unfit id None next = next
+unless_unfit id (Some place) next = done (Err (damage (flat_path id) place))
+
+abbrev pub if_begun : ℕ → ℕ → ℕ → List ℕ → Tries Flat
+if_begun room id told first = unless_unfit id (flat_fault told first) (flat_rest room id told first)
+
+-- the first Read, and all that follows
+abbrev pub flat_first : ℕ → ℕ → ℕ → Tries Flat
+flat_first room id told = ask
+    (Look room (Read (flat_path id) 0 (next_part told)))
+    (λ reply. given (bytes_in reply) (trouble (flat_path id) reply) (if_begun room id told))
+
+-- no bytes are no flattened index
 abbrev pub flat_bytes : ℕ → ℕ → ℕ → Tries Flat
-flat_bytes room id told = followed_by (bytes_left room (flat_path id) told told []) (on_ok (λ bytes. done (flat_or_damage id (flat_told bytes))))
+flat_bytes room id told = if told == 0 then done (Err (damage (flat_path id) 0)) else flat_first room id told
 
 abbrev pub flat_program : ℕ → ℕ → Tries Flat
 flat_program room id = ask

@@ -1,13 +1,16 @@
 //! Reading a file's bytes up to a length that was told.
 ghost use Rattle.std.specs.Prelude.{◌≡◌, ◌≤◌, ◌<◌, ◌++◌, ℕ, Some, IfOk, OnOk};
 ghost use Rattle.flow.specs.Standing.{ready, next_of, rest_of, replied};
-ghost use Rattle.index_reader.specs.FileReads.{next_part as part_next, bytes_left};
+ghost use Rattle.mount_model.specs.declared.call.Call.TheVariants as calls;
+ghost use Rattle.mount_model.specs.declared.call.Look.TheVariants as look;
+ghost use Rattle.index_reader.specs.FileReads.{next_part as part_next, bytes_left, first_rest};
 ghost use Rattle.index_reader.specs.FileStages.{file_left, part_left, part_calls};
 
 use crate::parts::FileRead;
 use flow::{Stuck, bytes_in, trouble};
 use mount_model::{Call, Look, Reply};
 use plfs_types::{Bytes, MAX_PIECE, NoMemory, Path};
+use std::alloc::Global;
 
 /// What comes after a Read.
 #[derive(Drop)]
@@ -46,6 +49,41 @@ pub(crate) fn read_on(path: Path, told: u64, left: u64, sofar: Bytes) -> AfterPa
         left,
         sofar,
     })
+}
+
+/// The first Read of so many bytes.
+pub(crate) fn read_first(room: u64, path: Path, told: u64) -> Call
+    ensures { result ≡ calls.Look room (look.Read path 0 (part_next told)) }
+{
+    Call::Look {
+        room,
+        look: Look::Read {
+            path,
+            at: 0,
+            len: next_part(told),
+        },
+    }
+}
+
+/// What is left behind the first bytes of so many.
+#[tactic(auto, using(crate::proofs::FileLemmas::first_full, crate::proofs::FileLemmas::first_short))]
+pub(crate) fn read_rest(
+    alloc: Global,
+    path: Path,
+    told: u64,
+    first: Bytes,
+) -> Result<AfterPart, NoMemory>
+    ensures goes_on { IfOk result (λ part. (room : ℕ) → part_left room part ≡ first_rest room path told first) }
+    ensures fewer { IfOk result (λ part. part_calls part ≤ told) }
+{
+    let asked = next_part(told);
+    if (first.as_slice().len() as u64) < asked {
+        return Ok(AfterPart::Is(Ok(first)));
+    }
+    let mut sofar = Bytes::from_vec(Vec::with_capacity(alloc, told as usize)?);
+    add(&mut sofar, first.as_slice())?;
+    drop(first);
+    Ok(read_on(path, told, told - asked, sofar))
 }
 
 impl FileRead {

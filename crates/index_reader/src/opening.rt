@@ -6,7 +6,7 @@ ghost use Rattle.flow.specs.Replies.{on_ok};
 ghost use Rattle.index_reader.specs.Listing.{AreByWriter};
 ghost use Rattle.index_reader.specs.Covered.{AreByWriter as AreCoversByWriter};
 ghost use Rattle.index_reader.specs.Scanning.{nothing_found};
-ghost use Rattle.index_reader.specs.Opening.{top_program, scan_program, scans, open_at_program, open_read_program};
+ghost use Rattle.index_reader.specs.Opening.{if_newest, top_program, scan_program, scans, open_at_program, open_read_program};
 ghost use Rattle.index_reader.specs.OpenStages.{after_flat, after_flat_calls, after_open, after_open_calls, IsAfterOpen, IsOfFlat, open_left, open_calls, open_standing, open_calls_left};
 
 use crate::droppings::Droppings;
@@ -180,12 +180,22 @@ fn after_flats(alloc: Global, room: u64, reply: Reply) -> Stage
     drop(names);
     match newest {
         Err(why) => Stage::Failed(why),
-        Ok(None) => Stage::Top {
+        Ok(newest) => begins(alloc, room, newest),
+    }
+}
+
+/// The newest flattened index is read, where there is one.
+fn begins(alloc: Global, room: u64, newest: Option<u64>) -> Stage
+    ensures goes_on { open_left result ≡ if_newest room newest }
+    ensures fewer { open_calls result < 2 ^ 64 + 50 }
+{
+    match newest {
+        None => Stage::Top {
             room,
             id: 0,
             flat: no_flat(alloc),
         },
-        Ok(Some(id)) => Stage::Reading {
+        Some(id) => Stage::Reading {
             room,
             read: FlatRead::new(id),
         },

@@ -25,7 +25,7 @@ use Rattle.mount_model.specs.State.{State}
 use Rattle.mount_model.proofs.Facts.{step_causes, step_fits}
 use Rattle.mount_sound.specs.Owed.{IsLawful}
 use Rattle.flow.specs.Replies.{Tries, failure, given, on_ok, trouble}
-use Rattle.lone_flow.specs.Driving.{HadMemory}
+use Rattle.mount_core.specs.Memory.{HadMemory}
 use Rattle.lone_flow.specs.Faults.{IsFault}
 
 -- the trouble is no fault

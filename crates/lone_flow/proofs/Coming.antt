@@ -1,7 +1,6 @@
 -- How a machine comes to its end, call by call.
-use Rattle.std.proofs.Common.{◌≡◌, ◌≢◌, List, [], ◌∷◌, ◌++◌, Some, None, Result, Ok, Err, true, false, refl, sym, ap, ◌∙◌, subst, append_assoc, append-nil}
+use Rattle.std.proofs.Common.{◌≡◌, ◌≢◌, List, [], ◌∷◌, ◌++◌, Some, None, refl, sym, ap, ◌∙◌, subst, append_assoc, append-nil}
 use Rattle.std.specs.List.{AllByRecursion}
-use Rattle.std.specs.Prelude.{OnErr}
 use Rattle.flow.specs.Running.{Runs, asking, unbroken}
 use Rattle.flow.specs.Standing.{Rest, Standing, Awaits, IsOver, asked, awaits, next_of, over, ready, replied, rest_of}
 use Rattle.mount_model.specs.declared.call.Call.{Call}
@@ -11,11 +10,12 @@ use Rattle.mount_model.specs.declared.reply.Reply.TheVariants.{Greeted, NoMemory
 use Rattle.mount_model.specs.History.{Event, state_after}
 use Rattle.mount_model.specs.State.{State}
 use Rattle.mount_model.specs.Step.{IsStep}
+use Rattle.mount_core.proofs.Memory.{before_last, none_refused}
 use Rattle.mount_sound.specs.Owed.{IsLawful, May, Permits}
 use Rattle.story.specs.Program.{Program, done, ask}
 use Rattle.story.specs.Safe.{IsSafe}
 use Rattle.story.proofs.Facts.{after_own}
-use Rattle.lone_flow.specs.Driving.{AreMade, BeginsToDrive, Drives, HadMemory, HadMemoryBeforeLast, MayDrive, Nears, NearsFrom, greets_first}
+use Rattle.lone_flow.specs.Driving.{AreMade, BeginsToDrive, Drives, MayDrive, Nears, NearsFrom, greets_first}
 
 -- ---- calls, and one call more
 
@@ -126,10 +126,6 @@ is_out {R} (ready program) start now standing out call n is same =
     out_of program start now standing out call n (asks_next n.rest call (subst (λ (s : Standing Call Reply R). Some call ≡ next_of s) n.stands is)) same
 is_out (asked k) start now standing out call n is same = absurd n
 
--- a reply that was taken is not for want of memory
-pub not_refused : (reply : Reply) → (reply ≡ NoMemory → false ≡ true) → reply ≢ NoMemory
-not_refused reply refuses = λ is. (let bad : false ≡ true = refuses is in cc)
-
 -- ---- where no further question comes
 
 pub record IsAtEnd {R : Type 0} (first : Standing Call Reply R) (start now : State) (out : Standing Call Reply R) : Type 0 where
@@ -169,17 +165,6 @@ at_end (asked k) start now standing out n is same = absurd n
 
 -- ---- broken off
 
--- calls of which none was refused memory, and one more
-before_last : (xs : List Event) (e : Event) → HadMemory xs → HadMemoryBeforeLast (xs ++ e ∷ [])
-before_last [] e had = tt
-before_last (x ∷ []) e had = (had.0, tt)
-before_last (x ∷ y ∷ ys) e had = (had.0, before_last (y ∷ ys) e had.1)
-
-none_refused : (xs : List Event) → HadMemory xs → HadMemoryBeforeLast xs
-none_refused [] had = tt
-none_refused (x ∷ []) had = tt
-none_refused (x ∷ y ∷ ys) had = (had.0, none_refused (y ∷ ys) had.1)
-
 -- whatever a program has asked, it can come to its end
 comes_to_end : {R : Type 0} (program : Program Call Reply R) (now : State) → (more : List Event) × (result : R) × Runs 0 program more result
 comes_to_end (done result) now = ([], result, (refl, refl))
@@ -213,8 +198,3 @@ pub broken_further : {R : Type 0} (first : Standing Call Reply R) (start now new
 broken_further {R} (ready program) start now new standing call reply n is may step =
     broken_at program start now new standing call reply n (asks_next n.rest call (subst (λ (s : Standing Call Reply R). Some call ≡ next_of s) n.stands is)) may step
 broken_further (asked k) start now new standing call reply n is may step = absurd n
-
--- what is so is so of an error
-pub on_err : {X E : Type 0} (result : Result X E) (Says : Type 0) → Says → OnErr result Says
-on_err (Ok x) Says says = tt
-on_err (Err e) Says says = says

@@ -1,15 +1,15 @@
 -- What a caller by itself makes of a machine on a mount.
-use Rattle.std.specs.Prelude.{◌≡◌, ◌≢◌, List, [], ◌∷◌, ◌++◌}
+use Rattle.std.specs.Prelude.{◌≡◌, List, ◌++◌}
 use Rattle.std.specs.List.{AllByRecursion}
 use Rattle.flow.specs.Running.{Runs, asking}
 use Rattle.flow.specs.Standing.{Standing, ready, asked}
 use Rattle.mount_model.specs.declared.call.Call.{Call}
 use Rattle.mount_model.specs.declared.call.Call.TheVariants.{Greet}
 use Rattle.mount_model.specs.declared.reply.Reply.{Reply}
-use Rattle.mount_model.specs.declared.reply.Reply.TheVariants.{NoMemory}
 use Rattle.mount_model.specs.History.{Event, state_after}
 use Rattle.mount_model.specs.State.{State}
 use Rattle.mount_model.specs.Step.{IsStep}
+use Rattle.mount_core.specs.Memory.{HadMemory, HadMemoryBeforeLast}
 use Rattle.mount_sound.specs.Owed.{IsLawful, Permits}
 use Rattle.story.specs.Program.{Program, ask}
 use Rattle.story.specs.Safe.{IsSafe}
@@ -19,16 +19,6 @@ pub record AreMade (start : State) (events : List Event) (end : State) : Type 0 
   pub lawful : IsLawful start events
   pub ends : state_after start events ≡ end
   pub own : AllByRecursion (λ (event : Event). event.caller ≡ 0) events
-
--- none of them was refused memory
-abbrev pub HadMemory : List Event → Type 0
-HadMemory events = AllByRecursion (λ (event : Event). event.reply ≢ NoMemory) events
-
--- none was, but for the last one perhaps
-abbrev pub HadMemoryBeforeLast : List Event → Type 0
-HadMemoryBeforeLast [] = Unit {0}
-HadMemoryBeforeLast (event ∷ []) = Unit {0}
-HadMemoryBeforeLast (event ∷ next ∷ later) = (event.reply ≢ NoMemory) × HadMemoryBeforeLast (next ∷ later)
 
 -- a greeting, and then the calls of the program
 abbrev pub greets_first : {R : Type 0} → Program Call Reply R → Program Call Reply R

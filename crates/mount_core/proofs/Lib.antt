@@ -2,6 +2,7 @@ pub mod Fine
 pub mod Timed
 pub mod Admitted
 pub mod Logical
+pub mod Memory
 pub mod Mounts
 pub mod Settled
 pub mod Stopped

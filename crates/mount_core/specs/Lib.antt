@@ -1,3 +1,4 @@
 pub mod Breaking
 pub mod Holding
+pub mod Memory
 pub mod WholeCalls

@@ -1,6 +1,6 @@
 -- What the call that finds a container tells.
 use Rattle.std.proofs.Common.{◌≡◌, ◌<◌, ℕ, List, [], ◌∷◌, ◌++◌, length, Option, Some, inl, inr, refl, sym, ap, ◌∙◌, subst, arith, append_assoc}
-use Rattle.std.specs.Prelude.{Ok, Err, slice_get}
+use Rattle.std.specs.Prelude.{Ok, Err, slice_get, slice_index}
 use Rattle.std.proofs.lemmas.Bool.{cases_eq}
 use Rattle.store_api.specs.declared.step.Answer.TheVariants.{Number, Old}
 use Rattle.store_api.specs.declared.store.Trouble.TheVariants.{Fault, NoMemory}
@@ -18,13 +18,14 @@ use Rattle.mount_model.specs.declared.reply.Reply.TheVariants.{Room}
 use Rattle.mount_model.specs.Finding.{find_outcome, make_outcome}
 use Rattle.mount_model.specs.History.{Event}
 use Rattle.mount_model.specs.Making.{Told}
-use Rattle.mount_model.specs.Paths.{Name, new_files, new_folders}
+use Rattle.mount_model.specs.Paths.{Name, access_path, new_files, new_folders}
 use Rattle.mount_model.specs.State.{State, Table}
 use Rattle.mount_model.specs.Step.{Answers, IsStep}
 use Rattle.mount_sound.specs.Owed.{IsLawful}
 use Rattle.flow.specs.Running.{unbroken}
-use Rattle.gathering.specs.Moments.{IsSoundAt, Moment, moment_after, next_moment}
+use Rattle.gathering.specs.Moments.{IsSoundAt, Moment, file_in_room, file_told, moment_after, next_moment}
 use Rattle.gathering.proofs.Facts.{legal_first, legal_rest, moment-append, sound_after}
+use Rattle.reader_laws.specs.Failing.{IsContainerAt}
 use Rattle.reader_laws.proofs.Facts.{answered}
 use Rattle.play_laws.specs.Opening.{IsRoomNamed}
 use Rattle.play_laws.proofs.Standing.{Next}
@@ -41,6 +42,19 @@ name_found old caller name room new tree finds has =
     let m = finds.makes in
     let t = acts_told (find_room name) old.store new.store tree m.told has m.made in
     (look_answered (find_room name) tree (FindTells tree name) (find_tells tree name) (Number room) t.0 (subst (λ o. Tells (find_room name) tree o t.0) (number_found old.table m.told room m.answered) t.2)).1
+
+-- what was found is a container
+pub container_found : (m : Moment) (s : IsSoundAt m) (n room : ℕ) (name : Name) (after : State) → Answers m.state n (Find name) (Room room) after → IsContainerAt m room
+container_found m s n room name after a =
+    let is : IsRoomOf s.shape.tree name room = name_found m.state n name room after s.shape.tree a s.shape.told in
+    elim (s.shape.shaped.rooms room is.room is.has_room) as (λ _. IsContainerAt m room) [
+      | inl marks ↦ absurd (a.named.no_dot (ap (λ l. slice_index l 0) (sym is.named ∙ marks.named)))
+      | inr c ↦ record {
+        is_item = record { in_range = tt; widths = tt };
+        bytes = [];
+        there = ap (λ o. file_told o room access_path) s.shape.told ∙ ap (λ o. file_in_room o access_path) is.has_room ∙ c.has_access;
+      }
+    ]
 
 -- ---- a container that was found or made
 

@@ -8,12 +8,14 @@ mod Others
 mod Standing
 mod Finding
 mod Listings
+mod Seeing
 mod Dealing
 mod Alone
 mod Behind
 mod ByWorkers
 mod Opened
 mod ReadLines
+mod Refreshed
 mod Openings
 mod Earlier
 mod Cached

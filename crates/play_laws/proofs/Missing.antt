@@ -1,6 +1,6 @@
 -- A container that was found is there on, so that a truncate or a rename of a name that is there never ends as of no such file.
 use Rattle.std.proofs.Common.{◌≡◌, ℕ, nat_eq, Bool, true, false, List, [], ◌∷◌, get_or, Some, None, Result, Ok, Err, refl, sym, ap, ◌∙◌, inl, inr, subst, arith}
-use Rattle.std.specs.Prelude.{◌==◌, ◌-◌, ◌^◌, nat_le, nat_lt, slice_get, slice_index, if◌then◌else◌}
+use Rattle.std.specs.Prelude.{◌==◌, ◌-◌, ◌^◌, nat_le, nat_lt, slice_get, if◌then◌else◌}
 use Rattle.std.proofs.lemmas.Bool.Decides.{nat_tests}
 use Rattle.plfs_types.specs.declared.limits.TheConstants.{MAX_SIZE, MAX_STAMP}
 use Rattle.plfs_types.specs.declared.names.Path.{Path}
@@ -15,7 +15,7 @@ use Rattle.store_api.specs.Step.{find_room}
 use Rattle.store_laws.specs.Files.{file_at}
 use Rattle.store_laws.specs.Says.{FindTells, ListTells}
 use Rattle.store_laws.specs.Tells.{Tells}
-use Rattle.store_laws.specs.There.{IsFree, IsRoomOf, LacksRoom}
+use Rattle.store_laws.specs.There.{IsFree, LacksRoom}
 use Rattle.store_laws.proofs.Facts.{acts_told, create_told, find_tells, list_tells, look_answered, make_folder_told, remove_folder_told, rename_room_told}
 use Rattle.mount_model.specs.declared.call.Call.TheVariants.{Find, Hold, Look, Mark, Move, Release}
 use Rattle.mount_model.specs.declared.call.Look.TheVariants.{List as ListFolder}
@@ -44,12 +44,12 @@ use Rattle.flow.specs.Replies.{Tries, failure, given, room_in}
 use Rattle.trunc_rename.specs.Holding.{holder_in, holds}
 use Rattle.trunc_rename.specs.Renaming.{moves}
 use Rattle.trunc_rename.specs.Truncating.{lists_metadata}
-use Rattle.gathering.specs.Moments.{IsSoundAt, Moment, file_in_room, file_told, moment_after, next_moment}
+use Rattle.gathering.specs.Moments.{IsSoundAt, Moment, moment_after, next_moment}
 use Rattle.gathering.proofs.Facts.{grows_after, in_a_room, in_tree, sound_after}
 use Rattle.reader_laws.specs.Failing.{IsContainerAt}
 use Rattle.reader_laws.proofs.Facts.{answered}
 use Rattle.play_laws.specs.Refusing.{FindsNone}
-use Rattle.play_laws.proofs.Finding.{name_found}
+use Rattle.play_laws.proofs.Finding.{container_found}
 use Rattle.play_laws.proofs.Held.{OnFind, OnHold, alone, answered_so, found_room, its_step, one_tree}
 use Rattle.play_laws.proofs.Reasons.{GoesFor, IsReplyFor, Lasts, RefusesFor, call_goes, failure_for, given_goes, metadata_goes, moves_go}
 use Rattle.play_laws.proofs.Unheld.{HasAsked, draw_reason, given_or_not, has_asked, refused_so}
@@ -90,19 +90,6 @@ module _ (m : Moment) (s : IsSoundAt m) (room : ℕ) (had : IsContainerAt m room
       let one : its_room.0 ≡ s.shape.marks = cc in
       let mark = s.shape.is_marks.files access_path had.bytes (subst (λ r. file_at r access_path ≡ Some had.bytes) one its_room.2) in
       no_mark (ap (λ (p : Path). p.folder) mark.3)
-
--- what was found is a container
-container_found : (m : Moment) (s : IsSoundAt m) (n room : ℕ) (name : Name) (after : State) → Answers m.state n (Find name) (Room room) after → IsContainerAt m room
-container_found m s n room name after a =
-    let is : IsRoomOf s.shape.tree name room = name_found m.state n name room after s.shape.tree a s.shape.told in
-    elim (s.shape.shaped.rooms room is.room is.has_room) as (λ _. IsContainerAt m room) [
-      | inl marks ↦ absurd (a.named.no_dot (ap (λ l. slice_index l 0) (sym is.named ∙ marks.named)))
-      | inr c ↦ record {
-        is_item = record { in_range = tt; widths = tt };
-        bytes = [];
-        there = ap (λ o. file_told o room access_path) s.shape.told ∙ ap (λ o. file_in_room o access_path) is.has_room ∙ c.has_access;
-      }
-    ]
 
 -- ---- replies
 

@@ -4,7 +4,6 @@ use Rattle.std.specs.Prelude.{if◌then◌else◌, ◌==◌}
 use Rattle.std.specs.List.{All, AllByRecursion}
 use Rattle.std.proofs.lemmas.Bool.Decides.{nat_tests}
 use Rattle.std.proofs.lemmas.Bool.{cases_lt}
-use Rattle.std.proofs.lemmas.List.{append-nil}
 use Rattle.plfs_types.specs.declared.entries.Cover.{Cover}
 use Rattle.plfs_types.specs.declared.entries.Entry.{Entry}
 use Rattle.plfs_types.specs.declared.entries.Trunc.{Trunc}
@@ -22,7 +21,7 @@ use Rattle.mount_model.specs.declared.reply.Reply.TheVariants.{Room}
 use Rattle.mount_model.specs.Paths.{Name}
 use Rattle.mount_model.specs.History.{Event}
 use Rattle.mount_sound.specs.Ledger.{entries_in}
-use Rattle.mount_model.specs.Step.{IsStep}
+use Rattle.mount_model.specs.Step.{Answers, IsStep}
 use Rattle.mount_sound.specs.Owed.{IsLawful}
 use Rattle.flow.specs.Running.{unbroken}
 use Rattle.index_reader.specs.declared.gathered.Gathered.{Gathered as Parts}
@@ -35,22 +34,23 @@ use Rattle.index_reader.specs.Sharing.{covered}
 use Rattle.gathering.specs.Moments.{Moment, IsSoundAt, issued_by, moment_after}
 use Rattle.gathering.specs.Seen.{Asked, asked_in, calls_of}
 use Rattle.gathering.specs.Gathering.{Gathered, IsAdmissible}
-use Rattle.gathering.specs.Opening.{HasView}
 use Rattle.gathering.specs.View.{own_entries}
-use Rattle.gathering.proofs.Facts.{its_call, later_truncates, legal_first, legal_rest, length-entries, length_taken, moment-append, sound_after, synced_gathered}
+use Rattle.gathering.proofs.Facts.{grows_after, its_call, legal_first, legal_rest, length-entries, length_taken, moment-append, sound_after}
 use Rattle.reader_laws.specs.Covering.{cover_with, empty_cover, counts_in}
+use Rattle.reader_laws.specs.Failing.{IsContainerAt}
 use Rattle.reader_laws.specs.Opened.{IsReaderOf, HasOpenReader, HasOpenedIn}
-use Rattle.reader_laws.proofs.Facts.{AreRunsOf, IsBounded, answered, calls_append, calls_are, runs_are}
+use Rattle.reader_laws.proofs.Facts.{AreRunsOf, IsBounded, answered, calls_append, calls_are, container_later, runs_are}
 use Rattle.script_lang.specs.declared.script.Statement.{Statement}
 use Rattle.actor_core.specs.Endings.{Ending}
 use Rattle.gather_flow.specs.OneIndex.{first_covers, reader_of}
 use Rattle.outcomes.specs.Counts.{counted, cut_of}
 use Rattle.gather_flow.proofs.CoverLemmas.{first_is, first_rise}
 use Rattle.play_laws.specs.OneFile.{OneFile, printed_cut}
-use Rattle.play_laws.specs.Opening.{OpensOneFile}
+use Rattle.play_laws.specs.Opening.{OpensOneFile, SeesOneFile}
 use Rattle.play_laws.specs.Showing.{Shows, TellsOneFile}
-use Rattle.play_laws.proofs.Finding.{name_found}
+use Rattle.play_laws.proofs.Finding.{container_found, name_found}
 use Rattle.play_laws.proofs.Listings.{FindsFirst}
+use Rattle.play_laws.proofs.Seeing.{behind_both, seen_so}
 use Rattle.play_laws.proofs.Standing.{Next, lawful_together}
 
 -- ---- the reader that an actor makes is one of what was read
@@ -175,10 +175,12 @@ counts_printed start end (g ∷ cut) all =
 
 -- The reader that the actor keeps has this file still.
 pub record HasFile (now : Moment) (reader : OpenReader) (file : OneFile) : Type 0 where
+  pub room : file.room ≡ reader.room
   pub opened : Moment
   pub has : HasOpenReader opened file.moment reader file.cut
   pub truncates : file.truncs ≡ reader.truncs
   pub sound : IsSoundAt file.moment
+  pub container : IsContainerAt file.moment reader.room
   pub between : List Event
   pub lawful : IsLawful file.moment.state between
   pub is_now : moment_after file.moment between ≡ now
@@ -192,10 +194,12 @@ Keeps now (Some reader) (Some file) = HasFile now reader file
 
 pub has_later : (now : Moment) (reader : OpenReader) (file : OneFile) (events : List Event) → HasFile now reader file → IsLawful now.state events → HasFile (moment_after now events) reader file
 has_later now reader file events h lawful = record {
+  room = h.room;
   opened = h.opened;
   has = h.has;
   truncates = h.truncates;
   sound = h.sound;
+  container = h.container;
   between = h.between ++ events;
   lawful = lawful_together file.moment h.between events h.lawful (subst (λ (m : Moment). IsLawful m.state events) (sym h.is_now) lawful);
   is_now = moment-append file.moment h.between events ∙ ap (λ m. moment_after m events) h.is_now;
@@ -226,66 +230,72 @@ pub record HasOpenedFile (start : Moment) (n : ℕ) (before greeting mine : List
   pub tells : TellsOneFile reader.size (cut_of reader.covers) reader.truncs file
   pub keeps : HasFile (moment_after (moment_after start (before ++ greeting)) mine) reader file
 
+-- the file of a reader that was opened
+abbrev pub file_of : (n : ℕ) (m : Moment) (mine : List Event) (reader : OpenReader) → HasOpenedIn n m mine reader → OneFile
+file_of n m mine reader h = record { room = reader.room; moment = moment_after (moment_after m h.before) (h.first ∷ h.more); cut = h.cut; truncs = reader.truncs }
+
+-- what the caller saw of it, behind a greeting
+pub opened_sees : (start : Moment) (n : ℕ) (before greeting mine : List Event) (reader : OpenReader) → IsSoundAt start → Next start (before ++ greeting) mine → All (λ (a : Asked). a.ask.call ≡ Greet) (calls_of n greeting) → (h : HasOpenedIn n (moment_after start (before ++ greeting)) mine reader)
+    → SeesOneFile start n (record { before = before; events = greeting ++ mine }) (greeting ++ h.before) h.first (file_of n (moment_after start (before ++ greeting)) mine reader h)
+opened_sees start n before greeting mine reader sound next greets h =
+    seen_so start n before greeting mine h.before h.first h.more h.listing h.later reader.room h.cut reader.truncs sound next greets h.split h.waits h.begins h.lists h.truncates h.has.view
+
+pub opened_tells : (n : ℕ) (m : Moment) (mine : List Event) (reader : OpenReader) (h : HasOpenedIn n m mine reader) → TellsOneFile reader.size (cut_of reader.covers) reader.truncs (file_of n m mine reader h)
+opened_tells n m mine reader h = record {
+  size_is = h.has.size;
+  counts = ap cut_of h.has.covers ∙ counts_printed (moment_after m h.before) (moment_after (moment_after m h.before) (h.first ∷ h.more)) h.cut h.has.view.admissible;
+  truncates = refl;
+}
+
+-- the actor that keeps the reader has the file, where the room was a container's at the first call
+pub opened_keeps : (n : ℕ) (m : Moment) (mine : List Event) (reader : OpenReader) (h : HasOpenedIn n m mine reader) → IsSoundAt m → IsLawful m.state mine → IsContainerAt (moment_after m h.before) reader.room → HasFile (moment_after m mine) reader (file_of n m mine reader h)
+opened_keeps n m mine reader h sound lawful container =
+    let from : Moment = moment_after m h.before in
+    let all : IsLawful m.state (h.before ++ (h.first ∷ h.more ++ h.listing ∷ h.later)) = subst (IsLawful m.state) h.split lawful in
+    let s0 : IsSoundAt from = sound_after m h.before (legal_first m h.before (h.first ∷ h.more ++ h.listing ∷ h.later) all) sound in
+    let r0 = legal_rest m h.before (h.first ∷ h.more ++ h.listing ∷ h.later) all in
+    let l1 = legal_first from (h.first ∷ h.more) (h.listing ∷ h.later) r0 in
+    record {
+      room = refl;
+      opened = from;
+      has = h.has;
+      truncates = refl;
+      sound = sound_after from (h.first ∷ h.more) l1 s0;
+      container = container_later from (moment_after from (h.first ∷ h.more)) reader.room (grows_after from (h.first ∷ h.more) l1 s0) container;
+      between = h.listing ∷ h.later;
+      lawful = legal_rest from (h.first ∷ h.more) (h.listing ∷ h.later) r0;
+      is_now = sym (moment-append from (h.first ∷ h.more) (h.listing ∷ h.later)) ∙ sym (moment-append m h.before (h.first ∷ h.more ++ h.listing ∷ h.later)) ∙ ap (moment_after m) (sym h.split);
+    }
+
 pub file_opened : (start : Moment) (n : ℕ) (before greeting mine scanning rest : List Event) (name : Name) (listing : Listing) (reader : OpenReader) → IsSoundAt start → Next start (before ++ greeting) mine → All (λ (a : Asked). a.ask.call ≡ Greet) (calls_of n greeting)
     → mine ≡ scanning ++ rest → FindsFirst n name scanning listing → reader.room ≡ listing.room → HasOpenedIn n (moment_after start (before ++ greeting)) mine reader → HasOpenedFile start n before greeting mine name reader
 file_opened start n before greeting mine scanning rest name listing reader sound next greets split f room_is h =
     let m : Moment = moment_after start (before ++ greeting) in
     let from : Moment = moment_after m h.before in
-    let end : Moment = moment_after from (h.first ∷ h.more) in
-    let file : OneFile = record { moment = end; cut = h.cut; truncs = reader.truncs } in
-    let earlier : List Event = greeting ++ h.before in
     let all : IsLawful m.state (h.before ++ (h.first ∷ h.more ++ h.listing ∷ h.later)) = subst (IsLawful m.state) h.split next.lawful in
-    let l0 = legal_first m h.before (h.first ∷ h.more ++ h.listing ∷ h.later) all in
+    let s0 : IsSoundAt from = sound_after m h.before (legal_first m h.before (h.first ∷ h.more ++ h.listing ∷ h.later) all) next.sound in
     let r0 = legal_rest m h.before (h.first ∷ h.more ++ h.listing ∷ h.later) all in
-    let s0 : IsSoundAt from = sound_after m h.before l0 next.sound in
-    let l1 = legal_first from (h.first ∷ h.more) (h.listing ∷ h.later) r0 in
-    let r1 = legal_rest from (h.first ∷ h.more) (h.listing ∷ h.later) r0 in
-    let regrouped : before ++ earlier ≡ (before ++ greeting) ++ h.before = sym (append_assoc before greeting h.before) in
-    let there : moment_after start (before ++ earlier) ≡ from = ap (moment_after start) regrouped ∙ moment-append start (before ++ greeting) h.before in
-    let lawful_until : IsLawful start.state (before ++ earlier) = subst (IsLawful start.state) (sym regrouped) (lawful_together start (before ++ greeting) h.before next.was_lawful l0) in
-    let view : HasView (moment_after start (before ++ earlier)) end reader.room h.cut reader.truncs = subst (λ (x : Moment). HasView x end reader.room h.cut reader.truncs) (sym there) h.has.view in
     let whole : h.before ++ (h.first ∷ h.more ++ h.listing ∷ h.later) ≡ f.before ++ f.event ∷ (f.later ++ rest) = sym h.split ∙ split ∙ ap (λ z. z ++ rest) f.split ∙ append_assoc f.before (f.event ∷ f.later) rest in
     let one : asked_in h.first ≡ asked_in f.event = same_asked (asked_in h.first) (asked_in f.event) (calls_of n (h.more ++ h.listing ∷ h.later)) (calls_of n (f.later ++ rest))
     (sym (first_calls n h.before h.first (h.more ++ h.listing ∷ h.later) h.waits h.begins) ∙ ap (calls_of n) whole ∙ first_calls n f.before f.event (f.later ++ rest) (no_calls n f.before f.waits) f.own) in
     let asks : h.first.ask ≡ unbroken (Find name) = ap (λ (a : Asked). a.ask) one ∙ f.asks in
     let told : h.first.reply ≡ Room reader.room = ap (λ (a : Asked). a.reply) one ∙ f.told ∙ ap Room (sym room_is) in
+    let finds : Answers from.state h.first.caller (Find name) (Room reader.room) h.first.after =
+    answered from.state h.first.caller (Find name) h.first.ask (Room reader.room) h.first.after asks (subst (λ reply. IsStep from.state h.first.caller h.first.ask reply h.first.after) told r0.1) in
+    let there : moment_after start (before ++ (greeting ++ h.before)) ≡ from = behind_both start before greeting h.before in
+    let finds_there : Answers (moment_after start (before ++ (greeting ++ h.before))).state h.first.caller (Find name) (Room reader.room) h.first.after = subst (λ (x : Moment). Answers x.state h.first.caller (Find name) (Room reader.room) h.first.after) (sym there) finds in
     record {
-      file = file;
+      file = file_of n m mine reader h;
       opens = record {
-        room = reader.room;
-        earlier = earlier;
+        earlier = greeting ++ h.before;
         first = h.first;
-        more = h.more;
-        listing = h.listing;
-        later = h.later;
-        split = ap (λ z. greeting ++ z) h.split ∙ sym (append_assoc greeting h.before (h.first ∷ h.more ++ h.listing ∷ h.later));
-        waits = subst (λ calls. All (λ (a : Asked). a.ask.call ≡ Greet) calls) (sym (calls_append n greeting h.before ∙ ap (λ z. calls_of n greeting ++ z) h.waits ∙ append-nil (calls_of n greeting))) greets;
-        begins = h.begins;
+        sees = opened_sees start n before greeting mine reader sound next greets h;
         finds = ap (λ (q : Ask). q.call) asks;
         found = told;
-        named = λ tree has. name_found (moment_after start (before ++ earlier)).state h.first.caller name reader.room h.first.after tree
-            (answered (moment_after start (before ++ earlier)).state h.first.caller (Find name) h.first.ask (Room reader.room) h.first.after asks (subst (λ reply. IsStep (moment_after start (before ++ earlier)).state h.first.caller h.first.ask reply h.first.after) told (subst (λ (x : Moment). IsStep x.state h.first.caller h.first.ask h.first.reply h.first.after) (sym there) r0.1))) has;
-        lists = h.lists;
-        truncates = h.truncates;
-        until = sym (ap (moment_after start) (sym (append_assoc before earlier (h.first ∷ h.more))) ∙ moment-append start (before ++ earlier) (h.first ∷ h.more) ∙ ap (λ x. moment_after x (h.first ∷ h.more)) there);
-        sees = view;
-        synced = λ d count in_room told. synced_gathered start (before ++ earlier) end reader.room h.cut reader.truncs d count lawful_until sound view in_room told;
-        above = λ events ts lawful at_it. later_truncates (moment_after start (before ++ earlier)) end events reader.room h.cut reader.truncs ts lawful (sound_after from (h.first ∷ h.more) l1 s0) view at_it;
+        named = λ tree has. name_found (moment_after start (before ++ (greeting ++ h.before))).state h.first.caller name reader.room h.first.after tree finds_there has;
       };
-      tells = record {
-        size_is = h.has.size;
-        counts = ap cut_of h.has.covers ∙ counts_printed from end h.cut h.has.view.admissible;
-        truncates = refl;
-      };
-      keeps = record {
-        opened = from;
-        has = h.has;
-        truncates = refl;
-        sound = sound_after from (h.first ∷ h.more) l1 s0;
-        between = h.listing ∷ h.later;
-        lawful = r1;
-        is_now = sym (moment-append from (h.first ∷ h.more) (h.listing ∷ h.later)) ∙ sym (moment-append m h.before (h.first ∷ h.more ++ h.listing ∷ h.later)) ∙ ap (moment_after m) (sym h.split);
-      };
+      tells = opened_tells n m mine reader h;
+      keeps = opened_keeps n m mine reader h next.sound next.lawful (container_found from s0 h.first.caller reader.room name h.first.after finds);
     }
 
 -- ---- what is owed of a statement

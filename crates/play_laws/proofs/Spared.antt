@@ -5,6 +5,7 @@ use Rattle.story.specs.Program.{Program}
 use Rattle.flow.specs.declared.stuck.Stuck.{Stuck}
 use Rattle.flow.specs.declared.stuck.Stuck.TheVariants as stuck
 use Rattle.flow.specs.Replies.{on_ok}
+use Rattle.plain_file.specs.declared.parts.ReaderParts.{ReaderParts}
 use Rattle.mount_model.specs.Paths.{Name}
 use Rattle.mount_model.specs.declared.call.Call.{Call}
 use Rattle.mount_model.specs.declared.reply.Reply.{Reply}
@@ -12,6 +13,7 @@ use Rattle.mount_model.proofs.Facts.{IsOnNoWriter}
 use Rattle.read_plan.specs.Plan.{plan_of}
 use Rattle.index_reader.specs.declared.listing.Listing.{Listing}
 use Rattle.index_reader.specs.declared.opened.OpenReader.{OpenReader}
+use Rattle.index_reader.specs.Opened.{parts_of}
 use Rattle.index_reader.specs.Opening.{open_at_program, open_read_program}
 use Rattle.index_reader.specs.Reading.{read_program}
 use Rattle.attr_flow.specs.Asking.{attr_program}
@@ -22,6 +24,7 @@ use Rattle.trunc_rename.specs.Truncating.{truncate_program}
 use Rattle.torn_tail.specs.Recovering.{recover_program}
 use Rattle.gather_flow.specs.Shares.{by_itself, programs_from}
 use Rattle.gather_flow.specs.Workers.{all_of}
+use Rattle.refresh_index.specs.Refreshing.{refresh_program}
 use Rattle.flatten_core.specs.Flattening.{flatten_program}
 use Rattle.script_lang.specs.declared.line.Outcome.{Outcome}
 use Rattle.script_lang.specs.declared.line.Outcome.TheVariants.{Stopped}
@@ -33,15 +36,15 @@ use Rattle.actor_core.specs.declared.kept.Stop.{Stop}
 use Rattle.actor_core.specs.ByName.{flattens_file, lists_names, recovers_file, renames_file, truncates_file}
 use Rattle.actor_core.specs.Endings.{Ending, ending, flattened, names_listed, read_from, recovered, renamed, stopped, told_of, truncated, verified}
 use Rattle.actor_core.specs.Names.{names_program}
-use Rattle.actor_core.specs.Opened.{opens, reader_opened}
-use Rattle.actor_core.specs.Readers.{closes_reader, if_listed, maps, opens_reader, reads, verifies}
+use Rattle.actor_core.specs.Opened.{opens, reader_opened, reader_refreshed, refresh_told, without_reader}
+use Rattle.actor_core.specs.Readers.{closes_reader, if_listed, maps, opens_reader, reads, refreshes, verifies}
 use Rattle.actor_core.specs.Stopping.{carried}
 use Rattle.actor_core.specs.Telling.{if_asked, if_relisted, tells_by, tells_of_file}
 use Rattle.actor_core.specs.Work.{Work, finishes}
 use Rattle.writer_flow.specs.declared.handle.WriterHandle.{WriterHandle}
 use Rattle.play_laws.specs.Writing.{TellsOfNoWriter}
 use Rattle.play_laws.proofs.Coming.{GoesSo, carried_goes}
-use Rattle.play_laws.proofs.Sparing.{AsksNoWriter, after_shares, attr_none, flatten_none, itself_none, listing_at_none, listing_none, ok_none, read_none, recover_none, rename_none, tells_none, truncate_none}
+use Rattle.play_laws.proofs.Sparing.{AsksNoWriter, after_shares, attr_none, flatten_none, itself_none, listing_at_none, listing_none, ok_none, read_none, recover_none, refresh_none, rename_none, tells_none, truncate_none}
 
 -- the actor keeps this writer, the line is none of a writer's, and the actor goes on unless it was stopped
 abbrev pub LeavesWriter : Option WriterHandle → Ending → Type 0
@@ -63,6 +66,10 @@ difference_tells : (at : ℕ) (o : Option ℕ) → TellsOfNoWriter (difference a
 difference_tells at None = tt
 difference_tells at (Some j) = tt
 
+refreshed_tells : (parts : ReaderParts) (result : Result (Unit {0}) Stuck) → TellsOfNoWriter (refresh_told parts result)
+refreshed_tells parts (Ok done) = tt
+refreshed_tells parts (Err because) = stuck_tells because
+
 module _ (kept : Kept) (alive : kept.gone ≡ false) where
   carries : {R : Type 0} (p : Program Call Reply R) (stop : Option Stop) (next : Option Stop → R → Work) → AsksNoWriter p → ((left : Option Stop) (r : R) → SparesWriter kept (next left r)) → SparesWriter kept (carried p stop next (finishes (stopped kept)))
   carries p stop next none goes = carried_goes IsOnNoWriter (LeavesWriter kept.writer) kept p stop next none (refl, tt, inr refl) goes
@@ -79,6 +86,11 @@ module _ (kept : Kept) (alive : kept.gone ≡ false) where
   pub maps_spare : (r : Option OpenReader) → SparesWriter kept (maps kept r)
   maps_spare None = (refl, tt, inl alive)
   maps_spare (Some reader) = (refl, tt, inl alive)
+
+  pub refreshes_spare : (stop : Option Stop) (r : Option OpenReader) → SparesWriter kept (refreshes kept stop r)
+  refreshes_spare stop None = (refl, tt, inl alive)
+  refreshes_spare stop (Some reader) =
+      carried_goes IsOnNoWriter (LeavesWriter kept.writer) (without_reader kept) (refresh_program (parts_of reader)) stop (λ left out. finishes (reader_refreshed (without_reader kept) out)) (refresh_none (parts_of reader)) (refl, tt, inr refl) (λ left out. (refl, refreshed_tells out.parts out.result, inl alive))
 
   pub closes_spare : (r : Option OpenReader) → SparesWriter kept (closes_reader kept r)
   closes_spare None = (refl, tt, inl alive)

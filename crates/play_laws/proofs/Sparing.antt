@@ -3,6 +3,7 @@ use Rattle.std.proofs.Common.{ℕ, zero, suc, ◌+◌, ◌-◌, ◌*◌, ◌/◌
 use Rattle.std.specs.Prelude.{if◌then◌else◌}
 use Rattle.std.specs.List.{range_with_len}
 use Rattle.plfs_types.specs.declared.entries.Cover.{Cover}
+use Rattle.plain_file.specs.declared.parts.ReaderParts.{ReaderParts}
 use Rattle.plain_file.specs.declared.parts.WriterHost.{WriterHost}
 use Rattle.flow.specs.declared.names.Metadata.{Metadata}
 use Rattle.flow.specs.declared.names.OpenEntry.{OpenEntry}
@@ -48,6 +49,8 @@ use Rattle.gather_flow.specs.Gathering.{if_truncs_listed, reads_truncs, shares_f
 use Rattle.gather_flow.specs.OneIndex.{attr_of, flat_of}
 use Rattle.flat_format.specs.declared.flat.Flat.{Flat}
 use Rattle.flat_format.specs.Spelling.{flat_spelling}
+use Rattle.refresh_index.specs.Refreshing.{refresh_program}
+use Rattle.refresh_index.proofs.LookLemmas.{refresh_looks}
 use Rattle.flatten_core.specs.declared.starting.Started.{Started}
 use Rattle.flatten_core.specs.Flattening as flatten
 use Rattle.flatten_core.specs.Installing as install
@@ -126,6 +129,9 @@ spells_none room (Logged p ∷ parts) sofar = (
 
 pub read_none : (room : ℕ) (hosts : List WriterHost) (parts : List Part) → AsksNoWriter (read_program room hosts parts)
 read_none room hosts parts = spells_none room (placed_all hosts parts) []
+
+pub refresh_none : (held : ReaderParts) → AsksNoWriter (refresh_program held)
+refresh_none held = looks_none (refresh_program held) (refresh_looks held)
 
 -- ---- what is told of a file
 

@@ -16,7 +16,7 @@ use Rattle.script_lang.specs.declared.line.Outcome.{Outcome}
 use Rattle.script_lang.specs.declared.line.Outcome.TheVariants.{Gone, Stopped}
 use Rattle.script_lang.specs.declared.line.Why.TheVariants.{AlreadyOpen}
 use Rattle.script_lang.specs.declared.script.Statement.{Statement}
-use Rattle.script_lang.specs.declared.script.Statement.TheVariants.{Open, Write, Sync, Close, Ropen, Read, Verify, Map, Rclose, Stat, Flatten, Recover, Trunc, Rename, Ls, Stop as Arms}
+use Rattle.script_lang.specs.declared.script.Statement.TheVariants.{Open, Write, Sync, Close, Ropen, Read, Verify, Map, Refresh, Rclose, Stat, Flatten, Recover, Trunc, Rename, Ls, Stop as Arms}
 use Rattle.script_lang.specs.Ranges.{FitsStatement}
 use Rattle.index_reader.specs.declared.opened.OpenReader.{OpenReader}
 use Rattle.gathering.specs.Moments.{Moment, IsSoundAt, moment_after}
@@ -38,12 +38,13 @@ use Rattle.play_laws.specs.Writing.{ShowsNoWriting, ShowsWriting, StaysOpen}
 use Rattle.play_laws.proofs.Carrying.{CourseOf, EndsSo, ended, ends_later, then_told}
 use Rattle.play_laws.proofs.Coming.{all_of_first, by_itself, came_good, came_lets, came_to, end_alone, lets_both, lets_first, lets_none, lets_one, nothing_more, with_others}
 use Rattle.play_laws.proofs.OneWriters.{KeepsWriter, Writes, none_both, writes_later}
-use Rattle.play_laws.proofs.Spared.{LeavesWriter, SparesWriter, closes_spare, flattens_spare, lists_spare, looks_spare, maps_spare, opens_spare, reads_spare, recovers_spare, renames_spare, truncates_spare, verifies_spare}
+use Rattle.play_laws.proofs.Spared.{LeavesWriter, SparesWriter, closes_spare, flattens_spare, lists_spare, looks_spare, maps_spare, opens_spare, reads_spare, recovers_spare, refreshes_spare, renames_spare, truncates_spare, verifies_spare}
 use Rattle.play_laws.proofs.WriterLines.{GoodBoth, close_line, open_line, sync_line, write_line}
 use Rattle.play_laws.proofs.Opened.{Good, Keeps, keeps_later, no_calls}
 use Rattle.play_laws.proofs.Openings.{opening_ends}
 use Rattle.play_laws.proofs.Others.{Leaves, LeavesReader, at_once, named_leaves, names_end}
 use Rattle.play_laws.proofs.ReadLines.{read_ends, verify_ends, map_ends, close_ends}
+use Rattle.play_laws.proofs.Refreshed.{refresh_ends}
 use Rattle.play_laws.proofs.Told.{look_ends}
 use Rattle.play_laws.proofs.Changed.{flattening_ends, recovery_ends, renaming_ends, trunc_ends}
 use Rattle.play_laws.proofs.Standing.{AllOf, Both, Next, all_of_later, next_is, up_to}
@@ -118,6 +119,8 @@ gone_shows start n (Verify at content) None stretch = (refl, tt)
 gone_shows start n (Verify at content) (Some file) stretch = (refl, tt)
 gone_shows start n Map None stretch = (refl, tt)
 gone_shows start n Map (Some file) stretch = (refl, refl)
+gone_shows start n Refresh None stretch = (refl, tt)
+gone_shows start n Refresh (Some file) stretch = (refl, tt)
 gone_shows start n Rclose None stretch = (refl, tt)
 gone_shows start n Rclose (Some file) stretch = (refl, refl)
 gone_shows start n (Open name) old stretch = (refl, tt)
@@ -145,6 +148,7 @@ gone_writing start n (Ropen name workers) writer stretch = (tt, refl)
 gone_writing start n (Read at len) writer stretch = (tt, refl)
 gone_writing start n (Verify at content) writer stretch = (tt, refl)
 gone_writing start n Map writer stretch = (tt, refl)
+gone_writing start n Refresh writer stretch = (tt, refl)
 gone_writing start n Rclose writer stretch = (tt, refl)
 gone_writing start n (Stat name) writer stretch = (tt, refl)
 gone_writing start n (Flatten name) writer stretch = (tt, refl)
@@ -216,6 +220,7 @@ module _ (start : Moment) (sound : IsSoundAt start) (n : ℕ) (before greeting :
   does_end kept stop (Read at len) old writer part ws lines left alive fits keeps quiet known whole all plays = spared_end kept stop (Read at len) old writer part ws lines left (reads_spare kept alive stop at len kept.reader) (λ mine outcome shown. shown) (λ mine spent told end at_it these on. read_ends start n before greeting end_alone nothing_more kept stop at len kept.reader old mine spent told end refl keeps at_it on) quiet known whole all plays
   does_end kept stop (Verify at content) old writer part ws lines left alive fits keeps quiet known whole all plays = spared_end kept stop (Verify at content) old writer part ws lines left (verifies_spare kept alive stop at content kept.reader) (λ mine outcome shown. shown) (λ mine spent told end at_it these on. verify_ends start n before greeting end_alone nothing_more kept stop at content kept.reader old mine spent told end refl keeps at_it on) quiet known whole all plays
   does_end kept stop Map old writer part ws lines left alive fits keeps quiet known whole all plays = spared_end kept stop Map old writer part ws lines left (maps_spare kept alive kept.reader) (λ mine outcome shown. shown) (λ mine spent told end at_it these on. map_ends start n before greeting end_alone nothing_more kept stop kept.reader old mine spent told end refl keeps on) quiet known whole all plays
+  does_end kept stop Refresh old writer part ws lines left alive fits keeps quiet known whole all plays = spared_end kept stop Refresh old writer part ws lines left (refreshes_spare kept alive stop kept.reader) (λ mine outcome shown. shown) (λ mine spent told end at_it these on. refresh_ends start sound n before greeting greets end_alone nothing_more kept stop kept.reader old mine spent told end refl keeps at_it on) quiet known whole all plays
   does_end kept stop Rclose old writer part ws lines left alive fits keeps quiet known whole all plays = spared_end kept stop Rclose old writer part ws lines left (closes_spare kept alive kept.reader) (λ mine outcome shown. shown) (λ mine spent told end at_it these on. close_ends start n before greeting end_alone nothing_more kept stop kept.reader old mine spent told end refl keeps on) quiet known whole all plays
   does_end kept stop (Stat name) old writer part ws lines left alive fits keeps quiet known whole all plays = spared_end kept stop (Stat name) old writer part ws lines left (looks_spare kept alive stop name) (λ mine outcome shown. shown) (λ mine spent told end at_it these on. told_end start sound n before greeting greets end_alone nothing_more kept (Stat name) old (λ events outcome. ShowsLook start n (record { before = before; events = greeting ++ events }) name outcome) mine spent told end (λ m o shown. (refl, shown)) keeps at_it (look_ends start sound n before greeting greets name end_alone nothing_more kept stop mine spent told end at_it on)) quiet known whole all plays
   does_end kept stop (Flatten name) old writer part ws lines left alive fits keeps quiet known whole all plays = spared_end kept stop (Flatten name) old writer part ws lines left (flattens_spare kept alive stop name) (λ mine outcome shown. shown) (λ mine spent told end at_it these on. told_end start sound n before greeting greets end_alone nothing_more kept (Flatten name) old (λ events outcome. ShowsFlattening start n (record { before = before; events = greeting ++ events }) name outcome) mine spent told end (λ m o shown. (refl, shown)) keeps at_it (flattening_ends start n before greeting end_alone nothing_more kept stop name mine spent told end at_it on)) quiet known whole all plays

@@ -16,7 +16,7 @@ use Rattle.script_lang.specs.declared.script.Numbered.{Numbered}
 use Rattle.script_lang.specs.declared.script.Phase.{Phase}
 use Rattle.script_lang.specs.declared.script.Script.{Script}
 use Rattle.script_lang.specs.declared.script.Statement.{Statement}
-use Rattle.script_lang.specs.declared.script.Statement.TheVariants.{Flatten, Map, Rclose, Read, Recover, Rename, Ropen, Stat, Trunc, Verify}
+use Rattle.script_lang.specs.declared.script.Statement.TheVariants.{Flatten, Map, Rclose, Read, Recover, Refresh, Rename, Ropen, Stat, Trunc, Verify}
 use Rattle.script_lang.specs.Ranges.{FitsNumbered, FitsPhase, FitsScript}
 use Rattle.gathering.specs.Moments.{Moment}
 use Rattle.run_core.specs.Cast.{statements_in}
@@ -28,7 +28,7 @@ use Rattle.play_laws.specs.Ending.{DoesNothing}
 use Rattle.play_laws.specs.OneFile.{OneFile}
 use Rattle.play_laws.specs.Opening.{Stretch}
 use Rattle.play_laws.specs.Readers.{ReadersShow, ShowsEach}
-use Rattle.play_laws.specs.Showing.{Shows, ShowsClosing, ShowsFlattening, ShowsLook, ShowsMap, ShowsNone, ShowsOpening, ShowsRead, ShowsRecovery, ShowsRename, ShowsTruncate, ShowsVerified}
+use Rattle.play_laws.specs.Showing.{Shows, ShowsClosing, ShowsFlattening, ShowsLook, ShowsMap, ShowsNone, ShowsOpening, ShowsRead, ShowsRecovery, ShowsRefresh, ShowsRefreshed, ShowsRename, ShowsTruncate, ShowsVerified}
 use Rattle.play_laws.specs.OneWriter.{OneWriter}
 use Rattle.play_laws.proofs.Casts.{readers_show}
 use Rattle.play_laws.specs.Undamaged.{AreUndamaged, IsUndamaged}
@@ -59,6 +59,14 @@ module _ (start : Moment) (caller : ℕ) (stretch : Stretch) where
   map_undamaged : (file : OneFile) (outcome : Outcome) → ShowsMap file outcome → IsUndamaged outcome
   map_undamaged file (Damaged folder name place) shows = absurd (cc)
   map_undamaged file outcome shows = tt
+
+  refreshed_undamaged : (former : OneFile) (outcome : Outcome) (new : Option OneFile) → ShowsRefreshed start caller stretch former outcome new → IsUndamaged outcome
+  refreshed_undamaged former (Damaged folder name place) new shows = absurd shows.1
+  refreshed_undamaged former outcome new shows = tt
+
+  refresh_undamaged : (old : Option OneFile) (outcome : Outcome) (new : Option OneFile) → ShowsRefresh start caller stretch old outcome new → IsUndamaged outcome
+  refresh_undamaged None outcome new shows = nothing_undamaged _ outcome shows.1
+  refresh_undamaged (Some former) outcome new shows = refreshed_undamaged former outcome new shows
 
   closing_undamaged : (old : Option OneFile) (outcome : Outcome) (new : Option OneFile) → ShowsClosing old outcome new → IsUndamaged outcome
   closing_undamaged None (Damaged folder name place) new shows = absurd shows.1
@@ -94,6 +102,7 @@ module _ (start : Moment) (caller : ℕ) (stretch : Stretch) where
   shown_undamaged (Some file) (Verify at content) outcome new shows = verified_undamaged file at content outcome shows.1
   shown_undamaged None Map outcome new shows = nothing_undamaged _ outcome shows.1
   shown_undamaged (Some file) Map outcome new shows = map_undamaged file outcome shows.1
+  shown_undamaged old Refresh outcome new shows = refresh_undamaged old outcome new shows
   shown_undamaged old Rclose outcome new shows = closing_undamaged old outcome new shows
   shown_undamaged old (Stat name) outcome new shows = look_undamaged name outcome shows.1
   shown_undamaged old (Trunc name size) outcome new shows = truncate_undamaged name size outcome shows.1

@@ -1,5 +1,6 @@
 pub mod OneFile
 pub mod Opening
+pub mod Refreshing
 pub mod Ending
 pub mod Comparing
 pub mod Telling

@@ -9,8 +9,9 @@ use Rattle.gathering.specs.Moments.{Moment}
 use Rattle.gathering.specs.Gathering.{Gathered}
 use Rattle.gathering.specs.View.{writes_in, view}
 
--- A cut of the writers of a container, and its truncates, which were listed at this moment.
+-- A cut of the writers of the container in this room, and its truncates, which were listed at this moment.
 pub record OneFile : Type 0 where
+  pub room : ℕ
   pub moment : Moment
   pub cut : List Gathered
   pub truncs : List Trunc

@@ -6,17 +6,18 @@ use Rattle.plain_file.specs.declared.pieces.Piece.{Piece}
 use Rattle.plain_file.specs.File.{slice}
 use Rattle.mount_model.specs.Paths.{Name}
 use Rattle.script_lang.specs.declared.line.Outcome.{Outcome}
-use Rattle.script_lang.specs.declared.line.Outcome.TheVariants.{Reader, Read as WasRead, Same, Differs, Map as Mapped, ReaderClosed, Stat as Told, Truncated, Renamed, Recovered, Flattened, Refused, Damaged, Gone}
+use Rattle.script_lang.specs.declared.line.Outcome.TheVariants.{Reader, Read as WasRead, Same, Differs, Map as Mapped, ReaderClosed, Stat as Told, Truncated, Renamed, Recovered, Flattened, Refused, Damaged, Stopped, Gone}
 use Rattle.script_lang.specs.declared.line.Why.{Why}
 use Rattle.script_lang.specs.declared.line.Why.TheVariants.{AlreadyOpen, Busy, Exists, Held, NoFile, NotOpen}
 use Rattle.script_lang.specs.declared.script.Data.{Data}
 use Rattle.script_lang.specs.declared.script.Statement.{Statement}
-use Rattle.script_lang.specs.declared.script.Statement.TheVariants.{Ropen, Read, Verify, Map, Rclose, Stat, Trunc as Truncate, Rename, Recover, Flatten}
+use Rattle.script_lang.specs.declared.script.Statement.TheVariants.{Ropen, Read, Verify, Map, Refresh, Rclose, Stat, Trunc as Truncate, Rename, Recover, Flatten}
 use Rattle.outcomes.specs.Data.{bytes_of, length_of}
 use Rattle.outcomes.specs.Outcomes.{map_text}
 use Rattle.gathering.specs.Moments.{Moment}
 use Rattle.play_laws.specs.OneFile.{OneFile, seen_bytes, ArePiecesSeen, printed_cut}
 use Rattle.play_laws.specs.Opening.{Stretch, OpensOneFile}
+use Rattle.play_laws.specs.Refreshing.{RefreshesOneFile}
 use Rattle.play_laws.specs.Comparing.{FirstDifference}
 use Rattle.play_laws.specs.Telling.{ShowsTold}
 use Rattle.play_laws.specs.Changing.{RenamesFile, TruncatesFile}
@@ -37,6 +38,14 @@ pub record TellsOneFile (size : ℕ) (cut : List WriterCount) (truncs : List Tru
 abbrev pub ShowsOpening : Moment → ℕ → Stretch → Name → Outcome → Option OneFile → Type 0
 ShowsOpening start caller stretch name (Reader size cut truncs) new = (file : OneFile) × (new ≡ Some file) × OpensOneFile start caller stretch name file × TellsOneFile size cut truncs file
 ShowsOpening start caller stretch name other new = (new ≡ None) × OpensNone start stretch other
+
+-- ---- the line of a refresh
+
+-- The actor has the refreshed file then. One that was stopped has none, and else it has the former one still.
+abbrev pub ShowsRefreshed : Moment → ℕ → Stretch → OneFile → Outcome → Option OneFile → Type 0
+ShowsRefreshed start caller stretch former (Reader size cut truncs) new = (file : OneFile) × (new ≡ Some file) × RefreshesOneFile start caller stretch former file × TellsOneFile size cut truncs file
+ShowsRefreshed start caller stretch former Stopped new = new ≡ None
+ShowsRefreshed start caller stretch former other new = (new ≡ Some former) × EndsEarly start stretch other
 
 -- ---- the lines of an open reader
 
@@ -66,6 +75,11 @@ IfOpen (Some file) outcome shows = shows file
 abbrev pub UnlessOpen : Option OneFile → Outcome → Option OneFile → Type 0 → Type 0
 UnlessOpen None outcome new shows = shows
 UnlessOpen (Some file) outcome new shows = (new ≡ Some file) × DoesNothing AlreadyOpen outcome
+
+-- it is refreshed where one is open, and else nothing is done
+abbrev pub ShowsRefresh : Moment → ℕ → Stretch → Option OneFile → Outcome → Option OneFile → Type 0
+ShowsRefresh start caller stretch None outcome new = (new ≡ None) × DoesNothing NotOpen outcome
+ShowsRefresh start caller stretch (Some former) outcome new = ShowsRefreshed start caller stretch former outcome new
 
 -- it is closed, unless its actor was stopped before
 abbrev pub ShowsClosing : Option OneFile → Outcome → Option OneFile → Type 0
@@ -125,6 +139,7 @@ Shows start caller stretch old (Ropen name workers) outcome new = UnlessOpen old
 Shows start caller stretch old (Read at len) outcome new = (new ≡ old) × IfOpen old outcome (λ file. ShowsRead start stretch file at len outcome)
 Shows start caller stretch old (Verify at content) outcome new = (new ≡ old) × IfOpen old outcome (λ file. ShowsVerified start stretch file at content outcome)
 Shows start caller stretch old Map outcome new = (new ≡ old) × IfOpen old outcome (λ file. ShowsMap file outcome)
+Shows start caller stretch old Refresh outcome new = ShowsRefresh start caller stretch old outcome new
 Shows start caller stretch old Rclose outcome new = ShowsClosing old outcome new
 Shows start caller stretch old (Stat name) outcome new = (new ≡ old) × ShowsLook start caller stretch name outcome
 Shows start caller stretch old (Truncate name size) outcome new = (new ≡ old) × ShowsTruncate start caller stretch name size outcome

@@ -22,7 +22,7 @@ use Rattle.plfs_program.specs.Catting.{WentOn}
 use Rattle.plfs_program.specs.SoundTrees.{TellsSoundTree}
 use Rattle.plfs_program.specs.Ways.{Way, HasBegun, HasLines, IsBrokenOff, by_turns, on_threads}
 use Rattle.plfs_program.specs.Migrating.{HasBegunIt}
-use Rattle.plfs_program.proofs.Plain.{counted_on, plain_on}
+use Rattle.plfs_program.proofs.Plain.{counted_on, orderly_on, plain_on}
 
 -- a mount was made, and its calls led to what is left
 pub was_run : (Calls : State → State → Type 0) (times : Option (List ℕ)) (before after : Stored) (start end : State) → IsMounted 0 times before start → Calls start end → after ≡ end.store → IsRun Calls times before after
@@ -39,6 +39,7 @@ was_played way times before after script lines start end fits mounted play left 
   left = sym left;
   plain = plain_on way times before script lines start end fits mounted play;
   counted = counted_on way times before script lines start end fits mounted play;
+  orderly = orderly_on way times before script lines after start end fits mounted play;
 }
 
 -- the tree that a mount's calls left of a sound one
@@ -79,7 +80,7 @@ all_leave_sound Calls lead times before after failing (ran run) (tree, told, sou
 -- what was begun was made by lawful calls
 broken_leads : (way : Way) (script : Script) (start end : State) → IsBrokenOff way script start end → GoesOn start end
 broken_leads by_turns script start end broken = record { events = broken.history; leads = broken.leads }
-broken_leads on_threads script start end goes_on = goes_on
+broken_leads on_threads script start end begun = record { events = begun.history; leads = begun.leads }
 
 pub begun_leads : (way : Way) (script : Script) (start end : State) → HasBegun way script start end → GoesOn start end
 begun_leads way script start end (inl (lines, has)) = lines_go_on way script start lines end has

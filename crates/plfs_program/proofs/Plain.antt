@@ -15,6 +15,8 @@ use Rattle.play_laws.specs.Undamaged.{AreUndamaged, IsUndamaged}
 use Rattle.play_laws.specs.Counting.{CountWrites}
 use Rattle.play_laws.proofs.Facts.{play_counts, play_shows, play_undamaged, readers_show, right_counts, right_undamaged}
 use Rattle.plfs_program.specs.Outcomes.{has_line, is_damage}
+use Rattle.headline_laws.proofs.Facts.{orderly, play_orderly}
+use Rattle.plfs_program.specs.Seen.{TellsOrderly, seen_run}
 use Rattle.plfs_program.specs.SoundTrees.{TellsSoundTree}
 use Rattle.plfs_program.specs.Ways.{Way, HasLines, ShowsFiles, by_turns, on_threads}
 
@@ -38,6 +40,14 @@ are_counted on_threads script start lines end fits fine clean right = right_coun
 -- they count the lines of writes
 pub counted_on : (way : Way) (times : Option (List ℕ)) (before : Stored) (script : Script) (lines : List Line) (start end : State) → FitsScript script → IsMounted 0 times before start → HasLines way script start lines end → TellsSoundTree before → CountWrites script lines
 counted_on way times before script lines start end fits made play told = are_counted way script start lines end fits (mounted_fine 0 times before start made) (mounted_clean times before start made told) play
+
+-- ---- the lines are orderly
+
+pub orderly_on : (way : Way) (times : Option (List ℕ)) (before : Stored) (script : Script) (lines : List Line) (after : Stored) (start end : State) → FitsScript script → IsMounted 0 times before start → HasLines way script start lines end → TellsOrderly times before script lines after
+orderly_on by_turns times before script lines after start end fits made play told cause tree later is_before is_after =
+    play_orderly (seen_run times before script lines after tree later) start end fits (mounted_fine 0 times before start made) (mounted_clean times before start made told) play cause
+orderly_on on_threads times before script lines after start end fits made right told cause tree later is_before is_after =
+    orderly (seen_run times before script lines after tree later) start end fits (mounted_fine 0 times before start made) (mounted_clean times before start made told) right cause
 
 -- ---- no line is damaged
 

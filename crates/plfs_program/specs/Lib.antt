@@ -1,3 +1,4 @@
+pub mod Seen
 pub mod Calling
 pub mod Cat
 pub mod Catting

@@ -8,8 +8,8 @@ use Rattle.command_line.specs.declared.commands.Command.TheVariants.{Play, Run}
 use Rattle.script_lang.specs.declared.line.Line.{Line}
 use Rattle.script_lang.specs.declared.script.Script.{Script}
 use Rattle.run_core.specs.Breaking.{IsPlayBroken}
-use Rattle.run_core.specs.Leading.{GoesOn}
 use Rattle.run_core.specs.Play.{IsPlay, IsRight}
+use Rattle.thread_runs.specs.Closing.{BeginsToRun}
 use Rattle.play_laws.specs.Readers.{PlayShows, ReadersShow}
 
 -- in the order of the written turns, or each on a thread of its own
@@ -27,10 +27,10 @@ abbrev pub HasLines : Way → Script → State → List Line → State → Type 
 HasLines by_turns script start lines end = IsPlay script start lines end
 HasLines on_threads script start lines end = IsRight script start lines end
 
--- It was broken off, since memory was wanting. By turns the calls are a front of a play's; on threads they are lawful ones.
+-- It was broken off, since memory was wanting. By turns the calls are a front of a play's; on threads each actor makes those of its course as far as it comes.
 abbrev pub IsBrokenOff : Way → Script → State → State → Type 0
 IsBrokenOff by_turns script start end = IsPlayBroken script start end
-IsBrokenOff on_threads script start end = GoesOn start end
+IsBrokenOff on_threads script start end = BeginsToRun script.actors script.phases start end
 
 -- the script was played so to its end, or until it was broken off
 abbrev pub HasBegun : Way → Script → State → State → Type 0

@@ -6,7 +6,7 @@ use std::str;
 use test_lines::Line;
 
 // The acts of the script.
-const ACTS: u64 = 42;
+const ACTS: u64 = 54;
 
 // A writer that stops in a flush, a reader beside it, and its recovery; then another recovery, and what is told of the
 // file. None tells of damage, and of the script any other status may come.
@@ -25,8 +25,11 @@ a sync
 a close
 b ropen f
 b read 0 9
+b refresh
+b read 0 9
 b trunc f 0
 b recover f
+b refresh
 b trunc f 0
 $ recover f: 01 ..
 $ stat f: 01 ..

@@ -38,6 +38,8 @@ mod migrations;
 #[cfg(test)]
 mod playing;
 #[cfg(test)]
+mod refreshes;
+#[cfg(test)]
 mod rows;
 #[cfg(test)]
 mod runs;

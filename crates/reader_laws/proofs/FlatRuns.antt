@@ -39,6 +39,7 @@ use Rattle.gathering.specs.Files.{AreFileReads, ReadsFile}
 use Rattle.gathering.specs.Flats.{IsFlatName, IsNewest}
 use Rattle.gathering.proofs.Facts.{answers_as, any_found, few_covers, found_any, in_a_room, in_tree, its_writers, length_told}
 use Rattle.reader_laws.proofs.FileRuns.{parts_run}
+use Rattle.reader_laws.proofs.FlatBytes.{plain_ends}
 use Rattle.reader_laws.proofs.Histories.{first_of, calls_from}
 use Rattle.reader_laws.proofs.Calling.{asked_all, calls_are, calls_append, given_so, same_ok, number_given}
 
@@ -185,7 +186,7 @@ flat_run caller room id start end events flat is seen runs =
     let m : Moment = call.before in
     let t = length_told m call.sound caller room path size next.state (answers_as m.state caller e.ask _ e.reply _ next.state asks reply refl call.answers) in
     let then_ : List ℕ → Tries Flat = λ bytes. done (flat_or_damage id (flat_told bytes)) in
-    let two = runs_in_two caller (bytes_left room path size size []) (on_ok then_) f.later (Ok flat) g.2 in
+    let two = runs_in_two caller (bytes_left room path size size []) (on_ok then_) f.later (Ok flat) (plain_ends room id size (made_by caller f.later) flat g.2) in
     let v = part_so then_ two.value (made_by caller two.rest) flat two.then_runs in
     let content : List ℕ = v.0 in
     let none : calls_of caller two.rest ≡ [] = calls_are caller two.rest ∙ ap asked_all v.2.0 in

@@ -19,6 +19,7 @@ mod Troubles
 mod LogReads
 mod Alike
 mod FileRuns
+mod FlatBytes
 mod FlatRuns
 mod PackFacts
 mod PackRuns

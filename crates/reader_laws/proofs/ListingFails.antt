@@ -68,6 +68,7 @@ use Rattle.reader_laws.specs.Opening.{Lists}
 use Rattle.reader_laws.proofs.Calling.{calls_are}
 use Rattle.reader_laws.proofs.Failing.{here_fails, later_fails, same_trouble}
 use Rattle.reader_laws.proofs.FileRuns.{HasBytes, parts_run}
+use Rattle.reader_laws.proofs.FlatBytes.{plain_bytes, plain_fails}
 use Rattle.reader_laws.proofs.FlatRuns.{HasFlat, flat_run, newest_named, spells_there}
 use Rattle.reader_laws.proofs.HadItems.{had_item}
 use Rattle.reader_laws.proofs.Histories.{first_of}
@@ -105,7 +106,10 @@ module _ (caller room id : ℕ) (is : IsItem (item.Flat id)) where
   bytes_fail : (bytes : List ℕ) (m : Moment) (events : List Event) (why : Stuck) → IsSoundAt m → IsContainerAt m room → file_then m room path_ ≡ Some bytes → IsLawful m.state events → Runs caller (flat_bytes room id (length bytes)) events (Err why) → FailsByStore caller m.state events why
   bytes_fail bytes m events why s container there lawful runs =
       let size : ℕ = length bytes in
-      let two = runs_in_two caller (bytes_left room path_ size size []) (on_ok then_) events (Err why) runs in
+      let r = spells_there m s room id bytes is there in
+      let plain : Runs caller (plain_bytes room id size) events (Err why) = plain_fails caller room id is bytes r.0 r.2 why m (moment_after m events) (made_by caller events) there
+      (subst (λ a. IsSeen caller m a (moment_after m events)) (calls_are caller events) (seen caller m events lawful s)) runs in
+      let two = runs_in_two caller (bytes_left room path_ size size []) (on_ok then_) events (Err why) plain in
       let both : IsLawful m.state (two.first ++ two.rest) = subst (IsLawful m.state) two.all lawful in
       subst (λ es. FailsByStore caller m.state es why) (sym two.all) (by_value two.value two.first two.rest both two.runs two.then_runs)
     where

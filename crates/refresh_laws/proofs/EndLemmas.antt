@@ -50,7 +50,7 @@ runs_more {R} n p events more out none runs =
 first_of_one : (j : ℕ) → (j % 1 == 0) ≡ true
 first_of_one j = grind (arith, nat_tests)
 
-one_deal : (j : ℕ) (ds : List Listed) → dealt_to 1 0 j ds ≡ ds
+pub one_deal : (j : ℕ) (ds : List Listed) → dealt_to 1 0 j ds ≡ ds
 one_deal j [] = refl
 one_deal j (d ∷ ds) = ap (λ b. its_own b d ++ dealt_to 1 0 (j + 1) ds) (first_of_one j) ∙ ap (λ l. d ∷ l) (one_deal (j + 1) ds)
 

@@ -5,4 +5,5 @@ mod TroubleLemmas
 mod StayLemmas
 mod MadeLemmas
 mod EndLemmas
-mod WholeLemmas
+pub mod WholeLemmas
+mod PastLemmas

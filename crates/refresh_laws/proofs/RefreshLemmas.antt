@@ -272,6 +272,7 @@ refreshed_in caller start end held former between events listing share truncs ne
     let legal_to : IsLawful end.state to_last = legal_first end to_last (last_.listing ∷ last_.later) (subst (IsLawful end.state) (ap (λ l. between ++ l) (whole ∙ sym (append_assoc b.before (b.first ∷ b.more) (last_.listing ∷ last_.later))) ∙ sym (append_assoc between (b.before ++ (b.first ∷ b.more)) (last_.listing ∷ last_.later))) lawful_all) in
     let later = later_truncates start end to_last room former held.truncs truncs legal_to sound_end has.view (subst (λ m. AreTruncsAt m room truncs) (sym at_last) stood) in
     record {
+      room = is.room;
       opened = record {
         before = b.before;
         first = b.first;

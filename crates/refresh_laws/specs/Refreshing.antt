@@ -55,9 +55,10 @@ pub record IsRefreshOf (held : OpenReader) (listing : Listing) (share : Share) (
 abbrev pub IsNotBelow : List Gathered → List Gathered → Type 0
 IsNotBelow former cut = All (λ (g : Gathered). Any (λ (h : Gathered). (h.dropping ≡ g.dropping) × (g.count ≤ h.count)) cut) former
 
--- In these events the caller refreshed the reader: what it then has is what a reader has that is opened in these events; its
--- cut is not below the former one, and its truncates are the former ones and such as came later.
+-- In these events the caller refreshed the reader: what it then has is what a reader of the same room has that is opened in these
+-- events; its cut is not below the former one, and its truncates are the former ones and such as came later.
 pub record HasRefreshedIn (caller : ℕ) (start : Moment) (events : List Event) (former : List Gathered) (held new : OpenReader) : Type 0 where
+  pub room : new.room ≡ held.room
   pub opened : HasOpenedIn caller start events new
   pub above : IsNotBelow former opened.cut
   pub more : List Trunc

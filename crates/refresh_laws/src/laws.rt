@@ -2,6 +2,7 @@
 ghost use Rattle.std.specs.Prelude.{◌≡◌, ◌++◌, ℕ, List, Ok, Err};
 ghost use Rattle.plfs_types.specs.declared.entries.Trunc.{Trunc};
 ghost use Rattle.plain_file.specs.declared.parts.ReaderParts.{ReaderParts};
+ghost use Rattle.story.specs.Program.{AsksOnly};
 ghost use Rattle.mount_model.specs.History.{Event, state_after};
 ghost use Rattle.mount_sound.specs.Owed.{IsLawful};
 ghost use Rattle.flow.specs.declared.stuck.Stuck.{Stuck};
@@ -19,11 +20,12 @@ ghost use Rattle.reader_laws.specs.Failing.{FailsByStore, IsContainerAt};
 ghost use Rattle.reader_laws.specs.Opened.{HasOpenReader};
 ghost use Rattle.refresh_index.specs.declared.refreshing.RefreshOut.{RefreshOut};
 ghost use Rattle.refresh_index.specs.Refreshing.{all_unpacked, refresh_program};
+ghost use Rattle.refresh_laws.specs.Past.{BeginsPast};
 ghost use Rattle.refresh_laws.specs.Refreshing.{HaveSameCounts, RefreshesAlone, IsRefreshOf, HasRefreshedIn, RefreshEnds};
 
-/// A law: who has an open reader and later runs the programs of a refresh, and all end well, has what a reader has that was
-/// opened in these events, whatever others call: a cut that lies between the caller's first call and its listing of truncates
-/// and is not below the former one, with the truncates of then.
+/// A law: who has an open reader and later runs the programs of a refresh, and all end well, has what a reader of the same room has
+/// that was opened in these events, whatever others call: a cut that lies between the caller's first call and its listing of
+/// truncates and is not below the former one, with the truncates of then.
 pub fn a_reader_refreshes()
     ensures { (caller : ℕ) (start end : Moment) (held : OpenReader) (former : List Gathered) (between events : List Event) (listing : Listing) (share : Share) (truncs : List Trunc) (new : OpenReader)
         → IsLawful end.state (between ++ events) → IsSoundAt end → HasOpenReader start end held former
@@ -59,4 +61,10 @@ pub fn a_refresh_fails_by_store()
         → Runs caller (share_program held.room (all_unpacked listing.droppings) held.covers) reading (Err why) → FailsByStore caller (state_after m.state scanning) reading why }
     ensures truncates { (caller room : ℕ) (m : Moment) (events : List Event) (why : Stuck)
         → IsLawful m.state events → IsSoundAt m → IsContainerAt m room → Runs caller (trunc_program room) events (Err why) → FailsByStore caller m.state events why }
+{}
+
+/// A law: a refresh only looks. Each Read of it is of a writer's index dropping, and begins behind the entries that are held of
+/// that writer.
+pub fn a_refresh_reads_tails()
+    ensures { (held : ReaderParts) → AsksOnly (BeginsPast held) (refresh_program held) }
 {}

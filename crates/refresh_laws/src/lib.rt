@@ -8,6 +8,6 @@
 mod laws;
 
 pub use laws::{
-    a_reader_refreshes, a_refresh_fails_by_store, a_refresh_is_an_opening,
+    a_reader_refreshes, a_refresh_fails_by_store, a_refresh_is_an_opening, a_refresh_reads_tails,
     a_refreshed_reader_is_an_opened_one,
 };

@@ -14,7 +14,7 @@ use Rattle.mount_model.specs.History.{Event, state_after}
 use Rattle.mount_model.specs.Mounting.{IsMounted}
 use Rattle.mount_model.proofs.Facts.{step_causes}
 use Rattle.mount_sound.specs.Owed.{IsLawful}
-use Rattle.share_workers.specs.Passes.{HadMemory}
+use Rattle.mount_core.specs.Memory.{HadMemory}
 use Rattle.run_core.specs.Written.{is_greeting, written_of}
 use Rattle.run_core.specs.Cast.{cast}
 use Rattle.run_core.specs.Play.{IsPlay}

@@ -9,7 +9,7 @@ use Rattle.mount_model.proofs.Facts.{step_causes, step_fits}
 use Rattle.mount_sound.specs.Owed.{IsLawful}
 use Rattle.script_lang.specs.declared.line.Line.{Line}
 use Rattle.script_lang.specs.declared.script.Script.{Script}
-use Rattle.share_workers.specs.Passes.{HadMemory}
+use Rattle.mount_core.specs.Memory.{HadMemory}
 use Rattle.run_core.specs.Faults.{TellsFault, HasFault}
 use Rattle.run_core.specs.Play.{IsPlay}
 use Rattle.run_core.specs.Conditions.{IsPlayable}

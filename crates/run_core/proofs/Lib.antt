@@ -14,6 +14,7 @@ mod GoodLines
 mod Leading
 mod Looking
 mod OpeningLooks
+mod RefreshLooks
 mod Phases
 mod ReaderLooks
 mod Rightness

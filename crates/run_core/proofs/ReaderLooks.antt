@@ -29,11 +29,11 @@ use Rattle.index_reader.specs.declared.sharing.Sofar.{Sofar}
 use Rattle.index_reader.specs.Replies.{number_in, log_length_in}
 use Rattle.index_reader.specs.Covered.{cover_of}
 use Rattle.index_reader.specs.Entries.{longer, checked}
-use Rattle.index_reader.specs.FileReads.{next_part, parts, parts_of, bytes_left}
-use Rattle.index_reader.specs.FlatRules.{flat_told}
+use Rattle.index_reader.specs.FileReads.{first_rest, next_part, parts, parts_of, bytes_left}
+use Rattle.index_reader.specs.FlatRules.{flat_fault, flat_told}
 use Rattle.index_reader.specs.Items.{flat_item, hostdir_item}
 use Rattle.index_reader.specs.Newest.{flats_path, greater_id, if_flat, newest_in}
-use Rattle.index_reader.specs.Opening.{flat_or_damage, flat_program, if_newest, listed, listing_of, lone_pack, no_flat, open_at_program, open_read_program, scans, top_program, uncovered, unless_lone, unless_uncovered}
+use Rattle.index_reader.specs.Opening.{flat_first, flat_or_damage, flat_program, flat_rest, if_newest, listed, listing_of, lone_pack, no_flat, open_at_program, open_read_program, scans, top_program, uncovered, unless_lone, unless_uncovered, unless_unfit}
 use Rattle.index_reader.specs.PackRules.{pack_told}
 use Rattle.index_reader.specs.Packs.{begins_covered, head_fault, head_then, if_headed, no_tail, pack_program, pack_rest, pack_tail, packed_path, run_place, tail_past, writer_of}
 use Rattle.index_reader.specs.Reading.{placed_all, ends_at, spells, read_program}
@@ -62,9 +62,23 @@ flat_fine : (id : ℕ) (result : Result Flat ℕ) → IsFine (flat_or_damage id 
 flat_fine id (Ok flat) = refl
 flat_fine id (Err place) = refl
 
+rest_looks : (room id told : ℕ) (first : List ℕ) (well : Type 0) → Looks well (flat_rest room id told first)
+rest_looks room id told first well =
+    then_looks well (first_rest room (flat_path id) told first) (λ bytes. done (flat_or_damage id (flat_told bytes)))
+    (either_looks well (nat_le (next_part told) (length first)) (bytes_left room (flat_path id) told (told - next_part told) first) (done (Ok first)) (parts_look (parts_of (told - next_part told)) room (flat_path id) told (told - next_part told) first well) (λ w. refl))
+    (λ later bytes w. flat_fine id (flat_told bytes))
+
+fit_looks : (id : ℕ) (fault : Option ℕ) (next : Tries Flat) (well : Type 0) → Looks well next → Looks well (unless_unfit id fault next)
+fit_looks id None next well goes = goes
+fit_looks id (Some place) next well goes = λ w. refl
+
+first_looks : (room id told : ℕ) (well : Type 0) → Looks well (flat_first room id told)
+first_looks room id told well = look_looks well room (Read (flat_path id) 0 (next_part told)) bytes_in (flat_path id) _
+    (λ more first. fit_looks id (flat_fault told first) (flat_rest room id told first) more (rest_looks room id told first more))
+
 flat_looks : (room id : ℕ) (well : Type 0) → Looks well (flat_program room id)
 flat_looks room id well = look_looks well room (Length (flat_path id)) number_in (flat_path id) _
-    (λ more told. bytes_look room (flat_path id) told told [] (λ bytes. done (flat_or_damage id (flat_told bytes))) more (λ later bytes w. flat_fine id (flat_told bytes)))
+    (λ more told. either_looks more (told == 0) (done (Err (damage (flat_path id) 0))) (flat_first room id told) (λ w. refl) (first_looks room id told more))
 
 foreign_fine : {X : Type 0} (folder : Name) (found : Option Name) (next : Result X Stuck) → IsFine next → IsFine (unless_foreign folder found next)
 foreign_fine folder None next fine = fine

@@ -41,7 +41,7 @@ use Rattle.script_lang.specs.declared.line.Outcome.TheVariants as of
 use Rattle.script_lang.specs.declared.line.Why.TheVariants.{NotOpen}
 use Rattle.script_lang.specs.declared.script.Data.{Data}
 use Rattle.script_lang.specs.declared.script.Statement.{Statement}
-use Rattle.script_lang.specs.declared.script.Statement.TheVariants.{Open, Write, Sync, Close, Ropen, Read, Verify, Map, Rclose, Stat, Flatten, Recover, Trunc as Truncs, Rename, Ls, Stop as Arms}
+use Rattle.script_lang.specs.declared.script.Statement.TheVariants.{Open, Write, Sync, Close, Ropen, Read, Verify, Map, Refresh, Rclose, Stat, Flatten, Recover, Trunc as Truncs, Rename, Ls, Stop as Arms}
 use Rattle.actor_core.specs.declared.kept.Kept.{Kept}
 use Rattle.actor_core.specs.declared.kept.Stop.{Stop}
 use Rattle.outcomes.specs.Data.{bytes_of, length_of, first_difference}
@@ -50,8 +50,13 @@ use Rattle.outcomes.specs.Counts.{counts_of}
 use Rattle.outcomes.specs.Outcomes.{stuck_outcome, or_stuck, difference}
 use Rattle.actor_core.specs.Names.{names_program}
 use Rattle.actor_core.specs.Telling.{if_asked, if_relisted, tells_by, tells_of_file}
-use Rattle.actor_core.specs.Opened.{opens as opens_after, reader_opened}
-use Rattle.actor_core.specs.Readers.{opens_reader, if_listed, reads, verifies, maps, closes_reader}
+use Rattle.actor_core.specs.Opened.{opens as opens_after, reader_opened, reader_refreshed, without_reader}
+use Rattle.plain_file.specs.declared.parts.ReaderParts.{ReaderParts}
+use Rattle.index_reader.specs.Opened.{parts_of}
+use Rattle.refresh_index.specs.declared.refreshing.RefreshOut.{RefreshOut}
+use Rattle.refresh_index.specs.Refreshing.{refresh_program}
+use Rattle.run_core.proofs.RefreshLooks.{OutLooks, refresh_look}
+use Rattle.actor_core.specs.Readers.{opens_reader, if_listed, reads, verifies, maps, closes_reader, refreshes}
 use Rattle.gather_flow.specs.Workers.{all_of, and_share}
 use Rattle.gather_flow.specs.Shares.{programs_from, worker_program, by_itself}
 use Rattle.actor_core.specs.Statements.{does, greeted, greeted_work, disarmed, work_of}
@@ -110,6 +115,14 @@ looked_caused well (ask call k) stop next halted sofar looks goes stops = λ rep
     either_caused (is_due stop) halted (carried (k reply) (one_nearer stop) next halted) (λ _. stops) (λ later.
     let answered : IsAnswered call reply = record { fits = fits_unbroken call stop reply later is.2; has_memory = is.1; is_good = is.0 } in
     looked_caused (well × IsAnswered call reply) (k reply) (one_nearer stop) next halted (sofar, answered) (looks reply) goes stops)
+
+-- the same of a refresh
+looked_out_caused : (well : Type 0) (p : Program Call Reply RefreshOut) (stop : Option Stop) (next : Option Stop → RefreshOut → Work) (halted : Work) → well → OutLooks well p → ((left : Option Stop) (out : RefreshOut) → is_no_fault out.result ≡ true → IsCaused (next left out)) → IsCaused halted → IsCaused (carried p stop next halted)
+looked_out_caused well (done out) stop next halted sofar looks goes stops = goes stop out (looks sofar)
+looked_out_caused well (ask call k) stop next halted sofar looks goes stops = λ reply is.
+    either_caused (is_due stop) halted (carried (k reply) (one_nearer stop) next halted) (λ _. stops) (λ later.
+    let answered : IsAnswered call reply = record { fits = fits_unbroken call stop reply later is.2; has_memory = is.1; is_good = is.0 } in
+    looked_out_caused (well × IsAnswered call reply) (k reply) (one_nearer stop) next halted (sofar, answered) (looks reply) goes stops)
 
 -- ---- what lines say
 
@@ -239,6 +252,16 @@ maps_caused : (kept : Kept) (reader : Option OpenReader) → IsCaused (maps kept
 maps_caused kept None = refused_none kept
 maps_caused kept (Some reader) = λ is. absurd (cc)
 
+refreshed_caused : (kept : Kept) (parts : ReaderParts) (result : Result (Unit {0}) Stuck) → is_no_fault result ≡ true → IsCaused (finishes (reader_refreshed kept (record { parts = parts; result = result })))
+refreshed_caused kept parts (Ok _) fine = λ is. absurd (cc)
+refreshed_caused kept parts (Err why) fine = stuck_is_none (Unit {0}) why fine
+
+refreshes_caused : (kept : Kept) (stop : Option Stop) (reader : Option OpenReader) → IsCaused (refreshes kept stop reader)
+refreshes_caused kept stop None = refused_none kept
+refreshes_caused kept stop (Some reader) =
+    looked_out_caused ⊤ (refresh_program (parts_of reader)) stop (λ left out. finishes (reader_refreshed (without_reader kept) out)) (finishes (stopped (without_reader kept))) tt (refresh_look (parts_of reader) ⊤)
+    (λ left out fine. refreshed_caused (without_reader kept) out.parts out.result fine) (stops_none (without_reader kept))
+
 closes_reader_caused : (kept : Kept) (reader : Option OpenReader) → IsCaused (closes_reader kept reader)
 closes_reader_caused kept None = refused_none kept
 closes_reader_caused kept (Some reader) = λ is. absurd (cc)
@@ -302,6 +325,7 @@ does_caused kept stop (Ropen name workers) = opens_reader_caused kept stop name 
 does_caused kept stop (Read at len) = reads_caused kept stop at len kept.reader
 does_caused kept stop (Verify at content) = verifies_caused kept stop at content kept.reader
 does_caused kept stop Map = maps_caused kept kept.reader
+does_caused kept stop Refresh = refreshes_caused kept stop kept.reader
 does_caused kept stop Rclose = closes_reader_caused kept kept.reader
 does_caused kept stop (Arms call bytes) = λ is. absurd (cc)
 does_caused kept stop (Stat name) = tells_caused kept stop name

@@ -40,7 +40,7 @@ use Rattle.script_lang.specs.declared.line.Why.TheVariants.{NotOpen}
 use Rattle.script_lang.specs.declared.script.Data.{Data}
 use Rattle.script_lang.specs.declared.script.Script.{Script}
 use Rattle.script_lang.specs.declared.script.Statement.{Statement}
-use Rattle.script_lang.specs.declared.script.Statement.TheVariants.{Open, Write, Sync, Close, Ropen, Read, Verify, Map, Rclose, Stat, Flatten, Recover, Trunc as Truncs, Rename, Ls, Stop as Arms}
+use Rattle.script_lang.specs.declared.script.Statement.TheVariants.{Open, Write, Sync, Close, Ropen, Read, Verify, Map, Refresh, Rclose, Stat, Flatten, Recover, Trunc as Truncs, Rename, Ls, Stop as Arms}
 use Rattle.actor_core.specs.declared.kept.Kept.{Kept}
 use Rattle.actor_core.specs.declared.kept.Stop.{Stop}
 use Rattle.outcomes.specs.Data.{bytes_of, length_of, first_difference}
@@ -49,8 +49,11 @@ use Rattle.outcomes.specs.Counts.{counts_of}
 use Rattle.outcomes.specs.Outcomes.{stuck_outcome, or_stuck, difference}
 use Rattle.actor_core.specs.Names.{names_program, names_told}
 use Rattle.actor_core.specs.Telling.{if_asked, if_relisted, tells_by, tells_of_file}
-use Rattle.actor_core.specs.Opened.{opens as opens_after, reader_opened}
-use Rattle.actor_core.specs.Readers.{opens_reader, if_listed, reads, verifies, maps, closes_reader}
+use Rattle.actor_core.specs.Opened.{opens as opens_after, reader_opened, reader_refreshed, without_reader}
+use Rattle.index_reader.specs.Opened.{parts_of}
+use Rattle.plain_file.specs.declared.parts.ReaderParts.{ReaderParts}
+use Rattle.refresh_index.specs.Refreshing.{refresh_program}
+use Rattle.actor_core.specs.Readers.{opens_reader, if_listed, reads, verifies, maps, closes_reader, refreshes}
 use Rattle.gather_flow.specs.Shares.{programs_from, by_itself}
 use Rattle.gather_flow.specs.Workers.{all_of}
 use Rattle.actor_core.specs.Statements.{does, greeted, greeted_work, disarmed, work_of}
@@ -146,6 +149,14 @@ maps_text : (kept : Kept) (reader : Option OpenReader) → HasText (maps kept re
 maps_text kept None = tt
 maps_text kept (Some reader) = tt
 
+refreshed_text : (kept : Kept) (parts : ReaderParts) (result : Result (Unit {0}) Stuck) → HasText (finishes (reader_refreshed kept (record { parts = parts; result = result })))
+refreshed_text kept parts (Ok _) = tt
+refreshed_text kept parts (Err why) = stuck_text why
+
+refreshes_text : (kept : Kept) (stop : Option Stop) (reader : Option OpenReader) → HasText (refreshes kept stop reader)
+refreshes_text kept stop None = tt
+refreshes_text kept stop (Some reader) = carried_text (refresh_program (parts_of reader)) stop (λ left out. finishes (reader_refreshed (without_reader kept) out)) (finishes (stopped (without_reader kept))) (λ left out. refreshed_text (without_reader kept) out.parts out.result) tt
+
 closes_reader_text : (kept : Kept) (reader : Option OpenReader) → HasText (closes_reader kept reader)
 closes_reader_text kept None = tt
 closes_reader_text kept (Some reader) = tt
@@ -213,6 +224,7 @@ does_text kept stop (Ropen name workers) = opens_reader_text kept stop name work
 does_text kept stop (Read at len) = reads_text kept stop at len kept.reader
 does_text kept stop (Verify at content) = verifies_text kept stop at content kept.reader
 does_text kept stop Map = maps_text kept kept.reader
+does_text kept stop Refresh = refreshes_text kept stop kept.reader
 does_text kept stop Rclose = closes_reader_text kept kept.reader
 does_text kept stop (Arms call bytes) = tt
 does_text kept stop (Stat name) = tells_text kept stop name

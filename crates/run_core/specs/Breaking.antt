@@ -10,7 +10,7 @@ use Rattle.mount_model.specs.State.{State}
 use Rattle.mount_model.specs.History.{Event}
 use Rattle.script_lang.specs.declared.line.Line.{Line}
 use Rattle.script_lang.specs.declared.script.Script.{Script}
-use Rattle.share_workers.specs.Passes.{HadMemoryBeforeLast}
+use Rattle.mount_core.specs.Memory.{HadMemoryBeforeLast}
 use Rattle.run_core.specs.Cast.{cast}
 use Rattle.run_core.specs.Leading.{Leads}
 use Rattle.run_core.specs.Written.{is_greeting, written_of}

@@ -10,7 +10,7 @@ use Rattle.script_lang.specs.declared.script.Numbered.{Numbered}
 use Rattle.script_lang.specs.declared.script.Phase.{Phase}
 use Rattle.actor_core.specs.declared.kept.Kept.{Kept}
 use Rattle.actor_core.specs.Statements.{work_of}
-use Rattle.share_workers.specs.Passes.{HadMemoryBeforeLast}
+use Rattle.mount_core.specs.Memory.{HadMemoryBeforeLast}
 use Rattle.run_core.specs.declared.player.Player.{Player}
 use Rattle.run_core.specs.Course.{Course, then_line}
 use Rattle.run_core.specs.Written.{is_greeting, written_of}

@@ -6,7 +6,7 @@ use Rattle.mount_model.specs.declared.reply.Reply.{Reply}
 use Rattle.mount_model.specs.State.{State}
 use Rattle.mount_model.specs.History.{Event, state_after}
 use Rattle.mount_sound.specs.Owed.{IsLawful}
-pub use Rattle.share_workers.specs.Passes.{HadMemory}
+pub use Rattle.mount_core.specs.Memory.{HadMemory}
 
 -- these calls were made in this order, of each the caller owed no more than it met, and they lead from one state to the other
 pub record Leads (old : State) (events : List Event) (new : State) : Type 0 where

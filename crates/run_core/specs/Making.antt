@@ -17,7 +17,7 @@ use Rattle.actor_core.specs.Standings.{progress_of}
 use Rattle.actor_core.specs.Statements.{work_of}
 use Rattle.run_core.specs.Course.{Course, then_line, one_by_one}
 use Rattle.run_core.specs.Leading.{Leads}
-use Rattle.share_workers.specs.Passes.{HadMemory}
+use Rattle.mount_core.specs.Memory.{HadMemory}
 use Rattle.run_core.specs.Written.{whose}
 use Rattle.run_core.specs.declared.lone_reader.LoneReader.{LoneReader}
 

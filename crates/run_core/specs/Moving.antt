@@ -13,7 +13,7 @@ use Rattle.run_core.specs.declared.player.Player.{Player}
 use Rattle.run_core.specs.Course.{Course}
 use Rattle.run_core.specs.Written.{is_greeting}
 use Rattle.run_core.specs.Leading.{AreBy, Leads}
-use Rattle.share_workers.specs.Passes.{HadMemory}
+use Rattle.mount_core.specs.Memory.{HadMemory}
 use Rattle.run_core.specs.Players.{course_left, IsFit, lines_left}
 
 -- within a turn it comes so far: what a turn does from there on, with these calls and lines before it, a turn does from the first

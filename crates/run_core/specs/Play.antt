@@ -10,7 +10,7 @@ use Rattle.story.specs.InTurns.{InTurns}
 use Rattle.run_core.specs.Written.{is_greeting, whose, written_of}
 use Rattle.run_core.specs.Cast.{cast, statements_in}
 use Rattle.run_core.specs.Leading.{Leads}
-use Rattle.share_workers.specs.Passes.{HadMemory}
+use Rattle.mount_core.specs.Memory.{HadMemory}
 
 -- A play: the script's actors make their calls in the order of the written turns, which leads from one state of the mount to the other, and these are the
 -- lines of the statements as they are written.

@@ -13,7 +13,7 @@ use Rattle.actor_core.specs.Progress.{Progress, going}
 use Rattle.actor_core.specs.Standings.{progress_of}
 use Rattle.run_core.specs.Course.{Course, then_line}
 use Rattle.run_core.specs.Leading.{Leads}
-use Rattle.share_workers.specs.Passes.{HadMemory}
+use Rattle.mount_core.specs.Memory.{HadMemory}
 use Rattle.run_core.specs.declared.lone_reader.LoneReader.{LoneReader}
 use Rattle.run_core.specs.Making.{Keeps}
 use Rattle.run_core.specs.Broken.{BreaksOff}

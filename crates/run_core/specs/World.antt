@@ -12,7 +12,7 @@ use Rattle.run_core.specs.declared.player.Player.{Player}
 use Rattle.run_core.specs.Written.{is_greeting, written_of}
 use Rattle.run_core.specs.Leading.{Leads}
 use Rattle.run_core.specs.Breaking.{BreakInOrder}
-use Rattle.share_workers.specs.Passes.{HadMemory}
+use Rattle.mount_core.specs.Memory.{HadMemory}
 use Rattle.script_lang.specs.declared.script.ActorDecl.{ActorDecl}
 use Rattle.run_core.specs.Cast.{cast_from}
 use Rattle.run_core.specs.Course.{own}

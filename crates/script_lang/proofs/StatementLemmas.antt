@@ -75,6 +75,7 @@ first_fault verb.Ropen arguments low high full = ropen_fault arguments low high 
 first_fault verb.Read arguments low high full = let two = two_left arguments low high in rw two.2 (after_two (number_within 0 (2 ^ 64 - 1) two.0) (number_within 0 (2 ^ 24) two.1) (λ at len. statement.Read at len))
 first_fault verb.Verify arguments low high full = let two = two_left arguments low high in rw two.2 (after_two (number_within 0 (2 ^ 64 - 1) two.0) (data_in two.1) (λ at written. statement.Verify at written))
 first_fault verb.Map arguments low high full = refl
+first_fault verb.Refresh arguments low high full = refl
 first_fault verb.Rclose arguments low high full = refl
 first_fault verb.Stat arguments low high full = let one = one_left arguments low high in rw one.1 (after_one (file_name one.0) (λ name. statement.Stat name))
 first_fault verb.Flatten arguments low high full = let one = one_left arguments low high in rw one.1 (after_one (file_name one.0) (λ name. statement.Flatten name))
@@ -155,6 +156,7 @@ spells verb.Verify arguments made low high full is =
     let written = data_found read.1 read.3 read.6 in
     rw (← read.7) (at.3, written.0, read.4 ∙ both_words (codes "verify") at.0 written.1)
 spells verb.Map arguments made low high full is = let read = bare (codes "map") statement.Map made arguments high is in rw (← read.0) read.1
+spells verb.Refresh arguments made low high full is = let read = bare (codes "refresh") statement.Refresh made arguments high is in rw (← read.0) read.1
 spells verb.Rclose arguments made low high full is = let read = bare (codes "rclose") statement.Rclose made arguments high is in rw (← read.0) read.1
 spells verb.Stat arguments made low high full is = let read = name_read (codes "stat") (λ name. statement.Stat name) arguments made low high is in rw (← read.1) (read.2, read.3)
 spells verb.Flatten arguments made low high full is = let read = name_read (codes "flatten") (λ name. statement.Flatten name) arguments made low high is in rw (← read.1) (read.2, read.3)
@@ -207,6 +209,7 @@ read_of (statement.Ropen name workers) words (rule, low, high, inr (is, one)) = 
 read_of (statement.Read at len) words (small, short, is) = record { does = verb.Read; arguments = decimal at ∷ decimal len ∷ []; split = is; counts = refl; reads_so = rw (small_again at small, limited_again 0 (2 ^ 24) len (omega arith) (omega arith) short) refl }
 read_of (statement.Verify at written) words (small, fits, is) = record { does = verb.Verify; arguments = decimal at ∷ data_word written ∷ []; split = is; counts = refl; reads_so = rw (small_again at small, data_again written fits) refl }
 read_of statement.Map words is = record { does = verb.Map; arguments = []; split = is; counts = refl; reads_so = refl }
+read_of statement.Refresh words is = record { does = verb.Refresh; arguments = []; split = is; counts = refl; reads_so = refl }
 read_of statement.Rclose words is = record { does = verb.Rclose; arguments = []; split = is; counts = refl; reads_so = refl }
 read_of (statement.Stat name) words (rule, is) = record { does = verb.Stat; arguments = name ∷ []; split = is; counts = refl; reads_so = rw (name_again name rule) refl }
 read_of (statement.Flatten name) words (rule, is) = record { does = verb.Flatten; arguments = name ∷ []; split = is; counts = refl; reads_so = rw (name_again name rule) refl }

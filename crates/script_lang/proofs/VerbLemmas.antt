@@ -5,7 +5,7 @@ use Rattle.std.specs.List.{AllByRecursion}
 use Rattle.std.proofs.lemmas.Bool.Decides.{nat_tests}
 use Rattle.script_lang.specs.declared.verb.Verb.{Verb}
 use Rattle.script_lang.specs.declared.verb.Verb.TheVariants as verb
-use Rattle.script_lang.specs.Forms.{Rule, number, file, content, place, Form, opens, writes, syncs, closes, ropens, reads, verifies, maps, rcloses, stats, flattens, recovers, truncates, renames, lists, stops}
+use Rattle.script_lang.specs.Forms.{Rule, number, file, content, place, Form, opens, writes, syncs, closes, ropens, reads, verifies, maps, refreshes, rcloses, stats, flattens, recovers, truncates, renames, lists, stops}
 use Rattle.script_lang.specs.Names.{is_word}
 use Rattle.script_lang.specs.Verbs.{writer_verb, reader_verb, asking_verb, or_else, verb_of, most_words, least_words, has_words}
 use Rattle.script_lang.proofs.RuleLemmas.{IsSmall}
@@ -22,6 +22,7 @@ word_of verb.Ropen = codes "ropen"
 word_of verb.Read = codes "read"
 word_of verb.Verify = codes "verify"
 word_of verb.Map = codes "map"
+word_of verb.Refresh = codes "refresh"
 word_of verb.Rclose = codes "rclose"
 word_of verb.Stat = codes "stat"
 word_of verb.Flatten = codes "flatten"
@@ -40,6 +41,7 @@ rules_of verb.Ropen = file ∷ number 1 16 ∷ []
 rules_of verb.Read = place ∷ number 0 (2 ^ 24) ∷ []
 rules_of verb.Verify = place ∷ content ∷ []
 rules_of verb.Map = []
+rules_of verb.Refresh = []
 rules_of verb.Rclose = []
 rules_of verb.Stat = file ∷ []
 rules_of verb.Flatten = file ∷ []
@@ -62,6 +64,7 @@ small_rules verb.Ropen = (tt, (omega arith, tt))
 small_rules verb.Read = (omega arith, (omega arith, tt))
 small_rules verb.Verify = (omega arith, (tt, tt))
 small_rules verb.Map = tt
+small_rules verb.Refresh = tt
 small_rules verb.Rclose = tt
 small_rules verb.Stat = (tt, tt)
 small_rules verb.Flatten = (tt, tt)
@@ -80,6 +83,7 @@ form_of verb.Ropen = ropens
 form_of verb.Read = reads
 form_of verb.Verify = verifies
 form_of verb.Map = maps
+form_of verb.Refresh = refreshes
 form_of verb.Rclose = rcloses
 form_of verb.Stat = stats
 form_of verb.Flatten = flattens
@@ -98,6 +102,7 @@ form_verb word rules least ropens = (verb.Ropen, refl, refl, refl)
 form_verb word rules least reads = (verb.Read, refl, refl, refl)
 form_verb word rules least verifies = (verb.Verify, refl, refl, refl)
 form_verb word rules least maps = (verb.Map, refl, refl, refl)
+form_verb word rules least refreshes = (verb.Refresh, refl, refl, refl)
 form_verb word rules least rcloses = (verb.Rclose, refl, refl, refl)
 form_verb word rules least stats = (verb.Stat, refl, refl, refl)
 form_verb word rules least flattens = (verb.Flatten, refl, refl, refl)
@@ -116,6 +121,7 @@ verb_known verb.Ropen = refl
 verb_known verb.Read = refl
 verb_known verb.Verify = refl
 verb_known verb.Map = refl
+verb_known verb.Refresh = refl
 verb_known verb.Rclose = refl
 verb_known verb.Stat = refl
 verb_known verb.Flatten = refl
@@ -139,7 +145,7 @@ either word w None b left right is = right is
 pub verb_word : (word : List ℕ) (w : Verb) → verb_of word ≡ Some w → word ≡ word_of w
 verb_word word w =
     either word w (writer_verb word) _ (step word verb.Open w _ (step word verb.Write w _ (step word verb.Sync w _ (step word verb.Close w None (λ none. cc)))))
-    (either word w (reader_verb word) _ (step word verb.Ropen w _ (step word verb.Read w _ (step word verb.Verify w _ (step word verb.Map w _ (step word verb.Rclose w None (λ none. cc))))))
+    (either word w (reader_verb word) _ (step word verb.Ropen w _ (step word verb.Read w _ (step word verb.Verify w _ (step word verb.Map w _ (step word verb.Refresh w _ (step word verb.Rclose w None (λ none. cc)))))))
     (either word w (asking_verb word) _ (step word verb.Stat w _ (step word verb.Flatten w _ (step word verb.Recover w _ (step word verb.Ls w None (λ none. cc)))))
     (step word verb.Trunc w _ (step word verb.Rename w _ (step word verb.Stop w None (λ none. cc))))))
 
@@ -162,6 +168,7 @@ least_is verb.Ropen = refl
 least_is verb.Read = refl
 least_is verb.Verify = refl
 least_is verb.Map = refl
+least_is verb.Refresh = refl
 least_is verb.Rclose = refl
 least_is verb.Stat = refl
 least_is verb.Flatten = refl
@@ -180,6 +187,7 @@ most_is verb.Ropen = refl
 most_is verb.Read = refl
 most_is verb.Verify = refl
 most_is verb.Map = refl
+most_is verb.Refresh = refl
 most_is verb.Rclose = refl
 most_is verb.Stat = refl
 most_is verb.Flatten = refl

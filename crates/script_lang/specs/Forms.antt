@@ -39,6 +39,7 @@ pub data Form : List ℕ → List Rule → ℕ → Type 0 where
   reads : Form (codes "read") (place ∷ number 0 (2 ^ 24) ∷ []) 2
   verifies : Form (codes "verify") (place ∷ content ∷ []) 2
   maps : Form (codes "map") [] 0
+  refreshes : Form (codes "refresh") [] 0
   rcloses : Form (codes "rclose") [] 0
   stats : Form (codes "stat") (file ∷ []) 1
   flattens : Form (codes "flatten") (file ∷ []) 1

@@ -37,6 +37,7 @@ SpellsStatement (statement.Ropen name workers) words = IsLogicalName name × (1 
 SpellsStatement (statement.Read at len) words = (at < 2 ^ 64) × (len ≤ 2 ^ 24) × (words ≡ codes "read" ∷ decimal at ∷ decimal len ∷ [])
 SpellsStatement (statement.Verify at content) words = (at < 2 ^ 64) × IsData content × (words ≡ codes "verify" ∷ decimal at ∷ data_word content ∷ [])
 SpellsStatement statement.Map words = words ≡ codes "map" ∷ []
+SpellsStatement statement.Refresh words = words ≡ codes "refresh" ∷ []
 SpellsStatement statement.Rclose words = words ≡ codes "rclose" ∷ []
 SpellsStatement (statement.Stat name) words = IsLogicalName name × (words ≡ codes "stat" ∷ name ∷ [])
 SpellsStatement (statement.Flatten name) words = IsLogicalName name × (words ≡ codes "flatten" ∷ name ∷ [])

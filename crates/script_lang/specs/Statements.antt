@@ -44,6 +44,7 @@ statement_of verb.Read a b = do
   Ok (statement.Read at len)
 statement_of verb.Verify a b = of_place statement.Verify a b
 statement_of verb.Map a b = Ok statement.Map
+statement_of verb.Refresh a b = Ok statement.Refresh
 statement_of verb.Rclose a b = Ok statement.Rclose
 statement_of verb.Stat a b = of_file statement.Stat a
 statement_of verb.Flatten a b = of_file statement.Flatten a

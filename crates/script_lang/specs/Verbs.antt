@@ -20,6 +20,7 @@ reader_verb word =
     else if is_word word (codes "read") then Some verb.Read
     else if is_word word (codes "verify") then Some verb.Verify
     else if is_word word (codes "map") then Some verb.Map
+    else if is_word word (codes "refresh") then Some verb.Refresh
     else if is_word word (codes "rclose") then Some verb.Rclose
     else None
 
@@ -58,6 +59,7 @@ most_words verb.Ropen = 4
 most_words verb.Read = 4
 most_words verb.Verify = 4
 most_words verb.Map = 2
+most_words verb.Refresh = 2
 most_words verb.Rclose = 2
 most_words verb.Stat = 3
 most_words verb.Flatten = 3

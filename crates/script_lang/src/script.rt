@@ -56,6 +56,8 @@ pub enum Statement {
     Verify { at: u64, content: Data },
     /// Lists the pieces of the reader.
     Map,
+    /// Brings the reader to what a new opening would see.
+    Refresh,
     /// Closes the reader.
     Rclose,
     /// Asks for the attributes of a file.
@@ -97,6 +99,7 @@ impl Statement {
                 content: content.copy(alloc)?,
             },
             Statement::Map => Statement::Map,
+            Statement::Refresh => Statement::Refresh,
             Statement::Rclose => Statement::Rclose,
             Statement::Stat { name } => Statement::Stat { name: *name },
             Statement::Flatten { name } => Statement::Flatten { name: *name },

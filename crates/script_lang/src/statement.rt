@@ -110,6 +110,7 @@ pub(crate) fn statement(
         Verb::Read => read(first, second)?,
         Verb::Verify => verify(alloc, first, second)?,
         Verb::Map => Statement::Map,
+        Verb::Refresh => Statement::Refresh,
         Verb::Rclose => Statement::Rclose,
         Verb::Stat => Statement::Stat {
             name: file_name(first)?,

@@ -14,6 +14,7 @@ pub(crate) enum Verb {
     Read,
     Verify,
     Map,
+    Refresh,
     Rclose,
     Stat,
     Flatten,
@@ -56,6 +57,9 @@ fn reader_verb(word: &[u8]) -> Option<Verb>
     }
     if word == b"map".as_slice() {
         return Some(Verb::Map);
+    }
+    if word == b"refresh".as_slice() {
+        return Some(Verb::Refresh);
     }
     if word == b"rclose".as_slice() {
         return Some(Verb::Rclose);
@@ -116,7 +120,7 @@ fn most_words(verb: Verb) -> usize
     ensures { result ≡ most_words verb }
 {
     match verb {
-        Verb::Sync | Verb::Close | Verb::Map | Verb::Rclose | Verb::Ls => 2,
+        Verb::Sync | Verb::Close | Verb::Map | Verb::Refresh | Verb::Rclose | Verb::Ls => 2,
         Verb::Open | Verb::Stat | Verb::Flatten | Verb::Recover => 3,
         _ => 4,
     }

@@ -1,6 +1,5 @@
 pub mod Facts
 mod Items
-mod Memory
 mod WorkerLemmas
 mod WorkersTogether
 mod JoinedOutcome

@@ -18,7 +18,8 @@ use Rattle.story.specs.Program.{Program, done, ask}
 use Rattle.story.specs.Safe.{PassSafe}
 use Rattle.story.specs.Going.{HasMade}
 use Rattle.story.proofs.Facts.{made_more, made_none, pass_goes, pass_may}
-use Rattle.share_workers.specs.Passes.{HadMemory, ThePass, TheTurn}
+use Rattle.mount_core.specs.Memory.{HadMemory}
+use Rattle.share_workers.specs.Passes.{ThePass, TheTurn}
 use Rattle.share_workers.specs.Workers.{HasBegun, HasRead, IsWithin}
 use Rattle.share_workers.proofs.Facts.{before_last, memory_both, none_refused}
 

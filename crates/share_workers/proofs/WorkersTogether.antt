@@ -30,7 +30,8 @@ use Rattle.story.specs.Going.{IsNewTo, HasJoined}
 use Rattle.story.proofs.Facts.{absent_made, took_more, took_none}
 use Rattle.gather_flow.specs.Workers.{Reading, IsMachineOf, AreMachinesOf}
 use Rattle.share_workers.specs.declared.worker.Part.TheVariants.{ToRead, Read}
-use Rattle.share_workers.specs.Passes.{HadMemory, HadMemoryBeforeLast, View, ThePass, TheTurn, IsAfter}
+use Rattle.mount_core.specs.Memory.{HadMemory, HadMemoryBeforeLast}
+use Rattle.share_workers.specs.Passes.{View, ThePass, TheTurn, IsAfter}
 use Rattle.share_workers.proofs.WorkerLemmas.{same_ready}
 use Rattle.share_workers.specs.Workers.{AreFrontOf, AreFrontsOfEach, EachHasStarted, HasBegun, HasStarted, HaveBegun, Reader, HasRead, IsGiven, MayRead, CanRead, Works, EachWorks, HasWorked, EachHasWorked, CanJoin, HaveRead, calls_of_worker, Joins, Gathers}
 

@@ -1,6 +1,5 @@
 -- What the passes of a mount's turn know, and what calls by them leave.
-use Rattle.std.specs.Prelude.{◌≡◌, ◌≢◌, List, [], ◌∷◌, Option}
-use Rattle.std.specs.List.{AllByRecursion}
+use Rattle.std.specs.Prelude.{◌≡◌, Option}
 use Rattle.std.specs.declared.snapshot.Snapshot.{Snapshot}
 use Rattle.turn_object.specs.declared.front.Front.{Front}
 use Rattle.turn_object.specs.declared.slot.Resting.{Resting}
@@ -10,10 +9,8 @@ use Rattle.turn_object.specs.Front.{IsLegalFront}
 use Rattle.turn_object.specs.Pass.{start_of, front, parts_of, IsPassOf}
 use Rattle.mount_model.specs.declared.call.Ask.{Ask}
 use Rattle.mount_model.specs.declared.reply.Reply.{Reply}
-use Rattle.mount_model.specs.declared.reply.Reply.TheVariants.{NoMemory}
 use Rattle.mount_model.specs.State.{State}
 use Rattle.mount_model.specs.Step.{IsStep}
-use Rattle.mount_model.specs.History.{Event}
 use Rattle.mount_sound.specs.Owed.{Permits}
 
 -- what a pass knows of the calls of a mount
@@ -25,16 +22,6 @@ ThePass = Numbered (Option (Resting Ask Reply State)) (Front Ask Reply State)
 
 abbrev pub TheTurn : Type 0 → Type 0
 TheTurn P = Lock (Option (Resting Ask Reply State)) (Front Ask Reply State) (Snapshot State) P
-
--- none of these calls was refused memory
-abbrev pub HadMemory : List Event → Type 0
-HadMemory events = AllByRecursion (λ (event : Event). event.reply ≢ NoMemory) events
-
--- none was, but for the last one perhaps
-abbrev pub HadMemoryBeforeLast : List Event → Type 0
-HadMemoryBeforeLast [] = Unit {0}
-HadMemoryBeforeLast (event ∷ []) = Unit {0}
-HadMemoryBeforeLast (event ∷ next ∷ later) = (event.reply ≢ NoMemory) × HadMemoryBeforeLast (next ∷ later)
 
 module _ {P : Type 0} (turn : TheTurn P) where
   -- the pass after calls

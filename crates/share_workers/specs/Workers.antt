@@ -20,7 +20,8 @@ use Rattle.story.specs.Going.{IsNewTo, HasJoined, HasMade}
 use Rattle.gather_flow.specs.Workers.{Reading, IsMachineOf}
 use Rattle.share_workers.specs.declared.worker.Worker.{Worker}
 use Rattle.share_workers.specs.declared.worker.Part.TheVariants.{ToRead, Read}
-use Rattle.share_workers.specs.Passes.{HadMemory, HadMemoryBeforeLast, View, ThePass, TheTurn, IsAfter}
+use Rattle.mount_core.specs.Memory.{HadMemory, HadMemoryBeforeLast}
+use Rattle.share_workers.specs.Passes.{View, ThePass, TheTurn, IsAfter}
 
 -- a worker with its pass
 abbrev pub Reader : Type 0

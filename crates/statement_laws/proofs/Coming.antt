@@ -26,7 +26,7 @@ use Rattle.index_reader.specs.declared.sharing.Share.{Share}
 use Rattle.flatten_core.specs.Flattening.{flatten_program}
 use Rattle.script_lang.specs.declared.script.Data.{Data}
 use Rattle.script_lang.specs.declared.script.Statement.{Statement}
-use Rattle.script_lang.specs.declared.script.Statement.TheVariants.{Open, Write, Sync, Close, Ropen, Read, Verify, Map, Rclose, Stat, Flatten, Recover, Trunc, Rename, Ls, Stop as Arms}
+use Rattle.script_lang.specs.declared.script.Statement.TheVariants.{Open, Write, Sync, Close, Ropen, Read, Verify, Map, Refresh, Rclose, Stat, Flatten, Recover, Trunc, Rename, Ls, Stop as Arms}
 use Rattle.actor_core.specs.declared.kept.Kept.{Kept}
 use Rattle.actor_core.specs.declared.kept.Stop.{Stop}
 use Rattle.outcomes.specs.Data.{bytes_of, length_of}
@@ -34,8 +34,10 @@ use Rattle.script_lang.specs.declared.line.Why.TheVariants.{NotOpen}
 use Rattle.actor_core.specs.Endings.{gone, refused, stopped, opened, wrote_nothing, wrote, synced, closed, read_from, verified, names_listed, recovered, renamed, told_of, truncated, flattened}
 use Rattle.actor_core.specs.Names.{names_program}
 use Rattle.actor_core.specs.Telling.{if_asked, if_relisted, tells_by, tells_of_file}
-use Rattle.actor_core.specs.Opened.{opens as opens_after, reader_opened}
-use Rattle.actor_core.specs.Readers.{opens_reader, if_listed, reads, verifies, maps, closes_reader}
+use Rattle.actor_core.specs.Opened.{opens as opens_after, reader_opened, reader_refreshed, without_reader}
+use Rattle.index_reader.specs.Opened.{parts_of}
+use Rattle.refresh_index.specs.Refreshing.{refresh_program}
+use Rattle.actor_core.specs.Readers.{opens_reader, if_listed, reads, verifies, maps, closes_reader, refreshes}
 use Rattle.gather_flow.specs.Shares.{programs_from, by_itself}
 use Rattle.gather_flow.specs.Workers.{all_of}
 use Rattle.actor_core.specs.Statements.{does, greeted, greeted_work, disarmed, work_of}
@@ -114,6 +116,11 @@ maps_comes : (kept : Kept) (reader : Option OpenReader) → ComesToLine (maps ke
 maps_comes kept None = tt
 maps_comes kept (Some reader) = tt
 
+refreshes_comes : (kept : Kept) (stop : Option Stop) (reader : Option OpenReader) → ComesToLine (refreshes kept stop reader)
+refreshes_comes kept stop None = tt
+refreshes_comes kept stop (Some reader) =
+    carried_comes (refresh_program (parts_of reader)) stop (λ left out. finishes (reader_refreshed (without_reader kept) out)) (finishes (stopped (without_reader kept))) (λ left out. tt) tt
+
 closes_reader_comes : (kept : Kept) (reader : Option OpenReader) → ComesToLine (closes_reader kept reader)
 closes_reader_comes kept None = tt
 closes_reader_comes kept (Some reader) = tt
@@ -143,6 +150,7 @@ does_comes kept stop (Ropen name workers) = opens_reader_comes kept stop name wo
 does_comes kept stop (Read at len) = reads_comes kept stop at len kept.reader
 does_comes kept stop (Verify at content) = verifies_comes kept stop at content kept.reader
 does_comes kept stop Map = maps_comes kept kept.reader
+does_comes kept stop Refresh = refreshes_comes kept stop kept.reader
 does_comes kept stop Rclose = closes_reader_comes kept kept.reader
 does_comes kept stop (Arms call bytes) = tt
 does_comes kept stop (Stat name) = tells_comes kept stop name

@@ -10,7 +10,7 @@ use Rattle.flatten_core.specs.Flattening.{flatten_program}
 use Rattle.holding_laws.proofs.Facts.{safe_truncate}
 use Rattle.recovery_laws.proofs.Facts.{safe_recovery}
 use Rattle.script_lang.specs.declared.script.Statement.{Statement}
-use Rattle.script_lang.specs.declared.script.Statement.TheVariants.{Open, Write, Sync, Close, Ropen, Read, Verify, Map, Rclose, Stat, Flatten, Recover, Trunc, Rename, Ls, Stop as Arms}
+use Rattle.script_lang.specs.declared.script.Statement.TheVariants.{Open, Write, Sync, Close, Ropen, Read, Verify, Map, Refresh, Rclose, Stat, Flatten, Recover, Trunc, Rename, Ls, Stop as Arms}
 use Rattle.torn_tail.specs.Recovering.{recover_program}
 use Rattle.trunc_rename.specs.Truncating.{truncate_program}
 use Rattle.actor_core.specs.declared.kept.Kept.{Kept}
@@ -67,6 +67,7 @@ work_safe caller kept (Ropen name workers) state some few fine = unowed_made cal
 work_safe caller kept (Read at len) state some few fine = unowed_made caller kept (Read at len) state some few refl fine
 work_safe caller kept (Verify at content) state some few fine = unowed_made caller kept (Verify at content) state some few refl fine
 work_safe caller kept Map state some few fine = unowed_made caller kept Map state some few refl fine
+work_safe caller kept Refresh state some few fine = unowed_made caller kept Refresh state some few refl fine
 work_safe caller kept Rclose state some few fine = unowed_made caller kept Rclose state some few refl fine
 work_safe caller kept (Arms call bytes) state some few fine = unowed_made caller kept (Arms call bytes) state some few refl fine
 work_safe caller kept (Stat name) state some few fine = unowed_made caller kept (Stat name) state some few refl fine

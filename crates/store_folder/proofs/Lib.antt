@@ -1,4 +1,5 @@
 mod Listed
+pub mod Doubting
 pub mod ForEach
 pub mod Finding
 pub mod Answered

@@ -1,10 +1,12 @@
 -- Which steps sync what, and which are refused for a sync that failed.
-use Rattle.std.specs.Prelude.{ℕ, List, [], Bool, ◌||◌}
+use Rattle.std.specs.Prelude.{◌≡◌, ◌⊎◌, ℕ, List, [], Bool, true, Option, is_some}
+use Rattle.std.specs.Option.{option_or}
 use Rattle.store_api.specs.Step.{Step, make_room, rename_room, make_folder, remove_folder, create, remove, replace, sync}
 use Rattle.folder_calls.specs.declared.doubts.Doubts.{Doubts}
 use Rattle.folder_calls.specs.declared.doubts.Item.{Item}
 use Rattle.folder_calls.specs.declared.doubts.Item.TheVariants.{Nothing, Root, Under}
-use Rattle.folder_calls.specs.Doubts.{is_doubted}
+use Rattle.folder_calls.specs.declared.reason.Doubt.{Doubt}
+use Rattle.folder_calls.specs.Doubts.{doubt_of, is_doubted}
 
 -- the file of this name, or the folder where it has none, which at the top has none either
 abbrev pub under : ℕ → List ℕ → List ℕ → Item
@@ -27,6 +29,14 @@ abbrev pub renamed_by : Step → Item
 renamed_by (replace room folder from to) = under room folder from
 renamed_by other = Nothing
 
--- A step is refused that syncs what is in doubt. So no doubt is lifted by a sync, nor left behind by another name.
+-- A step is refused that syncs what is in doubt, or gives it another name. So no doubt is lifted by a sync, nor left
+-- behind by another name. It is refused for the first failure of what it syncs, or else of what it renames.
+abbrev pub refusal : Doubts → Step → Option Doubt
+refusal doubts step = option_or (doubt_of doubts (synced_by step)) (doubt_of doubts (renamed_by step))
+
 abbrev pub is_refused : Doubts → Step → Bool
-is_refused doubts step = is_doubted doubts (synced_by step) || is_doubted doubts (renamed_by step)
+is_refused doubts step = is_some (refusal doubts step)
+
+-- what a step syncs is in doubt, where it syncs anything
+abbrev pub IsDoubtedBy : Doubts → Step → Type 0
+IsDoubtedBy doubts step = (synced_by step ≡ Nothing) ⊎ (is_doubted doubts (synced_by step) ≡ true)

@@ -25,7 +25,7 @@ impl<C: Calls<File = F>, F: Drop> Disk<C, F> {
         files: &[Name],
     ) -> Result<Answer, Failure>
         ensures adds { IfOk result (AddsRoom self.old self.new name.now (C.log self.old.calls) (C.log self.new.calls) folders.now files.now) }
-        ensures failed { OnErr result ((self.new.rooms.items ≡ self.old.rooms.items) ⊎ ((self.new.rooms.items ≡ self.old.rooms.items ++ name.now ∷ []) × MakesRoom (string_bytes self.old.root) (item_of (string_bytes self.old.root) name.now) folders.now files.now (Err Failure.Unsynced) (C.log self.old.calls) (C.log self.new.calls))) }
+        ensures failed { OnErr result ((self.new.rooms.items ≡ self.old.rooms.items) ⊎ ((self.new.rooms.items ≡ self.old.rooms.items ++ name.now ∷ []) × MakesRoom (string_bytes self.old.root) (item_of (string_bytes self.old.root) name.now) folders.now files.now (Err Failure.Failed) (C.log self.old.calls) (C.log self.new.calls))) }
         ensures root { self.new.root ≡ self.old.root }
         ensures numbered { self.new.is_numbered ≡ self.old.is_numbered }
         ensures open { self.new.open ≡ self.old.open }

@@ -130,7 +130,7 @@ impl<C: Calls<File = F>, F: Drop> Disk<C, F> {
     /// Gives a room a name that no room has. Its open files stay open.
     pub fn rename_room(&mut self, room: u64, to: &Name) -> Result<Answer, Failure>
         ensures renames { IfOk result (λ answer. InRoom self.old room answer (C.log self.old.calls) (C.log self.new.calls) (RenamesRoom self.old self.new to.now (C.log self.old.calls) (C.log self.new.calls) room answer)) }
-        ensures failed { OnErr result ((self.new.rooms.items ≡ self.old.rooms.items) ⊎ ((self.new.rooms.items ≡ slice_set self.old.rooms.items room to.now) × MovesRoom (string_bytes self.old.root) (room_path self.old room) to.now (Err Failure.Unsynced) (C.log self.old.calls) (C.log self.new.calls))) }
+        ensures failed { OnErr result ((self.new.rooms.items ≡ self.old.rooms.items) ⊎ ((self.new.rooms.items ≡ slice_set self.old.rooms.items room to.now) × MovesRoom (string_bytes self.old.root) (room_path self.old room) to.now (Err Failure.Failed) (C.log self.old.calls) (C.log self.new.calls))) }
         ensures root { self.new.root ≡ self.old.root }
         ensures numbered { self.new.is_numbered ≡ self.old.is_numbered }
         ensures open { self.new.open ≡ self.old.open }

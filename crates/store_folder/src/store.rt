@@ -1,26 +1,27 @@
 //! The store: a folder of the system, and the counts of its acts and faults.
-ghost use Rattle.std.specs.Prelude.{◌≡◌, ◌⊎◌, ◌≤◌, [], true, false, IfOk, IfSome, IsErrOf, Err, Some, unwrap_or};
-ghost use Rattle.store_api.specs.Step.{step_of};
+ghost use Rattle.std.specs.Prelude.{◌≡◌, ◌⊎◌, ◌≤◌, [], true, false, IfOk, IfSome, IsErrOf, Err, None, Some, unwrap_or};
+ghost use Rattle.store_api.specs.Step.{Step as StepMade, step_of};
 ghost use Rattle.plfs_types.specs.Counts.{next_count, HasRisen};
 ghost use Rattle.store_api.specs.Acts.{Acts};
 ghost use Rattle.folder_calls.specs.Calls.{failed_calls};
 ghost use Rattle.store_folder.specs.Counting.{untold, CountsFaults};
-ghost use Rattle.folder_calls.specs.Doubts.{is_doubted};
-ghost use Rattle.folder_calls.specs.Noted.{noted};
-ghost use Rattle.store_folder.specs.Ends.{Ends};
+ghost use Rattle.folder_calls.specs.Doubts.{doubt_of};
+ghost use Rattle.folder_calls.specs.Noted.{noted, doubt_by};
+ghost use Rattle.store_folder.specs.Ends.{told_of, Ends, KeepsDoubts};
 ghost use Rattle.store_folder.specs.Made.{MakesStep};
 ghost use Rattle.folder_calls.specs.Own.{is_own};
 ghost use Rattle.store_folder.specs.Places.{file_of, ActsOnFile, BecomesOwn, takes_name};
 ghost use Rattle.store_folder.specs.Rooms.{IsStill};
 ghost use Rattle.store_folder.specs.Steps.{Numbers, Performs};
-ghost use Rattle.store_folder.specs.Syncing.{synced_by, is_refused};
+ghost use Rattle.store_folder.specs.Syncing.{refusal, is_refused, IsDoubtedBy};
 ghost use Rattle.store_folder.specs.StepPlaces.{place_of};
 ghost use Rattle.store_folder.specs.Stored.{stored_of, root_of};
 
 use crate::disk::Disk;
-use crate::syncing::{is_refused, synced_by};
+use crate::syncing::{refusal, synced_by};
 use folder_calls::{
-    Calls, Cause, Doubts, Failure, FileKey, Item, Place, Reason, System, SystemCalls,
+    Calls, Cause, Doubt, Doubts, Failure, FileKey, Item, Place, Reason, System, SystemCalls,
+    doubt_by,
 };
 use plfs_types::{NoMemory, Word};
 use std::alloc::Global;
@@ -60,7 +61,7 @@ impl<R: System> StoreByCalls<SystemCalls<R>, File> {
         ensures unread { IfOk result (λ store. store.disk.is_numbered ≡ false) }
         ensures closed { IfOk result (λ store. store.disk.open.files.entries ≡ []) }
         ensures none_own { IfOk result (λ store. (key : FileKey) → is_own store.disk.own key ≡ false) }
-        ensures none_doubted { IfOk result (λ store. (item : Item) → is_doubted store.doubts item ≡ false) }
+        ensures none_doubted { IfOk result (λ store. (item : Item) → doubt_of store.doubts item ≡ None) }
     {
         StoreByCalls::by(SystemCalls::new(rt), alloc, root)
     }
@@ -77,7 +78,7 @@ impl<C: Calls<File = F> + Drop, F: Drop> StoreByCalls<C, F> {
         ensures unread { IfOk result (λ store. store.disk.is_numbered ≡ false) }
         ensures closed { IfOk result (λ store. store.disk.open.files.entries ≡ []) }
         ensures none_own { IfOk result (λ store. (key : FileKey) → is_own store.disk.own key ≡ false) }
-        ensures none_doubted { IfOk result (λ store. (item : Item) → is_doubted store.doubts item ≡ false) }
+        ensures none_doubted { IfOk result (λ store. (item : Item) → doubt_of store.doubts item ≡ None) }
     {
         match Disk::new(calls, alloc, root) {
             Ok(disk) => Ok(StoreByCalls {
@@ -131,7 +132,7 @@ impl<C: Calls<File = F> + Drop, F: Drop> Store for StoreByCalls<C, F> {
     /// 2^64 - 1, and in no other act, and `cause` tells of it.
     ///
     /// A sync that failed is final: from then on each step is a `Fault`, with no call of the system, that would sync
-    /// the same file, folder or ROOT, or would give the file another name.
+    /// the same file, folder or ROOT, or would give the file another name. Its cause is why that sync failed.
     ///
     /// Bytes that an earlier run left in a file are never changed: a write that reaches into them is a `Fault`, which
     /// calls no write, unless it would put the same bytes there.
@@ -140,9 +141,10 @@ impl<C: Calls<File = F> + Drop, F: Drop> Store for StoreByCalls<C, F> {
         ensures counted { CountsFaults (stored_of self.old) (stored_of self.new) result }
         ensures performs { IfOk result (λ answer. MakesStep C.log self.old.disk self.new.disk (step_of step.now) answer) }
         ensures ends { Ends C.log self.old self.new (step_of step.now) result }
+        ensures doubts { KeepsDoubts C.log C.unsynced self.old self.new (step_of step.now) }
         ensures refused { is_refused self.old.doubts (step_of step.now) ≡ true → IsErrOf result Trouble.Fault }
-        ensures still { is_refused self.old.doubts (step_of step.now) ≡ true → IsStill self.old.disk self.new.disk × (C.log self.new.disk.calls ≡ C.log self.old.disk.calls) × (C.told self.new.disk.calls ≡ Some Reason.Unsynced) }
-        ensures lasts { (item : Item) → is_doubted self.old.doubts item ≡ true → is_doubted self.new.doubts item ≡ true }
+        ensures still { IfSome (refusal self.old.doubts (step_of step.now)) (λ doubt. IsStill self.old.disk self.new.disk × (C.log self.new.disk.calls ≡ C.log self.old.disk.calls) × (C.told self.new.disk.calls ≡ Some (Reason.Unsynced doubt))) }
+        ensures lasts { (item : Item) → (doubt : Doubt) → doubt_of self.old.doubts item ≡ Some doubt → doubt_of self.new.doubts item ≡ Some doubt }
         ensures well { IfOk result (λ _. failed_calls (C.log self.new.disk.calls) ≡ failed_calls (C.log self.old.disk.calls)) }
         ensures root { root_of self.new ≡ root_of self.old }
         ensures place { self.new.last ≡ place_of self.new.disk (step_of step.now) }
@@ -151,22 +153,44 @@ impl<C: Calls<File = F> + Drop, F: Drop> Store for StoreByCalls<C, F> {
         self.disk.calls.forget();
         let end = attempt(&mut self.disk, &mut self.doubts, step);
         self.last = self.disk.place_of(step);
-        match end {
-            Ok(answer) => {
-                self.counts.count_act();
-                Ok(answer)
-            }
-            Err(Failure::Failed | Failure::Unsynced) => {
-                self.cause = Some(Cause {
-                    place: self.last,
-                    reason: self.disk.calls.reason().unwrap_or(Reason::Unnameable),
-                });
-                self.counts.count_act();
-                self.counts.count_fault();
-                Err(Trouble::Fault)
-            }
-            Err(Failure::NoMemory) => Err(Trouble::NoMemory),
+        settle(
+            &mut self.counts,
+            &mut self.cause,
+            &self.disk.calls,
+            self.last,
+            end,
+        )
+    }
+}
+
+// Counts a step that ended so at this place, and tells it.
+fn settle<C: Calls>(
+    counts: &mut Counts,
+    cause: &mut Option<Cause>,
+    calls: &C,
+    place: Place,
+    end: Result<Answer, Failure>,
+) -> Result<Answer, Trouble>
+    ensures tells { result ≡ told_of end }
+    ensures told { (step : StepMade) → Acts step (untold counts.old.acts counts.old.faults) (untold counts.new.acts counts.new.faults) result }
+    ensures counted { CountsFaults (untold counts.old.acts counts.old.faults) (untold counts.new.acts counts.new.faults) result }
+    ensures cause { IsErrOf result Trouble.Fault → cause.new ≡ Some (record { place = place; reason = unwrap_or (C.told calls.now) Reason.Unnameable }) }
+{
+    match end {
+        Ok(answer) => {
+            counts.count_act();
+            Ok(answer)
         }
+        Err(Failure::Failed) => {
+            *cause = Some(Cause {
+                place,
+                reason: calls.reason().unwrap_or(Reason::Unnameable),
+            });
+            counts.count_act();
+            counts.count_fault();
+            Err(Trouble::Fault)
+        }
+        Err(Failure::NoMemory) => Err(Trouble::NoMemory),
     }
 }
 
@@ -181,25 +205,32 @@ fn attempt<C: Calls<File = F> + Drop, F: Drop>(
     ensures well { IfOk result (λ _. failed_calls (C.log disk.new.calls) ≡ failed_calls (C.log disk.old.calls)) }
     ensures root { disk.new.root ≡ disk.old.root }
     ensures refused { is_refused doubts.old (step_of step.now) ≡ true → result ≡ Err Failure.Failed }
-    ensures still { is_refused doubts.old (step_of step.now) ≡ true → IsStill disk.old disk.new × (C.log disk.new.calls ≡ C.log disk.old.calls) × (C.told disk.new.calls ≡ noted (C.told disk.old.calls) Reason.Unsynced) }
-    ensures doubted { result ≡ Err Failure.Unsynced → (synced_by (step_of step.now) ≡ Item.Nothing) ⊎ (is_doubted doubts.new (synced_by (step_of step.now)) ≡ true) }
-    ensures only { (result ≡ Err Failure.Unsynced) ⊎ (doubts.new ≡ doubts.old) }
+    ensures still { IfSome (refusal doubts.old (step_of step.now)) (λ doubt. IsStill disk.old disk.new × (C.log disk.new.calls ≡ C.log disk.old.calls) × (C.told disk.new.calls ≡ noted (C.told disk.old.calls) (Reason.Unsynced doubt))) }
+    ensures doubted { is_refused doubts.old (step_of step.now) ≡ false → HasRisen (C.unsynced disk.old.calls) (C.unsynced disk.new.calls) → IsDoubtedBy doubts.new (step_of step.now) }
+    ensures only { HasRisen (C.unsynced disk.old.calls) (C.unsynced disk.new.calls) ⊎ (doubts.new ≡ doubts.old) }
     ensures own { disk.old.is_numbered ≡ true → (key : FileKey) → is_own disk.new.own key ≡ true → (is_own disk.old.own key ≡ true) ⊎ BecomesOwn disk.old (file_of (step_of step.now)) key (C.log disk.old.calls) }
     ensures renames { disk.old.is_numbered ≡ true → is_refused doubts.old (step_of step.now) ≡ false → (key : FileKey) → takes_name (step_of step.now) key ≡ true → is_own disk.new.own key ≡ false }
-    ensures lasts { (item : Item) → is_doubted doubts.old item ≡ true → is_doubted doubts.new item ≡ true }
+    ensures lasts { (item : Item) → (doubt : Doubt) → doubt_of doubts.old item ≡ Some doubt → doubt_of doubts.new item ≡ Some doubt }
 {
-    if is_refused(doubts, step) {
-        disk.calls.tell(Reason::Unsynced);
+    if let Some(doubt) = refusal(doubts, step) {
+        disk.calls.tell(Reason::Unsynced { doubt });
         return Err(Failure::Failed);
     }
-    match disk.make(step) {
-        Ok(answer) => Ok(answer),
-        Err(Failure::Unsynced) => {
-            doubts.add(&synced_by(step));
-            Err(Failure::Unsynced)
-        }
-        Err(Failure::Failed) => Err(Failure::Failed),
-        Err(Failure::NoMemory) => Err(Failure::NoMemory),
+    let before = disk.calls.failed_syncs();
+    let end = disk.make(step);
+    note_syncs(doubts, &disk.calls, step, before);
+    end
+}
+
+// Puts in doubt what the step syncs, where more syncs have failed than before it, or where the count is at its end.
+fn note_syncs<C: Calls>(doubts: &mut Doubts, calls: &C, step: &Step<'_>, before: u64)
+    ensures doubted { HasRisen before (C.unsynced calls.now) → IsDoubtedBy doubts.new (step_of step.now) }
+    ensures only { HasRisen before (C.unsynced calls.now) ⊎ (doubts.new ≡ doubts.old) }
+    ensures lasts { (item : Item) → (doubt : Doubt) → doubt_of doubts.old item ≡ Some doubt → doubt_of doubts.new item ≡ Some doubt }
+{
+    let after = calls.failed_syncs();
+    if before < after || after == u64::MAX {
+        doubts.add(&synced_by(step), doubt_by(calls.reason()));
     }
 }
 

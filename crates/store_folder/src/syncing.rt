@@ -1,9 +1,9 @@
 //! Which steps are refused, since a sync failed of what they sync.
 ghost use Rattle.std.specs.Prelude.{◌≡◌};
 ghost use Rattle.store_api.specs.Step.{step_of};
-ghost use Rattle.store_folder.specs.Syncing.{under, synced_by, renamed_by, is_refused};
+ghost use Rattle.store_folder.specs.Syncing.{under, synced_by, renamed_by, refusal};
 
-use folder_calls::{Doubts, FileKey, Item};
+use folder_calls::{Doubt, Doubts, FileKey, Item};
 use plfs_types::Name;
 use store_api::Step;
 
@@ -48,9 +48,9 @@ fn renamed_by(step: &Step<'_>) -> Item
     }
 }
 
-/// Whether the step is refused.
-pub fn is_refused(doubts: &Doubts, step: &Step<'_>) -> bool
-    ensures { result ≡ is_refused doubts.now (step_of step.now) }
+/// Why the step is refused, where it is.
+pub fn refusal(doubts: &Doubts, step: &Step<'_>) -> Option<Doubt>
+    ensures { result ≡ refusal doubts.now (step_of step.now) }
 {
-    doubts.has(&synced_by(step)) || doubts.has(&renamed_by(step))
+    doubts.of(&synced_by(step)).or(doubts.of(&renamed_by(step)))
 }

@@ -1,5 +1,6 @@
 //! The calls of the system, but that each sync fails while a file of this name stands where the tests run.
-ghost use Rattle.std.specs.Prelude.{None};
+ghost use Rattle.std.specs.Prelude.{◌≡◌, None, IfErr};
+ghost use Rattle.folder_calls.specs.Syncs.{counting};
 
 use folder_calls::{Asked, Calls, Failure, Kind, Reason, Removal, System, SystemCalls};
 use plfs_types::NameList;
@@ -14,10 +15,15 @@ pub(crate) const NO_SYNC: &str = "store_tests_no_sync";
 pub(crate) struct FailingCalls<R> {
     pub(crate) rt: R,
     pub(crate) calls: SystemCalls<R>,
+    // How many syncs failed, up to 2^64 - 1.
+    pub(crate) unsynced: u64,
 }
 
 impl<R: System> FailingCalls<R> {
-    fn may_sync(&mut self) -> Result<(), Failure> {
+    fn may_sync(&mut self) -> Result<(), Failure>
+        ensures failed { IfErr result (λ failure. failure ≡ Failure.Failed) }
+        ensures syncs { self.new.unsynced ≡ self.old.unsynced }
+    {
         if let Ok(false) = fs::exists(&self.rt, NO_SYNC) {
             return Ok(());
         }
@@ -25,7 +31,18 @@ impl<R: System> FailingCalls<R> {
             asked: Asked::Sync,
             error: io::Error::other("no sync"),
         });
-        Err(Failure::Unsynced)
+        Err(Failure::Failed)
+    }
+
+    // Counts a sync that ended so, where it failed.
+    fn count(&mut self, end: Result<(), Failure>) -> Result<(), Failure>
+        ensures same { result ≡ end }
+        ensures syncs { self.new.unsynced ≡ counting end self.old.unsynced }
+    {
+        if end.is_err() {
+            self.unsynced = self.unsynced.saturating_add(1);
+        }
+        end
     }
 }
 
@@ -36,6 +53,14 @@ impl<R: System> Calls for FailingCalls<R> {
     ghost log = { λ _. None };
 
     ghost told = { λ failing. failing.calls.last };
+
+    ghost unsynced = { λ failing. failing.unsynced };
+
+    ghost counted = { λ _. tt };
+
+    fn failed_syncs(&self) -> u64 {
+        self.unsynced
+    }
 
     fn forget(&mut self) {
         self.calls.forget();
@@ -82,10 +107,11 @@ impl<R: System> Calls for FailingCalls<R> {
     }
 
     fn sync(&mut self, file: &File) -> Result<(), Failure> {
-        match self.may_sync() {
+        let end = match self.may_sync() {
             Ok(()) => self.calls.sync(file),
-            Err(_) => Err(Failure::Unsynced),
-        }
+            Err(failure) => Err(failure),
+        };
+        self.count(end)
     }
 
     fn make_folder(&mut self, path: &str) -> Result<bool, Failure> {
@@ -93,10 +119,11 @@ impl<R: System> Calls for FailingCalls<R> {
     }
 
     fn sync_folder(&mut self, path: &str) -> Result<(), Failure> {
-        match self.may_sync() {
+        let end = match self.may_sync() {
             Ok(()) => self.calls.sync_folder(path),
-            Err(_) => Err(Failure::Unsynced),
-        }
+            Err(failure) => Err(failure),
+        };
+        self.count(end)
     }
 
     fn remove_file(&mut self, path: &str) -> Result<bool, Failure> {

@@ -31,6 +31,7 @@ fn open_failing(rt: HostRuntime, root: &str) -> Result<FailingStore, NoMemory> {
     let calls = FailingCalls {
         rt,
         calls: SystemCalls::new(rt),
+        unsynced: 0,
     };
     StoreByCalls::by(calls, rt.alloc(), &Word::copy(rt.alloc(), root)?)
 }

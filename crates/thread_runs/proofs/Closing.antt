@@ -32,7 +32,8 @@ use Rattle.script_lang.specs.declared.script.Phase.{Phase}
 use Rattle.run_core.specs.Course.{Course, course_of}
 use Rattle.run_core.specs.Cast.{cast_from}
 use Rattle.run_core.specs.Leading.{Leads, GoesOn}
-use Rattle.share_workers.specs.Passes.{HadMemory, View, ThePass, TheTurn}
+use Rattle.mount_core.specs.Memory.{HadMemory}
+use Rattle.share_workers.specs.Passes.{View, ThePass, TheTurn}
 use Rattle.thread_runs.specs.Going.{EndedWithMemory}
 use Rattle.thread_runs.specs.Runners.{Runner}
 use Rattle.thread_runs.specs.Each.{EachAt}
@@ -127,7 +128,7 @@ leads_on start v end known is = record { events = v.seen; leads = leads_to_end s
 
 -- ---- the actors as players of a story
 
-abbrev Story : Type 0
+abbrev pub Story : Type 0
 Story = Player Ask Reply State (Result Share Stuck) Line
 
 abbrev stories : ℕ → List Phase → List ActorDecl → List Runner → List Story

@@ -27,8 +27,8 @@ use Rattle.run_core.specs.Players.{ComesToLine, IsSafeProgress, course_at}
 use Rattle.run_core.proofs.Facts.{same_some}
 use Rattle.share_workers.specs.Passes.{View, ThePass, TheTurn}
 use Rattle.thread_runs.specs.Going.{Goes}
-use Rattle.thread_runs.specs.Driving.{MayGoOn, ComesToIts, IsDriven}
-use Rattle.thread_runs.proofs.Going.{goes_none, goes_then, goes_tells, goes_call, goes_alone}
+use Rattle.thread_runs.specs.Driving.{MayGoOn, IsBrokenOff, ComesToIts, IsDriven}
+use Rattle.thread_runs.proofs.Going.{breaks_none, breaks_after, breaks_call, breaks_alone, goes_none, goes_then, goes_tells, goes_call, goes_alone}
 
 -- a state after allowed calls from a fine one is fine
 pub fine_along : (start : State) (events : List Event) → Happens IsStep Permits start events → IsFine start → IsFine (state_after start events)
@@ -52,6 +52,7 @@ pub record PassAsks (start : State) (v : View) (old : Progress) (question : Ask)
   pub safe : (w : View) (reply : Reply) → IsCalled IsStep Permits start v question reply w → IsLegalFront IsStep Permits start w → MayGoOn start w (going number (next reply))
   pub goes : (w : View) (reply : Reply) → IsCalled IsStep Permits start v question reply w → reply ≢ NoMemory → (statements : List Numbered) (later : Kept → Course)
       → Goes v (course_at old statements later) w (course_at (going number (next reply)) statements later) []
+  pub breaks : (w : View) (reply : Reply) → IsCalled IsStep Permits start v question reply w → IsBrokenOff v old w
 
 asks_work : (start : State) (v : View) (number : ℕ) (work : Work) (question : Ask) → KeepsIn v.seen v.mine → ComesToLine work → PassSafeProcess IsStep Permits start v work → Some question ≡ next_ask work → PassAsks start v (going number work) question
 asks_work start v number ends question own comes safe is = absurd comes
@@ -66,6 +67,7 @@ asks_work start v number (asks q k) question own comes safe is =
       may = process_may IsStep Permits start v q k safe;
       safe = λ w reply called known caller can. (comes reply, safe_call IsStep Permits start v w q k reply own called known safe caller can);
       goes = λ w reply called memory statements later. goes_call start v w q (λ r. then_line number (λ kept. one_by_one statements later kept) (k r)) reply own called memory;
+      breaks = λ w reply called statements later. breaks_call start v w q (λ r. then_line number (λ kept. one_by_one statements later kept) (k r)) reply own called;
     })
 asks_work start v number (shares programs k alone) question own comes safe is =
     let a = asks_work start v number alone question own comes.1 (λ caller can. (safe caller can).1) is in
@@ -78,6 +80,9 @@ asks_work start v number (shares programs k alone) question own comes safe is =
       goes = λ w reply called memory statements later.
           let next : Kept → Course = λ kept. one_by_one statements later kept in
           goes_alone v w programs (λ results. then_line number next (k results)) (then_line number next alone) (then_line a.number next (a.next reply)) [] (a.goes w reply called memory statements later);
+      breaks = λ w reply called statements later.
+          let next : Kept → Course = λ kept. one_by_one statements later kept in
+          breaks_alone v w programs (λ results. then_line number next (k results)) (then_line number next alone) (a.breaks w reply called statements later);
     }
 
 pub pass_asks : (start : State) (v : View) (old : Progress) (question : Ask) → KeepsIn v.seen v.mine → MayGoOn start v old → Some question ≡ ask_of old → PassAsks start v old question
@@ -193,3 +198,20 @@ module _ {P : Type 0} (turn : TheTurn P) where
     where
       same_line : (a b : Line) → Some a ≡ Some b → a ≡ b
       same_line a b e = cc
+
+  -- broken off, without a call more
+  pub driven_broken : (first now : ThePass) (old progress : Progress) → IsDriven turn first old now progress → IsBrokenOff (front first) old (front now)
+  driven_broken first now old progress d = λ statements later.
+      breaks_after (front first) (front now) (front now) (course_at old statements later) (course_at progress statements later) [] (d.goes statements later) (breaks_none (front now) (course_at progress statements later))
+
+  -- broken off behind a call more
+  pub driven_breaks : (first now next : ThePass) (old progress : Progress) (question : Ask) (reply : Reply) → IsDriven turn first old now progress → Some question ≡ ask_of progress
+      → IsCalled IsStep Permits (start_of turn) (front now) question reply (front next) → IsBrokenOff (front first) old (front next)
+  driven_breaks first now next old progress question reply d is called = λ statements later.
+      breaks_after (front first) (front now) (front next) (course_at old statements later) (course_at progress statements later) [] (d.goes statements later)
+      ((driven_asks first now old progress question d is).breaks (front next) reply called statements later)
+
+  -- broken off in what comes then
+  pub driven_then_breaks : (first now next : ThePass) (old progress : Progress) → IsDriven turn first old now progress → IsBrokenOff (front now) progress (front next) → IsBrokenOff (front first) old (front next)
+  driven_then_breaks first now next old progress d broken = λ statements later.
+      breaks_after (front first) (front now) (front next) (course_at old statements later) (course_at progress statements later) [] (d.goes statements later) (broken statements later)

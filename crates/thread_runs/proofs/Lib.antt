@@ -10,6 +10,7 @@ mod Phasing
 mod Between
 mod Newcomers
 mod Closing
+mod Beginning
 mod Courses
 mod WrittenOrder
 mod RightRuns

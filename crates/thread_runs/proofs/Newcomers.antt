@@ -1,5 +1,5 @@
 -- How actors enter a run.
-use Rattle.std.proofs.Common.{◌≡◌, ℕ, ◌+◌, ◌-◌, ◌^◌, ◌<◌, ◌≤◌, List, [], ◌∷◌, ◌++◌, length, sym, ◌∙◌, subst, arith, length-append, append-nil, take}
+use Rattle.std.proofs.Common.{◌≡◌, ℕ, ◌+◌, ◌^◌, ◌<◌, ◌≤◌, List, [], ◌∷◌, ◌++◌, length, sym, ◌∙◌, subst, arith, length-append, append-nil, take}
 use Rattle.std.proofs.lemmas.List.{length-take-le}
 use Rattle.std.proofs.lemmas.List.Elements.{All-nil}
 use Rattle.std.specs.List.{All}
@@ -17,14 +17,16 @@ use Rattle.script_lang.specs.declared.script.ActorDecl.{ActorDecl}
 use Rattle.script_lang.specs.declared.script.Phase.{Phase}
 use Rattle.actor_core.specs.Progress.{fresh}
 use Rattle.run_core.specs.Course.{course_of}
-use Rattle.share_workers.specs.Passes.{HadMemory, ThePass, TheTurn}
+use Rattle.mount_core.specs.Memory.{HadMemory}
+use Rattle.share_workers.specs.Passes.{ThePass, TheTurn}
+use Rattle.thread_runs.specs.Reaching.{up_to}
 use Rattle.thread_runs.specs.Going.{EndedWithMemory}
 use Rattle.thread_runs.specs.Runners.{Runner}
 use Rattle.thread_runs.specs.Each.{EachAt}
 use Rattle.thread_runs.specs.Phases.{AnyCall, HasActed, IsFollower}
 use Rattle.thread_runs.specs.Running.{Between, HaveAll, CanLeave, IsNewcomer, Enters}
 use Rattle.thread_runs.proofs.Each.{each_all, each_so, each_push, each_long}
-use Rattle.thread_runs.proofs.Phasing.{free, known_free}
+use Rattle.thread_runs.proofs.Phasing.{begun_acted, free, known_free}
 
 module _ {P : Type 0} (turn : TheTurn P) where
   known_new : (pass : ThePass) → seen_of pass ≡ [] → mine_of pass ≡ [] → ended_of pass ≡ [] → IsLegalFront IsStep Permits (start_of turn) (front pass)
@@ -66,6 +68,10 @@ module _ {P : Type 0} (turn : TheTurn P) where
         rests = n.rests;
         at = n.at;
         played = subst Q (sym n.lines) played;
+        as_far = λ reach.
+            let cut = up_to reach process in
+            let R : List Line → Type 0 = λ z. HasPlayed IsStep AnyCall (start_of turn) [] [] (player cut (front r.pass) cut z) in
+            (reach, subst R (sym n.lines) (played_none IsStep AnyCall (start_of turn) cut (front r.pass) known n.seen n.mine n.ended (free (start_of turn) (front r.pass) cut)));
         memory = subst HadMemory (sym n.mine) tt;
         workers_memory = subst (λ z. All EndedWithMemory z) (sym n.ended) (All-nil EndedWithMemory);
       }
@@ -89,6 +95,7 @@ module _ {P : Type 0} (turn : TheTurn P) where
           known = known_new r.pass n.seen n.mine n.ended;
           behind = ([], sym n.seen ∙ sym (append-nil (seen_of r.pass)));
           acted = λ _. first_acted phases place declared r n;
+          begun = λ _. begun_acted (start_of turn) phases phases [] [] place declared r (first_acted phases place declared r n);
         }) 0 actors runners e.each);
   }
 

@@ -17,12 +17,13 @@ use Rattle.actor_core.specs.Work.{Work}
 use Rattle.actor_core.specs.Progress.{Progress, idle, going, asked, handed, told, IsIdle}
 use Rattle.gather_flow.specs.Workers.{Reading, AreMachinesOf}
 use Rattle.actor_core.specs.Handing.{IsHandedOut, IsHanded, with_results}
-use Rattle.run_core.specs.Course.{then_line, one_by_one}
+use Rattle.run_core.specs.Course.{Course, then_line, one_by_one}
+use Rattle.run_core.specs.Players.{course_at}
 use Rattle.share_workers.specs.Passes.{ThePass, TheTurn, IsAfter}
-use Rattle.thread_runs.specs.Driving.{MayGoOn, IsDriven}
-use Rattle.share_workers.specs.Workers.{HaveRead}
+use Rattle.thread_runs.specs.Driving.{MayGoOn, IsBrokenOff, IsDriven}
+use Rattle.share_workers.specs.Workers.{HaveRead, HaveBegun}
 use Rattle.thread_runs.proofs.Driving.{a_number, driven_first}
-use Rattle.thread_runs.proofs.Going.{goes_shares, goes_then}
+use Rattle.thread_runs.proofs.Going.{breaks_after, breaks_none, breaks_shares, goes_shares, goes_then}
 
 -- what follows from an answer also follows from the call that gives it
 pub on_so : {X E : Type 0} (result : Result X E) (Says More : Type 0) → (Says → More) → OnOk result Says → OnOk result More
@@ -114,3 +115,26 @@ module _ {P : Type 0} (turn : TheTurn P) where
     busy = y.busy;
     goes = λ statements later. goes_then (front first) (front mid) (front last) _ _ _ [] [] (x.goes statements later) (y.goes statements later);
   }
+
+  -- broken off before anything was done
+  pub nothing_broken : (pass : ThePass) (old : Progress) → IsBrokenOff (front pass) old (front pass)
+  nothing_broken pass old = λ statements later. breaks_none (front pass) (course_at old statements later)
+
+  -- amid the workers, or behind them
+  pub shares_broken : (old new : ThePass) (was mid : Progress) (works : List ShareRead) → IsLegalFront IsStep Permits (start_of turn) (front old) → (h : HandsShares was works mid) → IsAfter turn old new → HaveBegun (front old) h.programs (front new)
+      → IsBrokenOff (front old) was (front new)
+  shares_broken old new was mid works known h after begun =
+      let Q : Progress → Type 0 = λ p. IsBrokenOff (front old) p (front new) in
+      subst Q (sym h.was) (λ statements later.
+      let next : Kept → Course = λ kept. one_by_one statements later kept in
+      breaks_shares (start_of turn) (front old) (front new) h.programs (λ rs. then_line h.number next (h.next rs)) (then_line h.number next h.alone) known after.known after.parts begun)
+
+  pub shares_read_broken : (old new : ThePass) (was mid : Progress) (works : List ShareRead) (results : List (Result Share Stuck)) → IsLegalFront IsStep Permits (start_of turn) (front old) → (h : HandsShares was works mid) → IsAfter turn old new
+      → HaveRead (front old) h.programs (front new) results → IsBrokenOff (front old) was (front new)
+  shares_read_broken old new was mid works results known h after read =
+      let Q : Progress → Type 0 = λ p. IsBrokenOff (front old) p (front new) in
+      subst Q (sym h.was) (λ statements later.
+      let next : Kept → Course = λ kept. one_by_one statements later kept in
+      let k : List (Result Share Stuck) → Course = λ rs. then_line h.number next (h.next rs) in
+      let alone : Course = then_line h.number next h.alone in
+      breaks_after (front old) (front new) (front new) (shares h.programs k alone) (k results) [] (goes_shares (start_of turn) (front old) (front new) h.programs k alone results known after.known after.parts read) (breaks_none (front new) (k results)))

@@ -11,11 +11,15 @@ use Rattle.actor_core.specs.Progress.{Progress, idle, IsIdle}
 use Rattle.run_core.specs.Course.{Course, one_by_one}
 use Rattle.run_core.specs.Players.{IsSafeProgress, course_at}
 use Rattle.share_workers.specs.Passes.{View, ThePass, TheTurn, IsAfter}
-use Rattle.thread_runs.specs.Going.{Goes}
+use Rattle.thread_runs.specs.Going.{Goes, Breaks}
 
 -- after all that the pass has seen the actor may make the calls of its statement, under each number under which it may call, and comes to its line
 abbrev pub MayGoOn : State → View → Progress → Type 0
 MayGoOn start v progress = (caller : ℕ) → MayCallAs v.seen v.mine caller → IsSafeProgress caller progress (state_after start v.seen)
+
+-- the statement in progress was broken off, whatever statements follow it
+abbrev pub IsBrokenOff : View → Progress → View → Type 0
+IsBrokenOff v progress w = (statements : List Numbered) (later : Kept → Course) → Breaks v (course_at progress statements later) w
 
 -- the statement in progress came to this line, whatever statements follow it
 pub record ComesToIts (line : Line) (v : View) (old : Progress) (w : View) (new : Progress) : Type 0 where

@@ -1,3 +1,4 @@
+pub mod Reaching
 pub mod Going
 pub mod Driving
 pub mod Apart

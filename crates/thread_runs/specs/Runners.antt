@@ -1,5 +1,5 @@
 -- Actors before and after a phase.
-use Rattle.std.specs.Prelude.{◌≡◌, ℕ, ◌<◌, List, [], ◌∷◌, ◌++◌, Some, true, All, length, slice_get, slice_index_or}
+use Rattle.std.specs.Prelude.{◌≡◌, ◌⊎◌, ℕ, ◌<◌, List, [], ◌∷◌, ◌++◌, Some, true, false, All, length, slice_get, slice_index_or}
 use Rattle.turn_object.specs.Front.{IsLegalFront}
 use Rattle.turn_object.specs.Pass.{start_of, front, parts_of, IsPassOf}
 use Rattle.mount_model.specs.Step.{IsStep}
@@ -16,7 +16,7 @@ use Rattle.run_core.specs.Players.{IsMade}
 use Rattle.thread_runs.specs.declared.player.Player.{Player}
 use Rattle.thread_runs.specs.declared.player.TheConstants.{TOO_MANY}
 use Rattle.share_workers.specs.Passes.{ThePass, TheTurn, IsAfter}
-use Rattle.thread_runs.specs.Going.{Goes}
+use Rattle.thread_runs.specs.Going.{Goes, Breaks}
 
 -- an actor with its pass
 abbrev pub Runner : Type 0
@@ -48,6 +48,12 @@ pub record ActedSoFar (part rest : List Numbered) (old new : Runner) : Type 0 wh
 abbrev pub ActedAll : List Numbered → Runner → Runner → Type 0
 ActedAll part old new = ActedSoFar part [] old new
 
+-- it was broken off within this part, whatever follows it
+pub record BrokenOff (part : List Numbered) (old new : Runner) : Type 0 where
+  pub kept : Kept
+  pub was : progress_of old.actor ≡ idle kept
+  pub breaks : (later : Kept → Course) → Breaks (front old.pass) (one_by_one part later kept) (front new.pass)
+
 module _ {P : Type 0} (turn : TheTurn P) where
   -- calls may be made by the pass, which knows a history from a fine state
   pub record MayAct (pass : ThePass) : Type 0 where
@@ -63,10 +69,15 @@ module _ {P : Type 0} (turn : TheTurn P) (parts : List (List Numbered)) where
     pub made : (place : ℕ) (part : List Numbered) → slice_get parts place ≡ Some part → All IsMade part
     pub rests : player.whole ≡ true → IsIdle (progress_of player.actor)
 
-  -- it has played its part
+  -- it was broken off within its part, or did nothing; one that was refused memory before does nothing
+  abbrev pub BrokenOffOrIdle : Runner → Runner → Type 0
+  BrokenOffOrIdle old new = (new.pass ≡ old.pass) ⊎ ((old.whole ≡ true) × ((part : List Numbered) × (slice_get parts old.place ≡ Some part) × BrokenOff part old new))
+
+  -- it has played its part, or was refused memory
   pub record Played (old new : Runner) : Type 0 where
     pub after : IsAfter turn old.pass new.pass
     pub played : new.whole ≡ true → (old.whole ≡ true) × ((part : List Numbered) × (slice_get parts old.place ≡ Some part) × ActedAll part old new)
+    pub broken : new.whole ≡ false → BrokenOffOrIdle old new
 
   pub record EachPlayed (old new : List Runner) : Type 0 where
     pub len : length new ≡ length old

@@ -12,7 +12,8 @@ fn at_one<T, F: Fn(&mut T)>(f: &F, item: &mut T)
     f(item);
 }
 
-/// Calls f at each item, one after the other.
+/// Calls f at each item, one after the other. It stays out of line: `each_apart` is in progress once for each halving, and what an item needs of the stack is needed once.
+#[inline(never)]
 fn in_turn<T, F: Fn(&mut T)>(f: &F, items: &mut [T])
     requires { TakesEach F.Fn f.now items.old }
     ensures { LeavesEach F.Fn f.now items.old items.new }

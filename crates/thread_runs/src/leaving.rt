@@ -6,7 +6,7 @@ ghost use Rattle.script_lang.specs.declared.script.ActorDecl.{ActorDecl};
 ghost use Rattle.script_lang.specs.declared.script.Phase.{Phase};
 ghost use Rattle.run_core.specs.Leading.{GoesOn};
 ghost use Rattle.thread_runs.specs.Running.{Between, HaveAll, Leaves};
-ghost use Rattle.thread_runs.specs.Closing.{HasRun};
+ghost use Rattle.thread_runs.specs.Closing.{BeginsToRun, HasRun};
 ghost use Rattle.thread_runs.specs.Collecting.{lines_in};
 
 use crate::player::Player;
@@ -55,6 +55,7 @@ pub(crate) fn finish<S: Store + Drop, C: Clock + Drop>(
 ) -> (Mount<S, C>, Result<Vec<Told>, NoMemory>)
     requires { HaveAll turn main players.items }
     ensures goes_on { GoesOn (start_of turn) result.0 }
+    ensures begins { (actors : List ActorDecl) (phases left : List Phase) → Between turn actors phases left main players.items → BeginsToRun actors phases (start_of turn) result.0 }
     ensures run { IfOk result.1 (λ told. (actors : List ActorDecl) (phases : List Phase) → Between turn actors phases [] main players.items → HasRun actors phases (start_of turn) (lines_in told.items) result.0) }
 {
     let told = leave_all(alloc, &turn, &mut main, players);

@@ -1,5 +1,5 @@
 //! One actor in a phase.
-ghost use Rattle.std.specs.Prelude.{◌≡◌, ◌<◌, ◌≤◌, IfOk, OnOk, All};
+ghost use Rattle.std.specs.Prelude.{◌≡◌, ◌<◌, ◌≤◌, ◌∷◌, [], IfOk, OnErr, OnOk, All};
 ghost use Rattle.mount_model.specs.Step.{IsStep};
 ghost use Rattle.mount_sound.specs.Owed.{Permits};
 ghost use Rattle.turn_object.specs.Front.{IsLegalFront};
@@ -7,11 +7,11 @@ ghost use Rattle.turn_object.specs.Pass.{start_of, front, parts_of, IsPassOf};
 ghost use Rattle.actor_core.specs.Progress.{IsIdle};
 ghost use Rattle.actor_core.specs.Standings.{progress_of, calls_left};
 ghost use Rattle.run_core.specs.Players.{IsMade};
-ghost use Rattle.thread_runs.specs.Driving.{MayGoOn, IsDriven, ComesToIts};
+ghost use Rattle.thread_runs.specs.Driving.{MayGoOn, IsBrokenOff, IsDriven, ComesToIts};
 ghost use Rattle.share_workers.specs.Passes.{IsAfter};
 ghost use Rattle.thread_runs.specs.declared.player.TheConstants.{TOO_MANY};
 ghost use Rattle.thread_runs.specs.Parts.{statements_of, dealt};
-ghost use Rattle.thread_runs.specs.Runners.{MayAct, Acted, ActedAll, IsReadyFor, Played};
+ghost use Rattle.thread_runs.specs.Runners.{MayAct, Acted, ActedAll, BrokenOff, IsReadyFor, Played};
 
 use crate::parts::Part;
 use crate::told::Told;
@@ -85,6 +85,7 @@ fn share_out<
     ensures after { IsAfter turn.now pass.old pass.new }
     ensures driven { OnOk result (IsDriven turn.now pass.old (progress_of actor.old) pass.new (progress_of actor.new)) }
     ensures left { OnOk result (calls_left actor.new ≤ calls_left actor.old) }
+    ensures broken { OnErr result (IsBrokenOff (front pass.old) (progress_of actor.old) (front pass.new)) }
 {
     let Some(works) = actor.shares()? else {
         return Ok(());
@@ -115,6 +116,7 @@ fn drive<S: Store + Drop + Send, C: Clock + Drop + Send, G: Gate + Sync, R: Thre
     requires parts { TOO_MANY < parts_of pass.old }
     ensures after { IsAfter turn.now pass.old pass.new }
     ensures comes { IfOk result (λ line. ComesToIts line (front pass.old) (progress_of actor.old) (front pass.new) (progress_of actor.new)) }
+    ensures broken { OnErr result (IsBrokenOff (front pass.old) (progress_of actor.old) (front pass.new)) }
 {
     while let Some(ask) = actor.next()? {
         *made = made.saturating_add(1);
@@ -144,6 +146,7 @@ fn act<S: Store + Drop + Send, C: Clock + Drop + Send, G: Gate + Sync, R: Thread
     requires idle { IsIdle (progress_of player.old.actor) }
     ensures after { IsAfter turn.now player.old.pass player.new.pass }
     ensures acted { OnOk result (Acted statement.now player.old player.new) }
+    ensures broken { OnErr result (BrokenOff (statement.now ∷ []) player.old player.new) }
 {
     let copy = statement.statement.copy(alloc)?;
     player.actor.begin(statement.line, copy)?;
@@ -180,6 +183,7 @@ fn act_all<
     requires idle { IsIdle (progress_of player.old.actor) }
     ensures after { IsAfter turn.now player.old.pass player.new.pass }
     ensures acted { OnOk result (ActedAll (statements_of part.now) player.old player.new) }
+    ensures broken { OnErr result (BrokenOff (statements_of part.now) player.old player.new) }
 {
     let statements = part.statements.as_slice();
     for statement in statements {

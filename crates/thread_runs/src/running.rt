@@ -7,7 +7,7 @@ ghost use Rattle.run_core.specs.Conditions.{IsPlayable};
 ghost use Rattle.run_core.specs.Faults.{HasFault};
 ghost use Rattle.run_core.specs.Leading.{GoesOn};
 ghost use Rattle.run_core.specs.Play.{IsRight};
-ghost use Rattle.thread_runs.specs.Closing.{HasRun};
+ghost use Rattle.thread_runs.specs.Closing.{BeginsToRun, HasRun};
 ghost use Rattle.run_core.specs.Cast.{statements_in};
 ghost use Rattle.thread_runs.specs.Collecting.{lines_in, HaveLines, ArePut, IsOkWith};
 
@@ -42,18 +42,23 @@ fn run_all<
     requires playable { IsPlayable script.now }
     requires fine { IsFine mount }
     ensures goes_on { GoesOn mount result.0 }
+    ensures begins { BeginsToRun script.now.actors script.now.phases mount result.0 }
     ensures run { IfOk result.1 (λ told. HasRun script.now.actors script.now.phases mount (lines_in told.items) result.0) }
 {
-    let (turn, mut main) = match Turn::new(alloc, mount) {
-        Ok(made) => made,
-        Err((mount, NoMemory)) => return (mount, Err(NoMemory)),
-    };
     let actors = script.actors.as_slice();
     let mut players = Vec::new(alloc);
-    if !enter_all(alloc, &turn, &mut main, &mut players, actors) {
-        let (mount, _) = finish(alloc, turn, main, players);
+    if players.reserve(actors.len()).is_err() {
+        drop(players);
         return (mount, Err(NoMemory));
     }
+    let (turn, mut main) = match Turn::new(alloc, mount) {
+        Ok(made) => made,
+        Err((mount, NoMemory)) => {
+            drop(players);
+            return (mount, Err(NoMemory));
+        }
+    };
+    enter_all(alloc, &turn, &mut main, &mut players, actors);
     let phases = script.phases.as_slice();
     play_all(
         rt,
@@ -95,7 +100,8 @@ fn in_order(
 ///
 /// The lines are right: some order of all calls leads from the mount as it is given to the one that is handed back, makes the calls of the script's actors, all of one
 /// phase before those of the next, and each actor tells the lines of its statements. Written turns are passed over. `NoMemory` comes where memory was refused;
-/// the mount is handed back then too, after lawful calls.
+/// the mount is handed back then too. An actor that was refused memory makes no further call, and the others go on. So each has made the calls of its statements
+/// as far as it came, phase by phase, and nobody else has made any. Of each actor and each worker, only the last call may have been refused memory.
 pub fn run<
     S: Store + Drop + Send,
     C: Clock + Drop + Send,
@@ -106,6 +112,7 @@ pub fn run<
     requires fine { IsFine mount }
     ensures mount { IsSome result.mount }
     ensures goes_on { IfSome result.mount (λ after. GoesOn mount after) }
+    ensures begins { IfSome result.mount (λ after. BeginsToRun script.now.actors script.now.phases mount after) }
     ensures right { IfOk result.lines (λ lines. IfSome result.mount (λ after. IsRight script.now mount lines after)) }
     ensures text { IfOk result.lines HaveText }
     ensures cause { IfOk result.lines (λ lines. IfSome result.mount (λ after. HasFault lines → HasRisen mount.store.faults after.store.faults)) }

@@ -8,8 +8,10 @@ use Rattle.trunc_rename.specs.TruncateStages.{truncate_standing}
 use Rattle.trunc_rename.specs.RenameStages.{rename_standing}
 use Rattle.flatten_core.specs.FlattenStages.{flatten_standing}
 use Rattle.torn_tail.specs.Stages.{recover_standing}
-use Rattle.actor_core.specs.declared.doing.Doing.TheVariants.{Opening, Writing, Syncing, Closing, Reading, Verifying, Truncating, Renaming, Recovering, Naming, Flattening}
+use Rattle.refresh_index.specs.RefreshStages.{refresh_standing}
+use Rattle.actor_core.specs.declared.doing.Doing.TheVariants.{Opening, Writing, Syncing, Closing, Reading, Verifying, Truncating, Renaming, Recovering, Refreshing, Naming, Flattening}
 use Rattle.actor_core.specs.Endings.{opened, wrote, synced, closed, read_from, verified, truncated, renamed, recovered, names_listed, flattened}
+use Rattle.actor_core.specs.Opened.{reader_refreshed}
 use Rattle.actor_core.specs.Naming.{names_standing}
 use Rattle.actor_core.specs.Work.{finishes}
 use Rattle.actor_core.proofs.OneMachine.{goes_on}
@@ -64,6 +66,11 @@ pub returns-in-Recovering-clause-goes_on : goal.returns-in-Recovering-clause-goe
 returns-in-Recovering-clause-goes_on c =
     goes_on (recover_standing c.in-Recovering.flow) (recover_standing c.next-in-Recovering.new.self) (λ kept left result. finishes (recovered kept result)) c.args.doing.now (Recovering c.in-Recovering.flow) (Recovering c.next-in-Recovering.new.self) c.in-Recovering.is (λ kept stop. refl) (λ kept stop. refl) (λ kept stop. refl) (λ is. is)
     c.next-in-Recovering.result c.next-in-Recovering.ensures.call c.next-in-Recovering.ensures.rest
+
+pub returns-in-Refreshing-clause-goes_on : goal.returns-in-Refreshing-clause-goes_on
+returns-in-Refreshing-clause-goes_on c =
+    goes_on (refresh_standing c.in-Refreshing.flow) (refresh_standing c.next-in-Refreshing.new.self) (λ kept left result. finishes (reader_refreshed kept result)) c.args.doing.now (Refreshing c.in-Refreshing.flow) (Refreshing c.next-in-Refreshing.new.self) c.in-Refreshing.is (λ kept stop. refl) (λ kept stop. refl) (λ kept stop. refl) (λ is. is)
+    c.next-in-Refreshing.result c.next-in-Refreshing.ensures.call c.next-in-Refreshing.ensures.rest
 
 pub returns-in-Naming-clause-goes_on : goal.returns-in-Naming-clause-goes_on
 returns-in-Naming-clause-goes_on c =

@@ -11,10 +11,12 @@ use Rattle.trunc_rename.specs.TruncateStages.{truncate_standing}
 use Rattle.trunc_rename.specs.RenameStages.{rename_standing}
 use Rattle.flatten_core.specs.FlattenStages.{flatten_standing}
 use Rattle.torn_tail.specs.Stages.{recover_standing}
+use Rattle.refresh_index.specs.RefreshStages.{refresh_standing}
 use Rattle.gather_flow.specs.Gathering.{gather_rest, gather_standing}
 use Rattle.actor_core.specs.declared.doing.Doing.{Doing}
-use Rattle.actor_core.specs.declared.doing.Doing.TheVariants.{Opening, Writing, Syncing, Closing, Listing, Gathering, Reading, Verifying, Telling, Truncating, Renaming, Recovering, Naming, Flattening}
+use Rattle.actor_core.specs.declared.doing.Doing.TheVariants.{Opening, Writing, Syncing, Closing, Listing, Gathering, Reading, Verifying, Telling, Truncating, Renaming, Recovering, Refreshing, Naming, Flattening}
 use Rattle.actor_core.specs.Endings.{opened, wrote, synced, closed, read_from, verified, truncated, renamed, recovered, names_listed, flattened}
+use Rattle.actor_core.specs.Opened.{reader_refreshed}
 use Rattle.actor_core.specs.Telling.{if_asked}
 use Rattle.actor_core.specs.Purposes.{if_listed_for, ended_for}
 use Rattle.actor_core.specs.Naming.{names_standing}
@@ -100,6 +102,12 @@ returns-in-Recovering-clause-goes_on c =
     let P : Doing → Type 0 = λ doing. AwaitsReply doing in
     takes_so (rest_of (recover_standing c.in-Recovering.flow)) (recover_standing c.take-in-Recovering.new.self) (λ kept left result. finishes (recovered kept result)) c.args.doing.now (Recovering c.in-Recovering.flow) (Recovering c.take-in-Recovering.new.self) c.take-in-Recovering.result c.args.reply
     c.in-Recovering.is (λ kept stop. refl) (λ kept stop. refl) (subst P c.in-Recovering.is c.requires) c.take-in-Recovering.ensures.goes_on
+
+pub returns-in-Refreshing-clause-goes_on : goal.returns-in-Refreshing-clause-goes_on
+returns-in-Refreshing-clause-goes_on c =
+    let P : Doing → Type 0 = λ doing. AwaitsReply doing in
+    takes_so (rest_of (refresh_standing c.in-Refreshing.flow)) (refresh_standing c.take-in-Refreshing.new.self) (λ kept left result. finishes (reader_refreshed kept result)) c.args.doing.now (Refreshing c.in-Refreshing.flow) (Refreshing c.take-in-Refreshing.new.self) c.take-in-Refreshing.result c.args.reply
+    c.in-Refreshing.is (λ kept stop. refl) (λ kept stop. refl) (subst P c.in-Refreshing.is c.requires) c.take-in-Refreshing.ensures.goes_on
 
 pub returns-in-Naming-clause-goes_on : goal.returns-in-Naming-clause-goes_on
 returns-in-Naming-clause-goes_on c =

@@ -1,6 +1,6 @@
-use Rattle.lone_flow.proofs.Coming.{on_err}
 use Rattle.std.proofs.Common.{sym, ◌∙◌}
-use Rattle.lone_flow.proofs.Coming.{at_end, broken_further, broken_off, greeted, is_out, not_refused}
+use Rattle.mount_core.proofs.Memory.{not_refused, on_err}
+use Rattle.lone_flow.proofs.Coming.{at_end, broken_further, broken_off, greeted, is_out}
 use Rattle.lone_flow.proofs.driving.drive.Goals as goal
 
 pub loop-machine-init : goal.loop-machine-init

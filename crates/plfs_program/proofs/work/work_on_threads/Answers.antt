@@ -14,7 +14,7 @@ run-back-requires-clause-fine g c = λ κs lives. mounted_fine 0 (g.C.Clock.time
 
 pub returns-in-Ok-clause-left : goal.returns-in-Ok-clause-left
 returns-in-Ok-clause-left g c =
-    ran (was_run (HasBegun on_threads c.args.script.now) (g.C.Clock.times c.args.clock) (g.S.Store.stored c.args.store) (g.S.Store.stored c.close.result) c.in-Ok.mount c.unwrap.result c.in-Ok.ensures.ok (inr (rw c.unwrap.ensures at c.run-back.ensures.goes_on)) c.close.ensures)
+    ran (was_run (HasBegun on_threads c.args.script.now) (g.C.Clock.times c.args.clock) (g.S.Store.stored c.args.store) (g.S.Store.stored c.close.result) c.in-Ok.mount c.unwrap.result c.in-Ok.ensures.ok (inr (rw c.unwrap.ensures at c.run-back.ensures.begins)) c.close.ensures)
 
 pub returns-in-Ok-clause-right : goal.returns-in-Ok-clause-right
 returns-in-Ok-clause-right g c =

@@ -1,4 +1,4 @@
-use Rattle.std.proofs.Common.{rules, ◌≡◌, ◌+◌, List, [], length, take, subst, ap, ◌∙◌, arith}
+use Rattle.std.proofs.Common.{rules, ◌≡◌, ◌+◌, List, length, take, subst, ap, ◌∙◌, arith}
 use Rattle.std.proofs.Math.Seq.{take-length}
 use Rattle.script_lang.specs.declared.script.ActorDecl.{ActorDecl}
 use Rattle.share_workers.proofs.Facts.{taken_item}
@@ -8,9 +8,8 @@ use Rattle.thread_runs.proofs.entering.enter_all.Goals as goal
 
 pub loop-declared-init : goal.loop-declared-init
 loop-declared-init g c =
-    let f = c.requires.first in
-    let none : c.reserve.new.self.items ≡ [] = c.reserve.ensures.items ∙ c.requires.none in (
-      enters_none c.args.turn.now c.args.main.now c.reserve.new.self.items f.0 f.1 f.2 f.3 f.4 none,
+    let f = c.requires.first in (
+      enters_none c.args.turn.now c.args.main.now c.args.players.now.items f.0 f.1 f.2 f.3 f.4 c.requires.none,
       search rules,
       search rules,
     )
@@ -39,7 +38,7 @@ loop-declared-preserved g c =
     )
 
 pub returns-clause-entered : goal.returns-clause-entered
-returns-clause-entered g c = λ _ phases.
+returns-clause-entered g c = λ phases.
     let whole : c.loop-declared.declared-index ≡ length c.args.actors.now = omega arith in
     let all = ap (λ n. take n c.args.actors.now) whole ∙ take-length c.args.actors.now in
     first_between c.args.turn.now c.args.actors.now phases c.loop-declared.main c.loop-declared.players.items

@@ -2,11 +2,12 @@ use Rattle.std.proofs.Common.{◌≡◌, ◌+◌, List, [], drop, map, length, s
 use Rattle.std.proofs.Math.Seq.{drop-length}
 use Rattle.std.specs.Borrow.{Bor}
 use Rattle.std.specs.Prelude.{All}
+use Rattle.mount_core.proofs.Memory.{on_err}
 use Rattle.script_lang.specs.declared.script.Numbered.{Numbered}
 use Rattle.run_core.specs.Players.{IsMade}
 use Rattle.run_core.proofs.Facts.{left_item}
-use Rattle.thread_runs.specs.Runners.{ActedAll}
-use Rattle.thread_runs.proofs.Acting.{after_none, after_both, may_after, acting_none, acting_idle, acting_more, acting_all}
+use Rattle.thread_runs.specs.Runners.{ActedAll, BrokenOff}
+use Rattle.thread_runs.proofs.Acting.{after_none, after_both, may_after, acting_none, acting_idle, acting_more, acting_all, breaking_more}
 use Rattle.thread_runs.proofs.Dealing.{made_item}
 use Rattle.thread_runs.proofs.player.act_all.Goals as goal
 
@@ -49,3 +50,13 @@ returns-clause-acted g c =
     let none : map (λ (z : Bor Numbered). z.now) (drop i all) ≡ [] = ap (map (λ (z : Bor Numbered). z.now)) (ap (λ n. drop n all) whole ∙ drop-length all) in
     subst (λ (z : List (Bor Numbered)). ActedAll (map (λ s. s.now) z) c.args.player.now c.loop-statement.player) c.as_slice-statements.ensures.value
     (acting_all (map (λ s. s.now) all) (map (λ s. s.now) (drop i all)) c.args.player.now c.loop-statement.player none c.loop-statement.invariant.1)
+
+pub returns-in_err-act-clause-broken : goal.returns-in_err-act-clause-broken
+returns-in_err-act-clause-broken g c =
+    let all = c.as_slice-statements.result.now in
+    let i = c.loop-statement.statement-index in
+    let s = c.statement-item.result in
+    let first = c.args.player.now in
+    let split = left_item all i s c.loop-statement-test.true c.statement-item.is in
+    on_err c.from_residual.result _ (subst (λ (z : List (Bor Numbered)). BrokenOff (map (λ s. s.now) z) first c.act.new.player) c.as_slice-statements.ensures.value
+    (breaking_more (map (λ z. z.now) all) (map (λ z. z.now) (drop i all)) (map (λ z. z.now) (drop (i + 1) all)) s.now first c.loop-statement.player c.act.new.player c.loop-statement.invariant.1 (ap (map (λ z. z.now)) split) c.in_err-act.ensures.broken))

@@ -21,4 +21,4 @@ returns g c =
     let part = c.index-parts-place.result in
     let inside : place < length parts = search rules in
     let was : c.args.player.now.whole ≡ true = search rules in
-    played_acted c.args.turn.now (dealt parts) (statements_of part) c.args.player.now c.act_all.new.player c.act_all.result _ (part_here parts place part inside c.index-parts-place.is) c.act_all.ensures.after was c.is_ok-player.ensures.value c.act_all.ensures.acted
+    played_acted c.args.turn.now (dealt parts) (statements_of part) c.args.player.now c.act_all.new.player c.act_all.result _ (part_here parts place part inside c.index-parts-place.is) c.act_all.ensures.after was c.is_ok-player.ensures.value c.act_all.ensures.acted c.act_all.ensures.broken

@@ -1,4 +1,4 @@
-use Rattle.std.proofs.Common.{arith, rules}
+use Rattle.std.proofs.Common.{rules}
 use Rattle.folder_calls.proofs.Over.{write_failed}
 use Rattle.folder_calls.proofs.held.Held.write_at.Goals as goal
 

@@ -1,0 +1,122 @@
+-- Why a statement was refused, stopped or not made at all.
+use Rattle.std.specs.Prelude.{◌≡◌, ◌≢◌, ⊤, ℕ, ◌+◌, ◌<◌, Bool, true, false, List, [], ◌∷◌, Option, Some, None, slice_get}
+use Rattle.std.specs.List.{Any}
+use Rattle.plfs_types.specs.declared.entries.WriterCount.{WriterCount}
+use Rattle.plfs_types.specs.declared.limits.TheConstants.{MAX_SIZE, MAX_STAMP}
+use Rattle.container_layout.specs.declared.items.Item.TheVariants.{OpenHost}
+use Rattle.script_lang.specs.declared.line.Outcome.{Outcome}
+use Rattle.script_lang.specs.declared.line.Outcome.TheVariants.{Closed, Gone, Opened, Recovered, Refused, Stopped}
+use Rattle.script_lang.specs.declared.line.Why.{Why}
+use Rattle.script_lang.specs.declared.line.Why.TheVariants.{AlreadyOpen, Busy, Exists, Held, IdsSpent, MountsSpent, NoFile, NotOpen, StampsSpent, TooFar}
+use Rattle.script_lang.specs.declared.script.Statement.{Statement}
+use Rattle.script_lang.specs.declared.script.Statement.TheVariants.{Close, Map, Open, Rclose, Read, Recover, Refresh, Rename, Ropen, Sync, Trunc, Verify, Write}
+use Rattle.outcomes.specs.Data.{length_of}
+use Rattle.headline.specs.Run.{IsAmong, IsLine, Run, Told, before, own, surely_before}
+use Rattle.headline.specs.Trees.{Has}
+use Rattle.headline.specs.Writers.{account, host_of}
+use Rattle.headline.specs.Names.{BrokeOff, FindsNone, MayStand, Name, Named, Story, name_of}
+use Rattle.headline.specs.Files.{reader_at}
+use Rattle.headline.specs.Changes.{Holds, IsStampIn, IsTruncStamp, MayBeHeld, Writing, last_stamp_of, writer, writer_at, writing_at}
+
+-- ---- of writers
+
+-- A writer of this host had the container open: its entry stood in the tree before, and no recovery took it out that ended before; or a line opened it
+-- that began by then, and no close of it ended before; or one that broke off.
+pub data IsOpenIn (run : Run) (story : Story) (t : Told) (host id : ℕ) : Type 0 where
+  stood : Has run.before (story.of t) (OpenHost host id)
+      → ((s : Told) (buried : List WriterCount) (alive : List ℕ) (hold : Bool) → IsLine run s → surely_before run s t ≡ true → s.outcome ≡ Recovered buried alive hold → Any (λ (b : WriterCount). b.writer ≡ id) buried → ⊥)
+      → IsOpenIn run story t host id
+  opened : (o : Told) → IsLine run o → surely_before run t o ≡ false → story.of o ≡ story.of t → o.outcome ≡ Opened id → host_of (slice_get run.script.actors o.actor) ≡ host
+      → ((s : Told) (count : ℕ) → IsLine run s → surely_before run s t ≡ true → s.outcome ≡ Closed count → writer_at run s ≡ Some id → ⊥)
+      → IsOpenIn run story t host id
+  broken : (o : Told) (name : Name) → IsLine run o → surely_before run t o ≡ false → story.of o ≡ story.of t → o.statement ≡ Open name → BrokeOff o.outcome
+      → host_of (slice_get run.script.actors o.actor) ≡ host → IsOpenIn run story t host id
+
+-- a recovery is refused only while another statement holds the container
+abbrev pub IsHeldFrom : Run → Story → Told → Statement → Type 0
+IsHeldFrom run story t (Recover name) = (s : Told) × IsLine run s × Holds s.statement × (story.of s ≡ story.of t) × (surely_before run t s ≡ false) × (surely_before run s t ≡ false)
+IsHeldFrom run story t other = MayBeHeld run story t
+
+-- ---- of limits
+
+abbrev pub EndsTooFar : Statement → Type 0
+EndsTooFar (Write at content) = MAX_SIZE < at + length_of content
+EndsTooFar (Trunc name size) = MAX_SIZE < size
+EndsTooFar other = ⊥
+
+-- the last stamp of all is that of the writer's last write, or one that stood in the container
+pub data AreStampsSpent (run : Run) (story : Story) (t : Told) : Type 0 where
+  of_writer : (id : ℕ) → writer_at run t ≡ Some id → last_stamp_of (account run t.actor id (before run t)).writes ≡ MAX_STAMP → AreStampsSpent run story t
+  of_others : (o : Told) (id : ℕ) → writer_at run t ≡ Some id → IsLine run o → o.outcome ≡ Opened id → IsTruncStamp run (story.of o) MAX_STAMP → AreStampsSpent run story t
+  of_container : (name : Name) (size : ℕ) → t.statement ≡ Trunc name size → IsStampIn run (story.of t) MAX_STAMP → AreStampsSpent run story t
+
+-- ---- of what the actor has
+
+-- the actor has no writer, or one that may be closed
+abbrev pub MayLack : Writing → Type 0
+MayLack (writer id) = ⊥
+MayLack other = ⊤
+
+-- it has no reader, and no writer or perhaps none
+abbrev pub Lacks : Run → Told → Statement → Type 0
+Lacks run t (Read at len) = reader_at run t ≡ None
+Lacks run t (Verify at content) = reader_at run t ≡ None
+Lacks run t Map = reader_at run t ≡ None
+Lacks run t Refresh = reader_at run t ≡ None
+Lacks run t Rclose = reader_at run t ≡ None
+Lacks run t (Write at content) = MayLack (writing_at run t)
+Lacks run t Sync = MayLack (writing_at run t)
+Lacks run t Close = MayLack (writing_at run t)
+Lacks run t other = ⊥
+
+-- it has one, or perhaps a writer
+abbrev pub HasOne : Run → Told → Statement → Type 0
+HasOne run t (Ropen name workers) = reader_at run t ≢ None
+HasOne run t (Open name) = writer_at run t ≢ None
+HasOne run t other = ⊥
+
+-- a line that shows that the actor had none of what it opens, or one of what it uses
+abbrev pub HadIt : Run → Told → Statement → Type 0
+HadIt run t (Open name) = MayLack (writing_at run t)
+HadIt run t (Ropen name workers) = reader_at run t ≡ None
+HadIt run t (Read at len) = reader_at run t ≢ None
+HadIt run t (Verify at content) = reader_at run t ≢ None
+HadIt run t Map = reader_at run t ≢ None
+HadIt run t Refresh = reader_at run t ≢ None
+HadIt run t Rclose = reader_at run t ≢ None
+HadIt run t (Write at content) = writer_at run t ≢ None
+HadIt run t Sync = writer_at run t ≢ None
+HadIt run t Close = writer_at run t ≢ None
+HadIt run t other = ⊤
+
+-- it was neither refused, nor stopped, nor left out
+abbrev pub WasMade : Outcome → Type 0
+WasMade (Refused why) = ⊥
+WasMade Stopped = ⊥
+WasMade Gone = ⊥
+WasMade other = ⊤
+
+-- ---- the table
+
+abbrev pub HasCause : Run → Story → Told → Why → Type 0
+HasCause run story t NoFile = (name : Name) × (name_of t.statement ≡ Some name) × FindsNone run story t name
+HasCause run story t (Busy host id) = Holds t.statement × Named run story t × IsOpenIn run story t host id
+HasCause run story t Held = Named run story t × IsHeldFrom run story t t.statement
+HasCause run story t Exists = Named run story t × ((old : Name) × (to : Name) × (names : List Name) × (t.statement ≡ Rename old to) × MayStand run story t names × IsAmong to names)
+HasCause run story t TooFar = EndsTooFar t.statement
+HasCause run story t StampsSpent = AreStampsSpent run story t
+HasCause run story t NotOpen = Lacks run t t.statement
+HasCause run story t AlreadyOpen = HasOne run t t.statement
+HasCause run story t IdsSpent = ⊥
+HasCause run story t MountsSpent = ⊥
+
+-- ---- stops
+
+-- the line of the statement that its actor made last before this one
+abbrev pub last_outcome : List Told → Option Outcome
+last_outcome [] = None
+last_outcome (t ∷ []) = Some t.outcome
+last_outcome (t ∷ s ∷ lines) = last_outcome (s ∷ lines)
+
+abbrev pub WasStopped : Run → Told → Type 0
+WasStopped run t = Any (λ (s : Told). s.outcome ≡ Stopped) (own t.actor (before run t))
