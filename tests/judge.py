@@ -460,10 +460,7 @@ class Judge:
     def reader(self, t):
         run, (size, cut, truncs), n = self.run, t.fields, self.of(t)
         if t.verb == "refresh":
-            former = run.reader_at(t)
-            n = self.of(former)
-            need(all(count <= dict(cut).get(writer, 0) for writer, count in former.fields[1]), "a count below the former one")
-            self.containers[t.place] = n
+            n = self.containers[t.place] = self.of(run.reader_at(t))
         else:
             self.finds(t)
         writes = self.cut(t, n, cut)
@@ -473,6 +470,12 @@ class Judge:
         for s in run.told:
             if run.reader_at(s) is t:
                 self.answers(s, file)
+
+    def refreshed(self, t):
+        _, cut, truncs = t.fields
+        _, counts, stood = self.run.reader_at(t).fields
+        need(all(count <= dict(cut).get(writer, 0) for writer, count in counts), "a count below the former one")
+        need(truncs[: len(stood)] == stood, "a former truncate is missing")
 
     def answers(self, s, file):
         """The field of this name is judged with `reader`, whose file it is."""
@@ -692,6 +695,8 @@ class Judge:
                     field(name, getattr(self, name), t, line=line.number)
             if t.kind == "wrote":
                 field("stamped", self.stamped, t, line=line.number)
+            if t.kind == "reader" and t.verb == "refresh" and run.reader_at(t) is not None:
+                field("refreshed", self.refreshed, t, line=line.number)
         for n in range(len(run.rooms)):
             for w in self.writers(n, run.told, run.told):
                 field("left", self.left, n, w)

@@ -48,7 +48,7 @@ WRONG = {
     "a byte": ("10 read 0 61626364", "10 read 0 61626365", "reader"),
     "a byte behind a truncate": ("24 read 0 61..78", "24 read 0 616279", "reader"),
     "a count below what was synced": (r"9 reader 4 cut (\d+):1", "9 reader 0 cut -", "reader"),
-    "a count below that of the former line": (r"11 reader 4 cut (\d+):1", "11 reader 0 cut -", "reader"),
+    "a count below that of the former line": (r"11 reader 4 cut (\d+):1", "11 reader 0 cut -", "refreshed"),
     "a count above all that was written": (r"11 reader 4 cut (\d+):1", r"11 reader 4 cut \1:2", "reader"),
     "a size": ("23 reader 3 ", "23 reader 4 ", "reader"),
     "a truncate left out": (r"23 reader 3 (.*) trunc .*", r"23 reader 4 \1 trunc -", "reader"),

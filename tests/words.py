@@ -65,7 +65,8 @@ def a_folder_that_root_names_twice_is_a_fault(trial):
 @check
 def with_little_stack_no_thread_ends_by_a_signal(trial):
     # The halves into which actors are parted stand on one another: the most actors want the most.
-    ends_by_itself(trial, THREADED, ("run",), stack=256 * 1024)
+    ends_by_itself(trial, THREADED, ("run",), stack=160 * 1024)
+    ends_by_itself(trial, THREADED.replace("ropen f 4", "ropen f 16"), ("run",), stack=160 * 1024)
     actors = [f"a{number}" for number in range(256)]
     script = [*(f"actor {actor}" for actor in actors), *(f"{actor} open f" for actor in actors), *(f"{actor} close" for actor in actors), ""]
-    ends_by_itself(trial, "\n".join(script), ("run",), stack=256 * 1024)
+    ends_by_itself(trial, "\n".join(script), ("run",), stack=160 * 1024)

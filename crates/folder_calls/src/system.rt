@@ -10,7 +10,7 @@ use crate::failure::Failure;
 use crate::reason::{Asked, Kind, Reason};
 use plfs_types::{Name, NameList};
 use std::alloc::Global;
-use std::fs::{self, DirEntry, File, Metadata, OpenOptions};
+use std::fs::{self, DirEntry, File, Metadata, OpenOptions, ReadDir};
 use std::io::{self, ErrorKind};
 use std::os::unix::fs::{FileExt, MetadataExt};
 use std::rt::Files;
@@ -55,14 +55,21 @@ fn name_of<R: System>(entry: &DirEntry<R, Global>) -> io::Result<Name> {
     }
 }
 
-// The names in a folder. What it has on the stack is not to stand in the frames of its callers.
-#[inline(never)]
-fn names_in<R: System>(rt: &R, alloc: Global, path: &str) -> io::Result<NameList> {
+fn names_of<R: System>(alloc: Global, listing: ReadDir<R, Global>) -> io::Result<NameList> {
     let mut names = Vec::new(alloc);
-    for entry in fs::read_dir(rt, path)? {
+    for entry in listing {
         names.push(name_of(&entry?)?)?;
     }
     Ok(NameList::from_vec(names))
+}
+
+// The names in a folder. The listing has a buffer of 8 KiB on the stack, which is not to stand in the frames of callers.
+#[inline(never)]
+fn names_in<R: System>(rt: &R, alloc: Global, path: &str) -> io::Result<NameList> {
+    match fs::read_dir(rt, path) {
+        Ok(listing) => names_of(alloc, listing),
+        Err(error) => Err(error),
+    }
 }
 
 impl<R> SystemCalls<R> {

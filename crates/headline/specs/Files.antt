@@ -1,11 +1,9 @@
 -- What the lines that show a file say of it.
-use Rattle.std.specs.Prelude.{◌≡◌, ⊤, ℕ, ◌+◌, ◌-◌, ◌≤◌, ◌<◌, ◌^◌, min, List, [], ◌∷◌, length, map, take, Option, Some, None, slice_get}
-use Rattle.std.specs.List.{All}
+use Rattle.std.specs.Prelude.{◌≡◌, ⊤, ℕ, ◌+◌, ◌-◌, ◌<◌, ◌^◌, min, List, [], ◌∷◌, length, map, take, Option, Some, None, slice_get}
 use Rattle.plfs_types.specs.declared.entries.Entry.{Entry}
 use Rattle.plfs_types.specs.declared.entries.ShareBytes.{ShareBytes}
 use Rattle.plfs_types.specs.declared.entries.Trunc.{Trunc}
 use Rattle.plfs_types.specs.declared.entries.WriterCount.{WriterCount}
-use Rattle.plain_file.specs.declared.changes.Change.{Change}
 use Rattle.plain_file.specs.declared.pieces.Piece.{Piece}
 use Rattle.plain_file.specs.File.{plain, plain_size, slice, stored_bytes}
 use Rattle.plain_file.specs.Runs.{ArePiecesOf}
@@ -18,7 +16,7 @@ use Rattle.outcomes.specs.Data.{bytes_of}
 use Rattle.headline.specs.Run.{IsLine, Run, Told, before, own}
 use Rattle.headline.specs.Trees.{Has}
 use Rattle.headline.specs.Names.{Finds, Story}
-use Rattle.headline.specs.Views.{AreTruncs, IsCut, Seen, changes_of, count_of, counted, shared, writes_of}
+use Rattle.headline.specs.Views.{AreTruncs, IsCut, Seen, changes_of, counted, shared, writes_of}
 
 -- the reader's last line, once this line was told
 abbrev pub reader_next : Option Told → Told → Outcome → Option Told
@@ -52,16 +50,15 @@ Answers file (Verify at content) Same = slice file at (length (bytes_of content)
 Answers file (Verify at content) (Differs place) = DiffersAt at (bytes_of content) (slice file at (length (bytes_of content))) place
 Answers file statement outcome = ⊤
 
--- The reader was opened by its name; or its former line told of the same container, and of no more entries of any writer.
-pub data HasReader (run : Run) (story : Story) (t : Told) (seen : List Seen) : Type 0 where
-  opened : (name : List ℕ) (workers : ℕ) → t.statement ≡ Ropen name workers → Finds run story t name → HasReader run story t seen
-  refreshed : (former : Told) → t.statement ≡ Refresh → reader_at run t ≡ Some former → story.of t ≡ story.of former
-      → ((size : ℕ) (cut : List WriterCount) (truncs : List Trunc) → former.outcome ≡ Reader size cut truncs → All (λ (b : WriterCount). b.count ≤ count_of b.writer seen) cut) → HasReader run story t seen
+-- The reader was opened by its name; or its former line told of the same container.
+pub data HasReader (run : Run) (story : Story) (t : Told) : Type 0 where
+  opened : (name : List ℕ) (workers : ℕ) → t.statement ≡ Ropen name workers → Finds run story t name → HasReader run story t
+  refreshed : (former : Told) → t.statement ≡ Refresh → reader_at run t ≡ Some former → story.of t ≡ story.of former → HasReader run story t
 
 -- A reader's line shows a cut and truncates that it may see, and the size of their one plain file. Of that file are all answers of the reader, up to its next line.
 pub record ShowsFile (run : Run) (story : Story) (t : Told) (size : ℕ) (cut : List WriterCount) (truncs : List Trunc) : Type 0 where
   pub seen : List Seen
-  pub reader : HasReader run story t seen
+  pub reader : HasReader run story t
   pub may_see : IsCut run story t seen
   pub cut_is : cut ≡ map counted seen
   pub truncs_are : AreTruncs run story t seen truncs

@@ -1,6 +1,7 @@
 -- What the lines of a run say: the page to read. Each field is a promise. A line is a statement of the script with its outcome. A line is before another if
 -- it surely ended before that began.
-use Rattle.std.specs.Prelude.{◌≡◌, ◌⊎◌, ℕ, Bool, List, length, Option, Some, map}
+use Rattle.std.specs.Prelude.{◌≡◌, ◌⊎◌, ◌≤◌, ℕ, Bool, List, ◌++◌, length, Option, Some, map}
+use Rattle.std.specs.List.{All, Any}
 use Rattle.plfs_types.specs.Counts.{HasRisen}
 use Rattle.plfs_types.specs.declared.entries.ShareBytes.{ShareBytes}
 use Rattle.plfs_types.specs.declared.entries.Trunc.{Trunc}
@@ -9,6 +10,7 @@ use Rattle.container_layout.specs.declared.items.Item.TheVariants.{Index, OpenHo
 use Rattle.script_lang.specs.declared.line.Outcome.TheVariants as line
 use Rattle.script_lang.specs.declared.line.Line.{Line}
 use Rattle.script_lang.specs.declared.line.Why.{Why}
+use Rattle.script_lang.specs.declared.script.Statement.TheVariants.{Refresh}
 use Rattle.headline.specs.Run.{IsLine, Phased, Run, Says, Told, before, own, phased, told}
 use Rattle.headline.specs.Trees.{Has}
 use Rattle.headline.specs.Writers.{Writer, written_by}
@@ -33,6 +35,9 @@ pub record IsOrderly (run : Run) : Type 0 where
   -- `reader SIZE ..`: all that it reads and compares, up to its next line, is of one file of that size
   pub answers : (t : Told) (size : ℕ) (cut : List WriterCount) (truncs : List Trunc) → Says run t (line.Reader size cut truncs)
       → (file : List ℕ) × (size ≡ length file) × ((s : Told) → IsLine run s → reader_at run s ≡ Some t → Answers file s.statement s.outcome)
+  -- the line of a refresh: no count is below that of the reader's former line, and the truncates are the former ones and such as came
+  pub refreshed : (t former : Told) (size was : ℕ) (cut counts : List WriterCount) (truncs stood : List Trunc) → t.statement ≡ Refresh → Says run t (line.Reader size cut truncs) → reader_at run t ≡ Some former
+      → former.outcome ≡ line.Reader was counts stood → All (λ (b : WriterCount). Any (λ (c : WriterCount). (c.writer ≡ b.writer) × (b.count ≤ c.count)) cut) counts × ((came : List Trunc) × (truncs ≡ stood ++ came))
   -- of a statement that was made, the actor had what it uses, and had not yet what it opens
   pub made : (t : Told) → IsLine run t → WasMade t.outcome → HadIt run t t.statement
   -- `stopped`: a stop was armed; `gone`: after one, and always then; `fault`: the store failed
@@ -52,7 +57,7 @@ pub record Headline (run : Run) (story : Story) : Type 0 where
   pub stamped : (t : Told) (at len stamp id : ℕ) → Says run t (line.Wrote at len (Some stamp)) → writer_at run t ≡ Some id → IsNextStamp run story t at len id stamp
   -- `reader SIZE cut .. trunc ..`: one plain file, of the first writes of each writer and of truncates. It has all that was told as synced or closed
   -- before, and all truncates told before. All that this reader reads, compares and maps is of this file, whatever is done meanwhile, until it is refreshed:
-  -- then it is as one opened then, of the same container, and its cut isn't below the former one
+  -- then it is as one opened then, of the same container
   pub reader : (t : Told) (size : ℕ) (cut : List WriterCount) (truncs : List Trunc) → Says run t (line.Reader size cut truncs) → ShowsFile run story t size cut truncs
   -- `stat ..`: size and bytes of such a file
   pub stat : (t : Told) (size bytes : ℕ) (by : List ShareBytes) (truncs : List Trunc) → Says run t (line.Stat size bytes by truncs) → TellsOfFile run story t size bytes by truncs

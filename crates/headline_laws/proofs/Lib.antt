@@ -8,7 +8,10 @@ mod Places
 mod Standing
 mod Numbering
 mod Synced
-mod Faulting
 mod Answering
+mod Causes
+mod Parts
 mod Orderly
+mod Apart
+mod Still
 pub mod Facts

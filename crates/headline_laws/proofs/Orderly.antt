@@ -1,5 +1,5 @@
 -- The lines of a run are orderly.
-use Rattle.std.proofs.Common.{◌≡◌, ◌≢◌, inl, inr, ◌+◌, ◌<◌, ℕ, zero, suc, true, false, List, [], ◌∷◌, ◌++◌, map, length, Option, Some, None, refl, sym, ◌∙◌, subst, arith}
+use Rattle.std.proofs.Common.{◌≡◌, ◌≢◌, ◌≤◌, inl, inr, ◌+◌, ◌<◌, ℕ, zero, suc, true, false, List, [], ◌∷◌, ◌++◌, map, length, Option, Some, None, refl, sym, ◌∙◌, subst, arith}
 use Rattle.std.specs.Prelude.{slice_get}
 use Rattle.std.specs.List.{AllByRecursion}
 use Rattle.std.proofs.lemmas.List.Elements.{recursion_from_All}
@@ -28,13 +28,12 @@ use Rattle.actor_core.specs.Endings.{Ending}
 use Rattle.actor_core.specs.Progress.{fresh}
 use Rattle.run_core.specs.Cast.{cast_from, statements_in}
 use Rattle.run_core.specs.Course.{course_of, own as own_statements}
-use Rattle.run_core.specs.Faults.{HasFault}
 use Rattle.run_core.specs.Play.{IsPlay, IsRight}
 use Rattle.run_core.specs.Written.{whose}
-use Rattle.run_core.proofs.Facts.{play_right}
+use Rattle.run_core.proofs.Facts.{AreGood, AreWell, IsWell, NoFault, play_right, through_tells_good, well_or_risen, work_caused}
 use Rattle.play_laws.specs.Undamaged.{AreUndamaged, IsUndamaged}
 use Rattle.play_laws.proofs.Facts.{readers_show, right_counts, right_undamaged}
-use Rattle.headline.specs.Run.{IsLine, Phased, Run, Told, before, beside, own, phased, told}
+use Rattle.headline.specs.Run.{IsLine, Phased, Run, Says, Told, before, beside, own, phased, told}
 use Rattle.headline.specs.Files.{reader_at}
 use Rattle.headline.specs.Changes.{Writes, Writing, id_of, none, unsure, writer, writing_at}
 use Rattle.headline.specs.Causes.{HadIt, MayLack, WasMade, WasStopped, last_outcome}
@@ -44,13 +43,13 @@ use Rattle.plain_file.proofs.Facts.{Among}
 use Rattle.gathering.proofs.Facts.{all_at, among, any_found}
 use Rattle.headline_laws.proofs.Did.{Had, IsOfKindOr, IsOpen, IsThere, StopsSo}
 use Rattle.headline_laws.proofs.Does.{Ended, did, was_gone}
+use Rattle.headline_laws.proofs.Causes.{GoodEach, all_good, good_at, good_own, risen_between}
 use Rattle.headline_laws.proofs.Chains.{Chain, through_chains}
-use Rattle.headline_laws.proofs.Places.{actors, actors_whose, own_split, statements_phased}
+use Rattle.headline_laws.proofs.Places.{actors, actors_whose, line_of, own_split, statements_phased}
 use Rattle.headline_laws.proofs.Standing.{Follow, IsAfter, Line_at, Stands, goes, halted, line_at, no_stop_in, own_follow, stop_in}
 use Rattle.headline_laws.proofs.Numbering.{numbers_told}
 use Rattle.headline_laws.proofs.Synced.{synced_tells}
-use Rattle.headline_laws.proofs.Faulting.{faults_tell, line_of}
-use Rattle.headline_laws.proofs.Answering.{FileChain, answers_tell, each_chain}
+use Rattle.headline_laws.proofs.Answering.{FileChain, OwnChain, answers_tell, each_chain, reader_actor, refreshed_tell}
 
 -- ---- who is declared
 
@@ -87,7 +86,7 @@ line_declared actors place (s ∷ ss) (l ∷ lines) t all (inr at) = line_declar
 -- ---- the lines of one actor
 
 -- an actor plays its course, under some number, and tells its lines
-record Plays_it (phases : List Phase) (blocks : List (List Event)) (told : List ℕ) (lines : List Line) (at : ℕ) (declared : ActorDecl) : Type 0 where
+pub record Plays_it (phases : List Phase) (blocks : List (List Event)) (told : List ℕ) (lines : List Line) (at : ℕ) (declared : ActorDecl) : Type 0 where
   pub role : Role Ask Reply State
   pub plays : PlaysAll role.number (course_of at phases declared) blocks role.workers (told_at at told lines) ends
 
@@ -110,6 +109,37 @@ actor_plays phases blocks told lines from (d ∷ actors) (role ∷ roles) (suc p
     let at : (from + 1) + place ≡ from + suc place = omega arith in
     record { role = r.role; plays = subst (λ k. PlaysAll r.role.number (course_of k phases declared) blocks r.role.workers (told_at k told lines) ends) at r.plays }
 
+-- ---- who plays a line
+
+-- its actor plays, and tells its lines
+pub plays_here : (run : Run) (start end : State) → FitsScript run.script → (right : IsRight run.script start run.lines end) → (t : Told) → IsLine run t → (declared : ActorDecl) × Plays_it run.script.phases right.calls.blocks (whose (statements_in run.script.phases)) run.lines t.actor declared
+plays_here run start end fits right t is_line =
+    let phases = run.script.phases in
+    let ss = phased 0 phases in
+    let all = phases_declared run.script.actors phases (recursion_from_All (FitsPhase (length run.script.actors)) phases fits.phased) in
+    let d = line_declared run.script.actors 0 ss run.lines t (subst (AllDeclared run.script.actors) (sym (statements_phased 0 phases)) all) (among (told run) t is_line) in
+    let p = actor_plays phases right.calls.blocks (whose (statements_in phases)) run.lines 0 run.script.actors right.calls.roles t.actor d.0 right.calls.plays d.1 in
+    let place : 0 + t.actor ≡ t.actor = omega arith in
+    (d.0, record { role = p.role; plays = subst (λ k. PlaysAll p.role.number (course_of k phases d.0) right.calls.blocks p.role.workers (told_at k (whose (statements_in phases)) run.lines) ends) place p.plays })
+
+-- ---- a fault has its cause
+
+-- Of right lines one tells of a fault only where the store's count rose meanwhile.
+pub fault_caused : (run : Run) (start end : State) → FitsScript run.script → IsRight run.script start run.lines end → (t : Told) → Says run t line.Fault → HasRisen start.store.faults end.store.faults
+fault_caused run start end fits right t says =
+    let phases = run.script.phases in
+    let ss = phased 0 phases in
+    elim (well_or_risen start right.history right.leads.lawful right.had_memory) as (λ _. HasRisen start.store.faults end.store.faults) [
+      | inl risen ↦ subst (λ (s : State). HasRisen start.store.faults s.store.faults) right.leads.ends risen
+      | inr well ↦
+          let (d, p) = plays_here run start end fits right t says.is_line in
+          let good = all_good p.role.number (course_of t.actor phases d) right.calls.blocks p.role.workers (told_at t.actor (whose (statements_in phases)) run.lines) ends
+          (through_tells_good IsWell NoFault work_caused t.actor phases (fresh d.host d.cap)) (subst (AreWell IsWell NoFault) right.calls.in_phases well) p.plays in
+          let split = own_split run t (among (told run) t says.is_line) in
+          let each = good_own t.actor 0 ss run.lines (subst (λ ns. AreGood IsWell NoFault (told_at t.actor ns run.lines)) (sym (actors_whose 0 phases)) good) in
+          absurd (good_at (own t.actor (before run t)) t split.rest (subst GoodEach split.is each) says.says)
+    ]
+
 -- ---- one line
 
 abbrev Here : Run → Told → Type 0
@@ -120,13 +150,9 @@ line_here run start end fits right t is_line =
     let phases = run.script.phases in
     let ss = phased 0 phases in
     let at = among (told run) t is_line in
-    let all = phases_declared run.script.actors phases (recursion_from_All (FitsPhase (length run.script.actors)) phases fits.phased) in
-    let d = line_declared run.script.actors 0 ss run.lines t (subst (AllDeclared run.script.actors) (sym (statements_phased 0 phases)) all) at in
-    let p = actor_plays phases right.calls.blocks (whose (statements_in phases)) run.lines 0 run.script.actors right.calls.roles t.actor d.0 right.calls.plays d.1 in
-    let place : 0 + t.actor ≡ t.actor = omega arith in
-    let plays = subst (λ k. PlaysAll p.role.number (course_of k phases d.0) right.calls.blocks p.role.workers (told_at k (whose (statements_in phases)) run.lines) ends) place p.plays in
-    let kept = fresh d.0.host d.0.cap in
-    let chain = through_chains p.role.number t.actor phases right.calls.blocks kept p.role.workers (told_at t.actor (whose (statements_in phases)) run.lines) plays in
+    let (d, p) = plays_here run start end fits right t is_line in
+    let kept = fresh d.host d.cap in
+    let chain = through_chains p.role.number t.actor phases right.calls.blocks kept p.role.workers (told_at t.actor (whose (statements_in phases)) run.lines) p.plays in
     let as_phased = subst (λ ns. Chain kept (own_statements t.actor (map (λ (s : Phased). s.is) ss)) (told_at t.actor ns run.lines)) (sym (actors_whose 0 phases))
     (subst (λ ns. Chain kept (own_statements t.actor ns) (told_at t.actor (whose (statements_in phases)) run.lines)) (sym (statements_phased 0 phases)) chain) in
     let follow = own_follow t.actor 0 ss run.lines kept as_phased in
@@ -243,8 +269,8 @@ module _ (run : Run) (t : Told) where
 
 -- ---- all fields
 
-pub orderly : (run : Run) (start end : State) → FitsScript run.script → IsFine start → IsClean start → IsRight run.script start run.lines end → (HasFault run.lines → HasRisen run.faults run.faults_after) → IsOrderly run
-orderly run start end fits fine clean right cause =
+all_orderly : (run : Run) (start end : State) → FitsScript run.script → IsFine start → IsClean start → IsRight run.script start run.lines end → ((t : Told) → Says run t line.Fault → HasRisen run.faults run.faults_after) → IsOrderly run
+all_orderly run start end fits fine clean right fault =
     let s = fine.sound clean in
     let m : Moment = record { state = start; issued = s.0 } in
     let here : (t : Told) → IsLine run t → Here run t = line_here run start end fits right in
@@ -254,25 +280,32 @@ orderly run start end fits fine clean right cause =
     let h = here t is_line in
     let l = line_of 0 (phased 0 run.script.phases) run.lines t (among (told run) t is_line) in
     kind_of t h.kept h.e h.says (subst IsUndamaged l.2 (all_at (λ (z : Line). IsUndamaged z.outcome) run.lines l.0 undamaged l.1)) h.ended in
+    let chained : (t : Told) → IsLine run t → OwnChain run t.actor = λ t is_line.
+    let d = line_declared run.script.actors 0 (phased 0 run.script.phases) run.lines t (subst (AllDeclared run.script.actors) (sym (statements_phased 0 run.script.phases)) all) (among (told run) t is_line) in
+    let shows = readers_show run.script m run.lines end fits s.1 right t.actor d.0 d.1 in
+    let chain = each_chain m shows.0.number (record { before = []; events = right.history }) None None (own_statements t.actor (statements_in run.script.phases)) (told_at t.actor (whose (statements_in run.script.phases)) run.lines) shows.2 in
+    subst (λ ns. FileChain None (own_statements t.actor (map (λ (s : Phased). s.is) (phased 0 run.script.phases))) (told_at t.actor ns run.lines)) (sym (actors_whose 0 run.script.phases))
+    (subst (λ ns. FileChain None (own_statements t.actor ns) (told_at t.actor (whose (statements_in run.script.phases)) run.lines)) (sym (statements_phased 0 run.script.phases)) chain) in
     record {
       numbered = numbers_told run.script m run.lines end right (readers_show run.script m run.lines end fits s.1 right) all;
       kinds = kinds;
       wrote = λ t at len stamp says. let h = here t says.is_line in wrote_of t h.kept h.e h.says h.ended at len stamp says.says;
       synced = synced_tells run (right_counts run.script start run.lines end fits fine clean right) kinds
           (λ t is_line. line_declared run.script.actors 0 (phased 0 run.script.phases) run.lines t (subst (AllDeclared run.script.actors) (sym (statements_phased 0 run.script.phases)) all) (among (told run) t is_line));
-      answers = λ t size cut truncs says.
-          let d = line_declared run.script.actors 0 (phased 0 run.script.phases) run.lines t (subst (AllDeclared run.script.actors) (sym (statements_phased 0 run.script.phases)) all) (among (told run) t says.is_line) in
-          let shows = readers_show run.script m run.lines end fits s.1 right t.actor d.0 d.1 in
-          let chain = each_chain m shows.0.number (record { before = []; events = right.history }) None None (own_statements t.actor (statements_in run.script.phases)) (told_at t.actor (whose (statements_in run.script.phases)) run.lines) shows.2 in
-          answers_tell run t size cut truncs
-          (subst (λ ns. FileChain None (own_statements t.actor (map (λ (s : Phased). s.is) (phased 0 run.script.phases))) (told_at t.actor ns run.lines)) (sym (actors_whose 0 run.script.phases))
-          (subst (λ ns. FileChain None (own_statements t.actor ns) (told_at t.actor (whose (statements_in run.script.phases)) run.lines)) (sym (statements_phased 0 run.script.phases)) chain)) says;
+      answers = λ t size cut truncs says. answers_tell run t size cut truncs (chained t says.is_line) says;
+      refreshed = λ t former size was cut counts truncs stood asked says reader had.
+          refreshed_tell run t former size was cut counts truncs stood (subst (OwnChain run) (sym (reader_actor run t former reader)) (chained t says.is_line)) asked says reader had;
       made = λ t is_line made. let h = here t is_line in made_had run t h.kept h.e h.says h.ended h.after made;
       stopped = λ t says. let h = here t says.is_line in stopped_armed run t h.kept h.e h.says h.ended h.after says.says;
       gone = λ t says. let h = here t says.is_line in gone_stopped run t h.kept h.e h.says h.ended h.after says.says;
       ended = λ t is_line was. let h = here t is_line in stopped_gone run t h.kept h.e h.says h.ended h.after was;
-      fault = faults_tell run cause;
+      fault = fault;
     }
 
-pub play_orderly : (run : Run) (start end : State) → FitsScript run.script → IsFine start → IsClean start → IsPlay run.script start run.lines end → (HasFault run.lines → HasRisen run.faults run.faults_after) → IsOrderly run
-play_orderly run start end fits fine clean play cause = orderly run start end fits fine clean (play_right run.script start run.lines end play) cause
+-- the count at first is not above the one of the state from which on they are right, and the count at last is that of its end
+pub orderly : (run : Run) (start end : State) → FitsScript run.script → IsFine start → IsClean start → IsRight run.script start run.lines end → run.faults ≤ start.store.faults → end.store.faults ≡ run.faults_after → IsOrderly run
+orderly run start end fits fine clean right first last =
+    all_orderly run start end fits fine clean right (λ t says. risen_between run.faults start.store.faults end.store.faults run.faults_after first last (fault_caused run start end fits right t says))
+
+pub play_orderly : (run : Run) (start end : State) → FitsScript run.script → IsFine start → IsClean start → IsPlay run.script start run.lines end → run.faults ≤ start.store.faults → end.store.faults ≡ run.faults_after → IsOrderly run
+play_orderly run start end fits fine clean play first last = orderly run start end fits fine clean (play_right run.script start run.lines end play) first last

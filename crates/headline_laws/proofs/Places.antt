@@ -124,3 +124,10 @@ statements_phased phase (p ∷ phases) =
 -- the lines of its actor are those before it, it, and further ones
 pub own_split : (run : Run) (t : Told) → Among t (told run) → Split run t (told run)
 own_split run t at = split_at run t 0 (told run) (beside_rise 0 (phased 0 run.script.phases) run.lines) at
+
+-- each line beside a statement is one of the lines
+pub line_of : (place : ℕ) (ss : List Phased) (lines : List Line) (t : Told) → Among t (beside place ss lines) → (l : Line) × Among l lines × (l.outcome ≡ t.outcome)
+line_of place [] lines t at = absurd at
+line_of place (s ∷ ss) [] t at = absurd at
+line_of place (s ∷ ss) (l ∷ lines) t (inl is) = (l, inl refl, sym (ap (λ (z : Told). z.outcome) is))
+line_of place (s ∷ ss) (l ∷ lines) t (inr at) = let more = line_of (place + 1) ss lines t at in (more.0, inr more.1, more.2)

@@ -1,18 +1,29 @@
-//! The law of the page.
-ghost use Rattle.plfs_types.specs.Counts.{HasRisen};
+//! The laws of the page.
+ghost use Rattle.std.specs.Prelude.{◌≡◌, ◌≤◌, ℕ, List, Option, Some};
+ghost use Rattle.store_api.specs.Acts.{Stored};
+ghost use Rattle.mount_model.specs.History.{Event};
+ghost use Rattle.mount_model.specs.Mounting.{IsMounted};
 ghost use Rattle.mount_model.specs.State.{State};
-ghost use Rattle.mount_sound.specs.Sound.{IsClean, IsFine};
+ghost use Rattle.mount_sound.specs.Sound.{IsClean, IsFine, IsSoundTree};
 ghost use Rattle.script_lang.specs.Ranges.{FitsScript};
-ghost use Rattle.run_core.specs.Faults.{HasFault};
+ghost use Rattle.run_core.specs.Leading.{Leads};
 ghost use Rattle.run_core.specs.Play.{IsPlay, IsRight};
 ghost use Rattle.headline.specs.Run.{Run};
 ghost use Rattle.headline.specs.Headline.{IsOrderly};
+ghost use Rattle.headline.specs.Still.{HasStill};
 
 /// A law: where the lines of a script are right, from a state on that is fine and clean, they are orderly. There is one for each statement, of its kind, and none
 /// tells of damage. A write has the script's bytes at the script's place, and a sync and a close count the writes that the lines tell of. All answers of a reader
-/// are of one file of its size. A statement is made only where its actor has what it uses. A stop is told where one was armed, and after it no more statement is
-/// made. So it is of the lines of a play, and on threads. That the store failed where a line tells of a fault is what the calls promise that play and run.
+/// are of one file of its size, and a refresh tells of no less than before. A statement is made only where its actor has what it uses. A stop is told where one was armed, and after it no more statement is
+/// made. A fault is told only where the store's count of faults rose. So it is of the lines of a play, and on threads.
 pub fn lines_are_orderly()
-    ensures right { (run : Run) (start end : State) → FitsScript run.script → IsFine start → IsClean start → IsRight run.script start run.lines end → (HasFault run.lines → HasRisen run.faults run.faults_after) → IsOrderly run }
-    ensures played { (run : Run) (start end : State) → FitsScript run.script → IsFine start → IsClean start → IsPlay run.script start run.lines end → (HasFault run.lines → HasRisen run.faults run.faults_after) → IsOrderly run }
+    ensures right { (run : Run) (start end : State) → FitsScript run.script → IsFine start → IsClean start → IsRight run.script start run.lines end → run.faults ≤ start.store.faults → end.store.faults ≡ run.faults_after → IsOrderly run }
+    ensures played { (run : Run) (start end : State) → FitsScript run.script → IsFine start → IsClean start → IsPlay run.script start run.lines end → run.faults ≤ start.store.faults → end.store.faults ≡ run.faults_after → IsOrderly run }
+{}
+
+/// A law: whatever calls lead from a mount over a sound tree to the tree after, each truncate of the tree before stands there still, and the metadata of each
+/// writer that had left. Of each writer that had an index, just the writes that had landed stand, with all their bytes.
+pub fn what_stood_stands()
+    ensures { (run : Run) (times : Option (List ℕ)) (opened : Stored) (start : State) (events : List Event) (end : State) → IsMounted 0 times opened start → opened.tree ≡ Some run.before → IsSoundTree run.before → Leads start events end
+        → end.store.tree ≡ Some run.after → HasStill run }
 {}

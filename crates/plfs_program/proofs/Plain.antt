@@ -1,24 +1,27 @@
 -- What the lines of a play over a sound tree show.
-use Rattle.std.proofs.Common.{ℕ, ◌≡◌, false, List, Option, refl, ap, ◌∙◌}
+use Rattle.std.proofs.Common.{ℕ, ◌≡◌, false, List, Option, Some, refl, sym, ap, ◌∙◌, subst}
 use Rattle.std.proofs.lemmas.List.Folds.{list_any_none}
 use Rattle.store_api.specs.Acts.{Stored}
+use Rattle.mount_model.specs.History.{Event}
 use Rattle.mount_model.specs.State.{State}
 use Rattle.mount_model.specs.Mounting.{IsMounted}
-use Rattle.mount_sound.specs.Sound.{IsClean, IsFine}
+use Rattle.mount_sound.specs.Sound.{IsClean, IsFine, IsSoundTree}
 use Rattle.mount_sound.proofs.Facts.{mounted_fine, mounted_sound}
 use Rattle.script_lang.specs.Ranges.{FitsScript}
 use Rattle.script_lang.specs.declared.line.Line.{Line}
 use Rattle.script_lang.specs.declared.line.Outcome.{Outcome}
 use Rattle.script_lang.specs.declared.line.Outcome.TheVariants as of
 use Rattle.script_lang.specs.declared.script.Script.{Script}
+use Rattle.run_core.specs.Leading.{Leads}
 use Rattle.play_laws.specs.Undamaged.{AreUndamaged, IsUndamaged}
 use Rattle.play_laws.specs.Counting.{CountWrites}
 use Rattle.play_laws.proofs.Facts.{play_counts, play_shows, play_undamaged, readers_show, right_counts, right_undamaged}
 use Rattle.plfs_program.specs.Outcomes.{has_line, is_damage}
-use Rattle.headline_laws.proofs.Facts.{orderly, play_orderly}
-use Rattle.plfs_program.specs.Seen.{TellsOrderly, seen_run}
+use Rattle.headline_laws.proofs.Facts.{orderly, play_orderly, still}
+use Rattle.plfs_program.specs.Seen.{TellsOrderly, TellsStill, seen_run}
 use Rattle.plfs_program.specs.SoundTrees.{TellsSoundTree}
 use Rattle.plfs_program.specs.Ways.{Way, HasLines, ShowsFiles, by_turns, on_threads}
+use Rattle.plfs_program.proofs.Lines.{mounting_keeps}
 
 -- a mount over a store that told a sound tree begins clean
 pub mounted_clean : (times : Option (List ℕ)) (before : Stored) (start : State) → IsMounted 0 times before start → TellsSoundTree before → IsClean start
@@ -43,11 +46,25 @@ counted_on way times before script lines start end fits made play told = are_cou
 
 -- ---- the lines are orderly
 
-pub orderly_on : (way : Way) (times : Option (List ℕ)) (before : Stored) (script : Script) (lines : List Line) (after : Stored) (start end : State) → FitsScript script → IsMounted 0 times before start → HasLines way script start lines end → TellsOrderly times before script lines after
-orderly_on by_turns times before script lines after start end fits made play told cause tree later is_before is_after =
-    play_orderly (seen_run times before script lines after tree later) start end fits (mounted_fine 0 times before start made) (mounted_clean times before start made told) play cause
-orderly_on on_threads times before script lines after start end fits made right told cause tree later is_before is_after =
-    orderly (seen_run times before script lines after tree later) start end fits (mounted_fine 0 times before start made) (mounted_clean times before start made told) right cause
+pub orderly_on : (way : Way) (times : Option (List ℕ)) (before : Stored) (script : Script) (lines : List Line) (after : Stored) (start end : State) → FitsScript script → IsMounted 0 times before start → HasLines way script start lines end → after ≡ end.store → TellsOrderly times before script lines after
+orderly_on by_turns times before script lines after start end fits made play left told tree later is_before is_after =
+    play_orderly (seen_run times before script lines after tree later) start end fits (mounted_fine 0 times before start made) (mounted_clean times before start made told) play (mounting_keeps times before start made) (ap (λ (s : Stored). s.faults) (sym left))
+orderly_on on_threads times before script lines after start end fits made right left told tree later is_before is_after =
+    orderly (seen_run times before script lines after tree later) start end fits (mounted_fine 0 times before start made) (mounted_clean times before start made told) right (mounting_keeps times before start made) (ap (λ (s : Stored). s.faults) (sym left))
+
+-- ---- what stood stands
+
+-- the calls that were made
+leads_on : (way : Way) (script : Script) (lines : List Line) (start end : State) → HasLines way script start lines end → (events : List Event) × Leads start events end
+leads_on by_turns script lines start end play = (play.history, play.leads)
+leads_on on_threads script lines start end right = (right.history, right.leads)
+
+pub still_on : (way : Way) (times : Option (List ℕ)) (before : Stored) (script : Script) (lines : List Line) (after : Stored) (start end : State) → IsMounted 0 times before start → HasLines way script start lines end → after ≡ end.store → TellsStill times before script lines after
+still_on way times before script lines after start end made play left told tree later is_before is_after =
+    let l = leads_on way script lines start end play in
+    let both : Some told.0 ≡ Some tree = sym told.1 ∙ is_before in
+    let same : told.0 ≡ tree = cc in
+    still (seen_run times before script lines after tree later) times before start l.0 end made is_before (subst IsSoundTree same told.2) l.1 (ap (λ (s : Stored). s.tree) (sym left) ∙ is_after)
 
 -- ---- no line is damaged
 

@@ -80,7 +80,8 @@ fn run_input<
     }
 }
 
-// Reads the input, and runs it.
+// Reads the input, and runs it. What it has on the stack is not to stand in the frame of the other commands.
+#[inline(never)]
 fn run<
     R: Threads + Wait + Sync,
     S: Store + Drop + Send,

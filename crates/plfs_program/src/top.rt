@@ -91,6 +91,7 @@ fn play_script<S: Store + Drop, C: Clock + Drop, O: Sink>(
 }
 
 /// Ends where the script has this fault.
+#[inline(never)]
 pub(crate) fn end_faulty<S: Store, O: Sink>(
     alloc: Global,
     line: u64,
@@ -170,7 +171,8 @@ fn play_plan<S: Store + Drop, C: Clock + Drop, I: Source, O: Sink>(
     play_script(alloc, &plan.script, plan.shown, out, store, clock)
 }
 
-// Writes a file out.
+// Writes a file out. What one command has on the stack is not to stand in the frames of the others: so each stays out of line.
+#[inline(never)]
 fn cat<S: Store + Drop, C: Clock + Drop, I: Source, O: Sink>(
     alloc: Global,
     name: LogicalName,
@@ -196,6 +198,7 @@ fn cat<S: Store + Drop, C: Clock + Drop, I: Source, O: Sink>(
 }
 
 // Packs the closed writers of a file.
+#[inline(never)]
 fn migrate<S: Store + Drop, C: Clock + Drop, I: Source, O: Sink>(
     alloc: Global,
     name: LogicalName,
@@ -220,6 +223,7 @@ fn migrate<S: Store + Drop, C: Clock + Drop, I: Source, O: Sink>(
 }
 
 /// Prints the usage line.
+#[inline(never)]
 pub(crate) fn refuse<S: Store, O: Sink>(out: &mut O, store: S) -> Ended<S>
     ensures { (words : List (List ℕ)) (given : Given) (times : Option (List ℕ)) → ((command : Asked) → IsBuiltCommand command → IsCommand words command → ⊥)
         → Course IsBuiltCommand words given given (ends_of times (O.taking out.old) (O.taking out.new) (S.stored store) (option_map S.stored result.store)) result.status }
@@ -229,6 +233,7 @@ pub(crate) fn refuse<S: Store, O: Sink>(out: &mut O, store: S) -> Ended<S>
 }
 
 /// Does what the words of this command ask for, where no other command has them.
+#[inline(never)]
 pub(crate) fn obey<S: Store + Drop, C: Clock + Drop, I: Source, O: Sink>(
     alloc: Global,
     command: Command,

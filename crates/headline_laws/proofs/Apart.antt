@@ -1,0 +1,121 @@
+-- Of a line that is surely before another the part of the history lies before that of the other.
+use Rattle.std.proofs.Common.{◌≡◌, ◌≤◌, ◌<◌, ◌⊎◌, ◌+◌, ◌&&◌, ◌||◌, inl, inr, ℕ, Bool, true, false, nat_eq, nat_lt, List, [], ◌∷◌, ◌++◌, filter, refl, sym, ap, ◌∙◌, subst, arith, append_assoc, if◌then◌else◌}
+use Rattle.std.proofs.lemmas.Bool.Decides.{nat_tests}
+use Rattle.mount_model.specs.History.{Event}
+use Rattle.mount_model.specs.State.{State}
+use Rattle.script_lang.specs.Ranges.{FitsScript}
+use Rattle.story.specs.Performers.{told_at}
+use Rattle.actor_core.specs.declared.kept.Kept.{Kept}
+use Rattle.actor_core.specs.Progress.{fresh}
+use Rattle.run_core.specs.Cast.{statements_in}
+use Rattle.run_core.specs.Play.{IsRight}
+use Rattle.run_core.specs.Written.{whose}
+use Rattle.headline.specs.Run.{IsLine, Run, Told, before, own, phased, surely_before, told}
+use Rattle.plain_file.proofs.Facts.{Among}
+use Rattle.gathering.proofs.Facts.{among}
+use Rattle.headline_laws.proofs.Orderly.{plays_here}
+use Rattle.headline_laws.proofs.Parts.{HaveParts, LinePart, ToldParts, begins, line_from, line_to, own_parts, own_phased, part_at, parts_at, phases_apart, through_parts}
+use Rattle.headline_laws.proofs.Places.{actors_whose, own_split}
+
+-- ---- among lines
+
+record Halves (x : Told) (xs : List Told) : Type 0 where
+  pub front : List Told
+  pub rest : List Told
+  pub is : xs ≡ front ++ x ∷ rest
+
+halves : (x : Told) (xs : List Told) → Among x xs → Halves x xs
+halves x [] at = absurd at
+halves x (y ∷ ys) (inl same) = record { front = []; rest = ys; is = ap (λ z. z ∷ ys) (sym same) }
+halves x (y ∷ ys) (inr at) = let more = halves x ys at in record { front = y ∷ more.front; rest = more.rest; is = ap (λ z. y ∷ z) more.is }
+
+in_filter : (p : Told → Bool) (x : Told) (xs : List Told) → p x ≡ true → Among x xs → Among x (filter p xs)
+in_filter p x [] holds at = absurd at
+in_filter p x (y ∷ ys) holds (inl same) = let here : p y ≡ true = ap p (sym same) ∙ holds in subst (λ b. Among x (if b then y ∷ filter p ys else filter p ys)) (sym here) (inl same)
+in_filter p x (y ∷ ys) holds (inr at) = elim (p y) as (λ b. Among x (if b then y ∷ filter p ys else filter p ys)) [
+  | true ↦ inr (in_filter p x ys holds at)
+  | false ↦ in_filter p x ys holds at
+]
+
+both_true : (a b : Bool) → (a && b) ≡ true → (a ≡ true) × (b ≡ true)
+both_true true b is = (refl, is)
+both_true false b is = absurd (cc)
+
+one_true : (a b c : Bool) → a ≡ false → (a || b || c) ≡ true → (b ≡ true) ⊎ (c ≡ true)
+one_true true b c off is = absurd (cc)
+one_true false true c off is = inl refl
+one_true false false c off is = inr is
+
+is_less : (a b : ℕ) → nat_lt a b ≡ true → a < b
+is_less a b is = grind (arith, nat_tests)
+
+is_same : (a b : ℕ) → nat_eq a b ≡ true → a ≡ b
+is_same a b is = grind (arith, nat_tests)
+
+-- ---- the parts of an actor's lines
+
+module _ (run : Run) (start end : State) (fits : FitsScript run.script) (right : IsRight run.script start run.lines end) where
+  -- the actor of a line calls under this number, and each of its lines has its part
+  pub record OwnParts (t : Told) : Type 0 where
+    pub number : ℕ
+    pub kept : Kept
+    pub parts : ToldParts number right.history right.calls.blocks 0 kept (own t.actor (told run))
+
+  pub parts_here : (t : Told) → IsLine run t → OwnParts t
+  parts_here t is_line =
+      let phases = run.script.phases in
+      let ss = phased 0 phases in
+      let blocks = right.calls.blocks in
+      let (d, p) = plays_here run start end fits right t is_line in
+      let kept = fresh d.host d.cap in
+      let have = through_parts p.role.number right.history blocks t.actor 0 phases blocks [] kept p.role.workers (told_at t.actor (whose (statements_in phases)) run.lines) right.calls.in_phases
+      (λ more. let same : 0 + more ≡ more = omega arith in let none : begins blocks more ≡ 0 + begins blocks more = omega arith in ap (begins blocks) same ∙ none) p.plays in
+      record {
+        number = p.role.number;
+        kept = kept;
+        parts = own_parts p.role.number right.history blocks t.actor 0 0 ss run.lines kept (subst (λ ns. HaveParts p.role.number right.history blocks 0 kept (own_phased p.role.number right.history blocks t.actor ss) (told_at t.actor ns run.lines)) (sym (actors_whose 0 phases)) have);
+      }
+
+  -- a line's part, with the number under which its actor calls
+  pub record Part (t : Told) : Type 0 where
+    pub number : ℕ
+    pub line : LinePart number right.history right.calls.blocks t
+
+  pub part_here : (t : Told) → IsLine run t → Part t
+  part_here t is_line =
+      let own_ones = parts_here t is_line in
+      let split = own_split run t (among (told run) t is_line) in
+      let p = part_at own_ones.number right.history right.calls.blocks (own t.actor (before run t)) t split.rest 0 own_ones.kept (subst (ToldParts own_ones.number right.history right.calls.blocks 0 own_ones.kept) split.is own_ones.parts) in
+      record { number = own_ones.number; line = p.0 }
+
+  -- the one's part ends where the other's begins, or before that
+  pub record Apart (s t : Told) : Type 0 where
+    pub one : Part s
+    pub other : Part t
+    pub behind : line_to one.number right.history right.calls.blocks one.line ≤ line_from other.number right.history right.calls.blocks other.line
+
+  by_actor : (s t : Told) → IsLine run s → IsLine run t → surely_before run s t ≡ true → s.actor ≡ t.actor → Apart s t
+  by_actor s t is_s is_t sooner same =
+      let own_ones = parts_here t is_t in
+      let split = own_split run t (among (told run) t is_t) in
+      let is_own : nat_eq s.actor t.actor ≡ true = grind (arith, nat_tests) in
+      let earlier = in_filter (λ (r : Told). nat_eq r.actor t.actor) s (before run t) is_own (in_filter (λ (r : Told). surely_before run r t) s (told run) sooner (among (told run) s is_s)) in
+      let h = halves s (own t.actor (before run t)) earlier in
+      let all : own t.actor (told run) ≡ h.front ++ s ∷ (h.rest ++ t ∷ split.rest) = split.is ∙ ap (λ z. z ++ t ∷ split.rest) h.is ∙ append_assoc h.front (s ∷ h.rest) (t ∷ split.rest) in
+      let p = parts_at own_ones.number right.history right.calls.blocks h.front s h.rest t split.rest 0 own_ones.kept (subst (ToldParts own_ones.number right.history right.calls.blocks 0 own_ones.kept) all own_ones.parts) in
+      record { one = record { number = own_ones.number; line = p.0 }; other = record { number = own_ones.number; line = p.1 }; behind = p.2 }
+
+  by_phase : (s t : Told) → IsLine run s → IsLine run t → s.phase < t.phase → Apart s t
+  by_phase s t is_s is_t sooner =
+      let p = part_here s is_s in
+      let q = part_here t is_t in
+      record { one = p; other = q; behind = phases_apart p.number q.number right.history right.calls.blocks s t p.line q.line sooner }
+
+  -- a line that is surely before another has its part before that of the other
+  pub apart : run.in_order ≡ false → (s t : Told) → IsLine run s → IsLine run t → surely_before run s t ≡ true → Apart s t
+  apart free s t is_s is_t sooner =
+      let places = both_true (nat_lt s.place t.place) (run.in_order || nat_lt s.phase t.phase || nat_eq s.actor t.actor) sooner in
+      elim (one_true run.in_order (nat_lt s.phase t.phase) (nat_eq s.actor t.actor) free places.1) as (λ _. Apart s t) [
+        | inl phases ↦ by_phase s t is_s is_t (is_less s.phase t.phase phases)
+        | inr same ↦ by_actor s t is_s is_t sooner (is_same s.actor t.actor same)
+      ]

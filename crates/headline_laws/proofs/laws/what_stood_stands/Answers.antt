@@ -1,0 +1,5 @@
+use Rattle.headline_laws.proofs.Still.{still}
+use Rattle.headline_laws.proofs.laws.what_stood_stands.Goals as goal
+
+pub returns : goal.returns
+returns c = still

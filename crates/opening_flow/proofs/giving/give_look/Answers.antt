@@ -1,0 +1,18 @@
+use Rattle.std.proofs.Common.{ap, sym, ◌∙◌}
+use Rattle.flow.specs.Replies.{on_ok}
+use Rattle.index_reader.specs.OpenStages.{open_standing}
+use Rattle.flow.specs.Composed.{is_awaiting}
+use Rattle.opening_flow.specs.Opening.{opens}
+use Rattle.flow.proofs.Composing.{again_then, next_then, same_rest}
+use Rattle.opening_flow.proofs.giving.give_look.Goals as goal
+
+pub returns-clause-call : goal.returns-clause-call
+returns-clause-call c = c.in_ok-scan.ensures.call ∙ sym (next_then (on_ok (opens c.args.workers)) (open_standing c.args.scan) c.requires)
+
+pub returns-clause-rest : goal.returns-clause-rest
+returns-clause-rest c = same_rest (on_ok (opens c.args.workers)) (open_standing c.in_ok-scan.scan) (open_standing c.args.scan) c.in_ok-scan.ensures.rest
+
+pub returns-clause-again : goal.returns-clause-again
+returns-clause-again c =
+    again_then (on_ok (opens c.args.workers)) (open_standing c.in_ok-scan.scan) (open_standing c.args.scan)
+    (ap is_awaiting c.in_ok-scan.ensures.rest ∙ c.requires) c.requires c.in_ok-scan.ensures.again

@@ -1,0 +1,27 @@
+use Rattle.std.proofs.Common.{◌≡◌, ap, ◌∙◌}
+use Rattle.std.specs.Prelude.{Result}
+use Rattle.flow.specs.declared.stuck.Stuck.{Stuck}
+use Rattle.flow.specs.Standing.{Standing, ready, replied, rest_of}
+use Rattle.flow.specs.Composed.{then_on}
+use Rattle.mount_model.specs.declared.call.Call.{Call}
+use Rattle.mount_model.specs.declared.reply.Reply.{Reply}
+use Rattle.flow.specs.Replies.{on_ok}
+use Rattle.index_reader.specs.declared.listing.Listing.{Listing as Listed}
+use Rattle.index_reader.specs.OpenStages.{open_standing}
+use Rattle.opening_flow.specs.declared.parts.Part.{Part}
+use Rattle.opening_flow.specs.declared.parts.Part.TheVariants.{Listing}
+use Rattle.opening_flow.specs.Opening.{opens}
+use Rattle.opening_flow.specs.Parts.{parted}
+use Rattle.std.proofs.lemmas.Result.{IfOk-weaker}
+use Rattle.flow.proofs.Composing.{reply_then}
+use Rattle.opening_flow.proofs.parts.after_scan.Goals as goal
+
+pub returns-in-Ok-clause-goes_on : goal.returns-in-Ok-clause-goes_on
+returns-in-Ok-clause-goes_on c =
+    IfOk-weaker c.list_on.result
+    (λ (part : Part). parted part ≡ then_on (open_standing c.take.new.self) (on_ok (opens c.args.workers)))
+    (λ (part : Part). parted part ≡ ready (replied (rest_of (parted (Listing c.args.scan c.args.workers))) c.args.reply))
+    (λ part h. h
+    ∙ ap (λ (s : Standing Call Reply (Result Listed Stuck)). then_on s (on_ok (opens c.args.workers))) c.in-Ok.ensures.goes_on
+    ∙ ap ready (reply_then (on_ok (opens c.args.workers)) (open_standing c.args.scan) c.args.reply c.requires))
+    c.list_on.ensures.goes_on

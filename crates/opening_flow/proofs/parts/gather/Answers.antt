@@ -1,0 +1,31 @@
+use Rattle.std.proofs.Common.{◌≡◌, [], ap, ◌∙◌}
+use Rattle.std.specs.Prelude.{Result}
+use Rattle.flow.specs.declared.stuck.Stuck.{Stuck}
+use Rattle.story.specs.Program.{followed_by}
+use Rattle.flow.specs.Standing.{Standing, ready}
+use Rattle.flow.specs.Composed.{then_on}
+use Rattle.mount_model.specs.declared.call.Call.{Call}
+use Rattle.mount_model.specs.declared.reply.Reply.{Reply}
+use Rattle.flow.specs.Replies.{on_ok}
+use Rattle.index_reader.specs.declared.listing.Listing.{Listing}
+use Rattle.gather_flow.specs.declared.all_read.AllRead.{AllRead}
+use Rattle.gather_flow.specs.Gathering.{gather_standing, shares_from}
+use Rattle.opening_flow.specs.declared.parts.Part.{Part}
+use Rattle.opening_flow.specs.Opening.{opens, reads_as}
+use Rattle.opening_flow.specs.Parts.{parted}
+use Rattle.std.proofs.lemmas.Result.{IfOk-weaker}
+use Rattle.flow.proofs.Composing.{fresh_so}
+use Rattle.opening_flow.proofs.parts.gather.Goals as goal
+
+pub gather_on-requires : goal.gather_on-requires
+gather_on-requires c = fresh_so (gather_standing c.in_ok-gathering.gathering) (shares_from c.args.workers c.of.result 0 []) c.in_ok-gathering.ensures.standing
+
+pub returns-clause-goes_on : goal.returns-clause-goes_on
+returns-clause-goes_on c =
+    IfOk-weaker c.gather_on.result
+    (λ (part : Part). parted part ≡ then_on (gather_standing c.in_ok-gathering.gathering) (on_ok reads_as))
+    (λ (part : Part). parted part ≡ ready (opens c.args.workers c.args.listing))
+    (λ part h. h
+    ∙ ap (λ (s : Standing Call Reply (Result AllRead Stuck)). then_on s (on_ok reads_as)) c.in_ok-gathering.ensures.standing
+    ∙ ap (λ (l : Listing). ready (followed_by (shares_from c.args.workers l 0 []) (on_ok reads_as))) c.of.ensures)
+    c.gather_on.ensures.goes_on

@@ -1,0 +1,19 @@
+use Rattle.std.proofs.Common.{◌≡◌, sym, ◌∙◌}
+use Rattle.flow.specs.Standing.{ready}
+use Rattle.flow.specs.Composed.{then_on}
+use Rattle.flow.specs.Replies.{on_ok}
+use Rattle.index_reader.specs.OpenStages.{open_standing}
+use Rattle.std.proofs.lemmas.Result.{IfOk-weaker}
+use Rattle.flow.proofs.Composing.{leads_then}
+use Rattle.opening_flow.specs.declared.parts.Part.{Part}
+use Rattle.opening_flow.specs.Opening.{opens}
+use Rattle.opening_flow.specs.Parts.{parted}
+use Rattle.opening_flow.proofs.parts.list_over.Goals as goal
+
+pub returns-clause-goes_on : goal.returns-clause-goes_on
+returns-clause-goes_on c =
+    IfOk-weaker c.after_listing.result
+    (λ (part : Part). parted part ≡ ready (on_ok (opens c.args.workers) c.out.result))
+    (λ (part : Part). parted part ≡ then_on (open_standing c.args.scan) (on_ok (opens c.args.workers)))
+    (λ part h. h ∙ sym (leads_then (on_ok (opens c.args.workers)) (open_standing c.args.scan) c.out.result c.out.ensures.is))
+    c.after_listing.ensures.goes_on

@@ -1,0 +1,5 @@
+pub mod Freely
+mod Looked
+mod Looks
+mod Scanned
+mod Told

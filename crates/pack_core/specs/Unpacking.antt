@@ -1,0 +1,44 @@
+-- A small file that a caller reads by itself.
+use Rattle.std.specs.Prelude.{◌≡◌, ℕ, min, List, Option, Some, None, Result, Ok, Err}
+use Rattle.mount_model.specs.State.{State}
+use Rattle.mount_model.specs.Paths.{Name}
+use Rattle.lone_flow.specs.Driving.{Makes}
+use Rattle.flow.specs.declared.stuck.Stuck.{Stuck as Trouble}
+use Rattle.read_plan.specs.Plan.{plan_of}
+use Rattle.index_reader.specs.declared.opened.OpenReader.{OpenReader}
+use Rattle.index_reader.specs.Reading.{read_program}
+use Rattle.opening_flow.specs.Opening.{opening_program}
+use Rattle.unit_format.specs.declared.finding.Region.{Region}
+use Rattle.unit_format.specs.declared.finding.Unit.{Unit as Found}
+use Rattle.unit_format.specs.declared.units.TheConstants.{MAX_CONTENT}
+use Rattle.unit_format.specs.Finding.{IsFound}
+use Rattle.pack_files.specs.declared.scan.ScanStuck.{ScanStuck}
+use Rattle.pack_files.specs.declared.scan.ScanStuck.TheVariants.{Stuck}
+use Rattle.pack_core.specs.Scans.{ScansAll}
+
+-- ---- the content of a unit
+
+-- the calls that read a unit's content, of at most 2^20 bytes
+abbrev pub ReadsUnit : OpenReader → Found → State → Result (List ℕ) Trouble → State → Type 0
+ReadsUnit reader unit start read end = Makes (read_program reader.room reader.hosts (plan_of reader.pieces reader.size unit.at (min unit.len MAX_CONTENT))) start read end
+
+-- what was told of the unit that was found: its content, or nothing where there is none
+abbrev pub ReadsFound : OpenReader → Option Found → State → Result (Option (List ℕ)) ScanStuck → State → Type 0
+ReadsFound reader None start told end = (told ≡ Ok None) × (end ≡ start)
+ReadsFound reader (Some unit) start (Ok None) end = ⊥
+ReadsFound reader (Some unit) start (Ok (Some content)) end = ReadsUnit reader unit start (Ok content) end
+ReadsFound reader (Some unit) start (Err why) end = (trouble : Trouble) × (why ≡ Stuck trouble) × ReadsUnit reader unit start (Err trouble) end
+
+-- ---- the file of a name
+
+-- All regions of the reader's file were scanned, and the unit that counts was read; or a scan ended in the first trouble.
+pub data ReadsIn (reader : OpenReader) (file : Name) (start : State) (told : Result (Option (List ℕ)) ScanStuck) (end : State) : Type 0 where
+  reads : (regions : List Region) (scanned : State) (found : Option Found) → ScansAll reader start (Ok regions) scanned → IsFound regions file found → ReadsFound reader found scanned told end
+      → ReadsIn reader file start told end
+  scans_stuck : (why : ScanStuck) → told ≡ Err why → ScansAll reader start (Err why) end → ReadsIn reader file start told end
+
+-- Caller 0 by itself opened the container, and read the small file of this name, or found none; or the opening ended in the
+-- first trouble.
+pub data Unpacks (name file : Name) (start : State) (told : Result (Option (List ℕ)) ScanStuck) (end : State) : Type 0 where
+  opens : (reader : OpenReader) (opened : State) → Makes (opening_program name 1) start (Ok reader) opened → ReadsIn reader file opened told end → Unpacks name file start told end
+  opens_stuck : (trouble : Trouble) → told ≡ Err (Stuck trouble) → Makes (opening_program name 1) start (Err trouble) end → Unpacks name file start told end

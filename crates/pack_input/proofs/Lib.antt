@@ -1,0 +1,7 @@
+mod Cuts
+mod Layouts
+mod Digits
+mod Contents
+mod SaidFiles
+mod FirstKinds
+mod Inputs

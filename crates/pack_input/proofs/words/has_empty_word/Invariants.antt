@@ -1,0 +1,10 @@
+use Rattle.std.proofs.Common.{◌≡◌, ◌+◌, length, option_map, unwrap_or}
+use Rattle.std.specs.List.{list_any}
+use Rattle.pack_input.specs.Words.{words_of, is_empty, parts_behind}
+use Rattle.pack_input.proofs.words.has_empty_word.Given as goal
+
+abbrev pub invariant-loop-rest : goal.invariant-loop-rest
+invariant-loop-rest l = list_any is_empty (words_of l.line) ≡ list_any is_empty (parts_behind 32 (option_map (λ r. r.now) l.rest))
+
+abbrev pub decreases-loop-rest : goal.decreases-loop-rest
+decreases-loop-rest l = unwrap_or (option_map (λ r. length r.now + 1) l.rest) 0

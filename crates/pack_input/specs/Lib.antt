@@ -1,0 +1,5 @@
+pub mod Answers
+pub mod Input
+pub mod Layout
+pub mod Reading
+pub mod Words

@@ -1,0 +1,14 @@
+//! The input that small files are packed from: a line for each file, with its name and its bytes in hexadecimal digits.
+//!
+//! The crate owns this grammar and the order of its faults, and says which files bytes are, or which fault they have first. It
+//! stands on the shared values, and on `hex` for the digits.
+#![tactic(auto)]
+
+mod files;
+mod reading;
+mod trouble;
+mod words;
+
+pub use files::{FileList, NamedFile};
+pub use reading::read;
+pub use trouble::{InputTrouble, Kind};

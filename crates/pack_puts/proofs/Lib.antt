@@ -1,0 +1,4 @@
+mod Outcomes
+mod Putted
+mod Told
+mod Writers

@@ -1,0 +1,54 @@
+//! The end of a writer.
+ghost use Rattle.std.specs.Prelude.{◌≡◌, IfOk};
+ghost use Rattle.mount_sound.specs.Sound.{IsFine};
+ghost use Rattle.pack_puts.specs.Settling.{Closes, Settles, closed_as};
+
+use edge_io::Clock;
+use flow::Stuck;
+use mount_core::Mount;
+use pack_core::drive_freely;
+use plfs_types::NoMemory;
+use store_api::Store;
+use writer_flow::{CloseFlow, SyncFlow, WriterHandle, WriterOut};
+
+/// Whether it ended well, or its trouble.
+fn ended(out: WriterOut) -> Result<(), Stuck>
+    ensures { result ≡ closed_as out.result }
+{
+    match out.result {
+        Ok(_) => Ok(()),
+        Err(why) => Err(why),
+    }
+}
+
+/// Closes the writer whose sync ended so.
+fn close<S: Store + Drop, C: Clock + Drop>(
+    mount: &mut Mount<S, C>,
+    synced: WriterOut,
+) -> Result<Result<(), Stuck>, NoMemory>
+    requires { IsFine mount.old }
+    ensures { IfOk result (λ told. Closes synced.handle synced.result mount.old told mount.new) }
+{
+    match synced.result {
+        Ok(_) => match synced.handle {
+            Some(handle) => {
+                let out = drive_freely(mount, CloseFlow::new(handle))?;
+                Ok(ended(out))
+            }
+            None => Ok(Err(Stuck::Fault)),
+        },
+        Err(why) => Ok(Err(why)),
+    }
+}
+
+/// Syncs the writer, and closes it.
+pub(crate) fn settle<S: Store + Drop, C: Clock + Drop>(
+    mount: &mut Mount<S, C>,
+    handle: WriterHandle,
+) -> Result<Result<(), Stuck>, NoMemory>
+    requires { IsFine mount.old }
+    ensures { IfOk result (λ told. Settles handle mount.old told mount.new) }
+{
+    let synced = drive_freely(mount, SyncFlow::new(handle))?;
+    close(mount, synced)
+}

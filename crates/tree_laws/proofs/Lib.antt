@@ -1,0 +1,7 @@
+mod Landed
+mod Searched
+mod Ledgers
+mod Back
+mod Broken
+mod Unrefuted
+mod Uncomplained

@@ -1,0 +1,10 @@
+mod Behind
+mod Ends
+mod FirstBytes
+mod OneFile
+mod Naming
+mod Openings
+mod Scanning
+mod Slices
+mod Units
+mod Unpacking
