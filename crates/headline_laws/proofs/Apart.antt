@@ -1,7 +1,7 @@
 -- Of a line that is surely before another the part of the history lies before that of the other.
 use Rattle.std.proofs.Common.{◌≡◌, ◌≤◌, ◌<◌, ◌⊎◌, ◌+◌, ◌&&◌, ◌||◌, inl, inr, ℕ, Bool, true, false, nat_eq, nat_lt, List, [], ◌∷◌, ◌++◌, filter, refl, sym, ap, ◌∙◌, subst, arith, append_assoc, if◌then◌else◌}
+use Rattle.std.specs.Prelude.{slice_get}
 use Rattle.std.proofs.lemmas.Bool.Decides.{nat_tests}
-use Rattle.mount_model.specs.History.{Event}
 use Rattle.mount_model.specs.State.{State}
 use Rattle.script_lang.specs.Ranges.{FitsScript}
 use Rattle.story.specs.Performers.{told_at}
@@ -10,6 +10,7 @@ use Rattle.actor_core.specs.Progress.{fresh}
 use Rattle.run_core.specs.Cast.{statements_in}
 use Rattle.run_core.specs.Play.{IsRight}
 use Rattle.run_core.specs.Written.{whose}
+use Rattle.headline.specs.Writers.{host_of}
 use Rattle.headline.specs.Run.{IsLine, Run, Told, before, own, phased, surely_before, told}
 use Rattle.plain_file.proofs.Facts.{Among}
 use Rattle.gathering.proofs.Facts.{among}
@@ -59,6 +60,7 @@ module _ (run : Run) (start end : State) (fits : FitsScript run.script) (right :
   pub record OwnParts (t : Told) : Type 0 where
     pub number : ℕ
     pub kept : Kept
+    pub host : kept.host ≡ host_of (slice_get run.script.actors t.actor)
     pub parts : ToldParts number right.history right.calls.blocks 0 kept (own t.actor (told run))
 
   pub parts_here : (t : Told) → IsLine run t → OwnParts t
@@ -66,13 +68,14 @@ module _ (run : Run) (start end : State) (fits : FitsScript run.script) (right :
       let phases = run.script.phases in
       let ss = phased 0 phases in
       let blocks = right.calls.blocks in
-      let (d, p) = plays_here run start end fits right t is_line in
+      let (d, here, p) = plays_here run start end fits right t is_line in
       let kept = fresh d.host d.cap in
       let have = through_parts p.role.number right.history blocks t.actor 0 phases blocks [] kept p.role.workers (told_at t.actor (whose (statements_in phases)) run.lines) right.calls.in_phases
       (λ more. let same : 0 + more ≡ more = omega arith in let none : begins blocks more ≡ 0 + begins blocks more = omega arith in ap (begins blocks) same ∙ none) p.plays in
       record {
         number = p.role.number;
         kept = kept;
+        host = sym (ap host_of here);
         parts = own_parts p.role.number right.history blocks t.actor 0 0 ss run.lines kept (subst (λ ns. HaveParts p.role.number right.history blocks 0 kept (own_phased p.role.number right.history blocks t.actor ss) (told_at t.actor ns run.lines)) (sym (actors_whose 0 phases)) have);
       }
 

@@ -13,5 +13,10 @@ mod Causes
 mod Parts
 mod Orderly
 mod Apart
+mod Hosts
+mod Opened
+mod Openings
 mod Still
+mod WriterStands
+mod Homes
 pub mod Facts

@@ -112,7 +112,7 @@ actor_plays phases blocks told lines from (d ∷ actors) (role ∷ roles) (suc p
 -- ---- who plays a line
 
 -- its actor plays, and tells its lines
-pub plays_here : (run : Run) (start end : State) → FitsScript run.script → (right : IsRight run.script start run.lines end) → (t : Told) → IsLine run t → (declared : ActorDecl) × Plays_it run.script.phases right.calls.blocks (whose (statements_in run.script.phases)) run.lines t.actor declared
+pub plays_here : (run : Run) (start end : State) → FitsScript run.script → (right : IsRight run.script start run.lines end) → (t : Told) → IsLine run t → (declared : ActorDecl) × (slice_get run.script.actors t.actor ≡ Some declared) × Plays_it run.script.phases right.calls.blocks (whose (statements_in run.script.phases)) run.lines t.actor declared
 plays_here run start end fits right t is_line =
     let phases = run.script.phases in
     let ss = phased 0 phases in
@@ -120,7 +120,7 @@ plays_here run start end fits right t is_line =
     let d = line_declared run.script.actors 0 ss run.lines t (subst (AllDeclared run.script.actors) (sym (statements_phased 0 phases)) all) (among (told run) t is_line) in
     let p = actor_plays phases right.calls.blocks (whose (statements_in phases)) run.lines 0 run.script.actors right.calls.roles t.actor d.0 right.calls.plays d.1 in
     let place : 0 + t.actor ≡ t.actor = omega arith in
-    (d.0, record { role = p.role; plays = subst (λ k. PlaysAll p.role.number (course_of k phases d.0) right.calls.blocks p.role.workers (told_at k (whose (statements_in phases)) run.lines) ends) place p.plays })
+    (d.0, d.1, record { role = p.role; plays = subst (λ k. PlaysAll p.role.number (course_of k phases d.0) right.calls.blocks p.role.workers (told_at k (whose (statements_in phases)) run.lines) ends) place p.plays })
 
 -- ---- a fault has its cause
 
@@ -132,7 +132,7 @@ fault_caused run start end fits right t says =
     elim (well_or_risen start right.history right.leads.lawful right.had_memory) as (λ _. HasRisen start.store.faults end.store.faults) [
       | inl risen ↦ subst (λ (s : State). HasRisen start.store.faults s.store.faults) right.leads.ends risen
       | inr well ↦
-          let (d, p) = plays_here run start end fits right t says.is_line in
+          let (d, here, p) = plays_here run start end fits right t says.is_line in
           let good = all_good p.role.number (course_of t.actor phases d) right.calls.blocks p.role.workers (told_at t.actor (whose (statements_in phases)) run.lines) ends
           (through_tells_good IsWell NoFault work_caused t.actor phases (fresh d.host d.cap)) (subst (AreWell IsWell NoFault) right.calls.in_phases well) p.plays in
           let split = own_split run t (among (told run) t says.is_line) in
@@ -150,7 +150,7 @@ line_here run start end fits right t is_line =
     let phases = run.script.phases in
     let ss = phased 0 phases in
     let at = among (told run) t is_line in
-    let (d, p) = plays_here run start end fits right t is_line in
+    let (d, here, p) = plays_here run start end fits right t is_line in
     let kept = fresh d.host d.cap in
     let chain = through_chains p.role.number t.actor phases right.calls.blocks kept p.role.workers (told_at t.actor (whose (statements_in phases)) run.lines) p.plays in
     let as_phased = subst (λ ns. Chain kept (own_statements t.actor (map (λ (s : Phased). s.is) ss)) (told_at t.actor ns run.lines)) (sym (actors_whose 0 phases))

@@ -319,7 +319,7 @@ module _ (n : ℕ) where
     abbrev pub line_to : {t : Told} → LinePart t → ℕ
     line_to p = length p.part.earlier + length p.part.mine
 
-    pub part_at : (ts : List Told) (t : Told) (rest : List Told) (at : ℕ) (kept : Kept) → ToldParts at kept (ts ++ t ∷ rest) → (p : LinePart t) × (at ≤ line_from p)
+    unfoldable pub part_at : (ts : List Told) (t : Told) (rest : List Told) (at : ℕ) (kept : Kept) → ToldParts at kept (ts ++ t ∷ rest) → (p : LinePart t) × (at ≤ line_from p)
     part_at [] t rest at kept parts = (record { kept = kept; part = parts.0; says = parts.1 }, parts.2)
     part_at (s ∷ ts) t rest at kept parts =
         let p = part_at ts t rest (length parts.0.earlier + length parts.0.mine) parts.0.e.kept parts.3 in

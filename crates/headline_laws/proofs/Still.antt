@@ -1,5 +1,5 @@
 -- What the tree after has still of the tree before.
-use Rattle.std.proofs.Common.{◌≡◌, ◌≤◌, ◌+◌, ◌^◌, inl, inr, ℕ, true, false, List, [], ◌∷◌, ◌++◌, length, map, take, drop, get_or, Option, Some, None, refl, sym, ap, ◌∙◌, subst, arith, append_assoc, length-append}
+use Rattle.std.proofs.Common.{◌≡◌, ◌≤◌, ◌+◌, inl, inr, ℕ, true, false, List, [], ◌∷◌, ◌++◌, length, map, take, drop, get_or, Option, Some, None, refl, sym, ap, ◌∙◌, subst, arith, append_assoc, length-append}
 use Rattle.std.specs.Prelude.{Ok, slice_get, codes}
 use Rattle.std.proofs.lemmas.List.{take-append-le, drop-append-le}
 use Rattle.plfs_types.specs.declared.names.Path.{Path}
@@ -54,7 +54,7 @@ use Rattle.headline.specs.Still.{HasStill}
 
 -- ---- files of items
 
-file_of : (tree : Tree) (n : ℕ) (item : Item) → bytes_in tree n item ≡ file_in_tree tree n (path_of item)
+pub file_of : (tree : Tree) (n : ℕ) (item : Item) → bytes_in tree n item ≡ file_in_tree tree n (path_of item)
 unfolding file_at
 file_of tree n item = by (slice_get tree.rooms n)
   where

@@ -10,6 +10,8 @@ ghost use Rattle.run_core.specs.Leading.{Leads};
 ghost use Rattle.run_core.specs.Play.{IsPlay, IsRight};
 ghost use Rattle.headline.specs.Run.{Run};
 ghost use Rattle.headline.specs.Headline.{IsOrderly};
+ghost use Rattle.headline.specs.Names.{Story};
+ghost use Rattle.headline.specs.Opened.{HasOpened};
 ghost use Rattle.headline.specs.Still.{HasStill};
 
 /// A law: where the lines of a script are right, from a state on that is fine and clean, they are orderly. There is one for each statement, of its kind, and none
@@ -26,4 +28,13 @@ pub fn lines_are_orderly()
 pub fn what_stood_stands()
     ensures { (run : Run) (times : Option (List ℕ)) (opened : Stored) (start : State) (events : List Event) (end : State) → IsMounted 0 times opened start → opened.tree ≡ Some run.before → IsSoundTree run.before → Leads start events end
         → end.store.tree ≡ Some run.after → HasStill run }
+{}
+
+/// A law: of each writer that a line opened, one container of the tree after has the index and the log, under the host of the line's actor. A story says which
+/// container it is. So it is where the lines are right, from a mount over a sound tree on, and so it is of a play.
+pub fn opened_writers_have_containers()
+    ensures right { (run : Run) (times : Option (List ℕ)) (opened : Stored) (start end : State) → FitsScript run.script → IsMounted 0 times opened start → opened.tree ≡ Some run.before → IsSoundTree run.before → IsRight run.script start run.lines end
+        → end.store.tree ≡ Some run.after → (story : Story) × HasOpened run story }
+    ensures played { (run : Run) (times : Option (List ℕ)) (opened : Stored) (start end : State) → FitsScript run.script → IsMounted 0 times opened start → opened.tree ≡ Some run.before → IsSoundTree run.before → IsPlay run.script start run.lines end
+        → end.store.tree ≡ Some run.after → (story : Story) × HasOpened run story }
 {}

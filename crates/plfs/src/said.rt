@@ -20,6 +20,8 @@ pub struct Said {
     pub has_lines: bool,
     line: Vec<u8>,
     is_of_damage: bool,
+    // Memory was refused for a line, so none is remembered any more.
+    is_lost: bool,
     // How many bytes were written, up to 2^64 - 1.
     written: u64,
     pub error: Option<io::Error>,
@@ -37,6 +39,7 @@ impl Said {
             has_lines,
             line: Vec::new(alloc),
             is_of_damage: false,
+            is_lost: false,
             written: 0,
             error: None,
         }
@@ -76,6 +79,9 @@ impl Said {
     }
 
     fn hear_byte(&mut self, byte: u8) {
+        if self.is_lost {
+            return;
+        }
         if byte == b'\n' {
             if is_of_damage(self.line.as_slice()) {
                 self.is_of_damage = true;
@@ -84,6 +90,7 @@ impl Said {
             }
         } else if self.line.len() < MOST_REMEMBERED && self.line.push(byte).is_err() {
             self.line.clear();
+            self.is_lost = true;
         }
     }
 }

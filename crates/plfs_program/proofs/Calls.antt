@@ -22,7 +22,7 @@ use Rattle.plfs_program.specs.Catting.{WentOn}
 use Rattle.plfs_program.specs.SoundTrees.{TellsSoundTree}
 use Rattle.plfs_program.specs.Ways.{Way, HasBegun, HasLines, IsBrokenOff, by_turns, on_threads}
 use Rattle.plfs_program.specs.Migrating.{HasBegunIt}
-use Rattle.plfs_program.proofs.Plain.{counted_on, orderly_on, plain_on, still_on}
+use Rattle.plfs_program.proofs.Plain.{counted_on, opened_on, orderly_on, plain_on, still_on}
 
 -- a mount was made, and its calls led to what is left
 pub was_run : (Calls : State → State → Type 0) (times : Option (List ℕ)) (before after : Stored) (start end : State) → IsMounted 0 times before start → Calls start end → after ≡ end.store → IsRun Calls times before after
@@ -41,6 +41,7 @@ was_played way times before after script lines start end fits mounted play left 
   counted = counted_on way times before script lines start end fits mounted play;
   orderly = orderly_on way times before script lines after start end fits mounted play left;
   still = still_on way times before script lines after start end mounted play left;
+  opened = opened_on way times before script lines after start end fits mounted play left;
 }
 
 -- the tree that a mount's calls left of a sound one

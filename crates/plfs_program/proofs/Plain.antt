@@ -2,6 +2,7 @@
 use Rattle.std.proofs.Common.{ℕ, ◌≡◌, false, List, Option, Some, refl, sym, ap, ◌∙◌, subst}
 use Rattle.std.proofs.lemmas.List.Folds.{list_any_none}
 use Rattle.store_api.specs.Acts.{Stored}
+use Rattle.store_api.specs.declared.tree.Tree.{Tree}
 use Rattle.mount_model.specs.History.{Event}
 use Rattle.mount_model.specs.State.{State}
 use Rattle.mount_model.specs.Mounting.{IsMounted}
@@ -17,8 +18,8 @@ use Rattle.play_laws.specs.Undamaged.{AreUndamaged, IsUndamaged}
 use Rattle.play_laws.specs.Counting.{CountWrites}
 use Rattle.play_laws.proofs.Facts.{play_counts, play_shows, play_undamaged, readers_show, right_counts, right_undamaged}
 use Rattle.plfs_program.specs.Outcomes.{has_line, is_damage}
-use Rattle.headline_laws.proofs.Facts.{orderly, play_orderly, still}
-use Rattle.plfs_program.specs.Seen.{TellsOrderly, TellsStill, seen_run}
+use Rattle.headline_laws.proofs.Facts.{opened_stand, orderly, play_opened_stand, play_orderly, still}
+use Rattle.plfs_program.specs.Seen.{TellsOpened, TellsOrderly, TellsStill, seen_run}
 use Rattle.plfs_program.specs.SoundTrees.{TellsSoundTree}
 use Rattle.plfs_program.specs.Ways.{Way, HasLines, ShowsFiles, by_turns, on_threads}
 use Rattle.plfs_program.proofs.Lines.{mounting_keeps}
@@ -54,6 +55,10 @@ orderly_on on_threads times before script lines after start end fits made right 
 
 -- ---- what stood stands
 
+-- the one tree that the store told
+sound_tree : (before : Stored) (tree : Tree) → TellsSoundTree before → before.tree ≡ Some tree → IsSoundTree tree
+sound_tree before tree told is_before = let both : Some told.0 ≡ Some tree = sym told.1 ∙ is_before in let same : told.0 ≡ tree = cc in subst IsSoundTree same told.2
+
 -- the calls that were made
 leads_on : (way : Way) (script : Script) (lines : List Line) (start end : State) → HasLines way script start lines end → (events : List Event) × Leads start events end
 leads_on by_turns script lines start end play = (play.history, play.leads)
@@ -62,9 +67,15 @@ leads_on on_threads script lines start end right = (right.history, right.leads)
 pub still_on : (way : Way) (times : Option (List ℕ)) (before : Stored) (script : Script) (lines : List Line) (after : Stored) (start end : State) → IsMounted 0 times before start → HasLines way script start lines end → after ≡ end.store → TellsStill times before script lines after
 still_on way times before script lines after start end made play left told tree later is_before is_after =
     let l = leads_on way script lines start end play in
-    let both : Some told.0 ≡ Some tree = sym told.1 ∙ is_before in
-    let same : told.0 ≡ tree = cc in
-    still (seen_run times before script lines after tree later) times before start l.0 end made is_before (subst IsSoundTree same told.2) l.1 (ap (λ (s : Stored). s.tree) (sym left) ∙ is_after)
+    still (seen_run times before script lines after tree later) times before start l.0 end made is_before (sound_tree before tree told is_before) l.1 (ap (λ (s : Stored). s.tree) (sym left) ∙ is_after)
+
+-- ---- writers that were opened have their files
+
+pub opened_on : (way : Way) (times : Option (List ℕ)) (before : Stored) (script : Script) (lines : List Line) (after : Stored) (start end : State) → FitsScript script → IsMounted 0 times before start → HasLines way script start lines end → after ≡ end.store → TellsOpened times before script lines after
+opened_on by_turns times before script lines after start end fits made play left told tree later is_before is_after =
+    play_opened_stand (seen_run times before script lines after tree later) times before start end fits made is_before (sound_tree before tree told is_before) play (ap (λ (s : Stored). s.tree) (sym left) ∙ is_after)
+opened_on on_threads times before script lines after start end fits made right left told tree later is_before is_after =
+    opened_stand (seen_run times before script lines after tree later) times before start end fits made is_before (sound_tree before tree told is_before) right (ap (λ (s : Stored). s.tree) (sym left) ∙ is_after)
 
 -- ---- no line is damaged
 

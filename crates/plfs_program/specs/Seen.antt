@@ -6,6 +6,8 @@ use Rattle.script_lang.specs.declared.line.Line.{Line}
 use Rattle.script_lang.specs.declared.script.Script.{Script}
 use Rattle.headline.specs.Run.{Run}
 use Rattle.headline.specs.Headline.{IsOrderly}
+use Rattle.headline.specs.Names.{Story}
+use Rattle.headline.specs.Opened.{HasOpened}
 use Rattle.headline.specs.Still.{HasStill}
 use Rattle.plfs_program.specs.SoundTrees.{TellsSoundTree}
 
@@ -31,3 +33,8 @@ TellsOrderly times before script lines after =
 abbrev pub TellsStill : Option (List ℕ) → Stored → Script → List Line → Stored → Type 0
 TellsStill times before script lines after =
     TellsSoundTree before → (tree later : Tree) → before.tree ≡ Some tree → after.tree ≡ Some later → HasStill (seen_run times before script lines after tree later)
+
+-- So it is of the writers that lines opened: with a story, the container that each line speaks of has the writer's index and log.
+abbrev pub TellsOpened : Option (List ℕ) → Stored → Script → List Line → Stored → Type 0
+TellsOpened times before script lines after =
+    TellsSoundTree before → (tree later : Tree) → before.tree ≡ Some tree → after.tree ≡ Some later → (story : Story) × HasOpened (seen_run times before script lines after tree later) story
