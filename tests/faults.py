@@ -178,22 +178,45 @@ def a_call_that_a_signal_interrupts_is_made_again(trial):
     trial.holds()
 
 
-# The kinds of calls that a signal may interrupt and that aren't made again, each with a path on which the work below calls it.
-ENDED = [
-    ("look", "*/f/hostdir.0"), ("list", "*/f/truncs"), ("open", "*/f/truncs/"), ("mkdir", "*/f/hostdir.0"), ("rename", "*/f"),
-    ("remove", "*/f/openhosts/*"), ("rmdir", "*/f/openhosts"),
-]
+# The kinds of calls that the library doesn't make again where a signal interrupts them, each with a path on which the
+# work below calls it: first those that this program makes again.
+ASKED = [("look", "*/f/hostdir.0"), ("list", "*/f/truncs"), ("open", "*/f/truncs/")]
+CHANGED = [("mkdir", "*/f/hostdir.0"), ("rename", "*/f"), ("remove", "*/f/openhosts/*"), ("rmdir", "*/f/openhosts")]
+NAMED = BACK + "a rclose\na trunc f 3\na rename f g\n"
+# How often a look or a listing is made.
+TRIES = 16
+
+
+def interrupted(trial, kind, path, when):
+    """Plays in a new folder where these calls are interrupted, and says how it ended and how often that was."""
+    trial.root = trial.folder / f"root.{kind}"
+    trial.root.mkdir()
+    ended, calls = trial.watched(NAMED, f"fail EINTR {kind} {when} {path}", UNSYNCED)
+    return ended, sum(it.end == "EINTR" for it in calls)
 
 
 @check
-def a_look_a_listing_and_a_change_of_names_that_a_signal_interrupts_are_faults(trial):
-    script = BACK + "a rclose\na trunc f 3\na rename f g\n"
-    for kind, path in ENDED:
-        trial.root = trial.folder / f"root.{kind}"
-        trial.root.mkdir()
-        ended, calls = trial.watched(script, f"fail EINTR {kind} 1 {path}", UNSYNCED)
+def a_look_and_a_listing_that_a_signal_interrupts_are_made_again(trial):
+    for kind, path in ASKED:
+        ended, times = interrupted(trial, kind, path, 1)
+        same(f"a run in which {kind} of {path} was interrupted", (ended.status, ended.err, times), (0, "", 1))
+
+
+@check
+def a_look_and_a_listing_that_signals_interrupt_each_time_are_faults(trial):
+    for kind, path in ASKED:
+        ended, times = interrupted(trial, kind, path, "1+")
+        what = f"a run in which each {kind} of {path} was interrupted"
+        same(f"{what}: the status and how often", (ended.status, times % TRIES, times > 0), (4, 0, True))
+        true(f"{what}: it says {ended.out!r}, {ended.err!r}", " fault\n" in ended.out and ended.err.endswith(": Interrupted system call (os error 4)\n"))
+
+
+@check
+def a_change_of_names_that_a_signal_interrupts_is_a_fault(trial):
+    for kind, path in CHANGED:
+        ended, times = interrupted(trial, kind, path, 1)
         what = f"a run in which {kind} of {path} was interrupted"
-        same(f"{what}: the status and how often", (ended.status, sum(it.end == "EINTR" for it in calls)), (4, 1))
+        same(f"{what}: the status and how often", (ended.status, times), (4, 1))
         true(f"{what}: it says {ended.out!r}, {ended.err!r}", " fault\n" in ended.out and ended.err.endswith(": Interrupted system call (os error 4)\n"))
 
 

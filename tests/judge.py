@@ -754,16 +754,21 @@ def stories(run):
             yield namings, dict(zip(places, picked))
 
 
-def told_by(run):
-    """No complaint where some story fits; else those of the story with the fewest."""
-    best = ["names: no story leads from the names before to those after"]
-    for namings, of in itertools.islice(stories(run), STORIES):
-        found = Judge(run, namings, of).complaints()
+def fewest(lists, none):
+    """No complaint where one of these lists has none; else the shortest list, and this one complaint where there is no list."""
+    best = None
+    for found in lists:
         if not found:
             return []
-        if best[0].startswith("names: no story") or len(found) < len(best):
+        if best is None or len(found) < len(best):
             best = found
-    return best
+    return [none] if best is None else best
+
+
+def told_by(run):
+    """No complaint where some story fits; else those of the story with the fewest."""
+    found = (Judge(run, namings, of).complaints() for namings, of in itertools.islice(stories(run), STORIES))
+    return fewest(found, "names: no story leads from the names before to those after")
 
 
 def numberings(before, after, renames):
@@ -787,14 +792,8 @@ def judged(script, lines, before, after, way):
     whole, told = script_of(script), lines_of(lines)
     in_order = way == "play" and not whole[2]
     renames = any(s.verb == "rename" for s in whole[1])
-    best = ["numbered: the containers after are not those before with further ones"]
-    for rooms in itertools.islice(numberings(before, after, renames), ORDERS):
-        found = told_by(Run(whole, told, before, rooms, in_order))
-        if not found:
-            return []
-        if best[0].startswith("numbered: the containers") or len(found) < len(best):
-            best = found
-    return best
+    found = (told_by(Run(whole, told, before, rooms, in_order)) for rooms in itertools.islice(numberings(before, after, renames), ORDERS))
+    return fewest(found, "numbered: the containers after are not those before with further ones")
 
 
 def main(words):

@@ -19,12 +19,12 @@ WRITES = 20000
 class Held:
     """A program that is at work on ROOT, and waits before its call of this kind on this path until it is let go on."""
 
-    def __init__(self, trial, script, kind, place, root=None):
+    def __init__(self, trial, script, kind, place, root=None, words=("play",)):
         self.trial, self.go, self.here = trial, trial.folder / "go", trial.folder / "here"
         for path in (self.go, self.here):
             path.unlink(missing_ok=True)
         rules = [f"make {self.here} {kind} 1 {place}", f"await {self.go} {kind} 1 {place}"]
-        self.program = trial.start(script, root, **trial.watch(rules, "held"))
+        self.program = trial.start(script, root, words, **trial.watch(rules, "held"))
         end = time.monotonic() + SECONDS
         while not self.here.exists():
             true("the first program doesn't come to its call", time.monotonic() < end and self.program.poll() is None)

@@ -27,8 +27,9 @@ def the_first_script_of_the_page_on_scripts_prints_what_the_page_shows(trial):
 
 @check
 def the_first_page_shows_the_lines_of_the_first_example(trial):
-    lines = masked((trial.top / "examples" / "hello.out").read_text())
-    true("README.md shows other lines", lines in masked((trial.top / "README.md").read_text()))
+    page = masked((trial.top / "README.md").read_text())
+    for name in ("hello.plfs", "hello.out"):
+        true(f"README.md shows another {name}", masked((trial.top / "examples" / name).read_text()) in page)
 
 
 @check
@@ -37,11 +38,13 @@ def a_file_of_ones_own_goes_in_and_comes_out_as_the_first_page_shows(trial):
     blocks = re.findall(r"^```\n(.*?)^```", (trial.top / "README.md").read_text(), re.M | re.S)
     commands = [block for block in blocks if "od -An" in block]
     true("README.md shows no file of one's own", len(commands) == 1)
-    (trial.folder / "data").write_bytes(trial.random.randbytes(500_000))
+    (trial.folder / "data").write_bytes(trial.random.randbytes(1_200_000))
     text = commands[0].replace("./plfs", f"'{trial.program}'").replace("/tmp/store", f"'{trial.root}'")
     how = {"stdout": subprocess.PIPE, "stderr": subprocess.PIPE, "text": True, "timeout": 20, "cwd": trial.folder}
     ended = subprocess.run(["bash", "-c", "set -e -o pipefail\n" + text], **how)
-    wanted = (0, "2 open 4294967297\n3 wrote 0 500000 STAMP\n4 closed 1\n", "")
+    pieces = enumerate((500_000, 500_000, 200_000))
+    said = (f"2 open {(number + 1) * 2**32 + 1}\n3 wrote {number * 500_000} {length} STAMP\n4 closed 1\n" for number, length in pieces)
+    wanted = (0, "".join(said), "")
     same("what the commands say", (ended.returncode, masked(ended.stdout), ended.stderr), wanted)
 
 
@@ -91,7 +94,7 @@ def asked(words, **how):
 def completion_offers_the_commands_of_the_usage_line_and_folders(trial):
     file = trial.top / "completions" / "plfs.bash"
     (trial.folder / "store").mkdir()
-    for words, wanted in (("/tmp ''", commands(trial)), ("/tmp : sto", ["store"]), ("/tmp : store p", ["play"]), ("-", ["--help", "--version"])):
+    for words, wanted in (("/tmp ''", commands(trial)), ("/tmp : sto", ["store"]), ("/tmp : store pl", ["play"]), ("-", ["--help", "--version"])):
         last = words.count(" ") + 1
         script = f"source '{file}'; COMP_WORDS=(plfs {words}); COMP_CWORD={last}; _plfs; printf '%s\\n' \"${{COMPREPLY[@]}}\""
         same(f"what is offered behind {words}", asked(["bash", "-c", script], cwd=trial.folder), wanted)

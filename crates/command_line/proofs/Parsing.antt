@@ -30,7 +30,7 @@ program verbs = record { top = top; subs = map leaf verbs }
 abbrev pub verbs : List Verb
 verbs =
     (codes "run", bare) ∷ (codes "play", bare) ∷ (codes "ls", bare) ∷ (codes "gen", one) ∷ (codes "cat", one) ∷ (codes "stat", one) ∷ (codes "map", one)
-    ∷ (codes "flatten", one) ∷ (codes "recover", one) ∷ (codes "migrate", one) ∷ (codes "trunc", two) ∷ (codes "rename", two) ∷ []
+    ∷ (codes "flatten", one) ∷ (codes "recover", one) ∷ (codes "migrate", one) ∷ (codes "names", one) ∷ (codes "trunc", two) ∷ (codes "rename", two) ∷ (codes "pack", two) ∷ (codes "unpack", two) ∷ []
 
 built_is : built parser ≡ program verbs
 unfolding parser

@@ -57,6 +57,11 @@ command_taken words (command.Map name) is = one_taken (codes "map") name words i
 command_taken words (command.Flatten name) is = one_taken (codes "flatten") name words is.0 refl (name_plain name is.1) (λ plain. takes_verb (codes "flatten", one) (name ∷ []) refl plain tt)
 command_taken words (command.Recover name) is = one_taken (codes "recover") name words is.0 refl (name_plain name is.1) (λ plain. takes_verb (codes "recover", one) (name ∷ []) refl plain tt)
 command_taken words (command.Migrate name) is = one_taken (codes "migrate") name words is.0 refl (name_plain name is.1) (λ plain. takes_verb (codes "migrate", one) (name ∷ []) refl plain tt)
+command_taken words (command.Names name) is = one_taken (codes "names") name words is.0 refl (name_plain name is.1) (λ plain. takes_verb (codes "names", one) (name ∷ []) refl plain tt)
+command_taken words (command.Pack name region) is =
+    two_taken (codes "pack") name (decimal region) words is.0 refl (name_plain name is.1) (number_plain region (omega (arith, is.2))) (λ plain. takes_verb (codes "pack", two) (name ∷ decimal region ∷ []) refl plain tt)
+command_taken words (command.Unpack name file) is =
+    two_taken (codes "unpack") name file words is.0 refl (name_plain name is.1) (name_plain file is.2) (λ plain. takes_verb (codes "unpack", two) (name ∷ file ∷ []) refl plain tt)
 command_taken words (command.Trunc name size) is =
     two_taken (codes "trunc") name (decimal size) words is.0 refl (name_plain name is.1) (number_plain size is.2) (λ plain. takes_verb (codes "trunc", two) (name ∷ decimal size ∷ []) refl plain tt)
 command_taken words (command.Rename name to) is =

@@ -28,11 +28,15 @@ with_scripts all = all or new_app (codes "run") or new_app (codes "play") or new
 -- the commands of one file
 abbrev pub with_files : App → App
 with_files all =
-    all or with_one (codes "cat") or with_one (codes "stat") or with_one (codes "map") or with_one (codes "flatten") or with_one (codes "recover") or with_one (codes "migrate")
+    all or with_one (codes "cat") or with_one (codes "stat") or with_one (codes "map") or with_one (codes "flatten") or with_one (codes "recover") or with_one (codes "migrate") or with_one (codes "names")
 
 -- the commands of a file and what it becomes
 abbrev pub with_changes : App → App
 with_changes all = all or with_two (codes "trunc") or with_two (codes "rename")
+
+-- the commands of a file and a region of it, or a small file in it
+abbrev pub with_units : App → App
+with_units all = all or with_two (codes "pack") or with_two (codes "unpack")
 
 -- the program: words are its own from the first on, and there is no help
 abbrev pub program : App
@@ -40,7 +44,7 @@ program = on_top (λ top. record top { no_binary_name = true; disable_help_flag 
 
 -- the program with all commands
 unfoldable pub parser : App
-parser = with_changes (with_files (with_scripts program))
+parser = with_units (with_changes (with_files (with_scripts program)))
 
 -- a verb with its operands
 abbrev pub listed : Text → Option Text → Option Text → List Text

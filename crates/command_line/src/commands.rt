@@ -16,23 +16,57 @@ pub enum Command {
     /// Plays the script on standard input by written turns.
     Play,
     /// Plays the generated script of 1 to 256 writers.
-    Gen { writers: u32 },
+    Gen {
+        writers: u32,
+    },
     /// Writes the whole file.
-    Cat { name: LogicalName },
+    Cat {
+        name: LogicalName,
+    },
     /// Asks for the attributes of a file.
-    Stat { name: LogicalName },
+    Stat {
+        name: LogicalName,
+    },
     /// Lists the pieces of a file.
-    Map { name: LogicalName },
+    Map {
+        name: LogicalName,
+    },
     /// Flattens the indices of a file.
-    Flatten { name: LogicalName },
+    Flatten {
+        name: LogicalName,
+    },
     /// Repairs what stopped writers have left of a file.
-    Recover { name: LogicalName },
+    Recover {
+        name: LogicalName,
+    },
     /// Packs the indices of a file.
-    Migrate { name: LogicalName },
+    Migrate {
+        name: LogicalName,
+    },
+    /// Packs the small files on standard input into a region of a container.
+    Pack {
+        name: LogicalName,
+        region: u64,
+    },
+    /// Names the small files of a container.
+    Names {
+        name: LogicalName,
+    },
+    /// Writes one small file of a container.
+    Unpack {
+        name: LogicalName,
+        file: LogicalName,
+    },
     /// Truncates a file to so many bytes.
-    Trunc { name: LogicalName, size: u64 },
+    Trunc {
+        name: LogicalName,
+        size: u64,
+    },
     /// Gives a file another name.
-    Rename { name: LogicalName, to: LogicalName },
+    Rename {
+        name: LogicalName,
+        to: LogicalName,
+    },
     /// Names all files.
     Ls,
 }

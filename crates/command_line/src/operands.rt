@@ -35,6 +35,18 @@ fn generated(number: &str) -> Option<Command>
     })
 }
 
+fn packing(name: LogicalName, number: &str) -> Option<Command>
+    requires { IsLogicalName name }
+    ensures found { IfSome result (IsCommand (codes "pack" ∷ name ∷ number.now ∷ [])) }
+    ensures exact { (command : Command) → IsCommand (codes "pack" ∷ name ∷ number.now ∷ []) command → result ≡ Some command }
+{
+    let region = read_decimal(number.as_bytes())?;
+    if region > 255 {
+        return None;
+    }
+    Some(Command::Pack { name, region })
+}
+
 fn of_file(verb: &str, name: LogicalName) -> Option<Command>
     requires { IsLogicalName name }
     ensures found { IfSome result (IsCommand (verb.now ∷ name ∷ [])) }
@@ -47,6 +59,7 @@ fn of_file(verb: &str, name: LogicalName) -> Option<Command>
         "flatten" => Some(Command::Flatten { name }),
         "recover" => Some(Command::Recover { name }),
         "migrate" => Some(Command::Migrate { name }),
+        "names" => Some(Command::Names { name }),
         _ => None,
     }
 }
@@ -74,6 +87,11 @@ fn with_two(verb: &str, first: &str, second: &str) -> Option<Command>
         "rename" => {
             let to = LogicalName::read(second.as_bytes())?;
             Some(Command::Rename { name, to })
+        }
+        "pack" => packing(name, second),
+        "unpack" => {
+            let file = LogicalName::read(second.as_bytes())?;
+            Some(Command::Unpack { name, file })
         }
         _ => None,
     }

@@ -2,7 +2,7 @@
 ghost use Rattle.std.specs.Prelude.{◌≡◌, false, map, IfOk};
 ghost use Rattle.clap.specs.Words.{app_of, rule_of};
 ghost use Rattle.clap.specs.declared.builder.command.Command.TheViews.{out-Command};
-ghost use Rattle.command_line.specs.Parser.{◌or◌, operand, with_one, with_two, with_scripts, with_files, with_changes, program, parser, AreParsed};
+ghost use Rattle.command_line.specs.Parser.{◌or◌, operand, with_one, with_two, with_scripts, with_files, with_changes, with_units, program, parser, AreParsed};
 
 use clap::error::ErrorKind;
 use clap::{Arg, ArgMatches, Command};
@@ -69,7 +69,16 @@ fn with_files<'a>(alloc: Global, command: Command<'a>) -> Result<Command<'a>, Al
 {
     let command = and_two(alloc, command, "cat", "stat")?;
     let command = and_two(alloc, command, "map", "flatten")?;
-    and_two(alloc, command, "recover", "migrate")
+    let command = and_two(alloc, command, "recover", "migrate")?;
+    and_one(alloc, command, "names")
+}
+
+fn with_units<'a>(alloc: Global, command: Command<'a>) -> Result<Command<'a>, AllocError>
+    ensures { IfOk result (λ all. app_of all ≡ with_units (app_of command.entry)) }
+{
+    command
+        .subcommand(with_two(alloc, "pack")?)?
+        .subcommand(with_two(alloc, "unpack")?)
 }
 
 fn with_changes<'a>(alloc: Global, command: Command<'a>) -> Result<Command<'a>, AllocError>
@@ -94,7 +103,8 @@ fn parser<'a>(alloc: Global) -> Result<Command<'a>, AllocError>
 {
     let command = with_scripts(alloc, program(alloc))?;
     let command = with_files(alloc, command)?;
-    with_changes(alloc, command)
+    let command = with_changes(alloc, command)?;
+    with_units(alloc, command)
 }
 
 // The parser's matches, or None where it refuses the words.

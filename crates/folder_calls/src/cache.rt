@@ -1,5 +1,5 @@
 //! The files that are open: those that were used last, each with its length.
-ghost use Rattle.std.specs.Prelude.{◌≡◌, ◌⊎◌, [], length, None, IfOk, IfErr, if◌then◌else◌};
+ghost use Rattle.std.specs.Prelude.{◌≡◌, ◌⊎◌, [], length, true, None, Some, IfOk, IfErr, if◌then◌else◌};
 ghost use Rattle.std.specs.List.{IsDistinct};
 ghost use Rattle.std.specs.Map.{keys_of, remove_entry};
 ghost use Rattle.lru.specs.LruCache.{lru_cache, put_entries};
@@ -103,9 +103,11 @@ impl<F: Drop> OpenFiles<F> {
         self.files.pop(key)
     }
 
-    /// Keeps the file open, and closes the one that was not used for longest where there are too many.
+    /// Keeps the file open, and closes the one that was not used for longest where there are too many. All others that
+    /// are open stay as they were.
     /// Where memory is refused the file is closed.
     pub fn keep(&mut self, key: FileKey, held: Held<F>)
+        ensures opened { (other : FileKey) (one : Held F) → held_at self.new other ≡ Some one → (held_at self.old other ≡ Some one) ⊎ ((same_file key other ≡ true) × (one ≡ held)) }
         ensures kept { (self.new.files ≡ lru_cache (put_entries same_file self.old.files key held) self.old.files.cap) ⊎ (self.new.files ≡ self.old.files) }
     {
         match self.files.put(key, held) {

@@ -2,10 +2,10 @@
 ghost use Rattle.std.specs.Prelude.{◌≡◌, ℕ, ◌∷◌, [], length, Option, None, IfOk, IfErr};
 ghost use Rattle.folder_calls.specs.Calls.{Log, Makes, looked_at, listed_folder, opened_file, created_file, measured_file, read_bytes, wrote_bytes, resized_file, synced_file, made_folder, synced_folder, removed_file, removed_folder, renamed_item, giving, failed_calls};
 ghost use Rattle.folder_calls.specs.Syncs.{IsCountOf, counting};
-ghost use Rattle.folder_calls.specs.Noted.{noted};
+ghost use Rattle.folder_calls.specs.Noted.{noted, Tells, TellsLook, TellsList, TellsOpening};
 
 use crate::failure::Failure;
-use crate::reason::{Kind, Reason};
+use crate::reason::{Asked, Kind, Reason};
 use plfs_types::NameList;
 use std::alloc::Global;
 
@@ -18,8 +18,8 @@ pub enum Removal {
 }
 
 /// The system, as far as a store calls it. A call that fails is `Failed`, but for want of memory in a listing, which
-/// changes nothing. Each call tells itself, and that where it succeeded no failed one came to the log. The syncs that
-/// failed are counted, so that none of them is forgotten by what makes the calls.
+/// changes nothing. Each call tells itself, and that where it succeeded no failed one came to the log. One that failed
+/// tells why. The syncs that failed are counted, so that none of them is forgotten by what makes the calls.
 pub trait Calls {
     ghost use Rattle.folder_calls.specs.declared.reason.Reason.{Reason};
 
@@ -63,12 +63,14 @@ pub trait Calls {
         ensures call { Makes (looked_at path.now result ∷ []) (log self.old) (log self.new) }
         ensures failed { IfErr result (λ failure. failure ≡ Failure.Failed) }
         ensures syncs { unsynced self.new ≡ unsynced self.old }
+        ensures tells { TellsLook (told self.old) (told self.new) result }
         ensures well { IfOk result (λ _. failed_calls (log self.new) ≡ failed_calls (log self.old)) };
 
     /// The names in a folder, in no order. It fails where one is no text in UTF-8 or longer than 96 bytes.
     fn list(&mut self, alloc: Global, path: &str) -> Result<NameList, Failure>
         ensures call { Makes (listed_folder path.now result ∷ []) (log self.old) (log self.new) }
         ensures syncs { unsynced self.new ≡ unsynced self.old }
+        ensures tells { TellsList (told self.old) (told self.new) result }
         ensures well { IfOk result (λ _. failed_calls (log self.new) ≡ failed_calls (log self.old)) };
 
     /// Opens a plain file for reading and writing, and follows no link. None where nothing is at the path.
@@ -76,6 +78,7 @@ pub trait Calls {
         ensures call { Makes (opened_file path.now result ∷ []) (log self.old) (log self.new) }
         ensures failed { IfErr result (λ failure. failure ≡ Failure.Failed) }
         ensures syncs { unsynced self.new ≡ unsynced self.old }
+        ensures tells { TellsOpening (told self.old) (told self.new) result }
         ensures well { IfOk result (λ _. failed_calls (log self.new) ≡ failed_calls (log self.old)) };
 
     /// Makes an empty file, and opens it for reading and writing. None where something is at the path.
@@ -83,6 +86,7 @@ pub trait Calls {
         ensures call { Makes (created_file path.now result ∷ []) (log self.old) (log self.new) }
         ensures failed { IfErr result (λ failure. failure ≡ Failure.Failed) }
         ensures syncs { unsynced self.new ≡ unsynced self.old }
+        ensures tells { Tells Asked.Create (told self.old) (told self.new) result }
         ensures well { IfOk result (λ _. failed_calls (log self.new) ≡ failed_calls (log self.old)) };
 
     /// The length of a file, in bytes.
@@ -90,6 +94,7 @@ pub trait Calls {
         ensures call { Makes (measured_file file.now result ∷ []) (log self.old) (log self.new) }
         ensures failed { IfErr result (λ failure. failure ≡ Failure.Failed) }
         ensures syncs { unsynced self.new ≡ unsynced self.old }
+        ensures tells { Tells Asked.Open (told self.old) (told self.new) result }
         ensures well { IfOk result (λ _. failed_calls (log self.new) ≡ failed_calls (log self.old)) };
 
     /// Fills `into` with the bytes from `at` on.
@@ -97,6 +102,7 @@ pub trait Calls {
         ensures call { Makes (read_bytes file.now at (length into.old) (giving into.new result) ∷ []) (log self.old) (log self.new) }
         ensures failed { IfErr result (λ failure. failure ≡ Failure.Failed) }
         ensures syncs { unsynced self.new ≡ unsynced self.old }
+        ensures tells { Tells Asked.Read (told self.old) (told self.new) result }
         ensures well { IfOk result (λ _. failed_calls (log self.new) ≡ failed_calls (log self.old)) };
 
     /// Writes the bytes from `at` on, in one call of the system where that takes them all.
@@ -104,6 +110,7 @@ pub trait Calls {
         ensures call { Makes (wrote_bytes file.now at bytes.now result ∷ []) (log self.old) (log self.new) }
         ensures failed { IfErr result (λ failure. failure ≡ Failure.Failed) }
         ensures syncs { unsynced self.new ≡ unsynced self.old }
+        ensures tells { Tells Asked.Write (told self.old) (told self.new) result }
         ensures well { IfOk result (λ _. failed_calls (log self.new) ≡ failed_calls (log self.old)) };
 
     /// Gives a file this length.
@@ -111,6 +118,7 @@ pub trait Calls {
         ensures call { Makes (resized_file file.now len result ∷ []) (log self.old) (log self.new) }
         ensures failed { IfErr result (λ failure. failure ≡ Failure.Failed) }
         ensures syncs { unsynced self.new ≡ unsynced self.old }
+        ensures tells { Tells Asked.Cut (told self.old) (told self.new) result }
         ensures well { IfOk result (λ _. failed_calls (log self.new) ≡ failed_calls (log self.old)) };
 
     /// Syncs a file's bytes and its length.
@@ -118,6 +126,7 @@ pub trait Calls {
         ensures call { Makes (synced_file file.now result ∷ []) (log self.old) (log self.new) }
         ensures failed { IfErr result (λ failure. failure ≡ Failure.Failed) }
         ensures syncs { unsynced self.new ≡ counting result (unsynced self.old) }
+        ensures tells { Tells Asked.Sync (told self.old) (told self.new) result }
         ensures well { IfOk result (λ _. failed_calls (log self.new) ≡ failed_calls (log self.old)) };
 
     /// Makes a folder. False where something is at the path.
@@ -125,6 +134,7 @@ pub trait Calls {
         ensures call { Makes (made_folder path.now result ∷ []) (log self.old) (log self.new) }
         ensures failed { IfErr result (λ failure. failure ≡ Failure.Failed) }
         ensures syncs { unsynced self.new ≡ unsynced self.old }
+        ensures tells { Tells Asked.MakeFolder (told self.old) (told self.new) result }
         ensures well { IfOk result (λ _. failed_calls (log self.new) ≡ failed_calls (log self.old)) };
 
     /// Syncs the names in a folder.
@@ -132,6 +142,7 @@ pub trait Calls {
         ensures call { Makes (synced_folder path.now result ∷ []) (log self.old) (log self.new) }
         ensures failed { IfErr result (λ failure. failure ≡ Failure.Failed) }
         ensures syncs { unsynced self.new ≡ counting result (unsynced self.old) }
+        ensures tells { Tells Asked.Sync (told self.old) (told self.new) result }
         ensures well { IfOk result (λ _. failed_calls (log self.new) ≡ failed_calls (log self.old)) };
 
     /// Removes a file. False where nothing is at the path.
@@ -139,6 +150,7 @@ pub trait Calls {
         ensures call { Makes (removed_file path.now result ∷ []) (log self.old) (log self.new) }
         ensures failed { IfErr result (λ failure. failure ≡ Failure.Failed) }
         ensures syncs { unsynced self.new ≡ unsynced self.old }
+        ensures tells { Tells Asked.RemoveFile (told self.old) (told self.new) result }
         ensures well { IfOk result (λ _. failed_calls (log self.new) ≡ failed_calls (log self.old)) };
 
     /// Removes an empty folder.
@@ -146,6 +158,7 @@ pub trait Calls {
         ensures call { Makes (removed_folder path.now result ∷ []) (log self.old) (log self.new) }
         ensures failed { IfErr result (λ failure. failure ≡ Failure.Failed) }
         ensures syncs { unsynced self.new ≡ unsynced self.old }
+        ensures tells { Tells Asked.RemoveFolder (told self.old) (told self.new) result }
         ensures well { IfOk result (λ _. failed_calls (log self.new) ≡ failed_calls (log self.old)) };
 
     /// Gives what is at `from` the path `to`, and replaces a file that is there.
@@ -153,5 +166,6 @@ pub trait Calls {
         ensures call { Makes (renamed_item from.now to.now result ∷ []) (log self.old) (log self.new) }
         ensures failed { IfErr result (λ failure. failure ≡ Failure.Failed) }
         ensures syncs { unsynced self.new ≡ unsynced self.old }
+        ensures tells { Tells Asked.Rename (told self.old) (told self.new) result }
         ensures well { IfOk result (λ _. failed_calls (log self.new) ≡ failed_calls (log self.old)) };
 }

@@ -2,8 +2,8 @@
 //!
 //! Read: fsync(2) of Linux, "error reporting": after a failed sync the pages may count as written though no disk has
 //! them, and the next sync answers that all is well. So a sync that failed is never made again.
-ghost use Rattle.std.specs.Prelude.{◌≡◌, ◌⊎◌, None, Some, true};
-ghost use Rattle.folder_calls.specs.Doubts.{doubt_of, is_doubted};
+ghost use Rattle.std.specs.Prelude.{◌≡◌, ◌⊎◌, None, Some, unwrap_or};
+ghost use Rattle.folder_calls.specs.Doubts.{doubt_of};
 
 use crate::cache::FileKey;
 use crate::reason::Doubt;
@@ -51,9 +51,9 @@ impl Doubts {
         }
     }
 
-    /// From now on the item is in doubt. One that was so keeps its first cause. Where memory is refused for it, all are.
+    /// From now on the item is in doubt, for this cause. One that was so keeps its first. Where memory is refused for it, all are.
     pub fn add(&mut self, item: &Item, doubt: Doubt)
-        ensures added { (item.now ≡ Item.Nothing) ⊎ (is_doubted self.new item.now ≡ true) }
+        ensures added { (item.now ≡ Item.Nothing) ⊎ (doubt_of self.new item.now ≡ Some (unwrap_or (doubt_of self.old item.now) doubt)) }
         ensures lasts { (other : Item) → (first : Doubt) → doubt_of self.old other ≡ Some first → doubt_of self.new other ≡ Some first }
     {
         if self.of(item).is_some() {
@@ -69,7 +69,7 @@ impl Doubts {
     // The key of an item that is not in doubt.
     fn add_key(&mut self, key: FileKey, doubt: Doubt)
         requires new { doubt_of self.now (Item.Under key) ≡ None }
-        ensures added { is_doubted self.new (Item.Under key) ≡ true }
+        ensures added { doubt_of self.new (Item.Under key) ≡ Some doubt }
         ensures lasts { (other : Item) → (first : Doubt) → doubt_of self.old other ≡ Some first → doubt_of self.new other ≡ Some first }
     {
         if self.keys.insert(key, doubt).is_err() {

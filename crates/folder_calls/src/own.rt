@@ -44,6 +44,7 @@ impl OwnFiles {
     /// Takes the file out: what has its name from now on may be an earlier run's.
     pub fn remove(&mut self, key: &FileKey)
         ensures gone { (other : FileKey) → same_file key.now other ≡ true → is_own self.new other ≡ false }
+        ensures others { (other : FileKey) → same_file key.now other ≡ false → is_own self.new other ≡ is_own self.old other }
         ensures only { (other : FileKey) → is_own self.new other ≡ true → is_own self.old other ≡ true }
     {
         self.keys.remove(key);

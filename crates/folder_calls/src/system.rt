@@ -2,7 +2,7 @@
 ghost use Rattle.std.specs.Prelude.{◌≡◌, None, IfErr, IfOk};
 ghost use Rattle.std.specs.Fs.{file_type, metadata_len};
 ghost use Rattle.folder_calls.specs.Kinds.{IsKindOf};
-ghost use Rattle.folder_calls.specs.Noted.{noted};
+ghost use Rattle.folder_calls.specs.Noted.{noted, Tells, TellsFailedList, TellsOpening};
 ghost use Rattle.folder_calls.specs.Syncs.{counting};
 
 use crate::calls::{Calls, Removal};
@@ -28,6 +28,10 @@ pub struct SystemCalls<R> {
     last: Option<Reason>,
     unsynced: u64,
 }
+
+/// How often a look or a listing is made that a signal interrupts each time. Another one is made again by the library,
+/// and a change of names may have been made.
+const MOST_TRIES: u32 = 16;
 
 // What an item of a folder is, by what the system says of it.
 fn kind_of(found: &Metadata) -> Kind
@@ -65,11 +69,33 @@ fn names_of<R: System>(alloc: Global, listing: ReadDir<R, Global>) -> io::Result
 
 // The names in a folder. The listing has a buffer of 8 KiB on the stack, which is not to stand in the frames of callers.
 #[inline(never)]
-fn names_in<R: System>(rt: &R, alloc: Global, path: &str) -> io::Result<NameList> {
+fn list_once<R: System>(rt: &R, alloc: Global, path: &str) -> io::Result<NameList> {
     match fs::read_dir(rt, path) {
         Ok(listing) => names_of(alloc, listing),
         Err(error) => Err(error),
     }
+}
+
+// The same, begun anew where a signal interrupts it.
+fn names_in<R: System>(rt: &R, alloc: Global, path: &str) -> io::Result<NameList> {
+    for _ in 1..MOST_TRIES {
+        match list_once(rt, alloc, path) {
+            Err(error) if error.kind() == ErrorKind::Interrupted => {}
+            end => return end,
+        }
+    }
+    list_once(rt, alloc, path)
+}
+
+// What stands at a path, looked for again where a signal interrupts that.
+fn found_at<R: System>(rt: &R, path: &str) -> io::Result<Metadata> {
+    for _ in 1..MOST_TRIES {
+        match fs::symlink_metadata(rt, path) {
+            Err(error) if error.kind() == ErrorKind::Interrupted => {}
+            end => return end,
+        }
+    }
+    fs::symlink_metadata(rt, path)
 }
 
 impl<R> SystemCalls<R> {
@@ -107,6 +133,7 @@ impl<R> SystemCalls<R> {
     // A call's end, and why it failed.
     fn ended<T: Drop>(&mut self, asked: Asked, end: io::Result<T>) -> Result<T, Failure>
         ensures failed { IfErr result (λ failure. failure ≡ Failure.Failed) }
+        ensures tells { Tells asked self.old.last self.new.last result }
         ensures syncs { self.new.unsynced ≡ self.old.unsynced }
     {
         match end {
@@ -118,6 +145,7 @@ impl<R> SystemCalls<R> {
     // A sync's end, and why it failed. One that did is counted.
     fn synced(&mut self, end: io::Result<()>) -> Result<(), Failure>
         ensures failed { IfErr result (λ failure. failure ≡ Failure.Failed) }
+        ensures tells { Tells Asked.Sync self.old.last self.new.last result }
         ensures syncs { self.new.unsynced ≡ counting result self.old.unsynced }
     {
         let end = self.ended(Asked::Sync, end);
@@ -135,6 +163,7 @@ impl<R> SystemCalls<R> {
         end: io::Result<()>,
     ) -> Result<bool, Failure>
         ensures failed { IfErr result (λ failure. failure ≡ Failure.Failed) }
+        ensures tells { Tells asked self.old.last self.new.last result }
         ensures syncs { self.new.unsynced ≡ self.old.unsynced }
     {
         match end {
@@ -146,6 +175,7 @@ impl<R> SystemCalls<R> {
 
     // Keeps why a listing failed. It changes nothing, so that want of memory in it may be answered as such.
     fn fail_listing(&mut self, error: io::Error) -> Failure
+        ensures tells { TellsFailedList self.old.last self.new.last result }
         ensures syncs { self.new.unsynced ≡ self.old.unsynced }
     {
         if error.kind() == ErrorKind::OutOfMemory {
@@ -161,6 +191,7 @@ impl<R: System> SystemCalls<R> {
     // is read or written.
     fn open_same(&mut self, path: &str, there: &Metadata) -> Result<Option<File>, Failure>
         ensures failed { IfErr result (λ failure. failure ≡ Failure.Failed) }
+        ensures tells { Tells Asked.Open self.old.last self.new.last result }
         ensures syncs { self.new.unsynced ≡ self.old.unsynced }
     {
         let opened = OpenOptions::new()
@@ -207,7 +238,7 @@ impl<R: System> Calls for SystemCalls<R> {
     }
 
     fn look(&mut self, path: &str) -> Result<Kind, Failure> {
-        let kind = match fs::symlink_metadata(&self.rt, path) {
+        let kind = match found_at(&self.rt, path) {
             Ok(found) => kind_of(&found),
             Err(error) if error.kind() == ErrorKind::NotFound => Kind::Absent,
             Err(error) => return Err(self.fail(Asked::Look, error)),
@@ -224,7 +255,7 @@ impl<R: System> Calls for SystemCalls<R> {
     }
 
     fn open(&mut self, path: &str) -> Result<Option<File>, Failure> {
-        match fs::symlink_metadata(&self.rt, path) {
+        match found_at(&self.rt, path) {
             Ok(there) if there.is_file() => self.open_same(path, &there),
             Ok(there) => {
                 let kind = kind_of(&there);

@@ -201,7 +201,7 @@ module _ (start : Moment) (caller : ℕ) (stretch : Stretch) where
   refresh_step None o new shows = record { answers = λ f0 is. tt; refreshes = λ f0 is. refresh_nothing _ f0 o shows.1; next = keeps_next None new o (nothing_reads _ o shows.1) (same_file None new shows.0) }
   refresh_step (Some former) o new shows = record { answers = λ f0 is. tt; refreshes = λ f0 is. subst (λ (x : OneFile). TellsLater x o) (sym (is former refl)) (refresh_later former o new shows); next = refresh_next former o new shows }
 
-  step_of : (old : Option OneFile) (s : Statement) (o : Outcome) (new : Option OneFile) → Shows start caller stretch old s o new → Step old s o new
+  pub step_of : (old : Option OneFile) (s : Statement) (o : Outcome) (new : Option OneFile) → Shows start caller stretch old s o new → Step old s o new
   step_of None (Ropen name workers) o new shows = opening_step name workers o new shows
   step_of (Some file) (Ropen name workers) o new shows = record { answers = λ f0 is. tt; refreshes = λ f0 is. tt; next = keeps_next (Some file) new o (nothing_reads _ o shows.1) (same_file (Some file) new shows.0) }
   step_of old (Read at len) o new shows = read_step old at len o new shows
@@ -341,7 +341,7 @@ weaker : (place later : ℕ) (ts : List Told) → place ≤ later → Rise later
 weaker place later [] le rise = tt
 weaker place later (t ∷ ts) le rise = (omega (arith, le, rise.0), rise.1)
 
-own_rise : (actor place : ℕ) (ts : List Told) → Rise place ts → Rise place (own actor ts)
+pub own_rise : (actor place : ℕ) (ts : List Told) → Rise place ts → Rise place (own actor ts)
 own_rise actor place [] rise = tt
 own_rise actor place (t ∷ ts) rise =
     let rest = own_rise actor (t.place + 1) ts rise.1 in
@@ -350,7 +350,7 @@ own_rise actor place (t ∷ ts) rise =
       | false ↦ weaker place (t.place + 1) (own actor ts) (let le = rise.0 in omega (arith, le)) rest
     ]
 
-among_own : (ts : List Told) (t : Told) → Among t ts → Among t (own t.actor ts)
+pub among_own : (ts : List Told) (t : Told) → Among t ts → Among t (own t.actor ts)
 among_own [] t at = absurd at
 among_own (s ∷ ts) t (inl same) =
     subst (λ (z : Told). Among t (own t.actor (z ∷ ts))) same
@@ -362,7 +362,7 @@ among_own (s ∷ ts) t (inr at) =
       | false ↦ rest
     ]
 
-own_actor : (actor : ℕ) (ts : List Told) (t : Told) → Among t (own actor ts) → t.actor ≡ actor
+pub own_actor : (actor : ℕ) (ts : List Told) (t : Told) → Among t (own actor ts) → t.actor ≡ actor
 own_actor actor [] t at = absurd at
 own_actor actor (s ∷ ts) t at =
     elim (nat_eq s.actor actor) as (λ b. nat_eq s.actor actor ≡ b → Among t (if b then s ∷ own actor ts else own actor ts) → t.actor ≡ actor) [
@@ -388,7 +388,7 @@ reader_among (s ∷ ts) r t is = by_rest (reader_among ts (reader_next r s s.out
     by_rest (inl here) = next_among r s s.outcome t ts here
     by_rest (inr at) = inr (inr at)
 
-among_none : (ts : List Told) (t : Told) → reader_after None ts ≡ Some t → Among t ts
+pub among_none : (ts : List Told) (t : Told) → reader_after None ts ≡ Some t → Among t ts
 among_none ts t is = by_either (reader_among ts None t is)
   where
     by_either : (None ≡ Some t) ⊎ Among t ts → Among t ts
@@ -397,7 +397,7 @@ among_none ts t is = by_either (reader_among ts None t is)
 
 -- ---- the fields
 
-among_filter : (p : Told → Bool) (ts : List Told) (t : Told) → Among t (filter p ts) → Among t ts
+pub among_filter : (p : Told → Bool) (ts : List Told) (t : Told) → Among t (filter p ts) → Among t ts
 among_filter p [] t at = absurd at
 among_filter p (s ∷ ts) t at = by_first (p s) at (λ rest. among_filter p ts t rest)
   where
@@ -437,7 +437,7 @@ answers_tell run t size cut truncs chain says =
 abbrev HasNoLess : List WriterCount → WriterCount → Type 0
 HasNoLess cut b = Any (λ (c : WriterCount). (c.writer ≡ b.writer) × (b.count ≤ c.count)) cut
 
-printed_there : (cut : List Gathered) (h : Gathered) → Among h cut → 1 ≤ h.count → Among (record { writer = h.dropping.writer; count = h.count }) (printed_cut cut)
+pub printed_there : (cut : List Gathered) (h : Gathered) → Among h cut → 1 ≤ h.count → Among (record { writer = h.dropping.writer; count = h.count }) (printed_cut cut)
 printed_there [] h at some = absurd at
 printed_there (g ∷ cut) h (inl same) some =
     subst (λ (z : Gathered). Among (record { writer = h.dropping.writer; count = h.count }) (printed_cut (z ∷ cut))) same

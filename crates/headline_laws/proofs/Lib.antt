@@ -13,10 +13,18 @@ mod Causes
 mod Parts
 mod Orderly
 mod Apart
+mod Shown
+mod Known
+mod Lines
+mod Entered
+mod Attributed
 mod Hosts
 mod Opened
 mod Openings
 mod Still
+mod Reading
+mod Named
+mod Old
 mod WriterStands
 mod Homes
 pub mod Facts

@@ -1,5 +1,5 @@
 -- Where a writer was opened, its index and its log stand from then on.
-use Rattle.std.proofs.Common.{◌≡◌, ◌≤◌, ◌+◌, inl, inr, ℕ, true, List, [], ◌∷◌, ◌++◌, Some, None, Result, Ok, Err, refl, sym, ap, ◌∙◌, subst, arith, append_assoc}
+use Rattle.std.proofs.Common.{◌≡◌, ◌≤◌, inl, inr, ℕ, true, List, [], ◌∷◌, ◌++◌, Some, None, Result, Ok, Err, refl, sym, ap, ◌∙◌, subst, arith, append_assoc}
 use Rattle.turn_object.specs.Callers.{made_by}
 use Rattle.story.specs.Calls.{AreCallsOf}
 use Rattle.story.specs.Program.{Program, ask, done}
@@ -8,7 +8,6 @@ use Rattle.flow.specs.declared.stuck.Stuck.{Stuck}
 use Rattle.flow.proofs.Facts.{runs_next}
 use Rattle.store_api.specs.declared.step.Answer.TheVariants.{Made, NoFolder, NoRoom, Old}
 use Rattle.store_api.specs.declared.store.Trouble.TheVariants as trouble
-use Rattle.store_api.specs.declared.tree.Room.{Room}
 use Rattle.container_layout.specs.declared.items.Item.TheVariants.{Index, Log}
 use Rattle.mount_model.specs.declared.call.Ask.{Ask}
 use Rattle.mount_model.specs.declared.call.Call.{Call}

@@ -89,7 +89,7 @@ found tree shaped n item bytes apart is =
 -- ---- mounting
 
 -- a room has its file still
-abbrev StillThere : Tree → ℕ → Path → List ℕ → Type 0
+abbrev pub StillThere : Tree → ℕ → Path → List ℕ → Type 0
 StillThere tree n path bytes = (room : Room) × (slice_get tree.rooms n ≡ Some room) × (file_at room path ≡ Some bytes)
 
 act_keeps : (step : Step) (old new : Stored) (tree : Tree) (told : Told) (n : ℕ) (path : Path) (bytes : List ℕ) → Acts step old new told → (NamesFile step n path → ⊥) → old.tree ≡ Some tree → StillThere tree n path bytes
@@ -99,7 +99,7 @@ act_keeps step old new tree told n path bytes acts apart is (room, there, has) =
     let k = keeps_rooms step tree told t.0 t.2 n room there in
     (t.0, t.1, (k.0, k.1, k.2.files path apart ∙ has))
 
-mounting_keeps : (times : Option (List ℕ)) (opened : Stored) (start : State) (tree : Tree) (n : ℕ) (path : Path) (bytes : List ℕ) → IsMounted 0 times opened start → opened.tree ≡ Some tree → (path.folder ≡ marks_folder → ⊥) → StillThere tree n path bytes
+pub mounting_keeps : (times : Option (List ℕ)) (opened : Stored) (start : State) (tree : Tree) (n : ℕ) (path : Path) (bytes : List ℕ) → IsMounted 0 times opened start → opened.tree ≡ Some tree → (path.folder ≡ marks_folder → ⊥) → StillThere tree n path bytes
     → (after : Tree) × (start.store.tree ≡ Some after) × StillThere after n path bytes
 mounting_keeps times opened start tree n path bytes mounted is apart has =
     let d = mounted.draws in
@@ -110,7 +110,7 @@ mounting_keeps times opened start tree n path bytes mounted is apart has =
 -- ---- from the tree before to the tree after
 
 -- The mount began over the tree before, which is sound, and these calls led to the tree after.
-record Led (run : Run) (times : Option (List ℕ)) (opened : Stored) (start : State) (events : List Event) (end : State) : Type 0 where
+pub record Led (run : Run) (times : Option (List ℕ)) (opened : Stored) (start : State) (events : List Event) (end : State) : Type 0 where
   pub mounted : IsMounted 0 times opened start
   pub told : opened.tree ≡ Some run.before
   pub sound : IsSoundTree run.before
@@ -118,13 +118,13 @@ record Led (run : Run) (times : Option (List ℕ)) (opened : Stored) (start : St
   pub left : end.store.tree ≡ Some run.after
 
 module _ (run : Run) (times : Option (List ℕ)) (opened : Stored) (start : State) (events : List Event) (end : State) (led : Led run times opened start events end) where
-  abbrev Begin : Moment
+  abbrev pub Begin : Moment
   Begin = record { state = start; issued = led.sound.issued }
 
-  abbrev End : Moment
+  abbrev pub End : Moment
   End = moment_after Begin events
 
-  sound_begin : IsSoundAt Begin
+  pub sound_begin : IsSoundAt Begin
   sound_begin = mounted_sound 0 times opened start run.before led.mounted led.told led.sound
 
   sound_end : IsSoundAt End
@@ -208,7 +208,7 @@ issued_same m (e ∷ events) d lawful sound stood dead =
 
 -- ---- writes by index and log
 
-abbrev written : Written → Change
+abbrev pub written : Written → Change
 written w = Change_of w.entry w.bytes
 
 -- a log that has the bytes of the writes tells them
@@ -251,7 +251,7 @@ log_begins m s d bytes named is =
     subst (IsPrefix (content (issued_by m d))) (ap (λ h. log_bytes st.room h d.writer) (sym st.host) ∙ its_log m s d bytes st) st.writer.log
 
 -- all writes that were issued have landed, and are told by the index and the log
-record Tells (tree : Tree) (n host id : ℕ) (its : List Written) : Type 0 where
+pub record Tells (tree : Tree) (n host id : ℕ) (its : List Written) : Type 0 where
   pub writes : landed_writes tree n host id ≡ map written its
   pub rest : List ℕ
   pub log : log_in tree n host id ≡ content its ++ rest
@@ -276,13 +276,13 @@ all_told m s tree d its bytes told named is issued right landed =
 
 module _ (run : Run) (times : Option (List ℕ)) (opened : Stored) (start : State) (events : List Event) (end : State) (led : Led run times opened start events end) where
   module _ (d : Dropping) (room : Room) (bytes : List ℕ) (there : slice_get run.before.rooms d.room ≡ Some room) (has : HasItem room (Index d.host d.writer) bytes) where
-    abbrev First : Moment
+    abbrev pub First : Moment
     First = Begin run times opened start events end led
 
-    abbrev Last : Moment
+    abbrev pub Last : Moment
     Last = End run times opened start events end led
 
-    abbrev its : List Written
+    abbrev pub its : List Written
     its = led.sound.issued d.room d.writer
 
     sound_first : IsSoundAt First
@@ -294,7 +294,7 @@ module _ (run : Run) (times : Option (List ℕ)) (opened : Stored) (start : Stat
     index_first : index_then First d ≡ Some bytes
     index_first = ap (λ o. file_told o d.room (path_of (Index d.host d.writer))) sound_first.shape.told ∙ ap (λ o. file_in_room o (path_of (Index d.host d.writer))) room_kept ∙ has.there
 
-    stood : Stood First d
+    pub stood : Stood First d
     stood = record { is_item = has.is_item; bytes = bytes; there = index_first }
 
     all_first : landed_by First d ≡ entries_in its
@@ -312,7 +312,7 @@ module _ (run : Run) (times : Option (List ℕ)) (opened : Stored) (start : Stat
     same : issued_by Last d ≡ its
     same = issued_same First events d led.leads.lawful sound_first stood dead
 
-    all_last : landed_by Last d ≡ entries_in its
+    pub all_last : landed_by Last d ≡ entries_in its
     all_last =
         let many : landed First d ≤ landed Last d = (grows run times opened start events end led).landed d has.is_item in
         let count : landed First d ≡ length (entries_in its) = ap length all_first in
@@ -320,7 +320,7 @@ module _ (run : Run) (times : Option (List ℕ)) (opened : Stored) (start : Stat
         ∙ ap (λ ws. take (landed Last d) (entries_in ws)) same
         ∙ take_all (entries_in its) (landed Last d) (omega (arith, many, count))
 
-    told_before : Tells run.before d.room d.host d.writer its
+    pub told_before : Tells run.before d.room d.host d.writer its
     told_before =
         let t = all_told First sound_first sound_first.shape.tree d its bytes sound_first.shape.told has.is_item index_first refl (led.sound.writes d.room d.writer) all_first in
         let one : slice_get run.before.rooms d.room ≡ slice_get sound_first.shape.tree.rooms d.room = there ∙ sym room_kept in

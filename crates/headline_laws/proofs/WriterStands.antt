@@ -1,13 +1,15 @@
 -- The container of a writer that a line opened has its index and its log at the end.
-use Rattle.std.proofs.Common.{◌≡◌, ◌+◌, ℕ, List, [], ◌∷◌, ◌++◌, Ok, refl, sym, ap, ◌∙◌, subst, append_assoc}
+use Rattle.std.proofs.Common.{◌≡◌, ℕ, List, [], ◌∷◌, ◌++◌, Ok, refl, sym, ap, ◌∙◌, subst, append_assoc}
 use Rattle.std.specs.Prelude.{slice_get}
 use Rattle.turn_object.proofs.Facts.{state_append}
+use Rattle.container_layout.specs.declared.items.Item.{Item}
 use Rattle.container_layout.specs.declared.items.Item.TheVariants.{Index, Log}
+use Rattle.mount_sound.specs.Growing.{Stays}
 use Rattle.mount_model.specs.History.{Event, state_after}
 use Rattle.mount_model.specs.State.{State}
 use Rattle.mount_sound.specs.Owed.{IsLawful}
 use Rattle.mount_sound.proofs.Facts.{lawful_rest}
-use Rattle.gathering.specs.Moments.{Grows, HadItem, IsSoundAt, Moment, moment_after}
+use Rattle.gathering.specs.Moments.{Dropping, Grows, HadItem, IsSoundAt, Moment, moment_after}
 use Rattle.gathering.proofs.Facts.{among, grows_after, legal_first, legal_rest, moment-append, sound_after}
 use Rattle.flow.specs.Running.{Runs}
 use Rattle.script_lang.specs.Ranges.{FitsScript}
@@ -28,19 +30,25 @@ use Rattle.headline.specs.Writers.{host_of}
 use Rattle.headline_laws.proofs.Apart.{parts_here}
 use Rattle.headline_laws.proofs.Did.{IsOfKindOr}
 use Rattle.headline_laws.proofs.Does.{Ended, did, was_gone}
+use Rattle.headline_laws.proofs.Known.{HasEntered}
 use Rattle.headline_laws.proofs.Hosts.{SameHost, comes_so, statement_host}
 use Rattle.headline_laws.proofs.Opened.{opening_came}
 use Rattle.headline_laws.proofs.Openings.{IsOpenNow, log_opens, open_stands, opening_makes}
 use Rattle.headline_laws.proofs.Parts.{Comes, LinePart, ToldParts, part_at}
 use Rattle.headline_laws.proofs.Places.{own_split}
 
--- a room has the writer's index and its log
-abbrev pub Stands : Moment → ℕ → ℕ → Type 0
-Stands m host id = (room : ℕ) × HadItem m room (Index host id) × HadItem m room (Log host id)
+-- the caller entered a container as this writer, which has its index and its log at the end
+pub record Stands (n : ℕ) (m : Moment) (history : List Event) (host id : ℕ) : Type 0 where
+  pub dropping : Dropping
+  pub its_id : dropping.writer ≡ id
+  pub its_host : dropping.host ≡ host
+  pub entered : HasEntered n history dropping
+  pub index : HadItem (moment_after m history) dropping.room (Index host id)
+  pub log : HadItem (moment_after m history) dropping.room (Log host id)
 
 -- ---- behind an opening
 
-opened_stands : (m : Moment) (n : ℕ) (name : List ℕ) (host cap : ℕ) (handle : WriterHandle) (earlier mine later : List Event) → IsSoundAt m → IsLawful m.state (earlier ++ (mine ++ later)) → Runs n (open_program name host cap) mine (Ok handle) → Stands (moment_after m (earlier ++ (mine ++ later))) host handle.writer
+opened_stands : (m : Moment) (n : ℕ) (name : List ℕ) (host cap : ℕ) (handle : WriterHandle) (earlier mine later : List Event) → IsSoundAt m → IsLawful m.state (earlier ++ (mine ++ later)) → Runs n (open_program name host cap) mine (Ok handle) → Stands n m (earlier ++ (mine ++ later)) host handle.writer
 opened_stands m n name host cap handle earlier mine later sound lawful runs =
     let l = opening_makes n name host cap mine handle runs in
     let upto : List Event = earlier ++ (l.first ++ l.event ∷ []) in
@@ -63,11 +71,31 @@ opened_stands m n name host cap handle earlier mine later sound lawful runs =
     ap (λ s. state_after s l.rest) is_now ∙ sym (state_append begun.state l.first (l.event ∷ l.rest)) ∙ ap (λ z. state_after begun.state z) (sym l.all) in
     let placed = e.placed g.after (subst (HasRow n handle.writer g.after) ends g.has) in
     let its_host : o.row.host ≡ host = sym g.placed.1 ∙ placed.1 in
+    let its_room : o.row.room ≡ e.room = sym g.placed.0 ∙ placed.0 in
     let stands = open_stands n now now_sound handle.writer o in
     let grows : Grows now (moment_after now rest) = grows_after now rest (legal_rest m upto rest lawful_all) now_sound in
     let last : moment_after now rest ≡ moment_after m (earlier ++ (mine ++ later)) = sym (moment-append m upto rest) ∙ ap (moment_after m) (sym all) in
-    subst (λ x. Stands x host handle.writer) last (subst (λ h. Stands (moment_after now rest) h handle.writer) its_host
-    (o.row.room, grows.stands o.row.room (Index o.row.host handle.writer) tt stands.0, grows.stands o.row.room (Log o.row.host handle.writer) tt stands.1))
+    let there : (item : Item) → Stays item → HadItem now o.row.room item → HadItem (moment_after m (earlier ++ (mine ++ later))) e.room item =
+    λ item stays had. subst (λ x. HadItem x e.room item) last (subst (λ k. HadItem (moment_after now rest) k item) its_room (grows.stands o.row.room item stays had)) in
+    let front : List Event = e.first ++ e.making ∷ e.between in
+    let entering : mine ≡ front ++ e.entering ∷ e.rest = e.all ∙ sym (append_assoc e.first (e.making ∷ e.between) (e.entering ∷ e.rest)) in
+    record {
+      dropping = record { room = e.room; host = host; writer = handle.writer };
+      its_id = refl;
+      its_host = refl;
+      entered = record {
+        first = earlier ++ front;
+        event = e.entering;
+        later = e.rest ++ later;
+        most = cap;
+        all = ap (λ z. earlier ++ (z ++ later)) entering ∙ ap (λ z. earlier ++ z) (append_assoc front (e.entering ∷ e.rest) later) ∙ sym (append_assoc earlier front (e.entering ∷ (e.rest ++ later)));
+        own = e.enters.0;
+        asked = e.enters.1;
+        entered = e.entered;
+      };
+      index = there (Index host handle.writer) tt (subst (λ h. HadItem now o.row.room (Index h handle.writer)) its_host stands.0);
+      log = there (Log host handle.writer) tt (subst (λ h. HadItem now o.row.room (Log h handle.writer)) its_host stands.1);
+    }
 
 -- ---- the line of an opening
 
@@ -79,22 +107,26 @@ was_open : (kept : Kept) (s : Statement) (e : Ending) (id : ℕ) → e.outcome �
 was_open kept s e id says (was_gone is out now) = absurd (let clash : line.Gone ≡ line.Opened id = sym out ∙ says in cc)
 was_open kept s e id says (did lives d) = open_of s id (subst (IsOfKindOr s) says d.kind)
 
-part_host : (n : ℕ) (history : List Event) (blocks : List (List Event)) (ts : List Told) (t : Told) (rest : List Told) (at : ℕ) (kept : Kept) (parts : ToldParts n history blocks at kept (ts ++ t ∷ rest)) → (part_at n history blocks ts t rest at kept parts).0.kept.host ≡ kept.host
+part_host : (n : ℕ) (history : List Event) (blocks : List (List Event)) (ts : List Told) (t : Told) (rest : List Told) (done : List Event) (kept : Kept) (parts : ToldParts n history blocks done kept (ts ++ t ∷ rest)) → (part_at n history blocks ts t rest done kept parts).0.kept.host ≡ kept.host
 unfolding part_at
-part_host n history blocks [] t rest at kept parts = refl
-part_host n history blocks (s ∷ ts) t rest at kept (p, says, from, more) =
+part_host n history blocks [] t rest done kept parts = refl
+part_host n history blocks (s ∷ ts) t rest done kept (p, says, from, more) =
     part_host n history blocks ts t rest _ p.e.kept more ∙ comes_so n (SameHost kept) (work_of kept s.statement) p.mine p.spent p.e (statement_host kept s.statement) p.comes
 
--- in some container its index and its log stand at the end, under its actor's host
-pub line_stands : (run : Run) (m : Moment) (end : State) → FitsScript run.script → IsSoundAt m → (right : IsRight run.script m.state run.lines end) → (t : Told) (id : ℕ) → Says run t (line.Opened id) → Stands (moment_after m right.history) (host_of (slice_get run.script.actors t.actor)) id
+-- it stands in the container that it entered, under its actor's host
+pub record LineStands (run : Run) (m : Moment) (history : List Event) (t : Told) (id : ℕ) : Type 0 where
+  pub number : ℕ
+  pub stands : Stands number m history (host_of (slice_get run.script.actors t.actor)) id
+
+pub line_stands : (run : Run) (m : Moment) (end : State) → FitsScript run.script → IsSoundAt m → (right : IsRight run.script m.state run.lines end) → (t : Told) (id : ℕ) → Says run t (line.Opened id) → LineStands run m right.history t id
 line_stands run m end fits sound right t id says =
     let blocks = right.calls.blocks in
     let own_ones = parts_here run m.state end fits right t says.is_line in
     let n = own_ones.number in
     let split = own_split run t (among (told run) t says.is_line) in
-    let parts : ToldParts n right.history blocks 0 own_ones.kept (own t.actor (before run t) ++ t ∷ split.rest) = subst (ToldParts n right.history blocks 0 own_ones.kept) split.is own_ones.parts in
-    let p : LinePart n right.history blocks t = (part_at n right.history blocks (own t.actor (before run t)) t split.rest 0 own_ones.kept parts).0 in
-    let its_host : p.kept.host ≡ host_of (slice_get run.script.actors t.actor) = part_host n right.history blocks (own t.actor (before run t)) t split.rest 0 own_ones.kept parts ∙ own_ones.host in
+    let parts : ToldParts n right.history blocks [] own_ones.kept (own t.actor (before run t) ++ t ∷ split.rest) = subst (ToldParts n right.history blocks [] own_ones.kept) split.is own_ones.parts in
+    let p : LinePart n right.history blocks t = (part_at n right.history blocks (own t.actor (before run t)) t split.rest [] own_ones.kept parts).0 in
+    let its_host : p.kept.host ≡ host_of (slice_get run.script.actors t.actor) = part_host n right.history blocks (own t.actor (before run t)) t split.rest [] own_ones.kept parts ∙ own_ones.host in
     let ends : p.part.e.outcome ≡ line.Opened id = sym p.says ∙ says.says in
     let o = was_open p.kept t.statement p.part.e id ends p.part.ended in
     let r = opening_came n o.0 id p.part.spent p.part.e ends p.kept p.part.mine (subst (λ s. Comes n (work_of p.kept s) p.part.mine p.part.spent p.part.e) o.1 p.part.comes) in
@@ -103,6 +135,8 @@ line_stands run m end fits sound right t id says =
     let all : right.history ≡ earlier ++ (r.first ++ later) =
     p.part.split ∙ ap (λ z. p.part.earlier ++ (z ++ p.part.later)) r.all ∙ ap (λ z. p.part.earlier ++ z) (append_assoc r.pre (r.first ++ r.rest) p.part.later)
     ∙ ap (λ z. p.part.earlier ++ (r.pre ++ z)) (append_assoc r.first r.rest p.part.later) ∙ sym (append_assoc p.part.earlier r.pre (r.first ++ later)) in
-    let stands = opened_stands m n o.0 p.kept.host p.kept.cap r.handle earlier r.first later sound (subst (IsLawful m.state) all right.leads.lawful) r.runs in
-    subst (λ h. Stands (moment_after m right.history) h id) its_host (subst (λ k. Stands (moment_after m right.history) p.kept.host k) r.is
-    (subst (λ z. Stands (moment_after m z) p.kept.host r.handle.writer) (sym all) stands))
+    let stands : Stands n m (earlier ++ (r.first ++ later)) p.kept.host r.handle.writer = opened_stands m n o.0 p.kept.host p.kept.cap r.handle earlier r.first later sound (subst (IsLawful m.state) all right.leads.lawful) r.runs in
+    record {
+      number = n;
+      stands = subst (λ h. Stands n m right.history h id) its_host (subst (λ k. Stands n m right.history p.kept.host k) r.is (subst (λ z. Stands n m z p.kept.host r.handle.writer) (sym all) stands));
+    }

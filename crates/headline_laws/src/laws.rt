@@ -1,5 +1,5 @@
 //! The laws of the page.
-ghost use Rattle.std.specs.Prelude.{◌≡◌, ◌≤◌, ℕ, List, Option, Some};
+ghost use Rattle.std.specs.Prelude.{◌≡◌, ◌≤◌, ℕ, false, List, Option, Some};
 ghost use Rattle.store_api.specs.Acts.{Stored};
 ghost use Rattle.mount_model.specs.History.{Event};
 ghost use Rattle.mount_model.specs.Mounting.{IsMounted};
@@ -11,7 +11,7 @@ ghost use Rattle.run_core.specs.Play.{IsPlay, IsRight};
 ghost use Rattle.headline.specs.Run.{Run};
 ghost use Rattle.headline.specs.Headline.{IsOrderly};
 ghost use Rattle.headline.specs.Names.{Story};
-ghost use Rattle.headline.specs.Opened.{HasOpened};
+ghost use Rattle.headline.specs.Stories.{Fits};
 ghost use Rattle.headline.specs.Still.{HasStill};
 
 /// A law: where the lines of a script are right, from a state on that is fine and clean, they are orderly. There is one for each statement, of its kind, and none
@@ -30,11 +30,12 @@ pub fn what_stood_stands()
         → end.store.tree ≡ Some run.after → HasStill run }
 {}
 
-/// A law: of each writer that a line opened, one container of the tree after has the index and the log, under the host of the line's actor. A story says which
-/// container it is. So it is where the lines are right, from a mount over a sound tree on, and so it is of a play.
-pub fn opened_writers_have_containers()
+/// A law: there is a story, which says of which container each line speaks, and it fits. The container of `open ID` has the index and the log of this writer, under
+/// the host of the line's actor. A reader's line counts of each writer of its container all writes that a sync or a close told before, and has all truncates that
+/// were told before. So it is where the lines are right, from a mount over a sound tree on, and so it is of a play.
+pub fn lines_have_a_story()
     ensures right { (run : Run) (times : Option (List ℕ)) (opened : Stored) (start end : State) → FitsScript run.script → IsMounted 0 times opened start → opened.tree ≡ Some run.before → IsSoundTree run.before → IsRight run.script start run.lines end
-        → end.store.tree ≡ Some run.after → (story : Story) × HasOpened run story }
+        → end.store.tree ≡ Some run.after → run.in_order ≡ false → (story : Story) × Fits run story }
     ensures played { (run : Run) (times : Option (List ℕ)) (opened : Stored) (start end : State) → FitsScript run.script → IsMounted 0 times opened start → opened.tree ≡ Some run.before → IsSoundTree run.before → IsPlay run.script start run.lines end
-        → end.store.tree ≡ Some run.after → (story : Story) × HasOpened run story }
+        → end.store.tree ≡ Some run.after → run.in_order ≡ false → (story : Story) × Fits run story }
 {}

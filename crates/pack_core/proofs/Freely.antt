@@ -30,7 +30,7 @@ fine_after : (start : State) (events : List Event) → IsLawful start events →
 fine_after start [] lawful fine = fine
 fine_after start (e ∷ events) lawful fine = fine_after e.after events lawful.2 (step_fine start e.after e.caller e.ask e.reply lawful.0 lawful.1 fine)
 
-fine_made : (start : State) (events : List Event) (end : State) → AreMade start events end → IsFine start → IsFine end
+pub fine_made : (start : State) (events : List Event) (end : State) → AreMade start events end → IsFine start → IsFine end
 fine_made start events end made fine = subst (λ (s : State). IsFine s) made.ends (fine_after start events made.lawful fine)
 
 fine_driven : {R : Type 0} (standing : Standing Call Reply R) (start : State) (out : R) (end : State) → Drives standing start out end → IsFine start → IsFine end

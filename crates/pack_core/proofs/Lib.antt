@@ -1,5 +1,6 @@
+pub mod Broken
 pub mod Freely
-mod Looked
+pub mod Looked
 mod Looks
 mod Scanned
 mod Told

@@ -14,9 +14,11 @@ use Rattle.mount_model.specs.declared.reply.Reply.{Reply}
 use Rattle.mount_model.specs.History.{Event, state_after}
 use Rattle.mount_model.specs.State.{State}
 use Rattle.mount_sound.specs.Owed.{IsLawful}
+use Rattle.mount_sound.specs.Sound.{IsFine}
 use Rattle.index_reader.proofs.Facts.{IsLook, OnlyLooks}
 use Rattle.lone_flow.specs.Driving.{AreMade, BeginsToDrive, BeginsToMake, Drives, Makes, greets_first}
 use Rattle.pack_core.specs.Looking.{GreetsOrLooks, HasLooked}
+use Rattle.pack_core.proofs.Freely.{fine_made}
 
 abbrev AllLook : List Event → Type 0
 AllLook events = AllByRecursion (λ (event : Event). GreetsOrLooks event.ask.call) events
@@ -74,6 +76,10 @@ looked_so {R} result standing program start end is looks drives begins =
 pub looked_none : (state : State) → HasLooked state state
 looked_none state = record { events = []; made = record { lawful = tt; ends = refl; own = tt }; looks = tt }
 
+-- a caller that only looks leaves a fine state
+pub looked_fine : (start end : State) → HasLooked start end → IsFine start → IsFine end
+looked_fine start end l fine = fine_made start l.events end l.made fine
+
 lawful_both : (a : State) (xs ys : List Event) → IsLawful a xs → IsLawful (state_after a xs) ys → IsLawful a (xs ++ ys)
 lawful_both a [] ys x y = y
 lawful_both a (e ∷ xs) ys x y = (x.0, x.1, lawful_both e.after xs ys x.2 y)
@@ -86,7 +92,7 @@ all_both : (P : Event → Type 0) (xs ys : List Event) → AllByRecursion P xs �
 all_both P [] ys x y = y
 all_both P (e ∷ xs) ys x y = (x.0, all_both P xs ys x.1 y)
 
-made_both : (a b c : State) (xs ys : List Event) → AreMade a xs b → AreMade b ys c → AreMade a (xs ++ ys) c
+pub made_both : (a b c : State) (xs ys : List Event) → AreMade a xs b → AreMade b ys c → AreMade a (xs ++ ys) c
 made_both a b c xs ys x y =
     let Lawful : State → Type 0 = λ s. IsLawful s ys in
     let Ends : State → Type 0 = λ s. state_after s ys ≡ c in

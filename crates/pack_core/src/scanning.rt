@@ -1,7 +1,7 @@
 //! The regions of a container, scanned one after the other.
-ghost use Rattle.std.specs.Prelude.{◌<◌, IfOk};
+ghost use Rattle.std.specs.Prelude.{◌<◌, IfOk, OnErr};
 ghost use Rattle.mount_sound.specs.Sound.{IsFine};
-ghost use Rattle.lone_flow.specs.Driving.{Makes};
+ghost use Rattle.lone_flow.specs.Driving.{BeginsToMake, Makes};
 ghost use Rattle.unit_format.specs.declared.units.TheConstants.{REGIONS};
 ghost use Rattle.pack_files.specs.Scanning.{scan_program};
 ghost use Rattle.pack_core.specs.Looking.{HasLooked};
@@ -17,8 +17,8 @@ use std::alloc::Global;
 use store_api::Store;
 use unit_format::{REGIONS, Region, RegionList};
 
-/// Scans this region of the reader's file. It only looks, also where it lacks memory.
-#[tactic(auto, using(crate::proofs::Looked::looked_none))]
+/// Scans this region of the reader's file. It only looks, also where it lacks memory: the calls are then a front of those.
+#[tactic(auto, using(crate::proofs::Looked::looked_none, crate::proofs::Broken::begins_none))]
 pub fn scan<S: Store + Drop, C: Clock + Drop>(
     alloc: Global,
     mount: &mut Mount<S, C>,
@@ -28,6 +28,7 @@ pub fn scan<S: Store + Drop, C: Clock + Drop>(
     requires known { region < REGIONS }
     requires fine { IsFine mount.old }
     ensures makes { IfOk result (λ told. Makes (scan_program reader.now region) mount.old told mount.new) }
+    ensures broken_off { OnErr result (BeginsToMake (scan_program reader.now region) mount.old mount.new) }
     ensures looks { HasLooked mount.old mount.new }
     ensures fine { IsFine mount.new }
 {

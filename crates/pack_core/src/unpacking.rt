@@ -1,7 +1,7 @@
 //! One small file, read.
-ghost use Rattle.std.specs.Prelude.{◌≡◌, ◌≤◌, IfOk, Ok, Err};
+ghost use Rattle.std.specs.Prelude.{◌≡◌, ◌≤◌, IfOk, OnErr, Ok, Err};
 ghost use Rattle.mount_sound.specs.Sound.{IsFine};
-ghost use Rattle.lone_flow.specs.Driving.{Makes};
+ghost use Rattle.lone_flow.specs.Driving.{BeginsToMake, Makes};
 ghost use Rattle.opening_flow.specs.Opening.{opening_program};
 ghost use Rattle.pack_core.specs.Looking.{HasLooked};
 ghost use Rattle.pack_core.specs.Unpacking.{ReadsFound, ReadsIn, ReadsUnit, Unpacks};
@@ -19,7 +19,7 @@ use std::alloc::Global;
 use store_api::Store;
 use unit_format::{MAX_CONTENT, Unit, find};
 
-/// Opens a reader of this container. It only looks, also where it lacks memory.
+/// Opens a reader of this container. It only looks, also where it lacks memory: the calls are then a front of those.
 pub fn open_reader<S: Store + Drop, C: Clock + Drop>(
     alloc: Global,
     mount: &mut Mount<S, C>,
@@ -27,6 +27,7 @@ pub fn open_reader<S: Store + Drop, C: Clock + Drop>(
 ) -> Result<Result<OpenReader, Stuck>, NoMemory>
     requires { IsFine mount.old }
     ensures makes { IfOk result (λ opened. Makes (opening_program name 1) mount.old opened mount.new) }
+    ensures broken_off { OnErr result (BeginsToMake (opening_program name 1) mount.old mount.new) }
     ensures looks { HasLooked mount.old mount.new }
     ensures fine { IsFine mount.new }
 {

@@ -165,6 +165,17 @@ has_found bytes fault is = elim (cases_lt (2 ^ 20) (length bytes)) [
       })
 ]
 
+-- ---- told apart
+
+pub one_input : (bytes : List ℕ) (a b : List NamedFile) → IsInput bytes a → IsInput bytes b → a ≡ b
+one_input bytes a b x y = let same : Ok a ≡ Ok b = sym (input_again bytes a x) ∙ input_again bytes b y in cc
+
+pub one_fault : (bytes : List ℕ) (a b : Fault) → HasFault bytes a → HasFault bytes b → a ≡ b
+one_fault bytes a b x y = let same : Err a ≡ Err b = sym (has_again bytes a x) ∙ has_again bytes b y in cc
+
+pub never_both : (bytes : List ℕ) (files : List NamedFile) (fault : Fault) → IsInput bytes files → HasFault bytes fault → ⊥
+never_both bytes files fault x y = let same : Ok files ≡ Err fault = sym (input_again bytes files x) ∙ has_again bytes fault y in cc
+
 -- ---- in the words of the contract
 
 pub found : (bytes : List ℕ) (result : Result (List NamedFile) InputTrouble) → AnswersAsRead result (input_of bytes) → IfOk result (IsInput bytes)

@@ -1,5 +1,6 @@
 pub mod Answers
 pub mod Input
+pub mod Laws
 pub mod Layout
 pub mod Reading
 pub mod Words

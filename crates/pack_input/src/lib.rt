@@ -5,10 +5,12 @@
 #![tactic(auto)]
 
 mod files;
+mod laws;
 mod reading;
 mod trouble;
 mod words;
 
 pub use files::{FileList, NamedFile};
+pub use laws::inputs_are_told_apart;
 pub use reading::read;
 pub use trouble::{InputTrouble, Kind};

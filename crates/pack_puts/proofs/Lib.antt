@@ -1,3 +1,7 @@
+mod Breaking
+pub mod Calls
+mod Cases
+pub mod Facts
 mod Outcomes
 mod Putted
 mod Told

@@ -3,7 +3,7 @@ use Rattle.std.specs.Prelude.{◌≡◌, ◌≢◌, ◌⊎◌, ℕ, ◌+◌, ◌
 use Rattle.mount_model.specs.State.{State}
 use Rattle.mount_model.specs.Paths.{Name}
 use Rattle.mount_model.specs.declared.reply.Refusal.TheVariants.{NoRoom}
-use Rattle.lone_flow.specs.Driving.{Makes}
+use Rattle.lone_flow.specs.Driving.{BeginsToMake, Makes}
 use Rattle.flow.specs.declared.stuck.Stuck.{Stuck as Trouble}
 use Rattle.flow.specs.declared.stuck.Stuck.TheVariants.{Refused}
 use Rattle.index_reader.specs.declared.opened.OpenReader.{OpenReader}
@@ -31,3 +31,8 @@ BeginsWithout region why told = ((why ≡ Refused NoRoom) × (told ≡ Ok (regio
 pub data BeginsAt (name : Name) (region : ℕ) (start : State) (told : Result ℕ ScanStuck) (end : State) : Type 0 where
   opens : (reader : OpenReader) (opened : State) → Makes (opening_program name 1) start (Ok reader) opened → ScansFor reader region opened told end → BeginsAt name region start told end
   opens_none : (why : Trouble) → Makes (opening_program name 1) start (Err why) end → BeginsWithout region why told → BeginsAt name region start told end
+
+-- It was broken off in that: in the opening, or behind it in the scan. Its calls are a front of those.
+pub data BeginsToFindPlace (name : Name) (region : ℕ) (start end : State) : Type 0 where
+  to_open : BeginsToMake (opening_program name 1) start end → BeginsToFindPlace name region start end
+  to_scan : (reader : OpenReader) (opened : State) → Makes (opening_program name 1) start (Ok reader) opened → BeginsToMake (scan_program reader region) opened end → BeginsToFindPlace name region start end

@@ -1,7 +1,7 @@
 -- Small files that a caller by itself puts one behind the other.
 use Rattle.std.specs.Prelude.{◌≡◌, ℕ, ◌+◌, ◌*◌, ◌<◌, ◌≤◌, List, [], ◌∷◌, ◌++◌, Option, Some, None, Result, Ok, Err}
 use Rattle.mount_model.specs.State.{State}
-use Rattle.lone_flow.specs.Driving.{Makes}
+use Rattle.lone_flow.specs.Driving.{BeginsToMake, Makes}
 use Rattle.flow.specs.declared.stuck.Stuck.{Stuck}
 use Rattle.flow.specs.declared.stuck.Stuck.TheVariants.{Fault}
 use Rattle.writer_flow.specs.declared.handle.WriterHandle.{WriterHandle}
@@ -75,3 +75,20 @@ abbrev pub PutsAll : ℕ → List NamedFile → WriterHandle → ℕ → State �
 PutsAll region files handle at start (Made last until) end = PutsEach region files handle at start last until end
 PutsAll region files handle at start (Full last) end = PutsUpTo region files handle at start (Full last) end
 PutsAll region files handle at start (Stopped why) end = PutsUpTo region files handle at start (Stopped why) end
+
+-- The file would have fitted at this place, and its put was broken off: the calls are a front of those of the put.
+pub record BeginsToPutFile (handle : WriterHandle) (region at : ℕ) (f : SmallFile) (start end : State) : Type 0 where
+  pub fits : at + unit_size f ≤ (region + 1) * REGION_SIZE
+  pub begins : BeginsToMake (put_program handle at f) start end
+
+-- the first files were put, and the put of the next one was broken off
+pub record BeginsToPut (region : ℕ) (files : List NamedFile) (handle : WriterHandle) (at : ℕ) (start end : State) : Type 0 where
+  pub before : List NamedFile
+  pub f : NamedFile
+  pub behind : List NamedFile
+  pub split : files ≡ before ++ f ∷ behind
+  pub writer : WriterHandle
+  pub place : ℕ
+  pub between : State
+  pub puts : PutsEach region before handle at start writer place between
+  pub last : BeginsToPutFile writer region place (small_file f) between end

@@ -1,7 +1,7 @@
 -- The end of a writer that a caller has by itself.
 use Rattle.std.specs.Prelude.{◌≡◌, ℕ, Option, Some, None, Result, Ok, Err}
 use Rattle.mount_model.specs.State.{State}
-use Rattle.lone_flow.specs.Driving.{Makes}
+use Rattle.lone_flow.specs.Driving.{BeginsToMake, Makes}
 use Rattle.flow.specs.declared.stuck.Stuck.{Stuck}
 use Rattle.flow.specs.declared.stuck.Stuck.TheVariants.{Fault}
 use Rattle.writer_flow.specs.declared.handle.WriterHandle.{WriterHandle}
@@ -26,3 +26,14 @@ pub record Settles (handle : WriterHandle) (start : State) (told : Result (Unit 
   pub between : State
   pub syncs : Makes (sync_program handle) start synced between
   pub closes : Closes synced.handle synced.result between told end
+
+-- the sync ended well, and the close was broken off
+abbrev pub BeginsToClose : Option WriterHandle → Result ℕ Stuck → State → State → Type 0
+BeginsToClose handle (Err why) start end = ⊥
+BeginsToClose None (Ok landed) start end = ⊥
+BeginsToClose (Some handle) (Ok landed) start end = BeginsToMake (close_program handle) start end
+
+-- It was broken off in the sync, or behind it in the close. Its calls are a front of those.
+pub data BeginsToSettle (handle : WriterHandle) (start end : State) : Type 0 where
+  to_sync : BeginsToMake (sync_program handle) start end → BeginsToSettle handle start end
+  to_close : (synced : WriterOut) (between : State) → Makes (sync_program handle) start synced between → BeginsToClose synced.handle synced.result between end → BeginsToSettle handle start end

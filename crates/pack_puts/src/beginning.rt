@@ -1,8 +1,10 @@
 //! The place of the first file.
-ghost use Rattle.std.specs.Prelude.{◌≡◌, ◌≤◌, ◌<◌, ◌+◌, ◌*◌, IfOk};
+ghost use Rattle.std.specs.Prelude.{◌≡◌, ◌≤◌, ◌<◌, ◌+◌, ◌*◌, IfOk, OnErr};
 ghost use Rattle.mount_sound.specs.Sound.{IsFine};
+ghost use Rattle.lone_flow.specs.Driving.{BeginsToMake};
 ghost use Rattle.unit_format.specs.declared.units.TheConstants.{REGION_SIZE, REGIONS};
-ghost use Rattle.pack_puts.specs.Beginning.{BeginsAt, BeginsWithout, ScansFor, within_region};
+ghost use Rattle.pack_files.specs.Scanning.{scan_program};
+ghost use Rattle.pack_puts.specs.Beginning.{BeginsAt, BeginsToFindPlace, BeginsWithout, ScansFor, within_region};
 
 use edge_io::Clock;
 use flow::Stuck;
@@ -27,7 +29,7 @@ fn within_region(region: u64, place: u64) -> u64
     place.max(start).min(start + REGION_SIZE)
 }
 
-/// Where the units of the region end.
+/// Where the units of the region end. After `NoMemory` the calls are a front of those of the scan.
 fn scanned<S: Store + Drop, C: Clock + Drop>(
     alloc: Global,
     mount: &mut Mount<S, C>,
@@ -37,6 +39,7 @@ fn scanned<S: Store + Drop, C: Clock + Drop>(
     requires known { region < REGIONS }
     requires fine { IsFine mount.old }
     ensures scans { IfOk result (λ told. ScansFor reader.now region mount.old told mount.new) }
+    ensures broken_off { OnErr result (BeginsToMake (scan_program reader.now region) mount.old mount.new) }
     ensures from { IfOk result (λ told. IfOk told (λ place. region * REGION_SIZE ≤ place)) }
     ensures until { IfOk result (λ told. IfOk told (λ place. place ≤ (region + 1) * REGION_SIZE)) }
     ensures fine { IsFine mount.new }
@@ -74,6 +77,7 @@ pub(crate) fn begin<S: Store + Drop, C: Clock + Drop>(
     requires known { region < REGIONS }
     requires fine { IsFine mount.old }
     ensures begins { IfOk result (λ told. BeginsAt name region mount.old told mount.new) }
+    ensures broken_off { OnErr result (BeginsToFindPlace name region mount.old mount.new) }
     ensures from { IfOk result (λ told. IfOk told (λ place. region * REGION_SIZE ≤ place)) }
     ensures until { IfOk result (λ told. IfOk told (λ place. place ≤ (region + 1) * REGION_SIZE)) }
     ensures fine { IsFine mount.new }

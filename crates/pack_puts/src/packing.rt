@@ -1,12 +1,13 @@
 //! Small files, packed.
-ghost use Rattle.std.specs.Prelude.{◌≡◌, ◌≤◌, ◌<◌, ◌+◌, ◌*◌, length, IfOk};
+ghost use Rattle.std.specs.Prelude.{◌≡◌, ◌≤◌, ◌<◌, ◌+◌, ◌*◌, length, IfOk, OnErr};
 ghost use Rattle.std.specs.List.{All};
 ghost use Rattle.mount_sound.specs.Sound.{IsFine};
-ghost use Rattle.lone_flow.specs.Driving.{Makes};
+ghost use Rattle.lone_flow.specs.Driving.{BeginsToMake, Makes};
 ghost use Rattle.unit_format.specs.declared.units.TheConstants.{MAX_CONTENT, REGION_SIZE, REGIONS};
 ghost use Rattle.writer_flow.specs.Opening.{open_program};
 ghost use Rattle.pack_input.specs.declared.files.NamedFile.{NamedFile as Named};
-ghost use Rattle.pack_puts.specs.Packing.{EndsAfter, Packs, PacksFrom};
+ghost use Rattle.pack_puts.specs.Packing.{BeginsToPack, BeginsToPackFrom, EndsAfter, Packs, PacksFrom};
+ghost use Rattle.pack_puts.specs.Settling.{BeginsToSettle};
 
 use crate::beginning::begin;
 use crate::putting::{Put, put_all};
@@ -38,6 +39,7 @@ fn open_writer<S: Store + Drop, C: Clock + Drop>(
 ) -> Result<Result<WriterHandle, Stuck>, NoMemory>
     requires { IsFine mount.old }
     ensures makes { IfOk result (λ opened. Makes (open_program name 0 64) mount.old opened mount.new) }
+    ensures broken_off { OnErr result (BeginsToMake (open_program name 0 64) mount.old mount.new) }
     ensures fine { IsFine mount.new }
 {
     drive_freely(mount, OpenWrite::new(name, 0, 64))
@@ -50,7 +52,9 @@ fn settled_as<S: Store + Drop, C: Clock + Drop>(
     packed: Packed,
 ) -> Result<Result<Packed, ScanStuck>, NoMemory>
     requires { IsFine mount.old }
-    ensures { IfOk result (λ told. EndsAfter handle packed mount.old told mount.new) }
+    ensures ends { IfOk result (λ told. EndsAfter handle packed mount.old told mount.new) }
+    ensures broken_off { OnErr result (BeginsToSettle handle mount.old mount.new) }
+    ensures fine { IsFine mount.new }
 {
     match settle(mount, handle)? {
         Ok(()) => Ok(Ok(packed)),
@@ -72,7 +76,9 @@ fn pack_from<S: Store + Drop, C: Clock + Drop>(
     requires from { region * REGION_SIZE ≤ at }
     requires until { at ≤ (region + 1) * REGION_SIZE }
     requires fine { IsFine mount.old }
-    ensures { IfOk result (λ told. PacksFrom name region files.now at mount.old told mount.new) }
+    ensures packs { IfOk result (λ told. PacksFrom name region files.now at mount.old told mount.new) }
+    ensures broken_off { OnErr result (BeginsToPackFrom name region files.now at mount.old mount.new) }
+    ensures fine { IsFine mount.new }
 {
     match open_writer(mount, name)? {
         Ok(handle) => match put_all(alloc, mount, handle, region, at, files.as_slice())? {
@@ -88,7 +94,8 @@ fn pack_from<S: Store + Drop, C: Clock + Drop>(
 /// a writer of host 0, puts the files one behind the other, each by one write, and syncs and closes the writer.
 ///
 /// It ends with the first trouble, and then neither syncs nor closes. Where a file would pass the end of the region it puts no
-/// further one, and syncs and closes all the same.
+/// further one, and syncs and closes all the same. After `NoMemory` the calls are a front of those of a packing, of which the last
+/// one may have been refused memory, and what was put until then stands.
 pub fn pack<S: Store + Drop, C: Clock + Drop>(
     alloc: Global,
     mount: &mut Mount<S, C>,
@@ -99,7 +106,9 @@ pub fn pack<S: Store + Drop, C: Clock + Drop>(
     requires small { All (λ (f : Named). length f.content ≤ MAX_CONTENT) files.now }
     requires known { region < REGIONS }
     requires fine { IsFine mount.old }
-    ensures { IfOk result (λ told. Packs name region files.now mount.old told mount.new) }
+    ensures packs { IfOk result (λ told. Packs name region files.now mount.old told mount.new) }
+    ensures broken_off { OnErr result (BeginsToPack name region files.now mount.old mount.new) }
+    ensures fine { IsFine mount.new }
 {
     match begin(alloc, mount, name, region)? {
         Ok(at) => pack_from(alloc, mount, name, region, at, files),

@@ -1,11 +1,11 @@
 //! Files put one behind the other.
-ghost use Rattle.std.specs.Prelude.{◌≡◌, ◌≤◌, ◌<◌, ◌+◌, ◌*◌, length, IfOk};
+ghost use Rattle.std.specs.Prelude.{◌≡◌, ◌≤◌, ◌<◌, ◌+◌, ◌*◌, length, IfOk, OnErr};
 ghost use Rattle.std.specs.List.{All};
 ghost use Rattle.mount_sound.specs.Sound.{IsFine};
 ghost use Rattle.unit_format.specs.declared.units.TheConstants.{MAX_CONTENT, REGION_SIZE, REGIONS};
 ghost use Rattle.unit_format.specs.Units.{unit_size as unit_size_of};
 ghost use Rattle.pack_input.specs.declared.files.NamedFile.{NamedFile as Named};
-ghost use Rattle.pack_puts.specs.Putting.{IsWithin, Puts, PutsAll, put_of as put_of_out, small_file};
+ghost use Rattle.pack_puts.specs.Putting.{BeginsToPut, BeginsToPutFile, IsWithin, Puts, PutsAll, put_of as put_of_out, small_file};
 
 use edge_io::Clock;
 use flow::Stuck;
@@ -65,6 +65,7 @@ fn put_file<S: Store + Drop, C: Clock + Drop>(
     requires until { at ≤ (region + 1) * REGION_SIZE }
     requires fine { IsFine mount.old }
     ensures puts { IfOk result (λ put. Puts handle region at (small_file file.now) mount.old put mount.new) }
+    ensures broken_off { OnErr result (BeginsToPutFile handle region at (small_file file.now) mount.old mount.new) }
     ensures within { IfOk result (IsWithin region) }
     ensures fine { IsFine mount.new }
 {
@@ -101,6 +102,7 @@ pub(crate) fn put_all<S: Store + Drop, C: Clock + Drop>(
     requires until { at ≤ (region + 1) * REGION_SIZE }
     requires fine { IsFine mount.old }
     ensures puts { IfOk result (λ put. PutsAll region files.now handle at mount.old put mount.new) }
+    ensures broken_off { OnErr result (BeginsToPut region files.now handle at mount.old mount.new) }
     ensures fine { IsFine mount.new }
 {
     let mut placing = Placing { handle, place: at };

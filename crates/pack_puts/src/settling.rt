@@ -1,7 +1,7 @@
 //! The end of a writer.
-ghost use Rattle.std.specs.Prelude.{◌≡◌, IfOk};
+ghost use Rattle.std.specs.Prelude.{◌≡◌, IfOk, OnErr};
 ghost use Rattle.mount_sound.specs.Sound.{IsFine};
-ghost use Rattle.pack_puts.specs.Settling.{Closes, Settles, closed_as};
+ghost use Rattle.pack_puts.specs.Settling.{BeginsToClose, BeginsToSettle, Closes, Settles, closed_as};
 
 use edge_io::Clock;
 use flow::Stuck;
@@ -27,7 +27,9 @@ fn close<S: Store + Drop, C: Clock + Drop>(
     synced: WriterOut,
 ) -> Result<Result<(), Stuck>, NoMemory>
     requires { IsFine mount.old }
-    ensures { IfOk result (λ told. Closes synced.handle synced.result mount.old told mount.new) }
+    ensures closes { IfOk result (λ told. Closes synced.handle synced.result mount.old told mount.new) }
+    ensures broken_off { OnErr result (BeginsToClose synced.handle synced.result mount.old mount.new) }
+    ensures fine { IsFine mount.new }
 {
     match synced.result {
         Ok(_) => match synced.handle {
@@ -47,7 +49,9 @@ pub(crate) fn settle<S: Store + Drop, C: Clock + Drop>(
     handle: WriterHandle,
 ) -> Result<Result<(), Stuck>, NoMemory>
     requires { IsFine mount.old }
-    ensures { IfOk result (λ told. Settles handle mount.old told mount.new) }
+    ensures settles { IfOk result (λ told. Settles handle mount.old told mount.new) }
+    ensures broken_off { OnErr result (BeginsToSettle handle mount.old mount.new) }
+    ensures fine { IsFine mount.new }
 {
     let synced = drive_freely(mount, SyncFlow::new(handle))?;
     close(mount, synced)

@@ -52,16 +52,16 @@ phases_fit count actor (phase ∷ phases) fits = (own_fit count actor phase.stat
 
 -- ---- the role of an actor
 
-abbrev ItsRole : Type 0
+abbrev pub ItsRole : Type 0
 ItsRole = Role Ask Reply State
 
 -- the role of an actor in the history
-record HasRole (phases : List Phase) (blocks : List (List Event)) (roles : List ItsRole) (told : List ℕ) (lines : List Line) (place at : ℕ) (declared : ActorDecl) : Type 0 where
+pub record HasRole (phases : List Phase) (blocks : List (List Event)) (roles : List ItsRole) (told : List ℕ) (lines : List Line) (place at : ℕ) (declared : ActorDecl) : Type 0 where
   pub role : ItsRole
   pub there : slice_get roles place ≡ Some role
   pub plays : PlaysAll role.number (course_of at phases declared) blocks role.workers (told_at at told lines) ends
 
-its_role : (phases : List Phase) (blocks : List (List Event)) (told : List ℕ) (lines : List Line) (from : ℕ) (actors : List ActorDecl) (roles : List ItsRole) (place : ℕ) (declared : ActorDecl) → EachPlays (left_of (cast_from from phases actors)) blocks roles (told_by_each from actors told lines)
+pub its_role : (phases : List Phase) (blocks : List (List Event)) (told : List ℕ) (lines : List Line) (from : ℕ) (actors : List ActorDecl) (roles : List ItsRole) (place : ℕ) (declared : ActorDecl) → EachPlays (left_of (cast_from from phases actors)) blocks roles (told_by_each from actors told lines)
     → slice_get actors place ≡ Some declared → HasRole phases blocks roles told lines place (from + place) declared
 its_role phases blocks told lines from [] roles place declared each here = absurd (cc)
 its_role phases blocks told lines from (d ∷ actors) [] place declared each here = absurd each
@@ -79,7 +79,7 @@ its_role phases blocks told lines from (d ∷ actors) (role ∷ roles) (suc plac
     record { role = r.role; there = r.there; plays = subst (λ k. PlaysAll r.role.number (course_of k phases declared) blocks r.role.workers (told_at k told lines) ends) at r.plays }
 
 -- its workers have their calls in the history
-its_workers : (history : List Event) (roles : List ItsRole) (place : ℕ) (role : ItsRole) → slice_get roles place ≡ Some role → AllByRecursion (KeepsIn history) (callers history roles) → AllByRecursion (KeepsIn history) role.workers
+pub its_workers : (history : List Event) (roles : List ItsRole) (place : ℕ) (role : ItsRole) → slice_get roles place ≡ Some role → AllByRecursion (KeepsIn history) (callers history roles) → AllByRecursion (KeepsIn history) role.workers
 its_workers history [] place role here all = absurd (cc)
 its_workers history (r ∷ roles) zero role here all =
     let same : r ≡ role = same_Some r role here in

@@ -13,8 +13,9 @@ use Rattle.story.specs.Plays.{Plays}
 use Rattle.story.specs.Process.{asks, ends, pauses, shares, tells}
 use Rattle.story.specs.Program.{AsksOnly, Program, ask, done}
 use Rattle.story.proofs.Facts.{entries_first, entries_not_first, plays_after}
+use Rattle.mount_model.specs.declared.call.Ask.{Ask}
 use Rattle.mount_model.specs.declared.call.Call.{Call}
-use Rattle.mount_model.specs.declared.call.Call.TheVariants.{Exit, Floor, Flush, MakeHostdir, MakeIndex, MakeLog, PutMeta, SyncIndex, SyncLog, Write}
+use Rattle.mount_model.specs.declared.call.Call.TheVariants.{Enter, Exit, Floor, Flush, MakeContainer, MakeHostdir, MakeIndex, MakeLog, Mark, Move, PutMeta, SyncIndex, SyncLog, Write}
 use Rattle.mount_model.specs.declared.reply.Reply.{Reply}
 use Rattle.mount_model.specs.History.{Event}
 use Rattle.mount_model.proofs.Facts.{IsOnNoWriter}
@@ -23,12 +24,34 @@ use Rattle.actor_core.specs.declared.kept.Kept.{Kept}
 use Rattle.actor_core.specs.declared.kept.Stop.{Stop}
 use Rattle.actor_core.specs.Along.{IfWhole}
 use Rattle.actor_core.specs.Endings.{Ending, stopped}
+use Rattle.actor_core.specs.Owed.{EachAsksOnly}
 use Rattle.actor_core.specs.Stopping.{carried, one_nearer}
 use Rattle.actor_core.specs.Work.{Work, finishes}
 use Rattle.play_laws.proofs.Carrying.{CourseOf, EndsSo, then_told}
 use Rattle.play_laws.proofs.Standing.{AllOf, keeps_first}
 
 -- ---- what a statement asks, and how it ends
+
+-- The call is on no writer, makes no container, and truncates or renames none.
+abbrev pub IsQuiet : Call → Type 0
+IsQuiet (MakeContainer name) = ⊥
+IsQuiet (Enter room host cap) = ⊥
+IsQuiet (Floor writer) = ⊥
+IsQuiet (MakeHostdir writer) = ⊥
+IsQuiet (MakeIndex writer) = ⊥
+IsQuiet (MakeLog writer) = ⊥
+IsQuiet (Write writer at block) = ⊥
+IsQuiet (Flush writer) = ⊥
+IsQuiet (SyncLog writer) = ⊥
+IsQuiet (SyncIndex writer) = ⊥
+IsQuiet (PutMeta writer) = ⊥
+IsQuiet (Exit writer) = ⊥
+IsQuiet (Mark holder size top) = ⊥
+IsQuiet (Move holder to) = ⊥
+IsQuiet call = Unit {0}
+
+abbrev pub IsQuietly : Ask → Type 0
+IsQuietly question = IsQuiet question.call
 
 -- it is at its end, so, and its actor has stopped
 abbrev pub IsOver : (Ending → Type 0) → Work → Type 0
@@ -38,13 +61,13 @@ IsOver good (tells ending work) = (ending.kept.gone ≡ true) × good ending
 IsOver good (asks question k) = ⊥
 IsOver good (shares programs k alone) = ⊥
 
--- Each call of the actor is one of these, after one that is broken off it is over, and it comes to such an end.
+-- Each call of the actor is one of these, after one that is broken off it is over, and it comes to such an end. Its workers ask quietly.
 abbrev pub GoesSo : (Call → Type 0) → (Ending → Type 0) → Work → Type 0
 GoesSo these good ends = ⊥
 GoesSo these good (pauses work) = ⊥
 GoesSo these good (tells ending work) = good ending
 GoesSo these good (asks question k) = these question.call × ((reply : Reply) → IfWhole question.stop (GoesSo these good (k reply)) (IsOver good (k reply)))
-GoesSo these good (shares programs k alone) = ((results : List _) → GoesSo these good (k results)) × GoesSo these good alone
+GoesSo these good (shares programs k alone) = ((results : List _) → GoesSo these good (k results)) × GoesSo these good alone × EachAsksOnly IsQuietly programs
 
 over_goes : (these : Call → Type 0) (good : Ending → Type 0) (work : Work) → IsOver good work → GoesSo these good work
 over_goes these good ends over = absurd over
@@ -53,9 +76,31 @@ over_goes these good (tells ending work) over = over.1
 over_goes these good (asks question k) over = absurd over
 over_goes these good (shares programs k alone) over = absurd over
 
-either_goes : (these : Call → Type 0) (good : Ending → Type 0) (stop : Option ℕ) (work : Work) → IfWhole stop (GoesSo these good work) (IsOver good work) → GoesSo these good work
+pub either_goes : (these : Call → Type 0) (good : Ending → Type 0) (stop : Option ℕ) (work : Work) → IfWhole stop (GoesSo these good work) (IsOver good work) → GoesSo these good work
 either_goes these good None work goes = goes
 either_goes these good (Some bytes) work goes = over_goes these good work goes
+
+-- the same of more calls and more ends
+over_weaker : (good better : Ending → Type 0) → ((e : Ending) → good e → better e) → (work : Work) → IsOver good work → IsOver better work
+over_weaker good better more ends over = absurd over
+over_weaker good better more (pauses work) over = absurd over
+over_weaker good better more (tells ending work) over = (over.0, more ending over.1)
+over_weaker good better more (asks question k) over = absurd over
+over_weaker good better more (shares programs k alone) over = absurd over
+
+if_whole : (stop : Option ℕ) (A B C D : Type 0) → (A → C) → (B → D) → IfWhole stop A B → IfWhole stop C D
+if_whole None A B C D one other goes = one goes
+if_whole (Some bytes) A B C D one other goes = other goes
+
+pub goes_weaker : (these those : Call → Type 0) (good better : Ending → Type 0) → ((call : Call) → these call → those call) → ((e : Ending) → good e → better e) → (work : Work) → GoesSo these good work → GoesSo those better work
+goes_weaker these those good better call_is more ends goes = absurd goes
+goes_weaker these those good better call_is more (pauses work) goes = absurd goes
+goes_weaker these those good better call_is more (tells ending work) goes = more ending goes
+goes_weaker these those good better call_is more (asks question k) goes = (
+  call_is question.call goes.0,
+  λ reply. if_whole question.stop (GoesSo these good (k reply)) (IsOver good (k reply)) (GoesSo those better (k reply)) (IsOver better (k reply)) (goes_weaker these those good better call_is more (k reply)) (over_weaker good better more (k reply)) (goes.1 reply),
+)
+goes_weaker these those good better call_is more (shares programs k alone) goes = (λ results. goes_weaker these those good better call_is more (k results) (goes.0 results), goes_weaker these those good better call_is more alone goes.1, goes.2)
 
 -- a program's calls, the stop among them
 pub carried_goes : {R : Type 0} (these : Call → Type 0) (good : Ending → Type 0) (kept : Kept) (p : Program Call Reply R) (stop : Option Stop) (next : Option Stop → R → Work) → AsksOnly these p → good (stopped kept) → ((left : Option Stop) (r : R) → GoesSo these good (next left r))

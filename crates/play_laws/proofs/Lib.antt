@@ -41,6 +41,7 @@ mod Flattened
 mod Changed
 mod StuckLines
 mod WriterLines
+mod Asking
 mod Statements
 mod Actors
 mod Casts

@@ -38,7 +38,7 @@ use Rattle.play_laws.specs.Writing.{ShowsNoWriting, ShowsWriting, StaysOpen}
 use Rattle.play_laws.proofs.Carrying.{CourseOf, EndsSo, ended, ends_later, then_told}
 use Rattle.play_laws.proofs.Coming.{all_of_first, by_itself, came_good, came_lets, came_to, end_alone, lets_both, lets_first, lets_none, lets_one, nothing_more, with_others}
 use Rattle.play_laws.proofs.OneWriters.{KeepsWriter, Writes, none_both, writes_later}
-use Rattle.play_laws.proofs.Spared.{LeavesWriter, SparesWriter, closes_spare, flattens_spare, lists_spare, looks_spare, maps_spare, opens_spare, reads_spare, recovers_spare, refreshes_spare, renames_spare, truncates_spare, verifies_spare}
+use Rattle.play_laws.proofs.Spared.{LeavesWriter, SparesWriter, closes_spare, flattens_spare, lists_spare, looks_spare, maps_spare, opens_spare, quietly, reads_spare, recovers_spare, refreshes_spare, renames_spare, truncates_spare, verifies_spare}
 use Rattle.play_laws.proofs.WriterLines.{GoodBoth, close_line, open_line, sync_line, write_line}
 use Rattle.play_laws.proofs.Opened.{Good, Keeps, keeps_later, no_calls}
 use Rattle.play_laws.proofs.Openings.{opening_ends}
@@ -216,18 +216,18 @@ module _ (start : Moment) (sound : IsSoundAt start) (n : ℕ) (before greeting :
   does_end kept stop (Write at content) old writer part ws lines left alive fits keeps quiet known whole all plays = write_line start n before greeting as_line next kept stop old keeps at content kept.writer writer part ws lines left refl quiet known whole plays
   does_end kept stop Sync old writer part ws lines left alive fits keeps quiet known whole all plays = sync_line start n before greeting as_line next kept stop old keeps kept.writer writer part ws lines left refl quiet known whole plays
   does_end kept stop Close old writer part ws lines left alive fits keeps quiet known whole all plays = close_line start n before greeting as_line next kept stop old keeps kept.writer writer part ws lines left refl quiet known whole plays
-  does_end kept stop (Ropen name workers) old writer part ws lines left alive fits keeps quiet known whole all plays = spared_end kept stop (Ropen name workers) old writer part ws lines left (opens_spare kept alive stop name workers kept.reader) (λ mine outcome shown. shown) (λ mine spent told end at_it these on. ropen_ends start sound n before greeting greets end_alone nothing_more kept stop name workers kept.reader old mine spent told end fits.0 refl keeps at_it these on) quiet known whole all plays
-  does_end kept stop (Read at len) old writer part ws lines left alive fits keeps quiet known whole all plays = spared_end kept stop (Read at len) old writer part ws lines left (reads_spare kept alive stop at len kept.reader) (λ mine outcome shown. shown) (λ mine spent told end at_it these on. read_ends start n before greeting end_alone nothing_more kept stop at len kept.reader old mine spent told end refl keeps at_it on) quiet known whole all plays
-  does_end kept stop (Verify at content) old writer part ws lines left alive fits keeps quiet known whole all plays = spared_end kept stop (Verify at content) old writer part ws lines left (verifies_spare kept alive stop at content kept.reader) (λ mine outcome shown. shown) (λ mine spent told end at_it these on. verify_ends start n before greeting end_alone nothing_more kept stop at content kept.reader old mine spent told end refl keeps at_it on) quiet known whole all plays
-  does_end kept stop Map old writer part ws lines left alive fits keeps quiet known whole all plays = spared_end kept stop Map old writer part ws lines left (maps_spare kept alive kept.reader) (λ mine outcome shown. shown) (λ mine spent told end at_it these on. map_ends start n before greeting end_alone nothing_more kept stop kept.reader old mine spent told end refl keeps on) quiet known whole all plays
-  does_end kept stop Refresh old writer part ws lines left alive fits keeps quiet known whole all plays = spared_end kept stop Refresh old writer part ws lines left (refreshes_spare kept alive stop kept.reader) (λ mine outcome shown. shown) (λ mine spent told end at_it these on. refresh_ends start sound n before greeting greets end_alone nothing_more kept stop kept.reader old mine spent told end refl keeps at_it on) quiet known whole all plays
-  does_end kept stop Rclose old writer part ws lines left alive fits keeps quiet known whole all plays = spared_end kept stop Rclose old writer part ws lines left (closes_spare kept alive kept.reader) (λ mine outcome shown. shown) (λ mine spent told end at_it these on. close_ends start n before greeting end_alone nothing_more kept stop kept.reader old mine spent told end refl keeps on) quiet known whole all plays
-  does_end kept stop (Stat name) old writer part ws lines left alive fits keeps quiet known whole all plays = spared_end kept stop (Stat name) old writer part ws lines left (looks_spare kept alive stop name) (λ mine outcome shown. shown) (λ mine spent told end at_it these on. told_end start sound n before greeting greets end_alone nothing_more kept (Stat name) old (λ events outcome. ShowsLook start n (record { before = before; events = greeting ++ events }) name outcome) mine spent told end (λ m o shown. (refl, shown)) keeps at_it (look_ends start sound n before greeting greets name end_alone nothing_more kept stop mine spent told end at_it on)) quiet known whole all plays
-  does_end kept stop (Flatten name) old writer part ws lines left alive fits keeps quiet known whole all plays = spared_end kept stop (Flatten name) old writer part ws lines left (flattens_spare kept alive stop name) (λ mine outcome shown. shown) (λ mine spent told end at_it these on. told_end start sound n before greeting greets end_alone nothing_more kept (Flatten name) old (λ events outcome. ShowsFlattening start n (record { before = before; events = greeting ++ events }) name outcome) mine spent told end (λ m o shown. (refl, shown)) keeps at_it (flattening_ends start n before greeting end_alone nothing_more kept stop name mine spent told end at_it on)) quiet known whole all plays
-  does_end kept stop (Recover name) old writer part ws lines left alive fits keeps quiet known whole all plays = spared_end kept stop (Recover name) old writer part ws lines left (recovers_spare kept alive stop name) (λ mine outcome shown. shown) (λ mine spent told end at_it these on. told_end start sound n before greeting greets end_alone nothing_more kept (Recover name) old (λ events outcome. ShowsRecovery start n (record { before = before; events = greeting ++ events }) name outcome) mine spent told end (λ m o shown. (refl, shown)) keeps at_it (recovery_ends start n before greeting end_alone nothing_more kept stop name mine spent told end at_it on)) quiet known whole all plays
+  does_end kept stop (Ropen name workers) old writer part ws lines left alive fits keeps quiet known whole all plays = spared_end kept stop (Ropen name workers) old writer part ws lines left (quietly kept (does kept stop (Ropen name workers)) (opens_spare kept alive stop name workers kept.reader)) (λ mine outcome shown. shown) (λ mine spent told end at_it these on. ropen_ends start sound n before greeting greets end_alone nothing_more kept stop name workers kept.reader old mine spent told end fits.0 refl keeps at_it these on) quiet known whole all plays
+  does_end kept stop (Read at len) old writer part ws lines left alive fits keeps quiet known whole all plays = spared_end kept stop (Read at len) old writer part ws lines left (quietly kept (does kept stop (Read at len)) (reads_spare kept alive stop at len kept.reader)) (λ mine outcome shown. shown) (λ mine spent told end at_it these on. read_ends start n before greeting end_alone nothing_more kept stop at len kept.reader old mine spent told end refl keeps at_it on) quiet known whole all plays
+  does_end kept stop (Verify at content) old writer part ws lines left alive fits keeps quiet known whole all plays = spared_end kept stop (Verify at content) old writer part ws lines left (quietly kept (does kept stop (Verify at content)) (verifies_spare kept alive stop at content kept.reader)) (λ mine outcome shown. shown) (λ mine spent told end at_it these on. verify_ends start n before greeting end_alone nothing_more kept stop at content kept.reader old mine spent told end refl keeps at_it on) quiet known whole all plays
+  does_end kept stop Map old writer part ws lines left alive fits keeps quiet known whole all plays = spared_end kept stop Map old writer part ws lines left (quietly kept (does kept stop Map) (maps_spare kept alive kept.reader)) (λ mine outcome shown. shown) (λ mine spent told end at_it these on. map_ends start n before greeting end_alone nothing_more kept stop kept.reader old mine spent told end refl keeps on) quiet known whole all plays
+  does_end kept stop Refresh old writer part ws lines left alive fits keeps quiet known whole all plays = spared_end kept stop Refresh old writer part ws lines left (quietly kept (does kept stop Refresh) (refreshes_spare kept alive stop kept.reader)) (λ mine outcome shown. shown) (λ mine spent told end at_it these on. refresh_ends start sound n before greeting greets end_alone nothing_more kept stop kept.reader old mine spent told end refl keeps at_it on) quiet known whole all plays
+  does_end kept stop Rclose old writer part ws lines left alive fits keeps quiet known whole all plays = spared_end kept stop Rclose old writer part ws lines left (quietly kept (does kept stop Rclose) (closes_spare kept alive kept.reader)) (λ mine outcome shown. shown) (λ mine spent told end at_it these on. close_ends start n before greeting end_alone nothing_more kept stop kept.reader old mine spent told end refl keeps on) quiet known whole all plays
+  does_end kept stop (Stat name) old writer part ws lines left alive fits keeps quiet known whole all plays = spared_end kept stop (Stat name) old writer part ws lines left (quietly kept (does kept stop (Stat name)) (looks_spare kept alive stop name)) (λ mine outcome shown. shown) (λ mine spent told end at_it these on. told_end start sound n before greeting greets end_alone nothing_more kept (Stat name) old (λ events outcome. ShowsLook start n (record { before = before; events = greeting ++ events }) name outcome) mine spent told end (λ m o shown. (refl, shown)) keeps at_it (look_ends start sound n before greeting greets name end_alone nothing_more kept stop mine spent told end at_it on)) quiet known whole all plays
+  does_end kept stop (Flatten name) old writer part ws lines left alive fits keeps quiet known whole all plays = spared_end kept stop (Flatten name) old writer part ws lines left (quietly kept (does kept stop (Flatten name)) (flattens_spare kept alive stop name)) (λ mine outcome shown. shown) (λ mine spent told end at_it these on. told_end start sound n before greeting greets end_alone nothing_more kept (Flatten name) old (λ events outcome. ShowsFlattening start n (record { before = before; events = greeting ++ events }) name outcome) mine spent told end (λ m o shown. (refl, shown)) keeps at_it (flattening_ends start n before greeting end_alone nothing_more kept stop name mine spent told end at_it on)) quiet known whole all plays
+  does_end kept stop (Recover name) old writer part ws lines left alive fits keeps quiet known whole all plays = spared_end kept stop (Recover name) old writer part ws lines left (quietly kept (does kept stop (Recover name)) (recovers_spare kept alive stop name)) (λ mine outcome shown. shown) (λ mine spent told end at_it these on. told_end start sound n before greeting greets end_alone nothing_more kept (Recover name) old (λ events outcome. ShowsRecovery start n (record { before = before; events = greeting ++ events }) name outcome) mine spent told end (λ m o shown. (refl, shown)) keeps at_it (recovery_ends start n before greeting end_alone nothing_more kept stop name mine spent told end at_it on)) quiet known whole all plays
   does_end kept stop (Trunc name size) old writer part ws lines left alive fits keeps quiet known whole all plays = spared_end kept stop (Trunc name size) old writer part ws lines left (truncates_spare kept alive stop name size) (λ mine outcome shown. shown) (λ mine spent told end at_it these on. told_end start sound n before greeting greets end_alone nothing_more kept (Trunc name size) old (λ events outcome. ShowsTruncate start n (record { before = before; events = greeting ++ events }) name size outcome) mine spent told end (λ m o shown. (refl, shown)) keeps at_it (trunc_ends start n before greeting end_alone nothing_more kept stop name size mine spent told end at_it on)) quiet known whole all plays
   does_end kept stop (Rename name to) old writer part ws lines left alive fits keeps quiet known whole all plays = spared_end kept stop (Rename name to) old writer part ws lines left (renames_spare kept alive stop name to) (λ mine outcome shown. shown) (λ mine spent told end at_it these on. told_end start sound n before greeting greets end_alone nothing_more kept (Rename name to) old (λ events outcome. ShowsRename start n (record { before = before; events = greeting ++ events }) name to outcome) mine spent told end (λ m o shown. (refl, shown)) keeps at_it (renaming_ends start n before greeting end_alone nothing_more kept stop name to mine spent told end at_it on)) quiet known whole all plays
-  does_end kept stop Ls old writer part ws lines left alive fits keeps quiet known whole all plays = spared_end kept stop Ls old writer part ws lines left (lists_spare kept alive stop) (λ mine outcome shown. shown) (λ mine spent told end at_it these on. others_end start sound n before greeting greets end_alone nothing_more kept stop Ls old mine spent told end (λ m o e l. (refl, l.none)) (named_leaves start n before greeting end_alone nothing_more kept stop names_program _ (names_end n) (λ r. tt)) keeps at_it on) quiet known whole all plays
+  does_end kept stop Ls old writer part ws lines left alive fits keeps quiet known whole all plays = spared_end kept stop Ls old writer part ws lines left (quietly kept (does kept stop Ls) (lists_spare kept alive stop)) (λ mine outcome shown. shown) (λ mine spent told end at_it these on. others_end start sound n before greeting greets end_alone nothing_more kept stop Ls old mine spent told end (λ m o e l. (refl, l.none)) (named_leaves start n before greeting end_alone nothing_more kept stop names_program _ (names_end n) (λ r. tt)) keeps at_it on) quiet known whole all plays
   does_end kept stop (Arms call bytes) old writer part ws lines left alive fits keeps quiet known whole all plays = spared_end kept stop (Arms call bytes) old writer part ws lines left ((refl, tt, inl alive)) (λ mine outcome shown. shown) (λ mine spent told end at_it these on. others_end start sound n before greeting greets end_alone nothing_more kept stop (Arms call bytes) old mine spent told end (λ m o e l. (refl, l.none)) (at_once start n before greeting end_alone nothing_more kept stop (armed kept (record { call = call; bytes = bytes })) (record { same = refl; none = tt })) keeps at_it on) quiet known whole all plays
 
   pub greeted_end : (kept : Kept) (statement : Statement) (old : Option OneFile) (writer : Option OneWriter) (part : List Event) (ws : List (List Event)) (lines : List L) (left : CourseOf L) → FitsStatement statement → Keeps There kept.reader old → (kept.gone ≡ false → WritesNone writer greeting) → KeepsWriter n (before ++ greeting) There.state kept writer

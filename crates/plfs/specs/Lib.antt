@@ -1,3 +1,3 @@
 pub mod Folders
-pub mod Scripts
+pub mod Streams
 pub mod Telling

@@ -1,6 +1,6 @@
 //! The program `plfs`: the command of its words, over real folders, the standard streams and the system's clock.
 //! It owns no rule of what lies there; all of them stand in the library `plfs_program`. It owns the order in which a
-//! run takes things up: its words, its script, and only then the folders, which it locks. Where a run ends with a
+//! run takes things up: its words, its input, and only then the folders, which it locks. Where a run ends with a
 //! status from 3 to 7, it says why on standard error, in one line.
 #![tactic(auto)]
 
@@ -8,15 +8,15 @@ ghost use Rattle.std.specs.Prelude.{◌≤◌, length};
 
 mod folders;
 mod lock;
+mod reading;
 mod said;
-mod script;
 mod spelled;
 mod standard;
 
 use crate::folders::{MOST_FOLDERS, Stores, are_named, failed, folders_of, stores_of};
 use crate::lock::{Denial, Denied, lock_folders};
+use crate::reading::{read_input, writes_a_file};
 use crate::said::{Said, Saying};
-use crate::script::{read_script, writes_a_file};
 use crate::spelled::Spelled;
 use crate::standard::{INPUT, OUTPUT, Standard};
 use command_line::Command;
@@ -39,12 +39,12 @@ const CURE: &str = "restore it from a copy";
 /// The folders that a command is run over. All runs are over this one type, so that the program is compiled once.
 type Folders = Backing<FolderStore<HostRuntime>>;
 
-/// A command: its words, which are of this kind, and the script that was read for it.
+/// A command: its words, which are of this kind, and the input that was read for it.
 #[derive(Clone, Copy)]
 struct Task<'a> {
     words: &'a [Word],
     command: Command,
-    script: &'a [u8],
+    input: &'a [u8],
 }
 
 /// What a run leaves: the store, the status, and what was written to standard output.
@@ -57,7 +57,7 @@ struct Ran {
 /// Reads the words, the first of which is the folder, and ends with the status of their command. A standard stream
 /// that the program was started without fails, and none of the store's files comes into its place.
 ///
-/// No folder is touched before the words are a command's and its script was read. From then on until the end each folder
+/// No folder is touched before the words are a command's and its input was read. From then on until the end each folder
 /// is locked, so that no other program works on it.
 fn main(rt: HostRuntime) -> ExitCode {
     let standard = match Standard::take(&rt) {
@@ -89,8 +89,8 @@ fn main(rt: HostRuntime) -> ExitCode {
     let Some(command) = command else {
         return usage(&rt);
     };
-    let script = match read_script(rt.alloc(), rt.reader(), &command) {
-        Ok(script) => script,
+    let input = match read_input(rt.alloc(), rt.reader(), &command) {
+        Ok(input) => input,
         Err(error) => return unread(&rt, error, &standard),
     };
     let locks = match lock_folders(&rt, &folders) {
@@ -100,7 +100,7 @@ fn main(rt: HostRuntime) -> ExitCode {
     let task = Task {
         words,
         command,
-        script: &script,
+        input: &input,
     };
     let code = if folders.len() > 1 {
         serve_several(&rt, rt, root, &folders, &task, &standard)
@@ -151,7 +151,7 @@ fn serve_several<H: Threads + Wait + Sync>(
     }
 }
 
-// Runs the command over the store, its script, standard output and the system's clock.
+// Runs the command over the store, its input, standard output and the system's clock.
 fn run<H: Threads + Wait + Sync>(
     handle: &H,
     rt: &HostRuntime,
@@ -159,7 +159,7 @@ fn run<H: Threads + Wait + Sync>(
     store: Folders,
 ) -> Ran {
     let said = RefCell::new(Said::new(rt.alloc(), !writes_a_file(&task.command)));
-    let mut source = StdSource::new(task.script);
+    let mut source = StdSource::new(task.input);
     let mut sink = StdSink::new(Saying {
         writer: io::writer(rt),
         said: &said,
@@ -316,7 +316,7 @@ fn tell_denied(
     ExitCode::from(4)
 }
 
-// Says why there is no script.
+// Says why there is no input.
 #[inline(never)]
 fn unread(rt: &HostRuntime, error: io::Error, standard: &Standard) -> ExitCode {
     if error.kind() == ErrorKind::OutOfMemory {

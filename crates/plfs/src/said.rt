@@ -13,8 +13,8 @@ const MOST_REMEMBERED: usize = 1024;
 
 /// The first line that was written of damage, up to its 1024th byte, and why the writing failed last.
 ///
-/// Where a file is written out, one line may stand in its place, which tells of its opening. What is cut off of a file is
-/// longer than any line of damage: it goes out in pieces of 2^20 bytes, of which only the last is shorter.
+/// Where a file is written out, one line may stand in its place, which says why. Where damage cuts a file off, what was written of it is
+/// longer than any line of damage: it goes out in pieces of 2^20 bytes, of which only the last is shorter. A small file is not cut off so.
 #[derive(Drop)]
 pub struct Said {
     pub has_lines: bool,

@@ -10,6 +10,10 @@ use Rattle.mount_model.specs.declared.trouble.MountTrouble.{MountTrouble}
 use Rattle.mount_sound.specs.Sound.{IsSoundFor, IsSoundTree}
 use Rattle.mount_sound.specs.Issued.{issued}
 use Rattle.mount_sound.proofs.Facts.{mounted_sound, history_keeps, left_sound}
+use Rattle.pack_core.specs.Looking.{HasLooked}
+use Rattle.pack_input.specs.declared.files.NamedFile.{NamedFile}
+use Rattle.pack_puts.specs.Calling.{HasCalled}
+use Rattle.pack_puts.proofs.Calls.{begun_packing_called, packed_called}
 use Rattle.script_lang.specs.declared.line.Line.{Line}
 use Rattle.script_lang.specs.declared.script.Script.{Script}
 use Rattle.script_lang.specs.Ranges.{FitsScript}
@@ -22,7 +26,8 @@ use Rattle.plfs_program.specs.Catting.{WentOn}
 use Rattle.plfs_program.specs.SoundTrees.{TellsSoundTree}
 use Rattle.plfs_program.specs.Ways.{Way, HasBegun, HasLines, IsBrokenOff, by_turns, on_threads}
 use Rattle.plfs_program.specs.Migrating.{HasBegunIt}
-use Rattle.plfs_program.proofs.Plain.{counted_on, opened_on, orderly_on, plain_on, still_on}
+use Rattle.plfs_program.specs.Packing.{HasBegunToPack}
+use Rattle.plfs_program.proofs.Plain.{counted_on, orderly_on, plain_on, still_on, story_on}
 
 -- a mount was made, and its calls led to what is left
 pub was_run : (Calls : State → State → Type 0) (times : Option (List ℕ)) (before after : Stored) (start end : State) → IsMounted 0 times before start → Calls start end → after ≡ end.store → IsRun Calls times before after
@@ -41,7 +46,7 @@ was_played way times before after script lines start end fits mounted play left 
   counted = counted_on way times before script lines start end fits mounted play;
   orderly = orderly_on way times before script lines after start end fits mounted play left;
   still = still_on way times before script lines after start end mounted play left;
-  opened = opened_on way times before script lines after start end fits mounted play left;
+  story = story_on way times before script lines after start end fits mounted play left;
 }
 
 -- the tree that a mount's calls left of a sound one
@@ -96,6 +101,18 @@ begun_so script start end (Err none) plays broken = inr broken
 pub migration_leads : (name : List ℕ) (start end : State) → HasBegunIt name start end → GoesOn start end
 migration_leads name start end (inl (ended, m)) = record { events = m.events; leads = record { lawful = m.made.lawful; ends = m.made.ends } }
 migration_leads name start end (inr m) = record { events = m.events; leads = record { lawful = m.made.lawful; ends = m.made.ends } }
+
+-- so are greetings and looks
+pub looked_leads : (start end : State) → HasLooked start end → GoesOn start end
+looked_leads start end l = record { events = l.events; leads = record { lawful = l.made.lawful; ends = l.made.ends } }
+
+-- so are the calls of a packing, to its end or not
+called_leads : (start end : State) → HasCalled start end → GoesOn start end
+called_leads start end c = record { events = c.events; leads = record { lawful = c.made.lawful; ends = c.made.ends } }
+
+pub packing_leads : (name : List ℕ) (region : ℕ) (files : List NamedFile) (start end : State) → HasBegunToPack name region files start end → GoesOn start end
+packing_leads name region files start end (inl (result, packs)) = called_leads start end (packed_called name region files start result end packs)
+packing_leads name region files start end (inr begun) = called_leads start end (begun_packing_called name region files start end begun)
 
 -- the calls behind a play of a file that is written out are calls of a mount
 pub went_runs : (name : List ℕ) (times : Option (List ℕ)) (before after : Stored) (lines : List Line) (start end : State) → IsMounted 0 times before start → WentOn name start lines end → end.store ≡ after → IsRun GoesOn times before after

@@ -28,7 +28,7 @@ use Rattle.plfs_program.specs.Lines.{unmounted, mounted}
 use Rattle.plfs_program.specs.Mounting.{unmounted_of, IsUnmounted}
 use Rattle.plfs_program.specs.Outcomes.{status_of}
 use Rattle.plfs_program.specs.Output.{IsPrinted, IsCutOff}
-use Rattle.plfs_program.specs.Playing.{IsPlayedAs, IsStoreLeft}
+use Rattle.plfs_program.specs.Playing.{IsStoreLeft}
 use Rattle.plfs_program.specs.ReadOut.{ShowOneFile}
 use Rattle.plfs_program.specs.SoundTrees.{TellsSoundTree}
 use Rattle.plfs_program.specs.Ways.{HasBegun, by_turns}
@@ -38,7 +38,7 @@ use Rattle.plfs_program.proofs.CommandLemmas.{statements_fit}
 use Rattle.plfs_program.proofs.Lines.{play_cause}
 use Rattle.plfs_program.proofs.MountLemmas.{fault_line_alone}
 use Rattle.plfs_program.proofs.Pieces.{cat_shows}
-use Rattle.plfs_program.proofs.Plain.{counted_on, opened_on, orderly_on, plain_on, still_on, undamaged_on}
+use Rattle.plfs_program.proofs.Plain.{counted_on, orderly_on, plain_on, still_on, story_on, undamaged_on}
 use Rattle.plfs_program.proofs.SoundMarks.{unmounted_undamaged}
 
 -- ---- its script is played
@@ -78,7 +78,7 @@ read_out name count lines e start end after is made left play =
           counted = counted_on by_turns e.times e.stored (cat_script name count) lines start end fits made play;
           orderly = orderly_on by_turns e.times e.stored (cat_script name count) lines after start end fits made play left;
           still = still_on by_turns e.times e.stored (cat_script name count) lines after start end made play left;
-          opened = opened_on by_turns e.times e.stored (cat_script name count) lines after start end fits made play left;
+          story = story_on by_turns e.times e.stored (cat_script name count) lines after start end fits made play left;
         });
         cause = play_cause {E = Unit {0}} e.times e.stored after start end (Ok lines) made left (play_caused (cat_script name count) start lines end (cat_playable name count) play);
         undamaged = undamaged_on by_turns e.times e.stored (cat_script name count) lines start end fits made play;

@@ -1,5 +1,5 @@
 -- What a run over a sound tree comes to where nothing breaks.
-use Rattle.std.proofs.Common.{ℕ, ◌≡◌, ◌⊎◌, inl, inr, Bool, true, false, ◌||◌, if◌then◌else◌, List, [], ◌∷◌, ◌++◌, Some, Ok, Err, refl, sym, ap, ◌∙◌, arith}
+use Rattle.std.proofs.Common.{ℕ, ◌≡◌, ◌⊎◌, inl, inr, Bool, true, false, ◌||◌, if◌then◌else◌, List, [], ◌∷◌, ◌++◌, Ok, Err, refl, ◌∙◌, arith}
 use Rattle.std.proofs.lemmas.List.Folds.{list_any-append}
 use Rattle.edge_io.specs.Sink.{Taking}
 use Rattle.edge_io.specs.Source.{Given}
@@ -7,17 +7,19 @@ use Rattle.script_lang.specs.Faults.{Fault, HasFault}
 use Rattle.script_lang.specs.declared.line.Line.{Line}
 use Rattle.script_lang.specs.declared.script.Script.{Script}
 use Rattle.command_line.specs.declared.commands.Command.{Command}
+use Rattle.command_line.specs.declared.commands.Command.TheVariants.{Names, Pack, Unpack}
 use Rattle.report_text.specs.Text.{text_of}
 use Rattle.plfs_program.specs.Cat.{content_of, unopened, unsaid, whole, stuck, broken, starved, hungry as wants}
 use Rattle.plfs_program.specs.Catting.{CatCourse}
+use Rattle.plfs_program.specs.Commands.{AreOfSmallFiles}
 use Rattle.plfs_program.specs.Complete.{IsAsked, HadNoTrouble, IsDone}
-use Rattle.plfs_program.specs.Course.{Course, InputCourse, faulty, played, starved as unplayed, usage, unread, read, planned, cats, migrates, hungry}
+use Rattle.plfs_program.specs.Course.{Course, InputCourse, faulty, played, starved as unplayed, usage, unread, read, planned, cats, migrates, packs_unread, packs, unpacks, names_all, hungry}
 use Rattle.plfs_program.specs.Ends.{Ends}
 use Rattle.plfs_program.specs.Migrating.{MigrateCourse, Said, is_broken_by, line_zero, said_status, said_text, printed as told_whole, cut_off as told_part, exhausted as untold}
 use Rattle.plfs_program.specs.Outcomes.{has_line, is_damage, is_fault, is_refusal, status_of}
 use Rattle.plfs_program.specs.Output.{IsCutOff}
 use Rattle.plfs_program.specs.Playing.{IsPlayedAs, PlayCourse, printed, cut_off, exhausted}
-use Rattle.plfs_program.specs.Showing.{Shows, all_lines, behind_opening, is_reader, shows_of}
+use Rattle.plfs_program.specs.Showing.{Shows, all_lines, is_reader, shows_of}
 use Rattle.plfs_program.specs.SoundTrees.{TellsSoundTree}
 use Rattle.plfs_program.specs.Ways.{Way, by_turns}
 use Rattle.plfs_program.specs.declared.showing.Shown.{Shown}
@@ -114,11 +116,15 @@ module _ (given after : Given) (e : Ends) (quiet : HadNoTrouble given after e) (
   migrate_done name status (told_part said m part is) = absurd (written (said_text said) e.taking refl refl part)
   migrate_done name status (untold left same is) = inr (inr is)
 
-  pub course_done : (Serves : Command → Type 0) (words : List (List ℕ)) (status : ℕ) → IsAsked Serves words given after → Course Serves words given after e status → IsDone status
-  course_done Serves words status asked (usage none same untouched says is) = absurd (none asked.command asked.served asked.spelled)
-  course_done Serves words status asked (unread way served command risen untouched none is) = absurd (quiet.source risen)
-  course_done Serves words status asked (read way bytes served command input course) = input_done way bytes status (λ fault. asked.faultless way bytes fault command input) course
-  course_done Serves words status asked (planned command plan spelled plans same play) = play_done by_turns plan.script (shows_of plan.shown) status (shown_none plan.shown) (shown_faults plan.shown) play
-  course_done Serves words status asked (cats name command same cat) = cat_done name status cat
-  course_done Serves words status asked (migrates name command same course) = migrate_done name status course
-  course_done Serves words status asked (hungry untouched none is) = inr (inr is)
+  pub course_done : (Serves : Command → Type 0) (words : List (List ℕ)) (status : ℕ) → (AreOfSmallFiles words → ⊥) → IsAsked Serves words given after → Course Serves words given after e status → IsDone status
+  course_done Serves words status other asked (usage none same untouched says is) = absurd (none asked.command asked.served asked.spelled)
+  course_done Serves words status other asked (unread way served command risen untouched none is) = absurd (quiet.source risen)
+  course_done Serves words status other asked (read way bytes served command input course) = input_done way bytes status (λ fault. asked.faultless way bytes fault command input) course
+  course_done Serves words status other asked (planned command plan spelled plans same play) = play_done by_turns plan.script (shows_of plan.shown) status (shown_none plan.shown) (shown_faults plan.shown) play
+  course_done Serves words status other asked (cats name command same cat) = cat_done name status cat
+  course_done Serves words status other asked (migrates name command same course) = migrate_done name status course
+  course_done Serves words status other asked (packs_unread name region command risen untouched none is) = absurd (quiet.source risen)
+  course_done Serves words status other asked (packs name region bytes command input course) = absurd (other (Pack name region, command, refl))
+  course_done Serves words status other asked (unpacks name file command same u) = absurd (other (Unpack name file, command, refl))
+  course_done Serves words status other asked (names_all name command same n) = absurd (other (Names name, command, refl))
+  course_done Serves words status other asked (hungry untouched none is) = inr (inr is)

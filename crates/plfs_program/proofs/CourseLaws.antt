@@ -1,32 +1,37 @@
 -- What a run over a sound tree leaves, and which status it never has.
-use Rattle.std.proofs.Common.{inl, inr, ℕ, ◌≡◌, ◌≢◌, Bool, true, false, ◌||◌, if◌then◌else◌, List, [], ◌∷◌, ◌++◌, Ok, Err, Option, Some, refl, sym, ap, ◌∙◌, subst}
+use Rattle.std.proofs.Common.{inl, inr, ℕ, ◌≡◌, ◌≢◌, Bool, true, false, ◌||◌, if◌then◌else◌, List, [], ◌∷◌, ◌++◌, Result, Ok, Err, Option, Some, refl, sym, ap, ◌∙◌, subst}
 use Rattle.std.specs.Prelude.{◌==◌}
 use Rattle.std.proofs.lemmas.List.Folds.{list_any-append}
 use Rattle.edge_io.specs.Source.{Given}
 use Rattle.store_api.specs.Acts.{Stored}
 use Rattle.command_line.specs.Commands.{IsCommand}
 use Rattle.command_line.specs.declared.commands.Command.{Command}
-use Rattle.command_line.specs.declared.commands.Command.TheVariants.{Run}
+use Rattle.command_line.specs.declared.commands.Command.TheVariants.{Names, Pack, Run, Unpack}
 use Rattle.script_lang.specs.declared.line.Line.{Line}
 use Rattle.script_lang.specs.declared.script.Script.{Script}
 use Rattle.mount_model.specs.State.{State}
+use Rattle.pack_core.specs.Looking.{HasLooked}
+use Rattle.pack_files.specs.declared.scan.ScanStuck.{ScanStuck}
+use Rattle.pack_input.specs.declared.files.NamedFile.{NamedFile}
 use Rattle.run_core.specs.Leading.{GoesOn}
 use Rattle.plfs_program.specs.Calling.{Leaves, broke_off, ran}
 use Rattle.plfs_program.specs.Cat.{cat_script, unopened, unsaid, whole, stuck, broken, starved, hungry as wants}
 use Rattle.plfs_program.specs.Catting.{CatCourse, IsLeftBehind}
-use Rattle.plfs_program.specs.Commands.{IsBuiltCommand, IsServed}
-use Rattle.plfs_program.specs.Course.{Course, InputCourse, faulty, played, starved as unplayed, usage, unread, read, planned, cats, migrates, hungry}
+use Rattle.plfs_program.specs.Commands.{IsBuiltCommand, IsServed, AreOfSmallFiles}
+use Rattle.plfs_program.specs.Course.{Course, InputCourse, faulty, played, starved as unplayed, usage, unread, read, planned, cats, migrates, packs_unread, packs, unpacks, names_all, hungry}
 use Rattle.plfs_program.specs.Ends.{Ends, IsUntouched}
 use Rattle.plfs_program.specs.Lines.{AreLinesOf, unmounted, mounted}
 use Rattle.plfs_program.specs.Migrating.{HasBegunIt, IsMigratedAs, IsSaidOf, MigrateCourse, Said, is_broken_by, line_zero, said_status, printed as said, cut_off as unsaid_whole, exhausted as starved_so, unmounted as not_mounted, mounted as on_mount}
 use Rattle.plfs_program.specs.Outcomes.{has_line, is_damage, is_fault, is_refusal, status_of}
+use Rattle.plfs_program.specs.Packing.{HasBegunToPack, IsEndOf, IsPackedAs, PackCourse, PackEnd, PackInputCourse, printed as told_of_packing, cut_off as told_in_part, exhausted as broken_packing, faulty as faulty_input, packed as packed_input, starved as unpacked, unmounted as no_packing, mounted as packing}
 use Rattle.plfs_program.specs.Playing.{IsPlayedAs, IsStoreLeft, PlayCourse, printed, cut_off, exhausted}
 use Rattle.plfs_program.specs.Showing.{Shows, all_lines, behind_opening, is_reader, shows_of}
+use Rattle.plfs_program.specs.SmallFiles.{Claims, Does, IsToldAs, IsToldOf, ReadCourse, Told, printed as read_whole, cut_off as read_part, exhausted as unread_so, unmounted as none_mounted, mounted as on_its_mount}
 use Rattle.plfs_program.specs.SoundTrees.{TellsSoundTree, LeavesSoundTree}
 use Rattle.plfs_program.specs.Ways.{Way, HasBegun, by_turns}
 use Rattle.plfs_program.specs.declared.showing.Shown.{Shown}
 use Rattle.plfs_program.specs.declared.showing.Shown.TheVariants as shown
-use Rattle.plfs_program.proofs.Calls.{FailingLeavesSound, all_leave_sound, begun_leads, migration_leads, play_runs, went_runs}
+use Rattle.plfs_program.proofs.Calls.{FailingLeavesSound, all_leave_sound, begun_leads, looked_leads, migration_leads, packing_leads, play_runs, went_runs}
 
 -- ---- a sound tree is left
 
@@ -79,6 +84,35 @@ module _ (failing : FailingLeavesSound) where
   migrate_leaves name e status (unsaid_whole s m part is) told = migrated_leaves name s e m told
   migrate_leaves name e status (starved_so left same is) told = left_so (HasBegunIt name) (migration_leads name) e left.after left.left left.lawful told
 
+  read_leaves : {R : Type 0} (Reads : Does R) (Holds : Claims R) (tells : Result R ScanStuck → Told) (times : Option (List ℕ)) (before after : Stored) (t : Told) → IsToldOf Reads Holds tells times before after t → Leaves GoesOn times before after
+  read_leaves Reads Holds tells times before after t (none_mounted trouble outcome failed told is) = broke_off trouble failed
+  read_leaves Reads Holds tells times before after t (on_its_mount result r is) = ran (record { start = r.start; end = r.end; mounted = r.mounted; called = looked_leads r.start r.end r.looked; left = r.left })
+
+  told_leaves : {R : Type 0} (Reads : Does R) (Holds : Claims R) (tells : Result R ScanStuck → Told) (t : Told) (e : Ends) → IsToldAs Reads Holds tells t e → TellsSoundTree e.stored → LeavesSoundTree e.stored_after
+  told_leaves Reads Holds tells t e a told = lawful_so e a.after a.left (read_leaves Reads Holds tells e.times e.stored a.after t a.came) told
+
+  small_leaves : {R : Type 0} (Reads : Does R) (Holds : Claims R) (tells : Result R ScanStuck → Told) (e : Ends) (status : ℕ) → ReadCourse Reads Holds tells e status → TellsSoundTree e.stored → LeavesSoundTree e.stored_after
+  small_leaves Reads Holds tells e status (read_whole t a all is) told = told_leaves Reads Holds tells t e a told
+  small_leaves Reads Holds tells e status (read_part t a part is) told = told_leaves Reads Holds tells t e a told
+  small_leaves Reads Holds tells e status (unread_so left same is) told = left_so HasLooked looked_leads e left.after left.left left.lawful told
+
+  end_leaves : (name : List ℕ) (region : ℕ) (files : List NamedFile) (times : Option (List ℕ)) (before after : Stored) (ended : PackEnd) → IsEndOf times before after name region files ended → Leaves GoesOn times before after
+  end_leaves name region files times before after ended (no_packing trouble outcome failed told is) = broke_off trouble failed
+  end_leaves name region files times before after ended (packing result p is) = ran (record { start = p.start; end = p.end; mounted = p.mounted; called = packing_leads name region files p.start p.end (inl (result, p.packs)); left = p.left })
+
+  packed_leaves : (name : List ℕ) (region : ℕ) (files : List NamedFile) (ended : PackEnd) (e : Ends) → IsPackedAs name region files ended e → TellsSoundTree e.stored → LeavesSoundTree e.stored_after
+  packed_leaves name region files ended e p told = lawful_so e p.after p.left (end_leaves name region files e.times e.stored p.after ended p.came) told
+
+  pack_leaves : (name : List ℕ) (region : ℕ) (files : List NamedFile) (e : Ends) (status : ℕ) → PackCourse name region files e status → TellsSoundTree e.stored → LeavesSoundTree e.stored_after
+  pack_leaves name region files e status (told_of_packing ended p all is) told = packed_leaves name region files ended e p told
+  pack_leaves name region files e status (told_in_part ended p part is) told = packed_leaves name region files ended e p told
+  pack_leaves name region files e status (broken_packing left same is) told = left_so (HasBegunToPack name region files) (packing_leads name region files) e left.after left.left left.lawful told
+
+  pack_input_leaves : (name : List ℕ) (region : ℕ) (bytes : List ℕ) (e : Ends) (status : ℕ) → PackInputCourse name region bytes e status → TellsSoundTree e.stored → LeavesSoundTree e.stored_after
+  pack_input_leaves name region bytes e status (faulty_input fault has same says is) told = untouched_leaves e same told
+  pack_input_leaves name region bytes e status (packed_input files input course) told = pack_leaves name region files e status course told
+  pack_input_leaves name region bytes e status (unpacked same none is) told = untouched_leaves e same told
+
   input_leaves : (way : Way) (bytes : List ℕ) (e : Ends) (status : ℕ) → InputCourse way bytes e status → TellsSoundTree e.stored → LeavesSoundTree e.stored_after
   input_leaves way bytes e status (faulty fault has same says is) told = untouched_leaves e same told
   input_leaves way bytes e status (played script reads play) told = play_leaves way script all_lines e status play told
@@ -91,6 +125,10 @@ module _ (failing : FailingLeavesSound) where
   course_leaves Serves words given after e status (planned command plan spelled plans same play) told = play_leaves by_turns plan.script (shows_of plan.shown) e status play told
   course_leaves Serves words given after e status (cats name command same cat) told = cat_leaves name e status cat told
   course_leaves Serves words given after e status (migrates name command same m) told = migrate_leaves name e status m told
+  course_leaves Serves words given after e status (packs_unread name region command risen untouched none is) told = untouched_leaves e untouched told
+  course_leaves Serves words given after e status (packs name region bytes command input course) told = pack_input_leaves name region bytes e status course told
+  course_leaves Serves words given after e status (unpacks name file command same u) told = small_leaves _ _ _ e status u told
+  course_leaves Serves words given after e status (names_all name command same n) told = small_leaves _ _ _ e status n told
   course_leaves Serves words given after e status (hungry untouched none is) told = untouched_leaves e untouched told
 
 -- ---- no status tells of damage
@@ -160,14 +198,18 @@ input_undamaged way bytes e status (faulty fault has same says is) told = apart 
 input_undamaged way bytes e status (played script reads play) told = play_undamaged way script all_lines e status (shown_none shown.All) play told
 input_undamaged way bytes e status (unplayed same none is) told = apart status 3 is refl
 
-pub course_undamaged : (Serves : Command → Type 0) (words : List (List ℕ)) (given after : Given) (e : Ends) (status : ℕ) → Course Serves words given after e status → TellsSoundTree e.stored → status ≢ 7
-course_undamaged Serves words given after e status (usage none same untouched says is) told = apart status 2 is refl
-course_undamaged Serves words given after e status (unread way served command risen untouched none is) told = apart status 5 is refl
-course_undamaged Serves words given after e status (read way bytes served command input course) told = input_undamaged way bytes e status course told
-course_undamaged Serves words given after e status (planned command plan spelled plans same play) told = play_undamaged by_turns plan.script (shows_of plan.shown) e status (shown_none plan.shown) play told
-course_undamaged Serves words given after e status (cats name command same cat) told = cat_undamaged name e status cat told
-course_undamaged Serves words given after e status (migrates name command same m) told = migrate_undamaged name e status m told
-course_undamaged Serves words given after e status (hungry untouched none is) told = apart status 3 is refl
+pub course_undamaged : (Serves : Command → Type 0) (words : List (List ℕ)) (given after : Given) (e : Ends) (status : ℕ) → Course Serves words given after e status → TellsSoundTree e.stored → (AreOfSmallFiles words → ⊥) → status ≢ 7
+course_undamaged Serves words given after e status (usage none same untouched says is) told other = apart status 2 is refl
+course_undamaged Serves words given after e status (unread way served command risen untouched none is) told other = apart status 5 is refl
+course_undamaged Serves words given after e status (read way bytes served command input course) told other = input_undamaged way bytes e status course told
+course_undamaged Serves words given after e status (planned command plan spelled plans same play) told other = play_undamaged by_turns plan.script (shows_of plan.shown) e status (shown_none plan.shown) play told
+course_undamaged Serves words given after e status (cats name command same cat) told other = cat_undamaged name e status cat told
+course_undamaged Serves words given after e status (migrates name command same m) told other = migrate_undamaged name e status m told
+course_undamaged Serves words given after e status (packs_unread name region command risen untouched none is) told other = apart status 5 is refl
+course_undamaged Serves words given after e status (packs name region bytes command input course) told other = absurd (other (Pack name region, command, refl))
+course_undamaged Serves words given after e status (unpacks name file command same u) told other = absurd (other (Unpack name file, command, refl))
+course_undamaged Serves words given after e status (names_all name command same n) told other = absurd (other (Names name, command, refl))
+course_undamaged Serves words given after e status (hungry untouched none is) told other = apart status 3 is refl
 
 -- ---- with threads
 
@@ -186,4 +228,8 @@ goes_as_before words given after e status not_run (read way bytes built command 
 goes_as_before words given after e status not_run (planned command plan spelled plans same play) = planned command plan spelled plans same play
 goes_as_before words given after e status not_run (cats name command same cat) = cats name command same cat
 goes_as_before words given after e status not_run (migrates name command same m) = migrates name command same m
+goes_as_before words given after e status not_run (packs_unread name region command risen untouched none is) = packs_unread name region command risen untouched none is
+goes_as_before words given after e status not_run (packs name region bytes command input course) = packs name region bytes command input course
+goes_as_before words given after e status not_run (unpacks name file command same u) = unpacks name file command same u
+goes_as_before words given after e status not_run (names_all name command same n) = names_all name command same n
 goes_as_before words given after e status not_run (hungry untouched none is) = hungry untouched none is

@@ -12,6 +12,10 @@ mod MigrateCourses
 mod MountLemmas
 mod InputLemmas
 mod OutputLemmas
+mod PackCourses
+mod PackInputs
 mod Pieces
 mod Plain
+mod SmallCourses
+mod SmallTexts
 mod SoundMarks

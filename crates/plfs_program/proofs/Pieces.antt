@@ -1,6 +1,5 @@
 -- The pieces that a reader of one file was told.
-use Rattle.std.proofs.Common.{ℕ, zero, suc, ◌≡◌, ◌+◌, ◌*◌, ◌≤◌, ◌<◌, ◌^◌, true, false, if◌then◌else◌, List, [], ◌∷◌, ◌++◌, length, map, take, drop, Option, Some, None, refl, sym, ap, ◌∙◌, subst, append-nil, take-add, arith}
-use Rattle.std.specs.Int.{div_ceil}
+use Rattle.std.proofs.Common.{ℕ, zero, suc, ◌≡◌, ◌+◌, ◌*◌, ◌≤◌, true, if◌then◌else◌, List, [], ◌∷◌, ◌++◌, length, map, take, drop, Option, Some, None, refl, sym, ap, ◌∙◌, subst, append-nil, take-add, arith}
 use Rattle.std.specs.List.{range_with_len}
 use Rattle.std.specs.Prelude.{◌==◌, All}
 use Rattle.std.proofs.lemmas.Grind.{common_steps, div_ceil_times}
@@ -16,7 +15,6 @@ use Rattle.script_lang.specs.declared.line.Line.{Line}
 use Rattle.script_lang.specs.declared.line.Outcome.{Outcome}
 use Rattle.script_lang.specs.declared.line.Outcome.TheVariants as of
 use Rattle.script_lang.specs.declared.script.Numbered.{Numbered}
-use Rattle.script_lang.specs.declared.script.Statement.TheVariants.{Ropen, Read}
 use Rattle.plain_file.specs.File.{slice}
 use Rattle.gathering.specs.Moments.{Moment}
 use Rattle.run_core.specs.Cast.{statements_in}
@@ -28,9 +26,9 @@ use Rattle.play_laws.specs.Opening.{Stretch, OpensOneFile}
 use Rattle.play_laws.specs.Readers.{ShowsEach, PlayShows}
 use Rattle.play_laws.specs.OneWriter.{OneWriter}
 use Rattle.play_laws.specs.Showing.{ShowsOpening, ShowsRead}
-use Rattle.plfs_program.specs.Cat.{IsRead, is_read, content_of, contents, cat_script, cat_statements, opening, piece_length, pieces_of, reader_size, reading}
+use Rattle.plfs_program.specs.Cat.{IsRead, is_read, content_of, contents, cat_script, cat_statements, piece_length, pieces_of, reader_size, reading}
 use Rattle.plfs_program.specs.Commands.{actor}
-use Rattle.plfs_program.specs.ReadOut.{ReadsOneFile, ShowOneFile}
+use Rattle.plfs_program.specs.ReadOut.{ShowOneFile}
 use Rattle.plfs_program.proofs.CatLemmas.{IsFirst, all_first}
 
 -- ---- what lines tell

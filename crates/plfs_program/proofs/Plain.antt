@@ -18,8 +18,8 @@ use Rattle.play_laws.specs.Undamaged.{AreUndamaged, IsUndamaged}
 use Rattle.play_laws.specs.Counting.{CountWrites}
 use Rattle.play_laws.proofs.Facts.{play_counts, play_shows, play_undamaged, readers_show, right_counts, right_undamaged}
 use Rattle.plfs_program.specs.Outcomes.{has_line, is_damage}
-use Rattle.headline_laws.proofs.Facts.{opened_stand, orderly, play_opened_stand, play_orderly, still}
-use Rattle.plfs_program.specs.Seen.{TellsOpened, TellsOrderly, TellsStill, seen_run}
+use Rattle.headline_laws.proofs.Facts.{has_story, orderly, play_has_story, play_orderly, still}
+use Rattle.plfs_program.specs.Seen.{TellsOrderly, TellsStill, TellsStory, seen_run}
 use Rattle.plfs_program.specs.SoundTrees.{TellsSoundTree}
 use Rattle.plfs_program.specs.Ways.{Way, HasLines, ShowsFiles, by_turns, on_threads}
 use Rattle.plfs_program.proofs.Lines.{mounting_keeps}
@@ -69,13 +69,13 @@ still_on way times before script lines after start end made play left told tree 
     let l = leads_on way script lines start end play in
     still (seen_run times before script lines after tree later) times before start l.0 end made is_before (sound_tree before tree told is_before) l.1 (ap (λ (s : Stored). s.tree) (sym left) ∙ is_after)
 
--- ---- writers that were opened have their files
+-- ---- a story fits
 
-pub opened_on : (way : Way) (times : Option (List ℕ)) (before : Stored) (script : Script) (lines : List Line) (after : Stored) (start end : State) → FitsScript script → IsMounted 0 times before start → HasLines way script start lines end → after ≡ end.store → TellsOpened times before script lines after
-opened_on by_turns times before script lines after start end fits made play left told tree later is_before is_after =
-    play_opened_stand (seen_run times before script lines after tree later) times before start end fits made is_before (sound_tree before tree told is_before) play (ap (λ (s : Stored). s.tree) (sym left) ∙ is_after)
-opened_on on_threads times before script lines after start end fits made right left told tree later is_before is_after =
-    opened_stand (seen_run times before script lines after tree later) times before start end fits made is_before (sound_tree before tree told is_before) right (ap (λ (s : Stored). s.tree) (sym left) ∙ is_after)
+pub story_on : (way : Way) (times : Option (List ℕ)) (before : Stored) (script : Script) (lines : List Line) (after : Stored) (start end : State) → FitsScript script → IsMounted 0 times before start → HasLines way script start lines end → after ≡ end.store → TellsStory times before script lines after
+story_on by_turns times before script lines after start end fits made play left told tree later is_before is_after =
+    play_has_story (seen_run times before script lines after tree later) times before start end fits made is_before (sound_tree before tree told is_before) play (ap (λ (s : Stored). s.tree) (sym left) ∙ is_after) refl
+story_on on_threads times before script lines after start end fits made right left told tree later is_before is_after =
+    has_story (seen_run times before script lines after tree later) times before start end fits made is_before (sound_tree before tree told is_before) right (ap (λ (s : Stored). s.tree) (sym left) ∙ is_after) refl
 
 -- ---- no line is damaged
 

@@ -8,14 +8,14 @@ use Rattle.mount_model.specs.Failing.{FailsToMount}
 use Rattle.script_lang.specs.declared.line.Line.{Line}
 use Rattle.script_lang.specs.declared.script.Script.{Script}
 use Rattle.play_laws.specs.Counting.{CountWrites}
-use Rattle.plfs_program.specs.Seen.{TellsOpened, TellsOrderly, TellsStill}
+use Rattle.plfs_program.specs.Seen.{TellsOrderly, TellsStill, TellsStory}
 use Rattle.plfs_program.specs.SoundTrees.{TellsSoundTree}
 use Rattle.plfs_program.specs.Ways.{Way, HasLines, ShowsFiles}
 
 -- A mount was made of the store as it was, with these times to come. On it the script was played in this way, with these lines,
 -- which led to what is left of the store. Where that told a sound tree, the lines of each reader are those of one plain file, those of each writer show
 -- what it wrote, synced and closed, and the number of a sync or a close is that of its writer's `wrote` lines. The lines are orderly.
--- What stood in the tree before stands still, and each writer that a line opened has its index and its log.
+-- What stood in the tree before stands still. A story fits the lines: of which container each speaks.
 pub record IsPlayedOn (way : Way) (times : Option (List ℕ)) (before : Stored) (script : Script) (lines : List Line) (after : Stored) : Type 0 where
   pub start : State
   pub end : State
@@ -26,7 +26,7 @@ pub record IsPlayedOn (way : Way) (times : Option (List ℕ)) (before : Stored) 
   pub counted : TellsSoundTree before → CountWrites script lines
   pub orderly : TellsOrderly times before script lines after
   pub still : TellsStill times before script lines after
-  pub opened : TellsOpened times before script lines after
+  pub story : TellsStory times before script lines after
 
 -- A mount was made of the store as it was, with these times to come, and such calls of it led to what is left of the store.
 pub record IsRun (Calls : State → State → Type 0) (times : Option (List ℕ)) (before after : Stored) : Type 0 where

@@ -1,6 +1,7 @@
 -- The commands, and the scripts that they play.
-use Rattle.std.specs.Prelude.{◌≡◌, ◌⊎◌, ℕ, ◌≤◌, List, [], ◌∷◌, Option, Some, None, codes}
+use Rattle.std.specs.Prelude.{◌≡◌, ◌⊎◌, ℕ, ◌≤◌, ◌<◌, Bool, true, false, List, [], ◌∷◌, Option, Some, None, codes}
 use Rattle.plfs_types.specs.Names.{IsLogicalName}
+use Rattle.command_line.specs.Commands.{IsCommand}
 use Rattle.command_line.specs.declared.commands.Command.{Command}
 use Rattle.command_line.specs.declared.commands.Command.TheVariants as command
 use Rattle.script_lang.specs.Generated.{generated}
@@ -61,11 +62,25 @@ abbrev pub IsBuiltCommand : Command → Type 0
 IsBuiltCommand command.Play = Unit {0}
 IsBuiltCommand (command.Cat name) = Unit {0}
 IsBuiltCommand (command.Migrate name) = Unit {0}
+IsBuiltCommand (command.Pack name region) = Unit {0}
+IsBuiltCommand (command.Unpack name file) = Unit {0}
+IsBuiltCommand (command.Names name) = Unit {0}
 IsBuiltCommand asked = (planned : Plan) × IsPlanned asked planned
 
 -- with threads `run` is served beside them
 abbrev pub IsServed : Command → Type 0
 IsServed asked = IsBuiltCommand asked ⊎ (asked ≡ command.Run)
+
+-- the command is about the small files of a container, whose bytes may be no units
+abbrev pub is_of_small_files : Command → Bool
+is_of_small_files (command.Pack name region) = true
+is_of_small_files (command.Unpack name file) = true
+is_of_small_files (command.Names name) = true
+is_of_small_files other = false
+
+-- the words are such a command
+abbrev pub AreOfSmallFiles : List (List ℕ) → Type 0
+AreOfSmallFiles words = (asked : Command) × IsCommand words asked × (is_of_small_files asked ≡ true)
 
 -- the files that it names have logical names, and its writers are 1 to 256
 abbrev pub FitsCommand : Command → Type 0
@@ -76,6 +91,9 @@ FitsCommand (command.Map name) = IsLogicalName name
 FitsCommand (command.Flatten name) = IsLogicalName name
 FitsCommand (command.Recover name) = IsLogicalName name
 FitsCommand (command.Migrate name) = IsLogicalName name
+FitsCommand (command.Pack name region) = IsLogicalName name × (region < 256)
+FitsCommand (command.Unpack name file) = IsLogicalName name × IsLogicalName file
+FitsCommand (command.Names name) = IsLogicalName name
 FitsCommand (command.Trunc name size) = IsLogicalName name
 FitsCommand (command.Rename name to) = IsLogicalName name × IsLogicalName to
 FitsCommand other = Unit {0}
@@ -85,4 +103,7 @@ abbrev pub IsBuiltAs : Command → Built → Type 0
 IsBuiltAs asked built.Play = asked ≡ command.Play
 IsBuiltAs asked (built.Cat name) = (asked ≡ command.Cat name) × IsLogicalName name
 IsBuiltAs asked (built.Migrate name) = asked ≡ command.Migrate name
+IsBuiltAs asked (built.Pack name region) = (asked ≡ command.Pack name region) × (region < 256)
+IsBuiltAs asked (built.Unpack name file) = asked ≡ command.Unpack name file
+IsBuiltAs asked (built.Names name) = asked ≡ command.Names name
 IsBuiltAs asked (built.Planned planned) = IsPlanned asked planned × FitsScript planned.script

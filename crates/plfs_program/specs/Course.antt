@@ -6,7 +6,7 @@ use Rattle.script_lang.specs.declared.script.Script.{Script}
 use Rattle.script_lang.specs.Faults.{Fault, HasFault}
 use Rattle.script_lang.specs.Grammar.{IsScript}
 use Rattle.command_line.specs.declared.commands.Command.{Command}
-use Rattle.command_line.specs.declared.commands.Command.TheVariants.{Cat, Migrate}
+use Rattle.command_line.specs.declared.commands.Command.TheVariants.{Cat, Migrate, Names, Pack, Unpack}
 use Rattle.command_line.specs.Commands.{IsCommand}
 use Rattle.plfs_program.specs.Catting.{CatCourse}
 use Rattle.plfs_program.specs.Commands.{IsPlanned}
@@ -14,13 +14,15 @@ use Rattle.plfs_program.specs.Ends.{Ends, IsUntouched, IsSaid}
 use Rattle.plfs_program.specs.Faults.{fault_line}
 use Rattle.plfs_program.specs.Input.{IsWholeInput}
 use Rattle.plfs_program.specs.Migrating.{MigrateCourse}
+use Rattle.plfs_program.specs.Packing.{PackInputCourse}
 use Rattle.plfs_program.specs.Playing.{PlayCourse}
 use Rattle.plfs_program.specs.Showing.{all_lines, shows_of}
+use Rattle.plfs_program.specs.SmallFiles.{NamesCourse, UnpackCourse}
 use Rattle.plfs_program.specs.Ways.{Way, by_turns, command_of}
 use Rattle.plfs_program.specs.declared.commands.Plan.{Plan}
 
 abbrev pub usage_line : List ℕ
-usage_line = codes "usage: plfs ROOT run|play|gen N|cat NAME|stat NAME|map NAME|flatten NAME|trunc NAME SIZE|rename OLD NEW|recover NAME|ls|migrate NAME\n"
+usage_line = codes "usage: plfs ROOT run|play|gen N|cat NAME|stat NAME|map NAME|flatten NAME|trunc NAME SIZE|rename OLD NEW|recover NAME|ls|migrate NAME|pack NAME REGION|unpack NAME FILE|names NAME\n"
 
 -- What becomes of an input of these bytes, whose script is played in this way. Memory was refused before the mounting where it is starved.
 pub data InputCourse (way : Way) (bytes : List ℕ) (e : Ends) (status : ℕ) : Type 0 where
@@ -33,8 +35,8 @@ pub data InputCourse (way : Way) (bytes : List ℕ) (e : Ends) (status : ℕ) : 
 abbrev pub IsInput : List ℕ → Given → Given → Type 0
 IsInput bytes given after = IsWholeInput (2 ^ 20 + 1) bytes given after
 
--- What becomes of a run, where these commands are served: one case for each kind of end, with its status. Only `play` and `run` read
--- the input.
+-- What becomes of a run, where these commands are served: one case for each kind of end, with its status. Only `play`, `run` and `pack`
+-- read the input.
 pub data Course (Serves : Command → Type 0) (words : List (List ℕ)) (given after : Given) (e : Ends) (status : ℕ) : Type 0 where
   usage : ((command : Command) → Serves command → IsCommand words command → ⊥) → after ≡ given → IsUntouched e → IsSaid usage_line e → status ≡ 2
       → Course Serves words given after e status
@@ -43,4 +45,8 @@ pub data Course (Serves : Command → Type 0) (words : List (List ℕ)) (given a
   planned : (command : Command) (plan : Plan) → IsCommand words command → IsPlanned command plan → after ≡ given → PlayCourse by_turns plan.script (shows_of plan.shown) e status → Course Serves words given after e status
   cats : (name : List ℕ) → IsCommand words (Cat name) → after ≡ given → CatCourse name e status → Course Serves words given after e status
   migrates : (name : List ℕ) → IsCommand words (Migrate name) → after ≡ given → MigrateCourse name e status → Course Serves words given after e status
+  packs_unread : (name : List ℕ) (region : ℕ) → IsCommand words (Pack name region) → HasRisen given.faults after.faults → IsUntouched e → e.taking_after ≡ e.taking → status ≡ 5 → Course Serves words given after e status
+  packs : (name : List ℕ) (region : ℕ) (bytes : List ℕ) → IsCommand words (Pack name region) → IsInput bytes given after → PackInputCourse name region bytes e status → Course Serves words given after e status
+  unpacks : (name file : List ℕ) → IsCommand words (Unpack name file) → after ≡ given → UnpackCourse name file e status → Course Serves words given after e status
+  names_all : (name : List ℕ) → IsCommand words (Names name) → after ≡ given → NamesCourse name e status → Course Serves words given after e status
   hungry : IsUntouched e → e.taking_after ≡ e.taking → status ≡ 3 → Course Serves words given after e status

@@ -13,9 +13,11 @@ pub mod Migrating
 pub mod Mounting
 pub mod Outcomes
 pub mod Output
+pub mod Packing
 pub mod Playing
 pub mod ReadOut
 pub mod Showing
+pub mod SmallFiles
 pub mod SoundTrees
 pub mod Summary
 pub mod Ways

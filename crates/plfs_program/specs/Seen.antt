@@ -7,8 +7,8 @@ use Rattle.script_lang.specs.declared.script.Script.{Script}
 use Rattle.headline.specs.Run.{Run}
 use Rattle.headline.specs.Headline.{IsOrderly}
 use Rattle.headline.specs.Names.{Story}
-use Rattle.headline.specs.Opened.{HasOpened}
 use Rattle.headline.specs.Still.{HasStill}
+use Rattle.headline.specs.Stories.{Fits}
 use Rattle.plfs_program.specs.SoundTrees.{TellsSoundTree}
 
 -- the script and its lines, the tree before and after, the clock's times, and the counts of faults
@@ -34,7 +34,7 @@ abbrev pub TellsStill : Option (List ℕ) → Stored → Script → List Line �
 TellsStill times before script lines after =
     TellsSoundTree before → (tree later : Tree) → before.tree ≡ Some tree → after.tree ≡ Some later → HasStill (seen_run times before script lines after tree later)
 
--- So it is of the writers that lines opened: with a story, the container that each line speaks of has the writer's index and log.
-abbrev pub TellsOpened : Option (List ℕ) → Stored → Script → List Line → Stored → Type 0
-TellsOpened times before script lines after =
-    TellsSoundTree before → (tree later : Tree) → before.tree ≡ Some tree → after.tree ≡ Some later → (story : Story) × HasOpened (seen_run times before script lines after tree later) story
+-- So there is a story that fits: of which container each line speaks.
+abbrev pub TellsStory : Option (List ℕ) → Stored → Script → List Line → Stored → Type 0
+TellsStory times before script lines after =
+    TellsSoundTree before → (tree later : Tree) → before.tree ≡ Some tree → after.tree ≡ Some later → (story : Story) × Fits (seen_run times before script lines after tree later) story

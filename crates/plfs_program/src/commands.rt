@@ -24,9 +24,27 @@ pub(crate) enum Built {
     /// Its script comes from the input.
     Play,
     /// It writes this file out.
-    Cat { name: LogicalName },
+    Cat {
+        name: LogicalName,
+    },
     /// It packs the closed writers of this file.
-    Migrate { name: LogicalName },
+    Migrate {
+        name: LogicalName,
+    },
+    /// It packs small files of the input into a region of a container.
+    Pack {
+        name: LogicalName,
+        region: u64,
+    },
+    /// It writes one small file of a container.
+    Unpack {
+        name: LogicalName,
+        file: LogicalName,
+    },
+    /// It names the small files of a container.
+    Names {
+        name: LogicalName,
+    },
     /// Its words tell its script.
     Planned(Plan),
 }
@@ -108,6 +126,9 @@ pub(crate) fn built_command(alloc: Global, command: Command) -> Result<Option<Bu
         Command::Play => Ok(Some(Built::Play)),
         Command::Cat { name } => Ok(Some(Built::Cat { name })),
         Command::Migrate { name } => Ok(Some(Built::Migrate { name })),
+        Command::Pack { name, region } => Ok(Some(Built::Pack { name, region })),
+        Command::Unpack { name, file } => Ok(Some(Built::Unpack { name, file })),
+        Command::Names { name } => Ok(Some(Built::Names { name })),
         Command::Gen { writers } => Ok(planned(generate(alloc, writers)?, Shown::Summed)),
         Command::Map { name } => Ok(planned(map_script(alloc, name)?, Shown::PastOpening)),
         Command::Stat { name } => of_one(alloc, Statement::Stat { name }),

@@ -18,8 +18,8 @@ use script_lang::Line;
 use std::alloc::Global;
 use store_api::Store;
 
-// A word and a number more.
-fn push_number(text: &mut Vec<u8>, word: &[u8], number: u128) -> Result<(), NoMemory>
+/// A word and a number more.
+pub(crate) fn push_number(text: &mut Vec<u8>, word: &[u8], number: u128) -> Result<(), NoMemory>
     ensures { OnOk result (text.new.items ≡ text.old.items ++ (word.now ++ decimal number)) }
 {
     let mut buffer = Buffer::new();

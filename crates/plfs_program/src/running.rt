@@ -6,7 +6,7 @@ ghost use Rattle.command_line.specs.declared.commands.Command.TheVariants.{Run};
 ghost use Rattle.script_lang.specs.Grammar.{IsScript};
 ghost use Rattle.script_lang.specs.Ranges.{FitsScript};
 ghost use Rattle.run_core.specs.Conditions.{IsPlayable};
-ghost use Rattle.plfs_program.specs.Commands.{IsServed};
+ghost use Rattle.plfs_program.specs.Commands.{IsServed, AreOfSmallFiles};
 ghost use Rattle.plfs_program.specs.Complete.{IsAsked, HadNoTrouble, IsDone};
 ghost use Rattle.plfs_program.specs.Course.{Course, InputCourse};
 ghost use Rattle.plfs_program.specs.Ends.{ends_of};
@@ -148,9 +148,9 @@ fn follow<
 /// replies before it, and these are the lines of their statements. What `single` says of a play's lines, of what is left of
 /// the store, of line 0 and of the statuses holds of them too.
 ///
-/// Where the store told a sound tree, the lines of each reader are those of one plain file; no line tells of damage, and the
-/// status is not 7; and a sound tree is left.
-/// Where moreover the words are a command's, the script has no fault, no count of the source, the sink or the store has
+/// Where the store told a sound tree, the lines of each reader are those of one plain file; no line of another command
+/// than the three of small files tells of damage, and its status is not 7; and a sound tree is left.
+/// Where moreover the words are those of such another command, the script has no fault, no count of the source, the sink or the store has
 /// risen and the sink took something of each piece, the status is 0, 1 or 3.
 pub fn plfs<
     R: Threads + Wait + Sync,
@@ -170,9 +170,9 @@ pub fn plfs<
     gate: &G,
 ) -> Ended<S>
     ensures course { Course IsServed words.now (I.given input.old) (I.given input.new) (ends_of (C.times clock) (O.taking out.old) (O.taking out.new) (S.stored store) (option_map S.stored result.store)) result.status }
-    ensures undamaged { TellsSoundTree (S.stored store) → result.status ≢ 7 }
+    ensures undamaged { TellsSoundTree (S.stored store) → (AreOfSmallFiles words.now → ⊥) → result.status ≢ 7 }
     ensures sound { TellsSoundTree (S.stored store) → LeavesSoundTree (option_map S.stored result.store) }
-    ensures complete { TellsSoundTree (S.stored store) → IsAsked IsServed words.now (I.given input.old) (I.given input.new) → HadNoTrouble (I.given input.old) (I.given input.new) (ends_of (C.times clock) (O.taking out.old) (O.taking out.new) (S.stored store) (option_map S.stored result.store)) → IsDone result.status }
+    ensures complete { TellsSoundTree (S.stored store) → (AreOfSmallFiles words.now → ⊥) → IsAsked IsServed words.now (I.given input.old) (I.given input.new) → HadNoTrouble (I.given input.old) (I.given input.new) (ends_of (C.times clock) (O.taking out.old) (O.taking out.new) (S.stored store) (option_map S.stored result.store)) → IsDone result.status }
 {
     a_failed_mounting_leaves_a_sound_tree();
     follow(rt, alloc, words, input, out, store, clock, gate)

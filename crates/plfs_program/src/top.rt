@@ -3,9 +3,9 @@ ghost use Rattle.std.specs.Prelude.{◌≡◌, ◌≢◌, ◌⊎◌, ℕ, List, 
 ghost use Rattle.command_line.specs.Commands.{IsCommand};
 ghost use Rattle.edge_io.specs.Source.{Given};
 ghost use Rattle.command_line.specs.declared.commands.Command.{Command as Asked};
-ghost use Rattle.command_line.specs.declared.commands.Command.TheVariants.{Play, Cat, Migrate};
+ghost use Rattle.command_line.specs.declared.commands.Command.TheVariants.{Play, Cat, Migrate, Names, Unpack};
 ghost use Rattle.plfs_types.specs.Names.{IsLogicalName};
-ghost use Rattle.plfs_program.specs.Commands.{IsBuiltCommand, IsPlanned, FitsCommand};
+ghost use Rattle.plfs_program.specs.Commands.{IsBuiltCommand, IsPlanned, FitsCommand, AreOfSmallFiles};
 ghost use Rattle.script_lang.specs.Faults.{HasFault};
 ghost use Rattle.script_lang.specs.Grammar.{IsScript};
 ghost use Rattle.script_lang.specs.Ranges.{FitsScript};
@@ -25,8 +25,10 @@ use crate::faults::fault_line;
 use crate::input::{NoInput, read_input};
 use crate::migrating::migrate_mounted;
 use crate::output::write_out;
+use crate::pack_run::pack;
 use crate::reporting::report;
 use crate::showing::Shown;
+use crate::small_files::{names_mounted, unpack_mounted};
 use crate::work::{Worked, work};
 use command_line::Command;
 use edge_io::{Clock, Sink, Source};
@@ -36,10 +38,11 @@ use plfs_types::{LogicalName, Word};
 use script_lang::{Kind, Script, ScriptTrouble};
 use std::alloc::Global;
 use store_api::Store;
+use unpack_laws::{who_names_sees_one_file, who_unpacks_sees_one_file};
 
 /// The usage line, which words outside the grammar print, with its line feed.
 pub const USAGE: &[u8] =
-    b"usage: plfs ROOT run|play|gen N|cat NAME|stat NAME|map NAME|flatten NAME|trunc NAME SIZE|rename OLD NEW|recover NAME|ls|migrate NAME\n";
+    b"usage: plfs ROOT run|play|gen N|cat NAME|stat NAME|map NAME|flatten NAME|trunc NAME SIZE|rename OLD NEW|recover NAME|ls|migrate NAME|pack NAME REGION|unpack NAME FILE|names NAME\n";
 
 /// What a run leaves: the store, and the status with which the program ends.
 #[derive(Drop)]
@@ -63,8 +66,8 @@ pub(crate) fn ends<S>(store: S, status: u8) -> Ended<S>
     }
 }
 
-// Prints one line.
-fn say<O: Sink>(out: &mut O, line: &[u8])
+/// Prints one line.
+pub(crate) fn say<O: Sink>(out: &mut O, line: &[u8])
     ensures { IsPrinted line.now (O.taking out.old) (O.taking out.new) ⊎ IsCutOff line.now (O.taking out.old) (O.taking out.new) }
 {
     let _ = write_out(out, line);
@@ -222,6 +225,59 @@ fn migrate<S: Store + Drop, C: Clock + Drop, I: Source, O: Sink>(
     }
 }
 
+// Writes one small file of a container out.
+#[inline(never)]
+fn unpack<S: Store + Drop, C: Clock + Drop, I: Source, O: Sink>(
+    alloc: Global,
+    name: LogicalName,
+    file: LogicalName,
+    input: &mut I,
+    out: &mut O,
+    store: S,
+    clock: C,
+) -> Ended<S>
+    ensures { (words : List (List ℕ)) → IsCommand words (Unpack name file) → Course IsBuiltCommand words (I.given input.old) (I.given input.new) (ends_of (C.times clock) (O.taking out.old) (O.taking out.new) (S.stored store) (option_map S.stored result.store)) result.status }
+{
+    who_unpacks_sees_one_file();
+    match Mount::open(alloc, store, clock) {
+        Ok(mount) => {
+            let mut mount = mount;
+            let status = unpack_mounted(alloc, &mut mount, name, &file, out);
+            ends(mount.close(), status)
+        }
+        Err((store, trouble)) => {
+            let status = say_unmounted(alloc, out, trouble);
+            ends(store, status)
+        }
+    }
+}
+
+// Names the small files of a container.
+#[inline(never)]
+fn names<S: Store + Drop, C: Clock + Drop, I: Source, O: Sink>(
+    alloc: Global,
+    name: LogicalName,
+    input: &mut I,
+    out: &mut O,
+    store: S,
+    clock: C,
+) -> Ended<S>
+    ensures { (words : List (List ℕ)) → IsCommand words (Names name) → Course IsBuiltCommand words (I.given input.old) (I.given input.new) (ends_of (C.times clock) (O.taking out.old) (O.taking out.new) (S.stored store) (option_map S.stored result.store)) result.status }
+{
+    who_names_sees_one_file();
+    match Mount::open(alloc, store, clock) {
+        Ok(mount) => {
+            let mut mount = mount;
+            let status = names_mounted(alloc, &mut mount, name, out);
+            ends(mount.close(), status)
+        }
+        Err((store, trouble)) => {
+            let status = say_unmounted(alloc, out, trouble);
+            ends(store, status)
+        }
+    }
+}
+
 /// Prints the usage line.
 #[inline(never)]
 pub(crate) fn refuse<S: Store, O: Sink>(out: &mut O, store: S) -> Ended<S>
@@ -256,6 +312,9 @@ pub(crate) fn obey<S: Store + Drop, C: Clock + Drop, I: Source, O: Sink>(
         Built::Play => play(alloc, input, out, store, clock),
         Built::Cat { name } => cat(alloc, name, input, out, store, clock),
         Built::Migrate { name } => migrate(alloc, name, input, out, store, clock),
+        Built::Pack { name, region } => pack(alloc, name, region, input, out, store, clock),
+        Built::Unpack { name, file } => unpack(alloc, name, file, input, out, store, clock),
+        Built::Names { name } => names(alloc, name, input, out, store, clock),
         Built::Planned(plan) => play_plan(alloc, &plan, input, out, store, clock),
     }
 }
@@ -289,6 +348,12 @@ fn follow<S: Store + Drop, C: Clock + Drop, I: Source, O: Sink>(
 /// `migrate` packs the index droppings of a file's closed writers, and prints how many writers, entries and runs it packed and how many
 /// writers it left, or its trouble's line with number 0. Words that are no command, or one that wants threads, print the usage line.
 ///
+/// `pack` reads small files from the input, and puts them into a region of a container, each by one write. It prints how many it put,
+/// and where the last one ends. An input with a fault prints `pack`, the fault's line and its kind, and nothing is done. Where a file
+/// would pass the region's end, those before it are kept, and the line is `refused region-full`. `unpack` writes one small file of a
+/// container out, and `names` names all. What these three lack or what breaks them off is the line with number 0; `damaged view` tells
+/// the first place of the file that breaks a rule of small files.
+///
 /// What is printed is the text of the lines of a play: from the mounting to the end, the script's actors made their calls in
 /// the order of the written turns, each call following from the replies before it, and these are the lines of their
 /// statements. What is left of the store is what these calls made of it, or where the mounting broke off. That is line 0
@@ -296,9 +361,11 @@ fn follow<S: Store + Drop, C: Clock + Drop, I: Source, O: Sink>(
 /// with it, and `marks_decide` that its answers exclude each other.
 ///
 /// Where the store told a sound tree, the lines of each reader of the play are those of one plain file, which `cat` writes,
-/// or a front of it; no line tells of damage, and the status is not 7; `migrate` leaves no closed writer out, but those whose
-/// entries are too many, and its counts are right; and a sound tree is left.
-/// Where moreover the words are a command's, the script has no fault, no count of the source, the sink or the store has
+/// or a front of it; no line of another command than the three of small files tells of damage, and its status is not 7; `migrate` leaves no
+/// closed writer out, but those whose entries are too many, and its counts are right; `unpack` and `names` saw one file of the container,
+/// and where that has bytes below 256, they tell what stands there, or its first place that breaks a rule, or the store failed; and a sound
+/// tree is left.
+/// Where moreover the words are those of such another command, the script has no fault, no count of the source, the sink or the store has
 /// risen and the sink took something of each piece, the status is 0, 1 or 3.
 pub fn single<S: Store + Drop, C: Clock + Drop, I: Source, O: Sink>(
     alloc: Global,
@@ -309,9 +376,9 @@ pub fn single<S: Store + Drop, C: Clock + Drop, I: Source, O: Sink>(
     clock: C,
 ) -> Ended<S>
     ensures course { Course IsBuiltCommand words.now (I.given input.old) (I.given input.new) (ends_of (C.times clock) (O.taking out.old) (O.taking out.new) (S.stored store) (option_map S.stored result.store)) result.status }
-    ensures undamaged { TellsSoundTree (S.stored store) → result.status ≢ 7 }
+    ensures undamaged { TellsSoundTree (S.stored store) → (AreOfSmallFiles words.now → ⊥) → result.status ≢ 7 }
     ensures sound { TellsSoundTree (S.stored store) → LeavesSoundTree (option_map S.stored result.store) }
-    ensures complete { TellsSoundTree (S.stored store) → IsAsked IsBuiltCommand words.now (I.given input.old) (I.given input.new) → HadNoTrouble (I.given input.old) (I.given input.new) (ends_of (C.times clock) (O.taking out.old) (O.taking out.new) (S.stored store) (option_map S.stored result.store)) → IsDone result.status }
+    ensures complete { TellsSoundTree (S.stored store) → (AreOfSmallFiles words.now → ⊥) → IsAsked IsBuiltCommand words.now (I.given input.old) (I.given input.new) → HadNoTrouble (I.given input.old) (I.given input.new) (ends_of (C.times clock) (O.taking out.old) (O.taking out.new) (S.stored store) (option_map S.stored result.store)) → IsDone result.status }
 {
     a_failed_mounting_leaves_a_sound_tree();
     follow(alloc, words, input, out, store, clock)

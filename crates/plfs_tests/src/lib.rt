@@ -48,6 +48,8 @@ mod sessions;
 #[cfg(test)]
 mod several;
 #[cfg(test)]
+mod small_files;
+#[cfg(test)]
 mod spelling;
 #[cfg(test)]
 mod stages;

@@ -12,7 +12,7 @@ use test_lines::Line;
 
 // How words end that are no command.
 const USAGE: &str =
-    "2 usage: plfs ROOT run|play|gen N|cat NAME|stat NAME|map NAME|flatten NAME|trunc NAME SIZE|rename OLD NEW|recover NAME|ls|migrate NAME\n";
+    "2 usage: plfs ROOT run|play|gen N|cat NAME|stat NAME|map NAME|flatten NAME|trunc NAME SIZE|rename OLD NEW|recover NAME|ls|migrate NAME|pack NAME REGION|unpack NAME FILE|names NAME\n";
 
 // Says where the run before has left something else: so many acts of the store, an input of so many bytes, or lines of a
 // recovery.

@@ -1,128 +1,101 @@
--- Two runs with the word `play` that begin alike print the same.
-use Rattle.std.proofs.Common.{◌≡◌, ◌≢◌, ℕ, ◌+◌, ◌≤◌, ◌^◌, ◌⊎◌, inl, inr, List, [], ◌∷◌, ◌++◌, length, Option, Some, None, refl, sym, ap, ◌∙◌, subst, arith}
-use Rattle.std.specs.Prelude.{codes}
-use Rattle.std.proofs.lemmas.List.{length-append}
-use Rattle.edge_io.specs.Source.{Given, HandsOver}
+-- Two runs with the same words that begin alike print the same.
+use Rattle.std.proofs.Common.{◌≡◌, ◌≢◌, ℕ, ◌+◌, ◌^◌, inl, inr, List, Option, Some, None, refl, sym, ap, ◌∙◌, subst, arith}
+use Rattle.edge_io.specs.Source.{Given}
 use Rattle.script_lang.specs.declared.script.Script.{Script}
 use Rattle.script_lang.specs.Faults.{Fault}
 use Rattle.script_lang.specs.Laws.{OneScript, OneFault, NeverBoth}
 use Rattle.command_line.specs.declared.commands.Command.{Command}
 use Rattle.command_line.specs.declared.commands.Command.TheVariants as command
 use Rattle.command_line.specs.Commands.{IsCommand}
+use Rattle.plfs_program.specs.Catting.{CatCourse}
 use Rattle.plfs_program.specs.Commands.{IsBuiltCommand, plan_of}
 use Rattle.plfs_program.specs.Complete.{HadNoTrouble}
-use Rattle.plfs_program.specs.Course.{Course, InputCourse, IsInput, faulty, played, starved, usage, unread, read, planned, cats, migrates, hungry}
-use Rattle.plfs_program.specs.Ends.{Ends, IsSaid}
+use Rattle.plfs_program.specs.Course.{Course, InputCourse, IsInput, usage_line, faulty, played, starved, usage, unread, read, planned, cats, migrates, packs_unread, packs, unpacks, names_all, hungry}
+use Rattle.plfs_program.specs.Ends.{Ends, IsSaid, IsUntouched}
 use Rattle.plfs_program.specs.Faults.{fault_line}
-use Rattle.plfs_program.specs.Input.{IsWholeInput, IsAtEnd}
+use Rattle.plfs_program.specs.Migrating.{MigrateCourse}
 use Rattle.plfs_program.specs.Playing.{PlayCourse}
-use Rattle.plfs_program.specs.Showing.{Shows, all_lines}
+use Rattle.plfs_program.specs.Showing.{Shows, all_lines, shows_of}
+use Rattle.plfs_program.specs.SmallFiles.{NamesCourse, UnpackCourse}
 use Rattle.plfs_program.specs.Output.{IsPrinted}
 use Rattle.plfs_program.specs.Ways.{by_turns, on_threads}
 use Rattle.program_replay.specs.Twice.{BeginAlike, PrintAlike}
+use Rattle.program_replay.proofs.Cats.{cat_twice}
+use Rattle.program_replay.proofs.Each.{migrate_twice, read_twice}
+use Rattle.program_replay.proofs.Finds.{Isolated, unpack_one_way}
+use Rattle.program_replay.proofs.Inputs.{input_one}
+use Rattle.program_replay.proofs.Scans.{names_one_way}
 use Rattle.program_replay.proofs.Twice.{print_both, not_cut}
+use Rattle.program_replay.proofs.Words.{one_command}
 
--- ---- the words
+-- ---- what a run does whose words are a command
 
--- the word is this one alone
-abbrev pub Alone : List (List ℕ) → List ℕ → Type 0
-Alone words word = words ≡ word ∷ []
+-- a script that its words alone tell was played, and shown so
+pub record PlaysSo {P : Type 0} (of : Command → Option P) (script_of : P → Script) (shows_so : P → Shows) (asked : Command) (e : Ends) (status : ℕ) : Type 0 where
+  pub plan : P
+  pub has : of asked ≡ Some plan
+  pub course : PlayCourse by_turns (script_of plan) (shows_so plan) e status
 
-longer : (words : List (List ℕ)) (a b c : List ℕ) (more : List (List ℕ)) → Alone words a → words ≡ b ∷ c ∷ more → ⊥
-longer words a b c more one two = let e : a ∷ [] ≡ b ∷ c ∷ more = sym one ∙ two in cc
+abbrev pub PlansSo : Command → Ends → ℕ → Type 0
+PlansSo asked e status = PlaysSo plan_of (λ p. p.script) (λ p. shows_of p.shown) asked e status
 
-other_word : (words : List (List ℕ)) (a b : List ℕ) → Alone words a → Alone words b → a ≡ b
-other_word words a b one two = let e : a ∷ [] ≡ b ∷ [] = sym one ∙ two in cc
+-- an input was read, and this became of it
+pub record Plays (given after : Given) (e : Ends) (status : ℕ) : Type 0 where
+  pub bytes : List ℕ
+  pub input : IsInput bytes given after
+  pub course : InputCourse by_turns bytes e status
 
-ran : codes "play" ≡ codes "run" → ⊥
-ran e = cc
+abbrev pub DoesSo : Command → Given → Given → Ends → ℕ → Type 0
+DoesSo command.Run given after e status = ⊥
+DoesSo command.Play given after e status = Plays given after e status
+DoesSo (command.Cat name) given after e status = CatCourse name e status
+DoesSo (command.Migrate name) given after e status = MigrateCourse name e status
+DoesSo (command.Unpack name file) given after e status = UnpackCourse name file e status
+DoesSo (command.Names name) given after e status = NamesCourse name e status
+DoesSo asked given after e status = PlansSo asked e status
 
-listed : codes "play" ≡ codes "ls" → ⊥
-listed e = cc
+-- the words are a command's, which did so; or they are none's, and the usage line was said
+pub data WentSo (words : List (List ℕ)) (given after : Given) (e : Ends) (status : ℕ) : Type 0 where
+  did : (asked : Command) → IsBuiltCommand asked → IsCommand words asked → DoesSo asked given after e status → WentSo words given after e status
+  none : ((asked : Command) → IsBuiltCommand asked → IsCommand words asked → ⊥) → IsUntouched e → IsSaid usage_line e → status ≡ 2 → WentSo words given after e status
 
-none_some : {A : Type 0} (o : Option A) (x : A) → o ≡ None → o ≡ Some x → ⊥
-none_some o x none some = let e : None ≡ Some x = sym none ∙ some in cc
+none_some : {A : Type 0} (x : A) → None ≡ Some x → ⊥
+none_some x e = cc
 
--- `play` is no command that has a plan
-unplanned : (words : List (List ℕ)) (asked : Command) → Alone words (codes "play") → IsCommand words asked → plan_of asked ≡ None
-unplanned words command.Run is said = refl
-unplanned words command.Play is said = refl
-unplanned words (command.Gen writers) is said = absurd (longer words _ _ _ _ is said.0)
-unplanned words (command.Cat name) is said = refl
-unplanned words (command.Stat name) is said = absurd (longer words _ _ _ _ is said.0)
-unplanned words (command.Map name) is said = absurd (longer words _ _ _ _ is said.0)
-unplanned words (command.Flatten name) is said = absurd (longer words _ _ _ _ is said.0)
-unplanned words (command.Recover name) is said = absurd (longer words _ _ _ _ is said.0)
-unplanned words (command.Migrate name) is said = refl
-unplanned words (command.Trunc name size) is said = absurd (longer words _ _ _ _ is said.0)
-unplanned words (command.Rename name to) is said = absurd (longer words _ _ _ _ is said.0)
-unplanned words command.Ls is said = absurd (listed (other_word words _ _ is said))
+unplanned : {given after : Given} {e : Ends} {status : ℕ} (words : List (List ℕ)) (asked : Command) → IsCommand words asked → PlansSo asked e status → WentSo words given after e status
+unplanned words command.Run is p = absurd (none_some p.plan p.has)
+unplanned words command.Play is p = absurd (none_some p.plan p.has)
+unplanned words (command.Cat name) is p = absurd (none_some p.plan p.has)
+unplanned words (command.Migrate name) is p = absurd (none_some p.plan p.has)
+unplanned words (command.Pack name region) is p = absurd (none_some p.plan p.has)
+unplanned words (command.Unpack name file) is p = absurd (none_some p.plan p.has)
+unplanned words (command.Names name) is p = absurd (none_some p.plan p.has)
+unplanned words (command.Gen writers) is p = did (command.Gen writers) (p.plan, p.has) is p
+unplanned words (command.Stat name) is p = did (command.Stat name) (p.plan, p.has) is p
+unplanned words (command.Map name) is p = did (command.Map name) (p.plan, p.has) is p
+unplanned words (command.Flatten name) is p = did (command.Flatten name) (p.plan, p.has) is p
+unplanned words (command.Recover name) is p = did (command.Recover name) (p.plan, p.has) is p
+unplanned words (command.Trunc name size) is p = did (command.Trunc name size) (p.plan, p.has) is p
+unplanned words (command.Rename name to) is p = did (command.Rename name to) (p.plan, p.has) is p
+unplanned words command.Ls is p = did command.Ls (p.plan, p.has) is p
 
--- ---- the input
+-- no files are packed
+abbrev pub PacksNone : List (List ℕ) → Type 0
+PacksNone words = (name : List ℕ) (region : ℕ) → IsCommand words (command.Pack name region) → ⊥
 
-front_one : (a b r s : List ℕ) → length a ≡ length b → a ++ r ≡ b ++ s → a ≡ b
-front_one [] [] r s long e = refl
-front_one [] (y ∷ b) r s long e = absurd (omega (arith, long))
-front_one (x ∷ a) [] r s long e = absurd (omega (arith, long))
-front_one (x ∷ a) (y ∷ b) r s long e =
-    let head : x ≡ y = cc in
-    let tail : a ++ r ≡ b ++ s = cc in
-    let shorter : length a ≡ length b = omega (arith, long) in
-    let rest = front_one a b r s shorter tail in
-    λ i. head i ∷ rest i
-
--- what was read of a told source, and what is left of it
-record Read (limit : ℕ) (input bytes : List ℕ) : Type 0 where
-  rest : List ℕ
-  whole : input ≡ bytes ++ rest
-  within : length bytes ≤ limit
-  to_end : (length bytes ≡ limit) ⊎ (length rest ≡ 0)
-
-at_end : (left : Option (List ℕ)) (rest : List ℕ) → left ≡ Some rest → IsAtEnd left → length rest ≡ 0
-at_end left rest is end = ap length (subst IsAtEnd is end)
-
-read_so : (limit : ℕ) (input bytes : List ℕ) (given after : Given) → given.left ≡ Some input → IsWholeInput limit bytes given after → Read limit input bytes
-read_so limit input bytes given after told w =
-    let handed : HandsOver bytes (Some input) after.left = subst (λ o. HandsOver bytes o after.left) told w.handed in
-    record {
-      rest = handed.0;
-      whole = handed.2;
-      within = w.within;
-      to_end = elim w.to_end as (λ _. (length bytes ≡ limit) ⊎ (length handed.0 ≡ 0)) [
-        | inl full ↦ inl full
-        | inr end ↦ inr (at_end after.left handed.0 handed.1 end)
-      ];
-    }
-
-lengths : (limit a b r s : ℕ) → a + r ≡ b + s → a ≤ limit → b ≤ limit → (a ≡ limit) ⊎ (r ≡ 0) → (b ≡ limit) ⊎ (s ≡ 0) → a ≡ b
-lengths limit a b r s same x y (inl p) (inl q) = omega (arith, p, q)
-lengths limit a b r s same x y (inl p) (inr q) = omega (arith, same, x, y, p, q)
-lengths limit a b r s same x y (inr p) (inl q) = omega (arith, same, x, y, p, q)
-lengths limit a b r s same x y (inr p) (inr q) = omega (arith, same, p, q)
-
-read_one : (limit : ℕ) (input a b : List ℕ) → Read limit input a → Read limit input b → a ≡ b
-read_one limit input a b x y =
-    let same : a ++ x.rest ≡ b ++ y.rest = sym x.whole ∙ y.whole in
-    let long : length a + length x.rest ≡ length b + length y.rest = sym (length-append a x.rest) ∙ ap length same ∙ length-append b y.rest in
-    front_one a b x.rest y.rest (lengths limit (length a) (length b) (length x.rest) (length y.rest) long x.within y.within x.to_end y.to_end) same
-
--- ---- the courses
-
--- the input was read, and this became of it
-record Plays (given after : Given) (e : Ends) (status : ℕ) : Type 0 where
-  bytes : List ℕ
-  input : IsInput bytes given after
-  course : InputCourse by_turns bytes e status
-
-play_course : (words : List (List ℕ)) (given after : Given) (e : Ends) (status : ℕ) → Alone words (codes "play") → HadNoTrouble given after e → status ≢ 3 → Course IsBuiltCommand words given after e status → Plays given after e status
-play_course words given after e status is quiet fed (usage none same kept said two) = absurd (none command.Play tt is)
-play_course words given after e status is quiet fed (unread way served spelled risen kept same five) = absurd (quiet.source risen)
-play_course words given after e status is quiet fed (read by_turns bytes served spelled input course) = record { bytes = bytes; input = input; course = course }
-play_course words given after e status is quiet fed (read on_threads bytes served spelled input course) = absurd (ran (other_word words _ _ is spelled))
-play_course words given after e status is quiet fed (planned asked plan spelled has same course) = absurd (none_some (plan_of asked) plan (unplanned words asked is spelled) has)
-play_course words given after e status is quiet fed (cats name spelled same course) = absurd (longer words _ _ _ _ is spelled.0)
-play_course words given after e status is quiet fed (migrates name spelled same course) = absurd (longer words _ _ _ _ is spelled.0)
-play_course words given after e status is quiet fed (hungry kept same three) = absurd (fed three)
+went : (words : List (List ℕ)) (given after : Given) (e : Ends) (status : ℕ) → PacksNone words → HadNoTrouble given after e → status ≢ 3 → Course IsBuiltCommand words given after e status → WentSo words given after e status
+went words given after e status no_pack quiet fed (usage missing same kept said two) = none missing kept said two
+went words given after e status no_pack quiet fed (unread way served spelled risen kept same five) = absurd (quiet.source risen)
+went words given after e status no_pack quiet fed (read by_turns bytes served spelled input course) = did command.Play tt spelled (record { bytes = bytes; input = input; course = course })
+went words given after e status no_pack quiet fed (read on_threads bytes served spelled input course) = absurd (none_some served.0 served.1)
+went words given after e status no_pack quiet fed (planned asked plan spelled has same course) = unplanned words asked spelled (record { plan = plan; has = has; course = course })
+went words given after e status no_pack quiet fed (cats name spelled same course) = did (command.Cat name) tt spelled course
+went words given after e status no_pack quiet fed (migrates name spelled same course) = did (command.Migrate name) tt spelled course
+went words given after e status no_pack quiet fed (packs_unread name region spelled risen kept same five) = absurd (quiet.source risen)
+went words given after e status no_pack quiet fed (packs name region bytes spelled input course) = absurd (no_pack name region spelled)
+went words given after e status no_pack quiet fed (unpacks name file spelled same course) = did (command.Unpack name file) tt spelled course
+went words given after e status no_pack quiet fed (names_all name spelled same course) = did (command.Names name) tt spelled course
+went words given after e status no_pack quiet fed (hungry kept same three) = absurd (fed three)
 
 -- a line that was said is printed
 said_whole : (given after : Given) (e : Ends) (line : List ℕ) → HadNoTrouble given after e → IsSaid line e → IsPrinted line e.taking e.taking_after
@@ -134,7 +107,7 @@ abbrev pub PrintsTheSame : Type 0
 PrintsTheSame = (script : Script) (shows : Shows) (given after another later : Given) (e f : Ends) (status other : ℕ) → BeginAlike e f → HadNoTrouble given after e → HadNoTrouble another later f
     → status ≢ 3 → other ≢ 3 → PlayCourse by_turns script shows e status → PlayCourse by_turns script shows f other → PrintAlike e f status other
 
-module _ (one_script : OneScript) (one_fault : OneFault) (never : NeverBoth) (prints : PrintsTheSame) (given after another later : Given) (e f : Ends) (alike : BeginAlike e f) (quiet : HadNoTrouble given after e) (quiet_too : HadNoTrouble another later f) where
+module _ (one_script : OneScript) (one_fault : OneFault) (never : NeverBoth) (isolated : Isolated) (prints : PrintsTheSame) (given after another later : Given) (e f : Ends) (alike : BeginAlike e f) (quiet : HadNoTrouble given after e) (quiet_too : HadNoTrouble another later f) where
   input_twice : (bytes : List ℕ) (status other : ℕ) → status ≢ 3 → other ≢ 3 → InputCourse by_turns bytes e status → InputCourse by_turns bytes f other → PrintAlike e f status other
   input_twice bytes status other fed fed_too (faulty fault has kept said is) (faulty too has_too kept_too said_too is_too) =
       let same : too ≡ fault = one_fault bytes too fault has_too has in
@@ -149,10 +122,45 @@ module _ (one_script : OneScript) (one_fault : OneFault) (never : NeverBoth) (pr
   input_twice bytes status other fed fed_too (starved kept same is) b = absurd (fed is)
   input_twice bytes status other fed fed_too a (starved kept same is) = absurd (fed_too is)
 
-  pub run_twice : (words : List (List ℕ)) (input : List ℕ) (status other : ℕ) → Alone words (codes "play") → given.left ≡ Some input → another.left ≡ Some input → status ≢ 3 → other ≢ 3
-      → Course IsBuiltCommand words given after e status → Course IsBuiltCommand words another later f other → PrintAlike e f status other
-  run_twice words input status other is told told_too fed fed_too a b =
-      let x = play_course words given after e status is quiet fed a in
-      let y = play_course words another later f other is quiet_too fed_too b in
-      let same : y.bytes ≡ x.bytes = read_one (2 ^ 20 + 1) input y.bytes x.bytes (read_so (2 ^ 20 + 1) input y.bytes another later told_too y.input) (read_so (2 ^ 20 + 1) input x.bytes given after told x.input) in
+  plays_twice : (input : List ℕ) (status other : ℕ) → given.left ≡ Some input → another.left ≡ Some input → status ≢ 3 → other ≢ 3 → Plays given after e status → Plays another later f other → PrintAlike e f status other
+  plays_twice input status other told told_too fed fed_too x y =
+      let same : y.bytes ≡ x.bytes = input_one (2 ^ 20 + 1) input y.bytes x.bytes another later given after told_too told y.input x.input in
       input_twice x.bytes status other fed fed_too x.course (subst (λ z. InputCourse by_turns z f other) same y.course)
+
+  plans_twice : (asked : Command) (status other : ℕ) → status ≢ 3 → other ≢ 3 → PlansSo asked e status → PlansSo asked f other → PrintAlike e f status other
+  plans_twice asked status other fed fed_too x y =
+      let some : Some y.plan ≡ Some x.plan = sym y.has ∙ x.has in
+      let same : y.plan ≡ x.plan = cc in
+      prints x.plan.script (shows_of x.plan.shown) given after another later e f status other alike quiet quiet_too fed fed_too x.course (subst (λ p. PlayCourse by_turns p.script (shows_of p.shown) f other) same y.course)
+
+  does_twice : (input : List ℕ) (asked : Command) (status other : ℕ) → given.left ≡ Some input → another.left ≡ Some input → status ≢ 3 → other ≢ 3
+      → DoesSo asked given after e status → DoesSo asked another later f other → PrintAlike e f status other
+  does_twice input command.Run status other told told_too fed fed_too x y = absurd x
+  does_twice input command.Play status other told told_too fed fed_too x y = plays_twice input status other told told_too fed fed_too x y
+  does_twice input (command.Cat name) status other told told_too fed fed_too x y = cat_twice given after another later e f alike quiet quiet_too name status other fed fed_too x y
+  does_twice input (command.Migrate name) status other told told_too fed fed_too x y = migrate_twice given after another later e f alike quiet quiet_too name status other fed fed_too x y
+  does_twice input (command.Pack name region) status other told told_too fed fed_too x y = plans_twice (command.Pack name region) status other fed fed_too x y
+  does_twice input (command.Unpack name file) status other told told_too fed fed_too x y = read_twice given after another later e f alike quiet quiet_too _ _ _ (unpack_one_way isolated name file) status other fed fed_too x y
+  does_twice input (command.Names name) status other told told_too fed fed_too x y = read_twice given after another later e f alike quiet quiet_too _ _ _ (names_one_way name) status other fed fed_too x y
+  does_twice input (command.Gen writers) status other told told_too fed fed_too x y = plans_twice (command.Gen writers) status other fed fed_too x y
+  does_twice input (command.Stat name) status other told told_too fed fed_too x y = plans_twice (command.Stat name) status other fed fed_too x y
+  does_twice input (command.Map name) status other told told_too fed fed_too x y = plans_twice (command.Map name) status other fed fed_too x y
+  does_twice input (command.Flatten name) status other told told_too fed fed_too x y = plans_twice (command.Flatten name) status other fed fed_too x y
+  does_twice input (command.Recover name) status other told told_too fed fed_too x y = plans_twice (command.Recover name) status other fed fed_too x y
+  does_twice input (command.Trunc name size) status other told told_too fed fed_too x y = plans_twice (command.Trunc name size) status other fed fed_too x y
+  does_twice input (command.Rename name to) status other told told_too fed fed_too x y = plans_twice (command.Rename name to) status other fed fed_too x y
+  does_twice input command.Ls status other told told_too fed fed_too x y = plans_twice command.Ls status other fed fed_too x y
+
+  pub run_twice : (words : List (List ℕ)) (input : List ℕ) (status other : ℕ) → given.left ≡ Some input → another.left ≡ Some input → status ≢ 3 → other ≢ 3
+      → WentSo words given after e status → WentSo words another later f other → PrintAlike e f status other
+  run_twice words input status other told told_too fed fed_too (did asked served is x) (did again served_too is_too y) =
+      does_twice input asked status other told told_too fed fed_too x (subst (λ c. DoesSo c another later f other) (one_command words again asked is_too is) y)
+  run_twice words input status other told told_too fed fed_too (did asked served is x) (none missing kept said two) = absurd (missing asked served is)
+  run_twice words input status other told told_too fed fed_too (none missing kept said two) (did asked served is x) = absurd (missing asked served is)
+  run_twice words input status other told told_too fed fed_too (none missing kept said two) (none missing_too kept_too said_too two_too) =
+      print_both usage_line e f status other (said_whole given after e usage_line quiet said) (said_whole another later f usage_line quiet_too said_too) (two ∙ sym two_too) (kept ∙ ap Some (sym alike.stored) ∙ sym kept_too)
+
+  pub courses_twice : (words : List (List ℕ)) (input : List ℕ) (status other : ℕ) → PacksNone words → given.left ≡ Some input → another.left ≡ Some input → status ≢ 3 → other ≢ 3
+      → Course IsBuiltCommand words given after e status → Course IsBuiltCommand words another later f other → PrintAlike e f status other
+  courses_twice words input status other no_pack told told_too fed fed_too a b =
+      run_twice words input status other told told_too fed fed_too (went words given after e status no_pack quiet fed a) (went words another later f other no_pack quiet_too fed_too b)

@@ -51,10 +51,10 @@ not_cut given after e text quiet part = elim part.cause as (λ _. ⊥) [
 -- ---- mountings that broke off
 
 -- a line tells why, so memory was not why
-tells_why : (why : MountTrouble) (said : Outcome) → unmounted_of why ≡ Some said → why ≢ trouble.NoMemory
+pub tells_why : (why : MountTrouble) (said : Outcome) → unmounted_of why ≡ Some said → why ≢ trouble.NoMemory
 tells_why why said is e = let none : None ≡ Some said = sym (ap unmounted_of e) ∙ is in cc
 
-outcome_one : (why also : MountTrouble) (a b : Outcome) → why ≡ also → unmounted_of why ≡ Some a → unmounted_of also ≡ Some b → a ≡ b
+pub outcome_one : (why also : MountTrouble) (a b : Outcome) → why ≡ also → unmounted_of why ≡ Some a → unmounted_of also ≡ Some b → a ≡ b
 outcome_one why also a b same x y = let e : Some a ≡ Some b = sym x ∙ ap unmounted_of same ∙ y in cc
 
 not_risen : (before after : ℕ) → before ≤ after → (HasRisen before after → ⊥) → after ≡ before
@@ -65,8 +65,8 @@ not_risen before after rises none =
 -- ---- the lines, and the store that is left
 
 -- one run, of which nothing has risen
-record Quiet (e : Ends) : Type 0 where
-  store : (left : Stored) → e.stored_after ≡ Some left → HasRisen e.stored.faults left.faults → ⊥
+pub record Quiet (e : Ends) : Type 0 where
+  pub store : (left : Stored) → e.stored_after ≡ Some left → HasRisen e.stored.faults left.faults → ⊥
 
 broken_quiet : (e : Ends) (why : MountTrouble) (after : Stored) → Quiet e → e.stored_after ≡ Some after → FailsToMount e.stored why after → after.faults ≡ e.stored.faults
 broken_quiet e why after quiet left failed = not_risen e.stored.faults after.faults (fails_rise e.stored after why failed) (quiet.store after left)
@@ -79,7 +79,7 @@ module _ (script : Script) (e f : Ends) (alike : BeginAlike e f) (quiet : Quiet 
   faults_too : f.stored.faults ≡ e.stored.faults
   faults_too = ap (λ (s : Stored). s.faults) alike.stored
 
-  one_of : (lines others : List Line) (p : IsPlayedAs by_turns script lines e) (q : IsPlayedAs by_turns script others f)
+  pub one_of : (lines others : List Line) (p : IsPlayedAs by_turns script lines e) (q : IsPlayedAs by_turns script others f)
       → AreLinesOf by_turns e.times e.stored p.after script lines → AreLinesOf by_turns f.times f.stored q.after script others → (lines ≡ others) × (p.after ≡ q.after)
   one_of lines others p q (unmounted a failed said) (unmounted b failed_too said_too) =
       let one = fails_one e.stored alike.told alike.counting p.after q.after a b (broken_quiet e a p.after quiet p.left failed) (broken_quiet f b q.after quiet_too q.left failed_too ∙ faults_too)

@@ -108,7 +108,7 @@ planned_twins plan old (e ∷ es) (f ∷ fs) told r low s counted k l =
     )
 
 -- the count of faults only rises
-faults_rise : (old : State) (events : List Event) → IsLawful old events → old.store.faults ≤ (state_after old events).store.faults
+pub faults_rise : (old : State) (events : List Event) → IsLawful old events → old.store.faults ≤ (state_after old events).store.faults
 faults_rise old [] lawful = omega (arith)
 faults_rise old (e ∷ events) lawful =
     let rest = faults_rise e.after events lawful.2 in
@@ -116,7 +116,7 @@ faults_rise old (e ∷ events) lawful =
     omega (arith, rest, never)
 
 -- so where it is in the end as it was, no call raised it
-none_came : (old : State) (e : Event) (events : List Event) → IsLawful old (e ∷ events) → (state_after old (e ∷ events)).store.faults ≡ old.store.faults → e.after.store.faults ≡ old.store.faults
+pub none_came : (old : State) (e : Event) (events : List Event) → IsLawful old (e ∷ events) → (state_after old (e ∷ events)).store.faults ≡ old.store.faults → e.after.store.faults ≡ old.store.faults
 none_came old e events lawful none =
     let rest = faults_rise e.after events lawful.2 in
     let never = (step_causes old e.after e.caller e.ask e.reply lawful.1).never_falls in

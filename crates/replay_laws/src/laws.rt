@@ -5,6 +5,10 @@ ghost use Rattle.script_lang.specs.declared.line.Line.{Line};
 ghost use Rattle.script_lang.specs.declared.script.Script.{Script};
 ghost use Rattle.mount_model.specs.State.{State};
 ghost use Rattle.mount_model.specs.Mounting.{IsMounted};
+ghost use Rattle.mount_model.specs.declared.call.Call.{Call};
+ghost use Rattle.mount_model.specs.declared.reply.Reply.{Reply};
+ghost use Rattle.story.specs.Program.{Program};
+ghost use Rattle.lone_flow.specs.Driving.{Makes};
 ghost use Rattle.run_core.specs.Play.{IsPlay};
 ghost use Rattle.step_laws.specs.Alike.{IsTold, TellsAll, StillCounts};
 ghost use Rattle.replay_laws.specs.Planned.{FaultPlan, KeepsTo};
@@ -73,4 +77,17 @@ pub fn faultless_plays_are_one()
         → end.store.faults ≡ opened.faults
         → other.store.faults ≡ opened.faults
         → (lines ≡ others) × (end ≡ other) }
+{}
+
+/// A law: two runs of one machine by a caller by itself, from one state and without a fault, end with one result and lead to
+/// one state. The store tells its tree and the clock its times, and the count of faults has not come to its end.
+pub fn lone_runs_are_one<R>()
+    ensures { (program : Program Call Reply R) (start end other : State) (result told : R)
+        → TellsAll start
+        → start.store.faults < 2 ^ 64 - 1
+        → Makes program start result end
+        → Makes program start told other
+        → end.store.faults ≡ start.store.faults
+        → other.store.faults ≡ start.store.faults
+        → (result ≡ told) × (end ≡ other) }
 {}

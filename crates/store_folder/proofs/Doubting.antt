@@ -1,7 +1,8 @@
 -- What was told of a step, and the syncs that failed in it.
 use Rattle.std.proofs.Common.{◌≡◌, ◌<◌, ◌-◌, ◌^◌, min, ℕ, inl, inr, false, Option, Some, None, Result, Ok, Err, refl, sym, subst, arith}
 use Rattle.std.proofs.lemmas.Bool.{cases_lt}
-use Rattle.std.specs.Prelude.{IfOk, IfSome, is_some, count_by}
+use Rattle.std.specs.Prelude.{IfOk, IfSome, is_some, unwrap_or, count_by}
+use Rattle.std.specs.Option.{option_or}
 use Rattle.plfs_types.specs.Counts.{HasRisen}
 use Rattle.store_api.specs.declared.step.Answer.{Answer}
 use Rattle.store_api.specs.declared.store.Trouble.{Trouble}
@@ -34,6 +35,11 @@ counted_more before after count later is are more = elim (cases_lt after (2 ^ 64
   | inl within ↦ inl (omega (arith, is, are, more, within))
   | inr past ↦ inr (omega (arith, is, are, more, past))
 ]
+
+-- what is not refused was not in doubt, so that the first cause is the new one
+pub first_cause : (synced renamed : Option Doubt) (doubt : Doubt) → is_some (option_or synced renamed) ≡ false → unwrap_or synced doubt ≡ doubt
+first_cause None renamed doubt is = refl
+first_cause (Some first) renamed doubt is = cc
 
 module _ {F : Type 0} where
   -- where a sync failed in a told log, more are counted

@@ -10,3 +10,4 @@ pub mod Clearing
 pub mod Acting
 pub mod Entering
 pub mod InRooms
+pub mod Staying

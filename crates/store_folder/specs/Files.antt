@@ -4,7 +4,7 @@ use Rattle.std.specs.Cmp.Lexicographic.{pointwise}
 use Rattle.store_api.specs.declared.step.Answer.{Answer}
 use Rattle.store_api.specs.declared.step.Answer.TheVariants.{Made, Old, Absent, NoFolder}
 use Rattle.folder_calls.specs.declared.failure.Failure.{Failure}
-use Rattle.folder_calls.specs.declared.failure.Failure.TheVariants.{NoMemory}
+use Rattle.folder_calls.specs.declared.failure.Failure.TheVariants.{Failed, NoMemory}
 use Rattle.store_folder.specs.declared.files.Found.{Found}
 use Rattle.store_folder.specs.declared.files.Found.TheVariants.{There, Not}
 use Rattle.folder_calls.specs.declared.reason.Kind.{Kind}
@@ -62,7 +62,7 @@ module _ {F : Type 0} (log later : Log F) where
   -- the first. If the file's names can stand in a path that was want of memory.
   pub data FailsToOpen (named : Type 0) (room folder file : List ℕ) (failure : Failure) : Type 0 where
     uncalled : (named → failure ≡ NoMemory) → later ≡ log → FailsToOpen named room folder file failure
-    entering : FailsToEnter log later room folder → FailsToOpen named room folder file failure
+    entering : failure ≡ Failed → FailsToEnter log later room folder → FailsToOpen named room folder file failure
     opening : Makes (looked_at room (Ok Folder) ∷ looked_at folder (Ok Folder) ∷ opened_file (item_of folder file) (Err failure) ∷ []) log later → FailsToOpen named room folder file failure
     measuring : (made : F) → Makes (looked_at room (Ok Folder) ∷ looked_at folder (Ok Folder) ∷ opened_file (item_of folder file) (Ok (Some made)) ∷ measured_file made (Err failure) ∷ []) log later → FailsToOpen named room folder file failure
 

@@ -25,6 +25,14 @@ IsNoEntry (Ok Folder) = ⊥
 IsNoEntry (Ok Other) = Unit {0}
 IsNoEntry (Err failure) = Unit {0}
 
+-- a look that failed, or found what is neither a folder nor a lack of one
+abbrev pub IsInTheWay : Result Kind Failure → Type 0
+IsInTheWay (Ok Nothing) = ⊥
+IsInTheWay (Ok (File len)) = ⊥
+IsInTheWay (Ok Folder) = ⊥
+IsInTheWay (Ok Other) = Unit {0}
+IsInTheWay (Err failure) = Unit {0}
+
 module _ {F : Type 0} (log later : Log F) where
   -- the room and the folder were looked at, and each is a folder: no link stands there
   abbrev pub EntersFolder : List ℕ → List ℕ → Type 0
@@ -34,10 +42,10 @@ module _ {F : Type 0} (log later : Log F) where
   abbrev pub FindsNoFolder : List ℕ → List ℕ → Type 0
   FindsNoFolder room folder = (kind : Kind) × IsNoFolder kind × Makes (looked_at room (Ok Folder) ∷ looked_at folder (Ok kind) ∷ []) log later
 
-  -- where the looks ended without a folder to go on with: at the room, or at the folder
+  -- where the looks ended without a folder to go on with: at the room, or at what stands in the folder's place
   pub data FailsToEnter (room folder : List ℕ) : Type 0 where
     at_room : (end : Result Kind Failure) → IsNoEntry end → Makes (looked_at room end ∷ []) log later → FailsToEnter room folder
-    at_folder : (end : Result Kind Failure) → IsNoEntry end → Makes (looked_at room (Ok Folder) ∷ looked_at folder end ∷ []) log later → FailsToEnter room folder
+    at_folder : (end : Result Kind Failure) → IsInTheWay end → Makes (looked_at room (Ok Folder) ∷ looked_at folder end ∷ []) log later → FailsToEnter room folder
 
   -- a folder was made in a room that is there, and its name was synced, or it was there
   abbrev pub MakesFolder : List ℕ → List ℕ → Answer → Type 0

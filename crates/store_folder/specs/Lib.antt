@@ -14,3 +14,5 @@ pub mod Made
 pub mod Ends
 pub mod Counting
 pub mod Stored
+pub mod Leaving
+pub mod Failing

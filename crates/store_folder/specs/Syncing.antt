@@ -1,12 +1,12 @@
 -- Which steps sync what, and which are refused for a sync that failed.
-use Rattle.std.specs.Prelude.{◌≡◌, ◌⊎◌, ℕ, List, [], Bool, true, Option, is_some}
+use Rattle.std.specs.Prelude.{◌≡◌, ◌⊎◌, ℕ, List, [], Bool, Option, Some, is_some}
 use Rattle.std.specs.Option.{option_or}
 use Rattle.store_api.specs.Step.{Step, make_room, rename_room, make_folder, remove_folder, create, remove, replace, sync}
 use Rattle.folder_calls.specs.declared.doubts.Doubts.{Doubts}
 use Rattle.folder_calls.specs.declared.doubts.Item.{Item}
 use Rattle.folder_calls.specs.declared.doubts.Item.TheVariants.{Nothing, Root, Under}
 use Rattle.folder_calls.specs.declared.reason.Doubt.{Doubt}
-use Rattle.folder_calls.specs.Doubts.{doubt_of, is_doubted}
+use Rattle.folder_calls.specs.Doubts.{doubt_of}
 
 -- the file of this name, or the folder where it has none, which at the top has none either
 abbrev pub under : ℕ → List ℕ → List ℕ → Item
@@ -37,6 +37,6 @@ refusal doubts step = option_or (doubt_of doubts (synced_by step)) (doubt_of dou
 abbrev pub is_refused : Doubts → Step → Bool
 is_refused doubts step = is_some (refusal doubts step)
 
--- what a step syncs is in doubt, where it syncs anything
-abbrev pub IsDoubtedBy : Doubts → Step → Type 0
-IsDoubtedBy doubts step = (synced_by step ≡ Nothing) ⊎ (is_doubted doubts (synced_by step) ≡ true)
+-- what a step syncs is in doubt for this cause, where it syncs anything
+abbrev pub IsDoubtedFor : Doubts → Step → Doubt → Type 0
+IsDoubtedFor doubts step doubt = (synced_by step ≡ Nothing) ⊎ (doubt_of doubts (synced_by step) ≡ Some doubt)

@@ -1,5 +1,6 @@
 //! How a room is made: it is built in a folder of ROOT that is no room, and then that folder gets the room's name.
-ghost use Rattle.std.specs.Prelude.{◌≡◌, ◌∷◌, [], ◌++◌, ◌⊎◌, All, Err, Option, IsOk, IfOk, IfErr, OnOk, OnErr, string_bytes};
+ghost use Rattle.std.specs.Prelude.{◌≡◌, ◌∷◌, [], ◌++◌, ◌⊎◌, All, Err, None, Option, position, IsOk, IfOk, IfErr, OnOk, OnErr, string_bytes};
+ghost use Rattle.store_api.specs.Names.{same_name};
 ghost use Rattle.folder_calls.specs.Parts.{IsPart};
 ghost use Rattle.store_folder.specs.ForEach.{ForEach};
 ghost use Rattle.store_folder.specs.Paths.{IsNameable, item_of};
@@ -26,6 +27,7 @@ impl<C: Calls<File = F>, F: Drop> Disk<C, F> {
     ) -> Result<Answer, Failure>
         ensures adds { IfOk result (AddsRoom self.old self.new name.now (C.log self.old.calls) (C.log self.new.calls) folders.now files.now) }
         ensures failed { OnErr result ((self.new.rooms.items ≡ self.old.rooms.items) ⊎ ((self.new.rooms.items ≡ self.old.rooms.items ++ name.now ∷ []) × MakesRoom (string_bytes self.old.root) (item_of (string_bytes self.old.root) name.now) folders.now files.now (Err Failure.Failed) (C.log self.old.calls) (C.log self.new.calls))) }
+        ensures fails { OnErr result (position (λ room. same_name room name.now) self.old.rooms.items ≡ None) }
         ensures root { self.new.root ≡ self.old.root }
         ensures numbered { self.new.is_numbered ≡ self.old.is_numbered }
         ensures open { self.new.open ≡ self.old.open }

@@ -1,13 +1,15 @@
 //! The steps of files.
-ghost use Rattle.std.specs.Prelude.{◌≡◌, ◌⊎◌, ◌||◌, ◌≤◌, ◌<◌, ◌∷◌, [], ℕ, length, true, false, None, Some, Ok, IfOk, IfErr, IfSome, OnOk, OnErr, Result, string_bytes, ⊤};
+ghost use Rattle.std.specs.Prelude.{◌≡◌, ◌⊎◌, ◌||◌, ◌≤◌, ◌<◌, ◌∷◌, [], ℕ, length, true, false, None, Some, Ok, IfOk, IfErr, IfSome, OnOk, OnErr, Result, if◌then◌else◌, string_bytes, ⊤};
 ghost use Rattle.store_api.specs.Step.{step_of};
 ghost use Rattle.std.specs.Map.{remove_entry};
 ghost use Rattle.folder_calls.specs.Calls.{Makes, looked_at};
+ghost use Rattle.store_folder.specs.Failing.{FailsUncalled, FailsToCreate, FailsToRemove, FailsToReplace};
 ghost use Rattle.store_folder.specs.Files.{IsNoFile, CreatesFile, RemovesFile, ReplacesFile, FailsToOpen, OpensFile};
 ghost use Rattle.folder_calls.specs.Keys.{same_file, with_name};
-ghost use Rattle.store_folder.specs.Paths.{room_path, folder_path, item_of};
+ghost use Rattle.store_folder.specs.Paths.{IsNameable, room_path, folder_path, item_of};
 ghost use Rattle.folder_calls.specs.Opened.{held_at};
 ghost use Rattle.folder_calls.specs.Own.{is_own};
+ghost use Rattle.store_folder.specs.Leaving.{StaysOpen, OpensMade, LeavesActed};
 ghost use Rattle.store_folder.specs.Places.{FindsFile, IsNamed, ActsAt, ActsOnFile, BecomesOwn};
 ghost use Rattle.store_folder.specs.Rooms.{IsStill, HasRooms, InRoom};
 
@@ -29,9 +31,11 @@ impl<C: Calls<File = F>, F: Drop> Disk<C, F> {
     /// Adds an empty file, and syncs its name. The file stays open.
     pub fn create(&mut self, key: &FileKey) -> Result<Answer, Failure>
         ensures creates { IfOk result (λ answer. InRoom self.old key.now.room answer (C.log self.old.calls) (C.log self.new.calls) (λ room. CreatesFile (C.log self.old.calls) (C.log self.new.calls) room (folder_path room key.now.folder) key.now.file answer)) }
+        ensures fails { IfErr result (λ failure. FailsUncalled (C.log self.old.calls) (C.log self.new.calls) (IsNamed self.old key.now) failure ⊎ ((failure ≡ Failure.Failed) × FailsToCreate (C.log self.old.calls) (C.log self.new.calls) (room_path self.old key.now.room) (folder_path (room_path self.old key.now.room) key.now.folder) key.now.file)) }
         ensures rooms { HasRooms self.old self.new }
         ensures closed { OnErr result (self.new.open.files.entries ≡ remove_entry (same_file key.now) self.old.open.files.entries) }
         ensures gone { OnErr result (held_at self.new.open key.now ≡ None) }
+        ensures opened { (other : FileKey) → (held : Held F) → held_at self.new.open other ≡ Some held → StaysOpen self.old key.now other held ⊎ ((same_file key.now other ≡ true) × OpensMade (C.log self.old.calls) (C.log self.new.calls) (room_path self.old key.now.room) (folder_path (room_path self.old key.now.room) key.now.folder) key.now.file result held) }
         ensures own { self.new.own ≡ self.old.own }
     {
         drop(self.open.take(key));
@@ -47,11 +51,14 @@ impl<C: Calls<File = F>, F: Drop> Disk<C, F> {
     /// Removes a file, and syncs that its name is gone.
     pub fn remove(&mut self, key: &FileKey) -> Result<Answer, Failure>
         ensures removes { IfOk result (λ answer. InRoom self.old key.now.room answer (C.log self.old.calls) (C.log self.new.calls) (λ room. RemovesFile (C.log self.old.calls) (C.log self.new.calls) room (folder_path room key.now.folder) key.now.file answer)) }
+        ensures fails { IfErr result (λ failure. FailsUncalled (C.log self.old.calls) (C.log self.new.calls) (IsNamed self.old key.now) failure ⊎ ((failure ≡ Failure.Failed) × FailsToRemove (C.log self.old.calls) (C.log self.new.calls) (room_path self.old key.now.room) (folder_path (room_path self.old key.now.room) key.now.folder) key.now.file)) }
         ensures rooms { HasRooms self.old self.new }
         ensures closed { self.new.open.files.entries ≡ remove_entry (same_file key.now) self.old.open.files.entries }
         ensures gone { held_at self.new.open key.now ≡ None }
         ensures own { (other : FileKey) → is_own self.new.own other ≡ true → is_own self.old.own other ≡ true }
+        ensures opened { (other : FileKey) → (held : Held F) → held_at self.new.open other ≡ Some held → StaysOpen self.old key.now other held }
         ensures not_own { (other : FileKey) → same_file key.now other ≡ true → is_own self.new.own other ≡ false }
+        ensures others_own { (other : FileKey) → same_file key.now other ≡ false → is_own self.new.own other ≡ is_own self.old.own other }
     {
         drop(self.open.take(key));
         self.own.remove(key);
@@ -68,11 +75,14 @@ impl<C: Calls<File = F>, F: Drop> Disk<C, F> {
     /// already is left as it is.
     pub fn replace(&mut self, from: &FileKey, to: &Name) -> Result<Answer, Failure>
         ensures replaces { IfOk result (λ answer. InRoom self.old from.now.room answer (C.log self.old.calls) (C.log self.new.calls) (λ room. ReplacesFile (C.log self.old.calls) (C.log self.new.calls) room (folder_path room from.now.folder) from.now.file to.now answer)) }
+        ensures fails { IfErr result (λ failure. FailsUncalled (C.log self.old.calls) (C.log self.new.calls) (IsNamed self.old from.now × IsNameable to.now) failure ⊎ ((failure ≡ Failure.Failed) × FailsToReplace (C.log self.old.calls) (C.log self.new.calls) (room_path self.old from.now.room) (folder_path (room_path self.old from.now.room) from.now.folder) from.now.file to.now)) }
         ensures rooms { HasRooms self.old self.new }
         ensures closed { self.new.open.files.entries ≡ remove_entry (same_file (with_name from.now to.now)) (remove_entry (same_file from.now) self.old.open.files.entries) }
         ensures gone { (held_at self.new.open from.now ≡ None) × (held_at self.new.open (with_name from.now to.now) ≡ None) }
         ensures own { (other : FileKey) → is_own self.new.own other ≡ true → is_own self.old.own other ≡ true }
+        ensures opened { (other : FileKey) → (held : Held F) → held_at self.new.open other ≡ Some held → StaysOpen self.old from.now other held × StaysOpen self.old (with_name from.now to.now) other held }
         ensures not_own { (other : FileKey) → (same_file from.now other || same_file (with_name from.now to.now) other) ≡ true → is_own self.new.own other ≡ false }
+        ensures others_own { (other : FileKey) → (same_file from.now other || same_file (with_name from.now to.now) other) ≡ false → is_own self.new.own other ≡ is_own self.old.own other }
     {
         let target = FileKey {
             room: from.room,
@@ -99,6 +109,7 @@ impl<C: Calls<File = F>, F: Drop> Disk<C, F> {
         ensures rooms { HasRooms self.old self.new }
         ensures closed { self.new.open.files.entries ≡ remove_entry (same_file key.now) self.old.open.files.entries }
         ensures gone { held_at self.new.open key.now ≡ None }
+        ensures others { (other : FileKey) → held_at self.new.open other ≡ (if same_file key.now other then None else held_at self.old.open other) }
         ensures own { self.new.own ≡ self.old.own }
         ensures fails { let room = room_path self.old key.now.room in IfErr result (FailsToOpen (C.log self.old.calls) (C.log self.new.calls) (IsNamed self.old key.now) room (folder_path room key.now.folder) key.now.file) }
     {
@@ -135,7 +146,9 @@ impl<C: Calls<File = F>, F: Drop> Disk<C, F> {
         ensures rooms { HasRooms self.old self.new }
         ensures closed { OnErr result (self.new.open.files.entries ≡ remove_entry (same_file key.now) self.old.open.files.entries) }
         ensures gone { OnErr result (held_at self.new.open key.now ≡ None) }
+        ensures opened { (other : FileKey) → (held : Held F) → held_at self.new.open other ≡ Some held → LeavesActed self.old (C.log self.old.calls) (C.log self.new.calls) key.now (step_of step.now) result other held }
         ensures own { (other : FileKey) → is_own self.new.own other ≡ true → (is_own self.old.own other ≡ true) ⊎ BecomesOwn self.old (Some key.now) other (C.log self.old.calls) }
+        ensures lasts { (other : FileKey) → is_own self.old.own other ≡ true → is_own self.new.own other ≡ true }
     {
         let found = match self.find(key) {
             Ok(found) => found,
@@ -173,7 +186,10 @@ fn create_in<C: Calls<File = F>, F: Drop>(
 ) -> Result<Answer, Failure>
     requires path { path.now ≡ item_of (string_bytes spot.now.folder) key.now.file }
     ensures creates { IfOk result (CreatesFile (C.log calls.old) (C.log calls.new) (string_bytes spot.now.room) (string_bytes spot.now.folder) key.now.file) }
+    ensures failed { IfErr result (λ failure. failure ≡ Failure.Failed) }
+    ensures fails { OnErr result (FailsToCreate (C.log calls.old) (C.log calls.new) (string_bytes spot.now.room) (string_bytes spot.now.folder) key.now.file) }
     ensures open { OnErr result (open_files.new ≡ open_files.old) }
+    ensures opened { (other : FileKey) → (held : Held F) → held_at open_files.new other ≡ Some held → (held_at open_files.old other ≡ Some held) ⊎ ((same_file key.now other ≡ true) × OpensMade (C.log calls.old) (C.log calls.new) (string_bytes spot.now.room) (string_bytes spot.now.folder) key.now.file result held) }
 {
     if !enter(calls, spot)? {
         return Ok(Answer::NoFolder);
@@ -202,6 +218,7 @@ pub(crate) fn old_file<C: Calls<File = F>, F: Drop>(
     path: &str,
 ) -> Result<(), Failure>
     ensures looked { OnOk result ((len : ℕ) × Makes (looked_at path.now (Ok (Kind.File len)) ∷ []) (C.log calls.old) (C.log calls.new)) }
+    ensures failed { IfErr result (λ failure. failure ≡ Failure.Failed) }
     ensures fails { OnErr result ((end : Result Kind Failure) × IsNoFile end × Makes (looked_at path.now end ∷ []) (C.log calls.old) (C.log calls.new)) }
 {
     match calls.look(path)? {
@@ -219,6 +236,8 @@ fn remove_in<C: Calls<File = F>, F: Drop>(
 ) -> Result<Answer, Failure>
     requires path { path.now ≡ item_of (string_bytes spot.now.folder) file.now }
     ensures removes { IfOk result (RemovesFile (C.log calls.old) (C.log calls.new) (string_bytes spot.now.room) (string_bytes spot.now.folder) file.now) }
+    ensures failed { IfErr result (λ failure. failure ≡ Failure.Failed) }
+    ensures fails { OnErr result (FailsToRemove (C.log calls.old) (C.log calls.new) (string_bytes spot.now.room) (string_bytes spot.now.folder) file.now) }
 {
     if !enter(calls, spot)? {
         return Ok(Answer::NoFolder);
@@ -240,6 +259,7 @@ fn replace_in<C: Calls<File = F>, F: Drop>(
     to: &Name,
 ) -> Result<Answer, Failure>
     ensures replaces { IfOk result (ReplacesFile (C.log calls.old) (C.log calls.new) (string_bytes spot.now.room) (string_bytes spot.now.folder) from.now to.now) }
+    ensures fails { IfErr result (λ failure. FailsUncalled (C.log calls.old) (C.log calls.new) (IsNameable from.now × IsNameable to.now) failure ⊎ ((failure ≡ Failure.Failed) × FailsToReplace (C.log calls.old) (C.log calls.new) (string_bytes spot.now.room) (string_bytes spot.now.folder) from.now to.now)) }
 {
     let old = item_path(alloc, spot.folder.as_str(), from)?;
     let new = item_path(alloc, spot.folder.as_str(), to)?;
@@ -260,6 +280,8 @@ fn rename_in<C: Calls<File = F>, F: Drop>(
     requires old { old.now ≡ item_of (string_bytes spot.now.folder) from.now }
     requires new { new.now ≡ item_of (string_bytes spot.now.folder) to.now }
     ensures replaces { IfOk result (ReplacesFile (C.log calls.old) (C.log calls.new) (string_bytes spot.now.room) (string_bytes spot.now.folder) from.now to.now) }
+    ensures failed { IfErr result (λ failure. failure ≡ Failure.Failed) }
+    ensures fails { OnErr result (FailsToReplace (C.log calls.old) (C.log calls.new) (string_bytes spot.now.room) (string_bytes spot.now.folder) from.now to.now) }
 {
     if !enter(calls, spot)? {
         return Ok(Answer::NoFolder);
@@ -267,7 +289,8 @@ fn rename_in<C: Calls<File = F>, F: Drop>(
     match calls.look(old)? {
         Kind::File { .. } => {}
         Kind::Absent => return Ok(Answer::Absent),
-        Kind::Folder | Kind::Other => return Err(Failure::Failed),
+        Kind::Folder => return Err(Failure::Failed),
+        Kind::Other => return Err(Failure::Failed),
     }
     if *from == *to {
         return Ok(Answer::Made);

@@ -1,8 +1,9 @@
 //! The steps of folders.
-ghost use Rattle.std.specs.Prelude.{◌≡◌, ◌==◌, ◌≤◌, ◌<◌, ◌∷◌, [], List, ℕ, length, true, false, None, Ok, Err, IsSome, IfSome, Result, IfOk, IfErr, OnOk, OnErr, string_bytes};
+ghost use Rattle.std.specs.Prelude.{◌≡◌, ◌⊎◌, ◌==◌, ◌≤◌, ◌<◌, ◌∷◌, [], List, ℕ, length, true, false, None, Ok, Err, IsSome, IfSome, Result, IfOk, IfErr, OnOk, OnErr, string_bytes};
 ghost use Rattle.folder_calls.specs.Calls.{Makes, looked_at, listed_folder};
 ghost use Rattle.folder_calls.specs.Parts.{IsPart};
-ghost use Rattle.store_folder.specs.Folders.{IsNoFolder, IsNoEntry, EntersFolder, FindsNoFolder, FailsToEnter, MakesFolder, RemovesTop, RemovesItem, RemovesFolder, TellsFolder};
+ghost use Rattle.store_folder.specs.Failing.{FailsUncalled, IsNamedFolder, FailsToMakeFolder, FailsToRemoveTop, FailsToRemoveItem, FailsToRemoveFolder, FailsToList};
+ghost use Rattle.store_folder.specs.Folders.{IsNoFolder, IsNoEntry, IsInTheWay, EntersFolder, FindsNoFolder, FailsToEnter, MakesFolder, RemovesTop, RemovesItem, RemovesFolder, TellsFolder};
 ghost use Rattle.store_folder.specs.Listings.{IsSortedListing, IsLeast};
 ghost use Rattle.store_folder.specs.Paths.{IsNameable, IsNameableFolder, item_of, room_path, folder_path};
 ghost use Rattle.store_folder.specs.StepPlaces.{room_name};
@@ -70,6 +71,7 @@ impl<C: Calls<File = F>, F: Drop> Disk<C, F> {
     pub fn make_folder(&mut self, room: u64, folder: &Name) -> Result<Answer, Failure>
         ensures makes { IfOk result (λ answer. InRoom self.old room answer (C.log self.old.calls) (C.log self.new.calls) (λ path. MakesFolder (C.log self.old.calls) (C.log self.new.calls) path (folder_path path folder.now) answer)) }
         ensures still { IsStill self.old self.new }
+        ensures fails { IfErr result (λ failure. FailsUncalled (C.log self.old.calls) (C.log self.new.calls) (IsNamedFolder self.old room folder.now) failure ⊎ ((failure ≡ Failure.Failed) × FailsToMakeFolder (C.log self.old.calls) (C.log self.new.calls) (room_path self.old room) (folder_path (room_path self.old room) folder.now))) }
     {
         let Some(spot) = self.spot(room, folder)? else {
             return Ok(Answer::NoRoom);
@@ -83,6 +85,7 @@ impl<C: Calls<File = F>, F: Drop> Disk<C, F> {
     pub fn remove_folder(&mut self, room: u64, folder: &Name) -> Result<Answer, Failure>
         ensures removes { IfOk result (λ answer. InRoom self.old room answer (C.log self.old.calls) (C.log self.new.calls) (λ path. RemovesFolder (C.log self.old.calls) (C.log self.new.calls) path folder.now answer)) }
         ensures still { IsStill self.old self.new }
+        ensures fails { IfErr result (λ failure. FailsUncalled (C.log self.old.calls) (C.log self.new.calls) (IsNamedFolder self.old room folder.now) failure ⊎ FailsToRemoveFolder (C.log self.old.calls) (C.log self.new.calls) (room_path self.old room) folder.now failure) }
     {
         let Some(spot) = self.spot(room, folder)? else {
             return Ok(Answer::NoRoom);
@@ -99,6 +102,7 @@ impl<C: Calls<File = F>, F: Drop> Disk<C, F> {
     pub fn list(&mut self, room: u64, folder: &Name) -> Result<Answer, Failure>
         ensures lists { IfOk result (λ answer. InRoom self.old room answer (C.log self.old.calls) (C.log self.new.calls) (λ path. TellsFolder (C.log self.old.calls) (C.log self.new.calls) path (folder_path path folder.now) answer)) }
         ensures still { IsStill self.old self.new }
+        ensures fails { IfErr result (λ failure. FailsUncalled (C.log self.old.calls) (C.log self.new.calls) (IsNamedFolder self.old room folder.now) failure ⊎ FailsToList (C.log self.old.calls) (C.log self.new.calls) (room_path self.old room) (folder_path (room_path self.old room) folder.now) failure) }
     {
         let Some(spot) = self.spot(room, folder)? else {
             return Ok(Answer::NoRoom);
@@ -112,7 +116,8 @@ impl<C: Calls<File = F>, F: Drop> Disk<C, F> {
 // Whether a folder is there. It fails where a link or the like is.
 fn is_folder<C: Calls<File = F>, F: Drop>(calls: &mut C, path: &str) -> Result<bool, Failure>
     ensures there { result ≡ Ok true → Makes (looked_at path.now (Ok Kind.Folder) ∷ []) (C.log calls.old) (C.log calls.new) }
-    ensures fails { OnErr result ((end : Result Kind Failure) × IsNoEntry end × Makes (looked_at path.now end ∷ []) (C.log calls.old) (C.log calls.new)) }
+    ensures failed { IfErr result (λ failure. failure ≡ Failure.Failed) }
+    ensures fails { OnErr result ((end : Result Kind Failure) × IsInTheWay end × Makes (looked_at path.now end ∷ []) (C.log calls.old) (C.log calls.new)) }
     ensures lacking { result ≡ Ok false → (kind : Kind) × IsNoFolder kind × Makes (looked_at path.now (Ok kind) ∷ []) (C.log calls.old) (C.log calls.new) }
 {
     match calls.look(path)? {
@@ -126,6 +131,7 @@ fn is_folder<C: Calls<File = F>, F: Drop>(calls: &mut C, path: &str) -> Result<b
 // Fails where the room isn't there.
 fn enter_room<C: Calls<File = F>, F: Drop>(calls: &mut C, spot: &Spot) -> Result<(), Failure>
     ensures there { OnOk result (Makes (looked_at (string_bytes spot.now.room) (Ok Kind.Folder) ∷ []) (C.log calls.old) (C.log calls.new)) }
+    ensures failed { IfErr result (λ failure. failure ≡ Failure.Failed) }
     ensures fails { OnErr result ((end : Result Kind Failure) × IsNoEntry end × Makes (looked_at (string_bytes spot.now.room) end ∷ []) (C.log calls.old) (C.log calls.new)) }
 {
     if is_folder(calls, spot.room.as_str())? {
@@ -139,6 +145,7 @@ fn enter_room<C: Calls<File = F>, F: Drop>(calls: &mut C, spot: &Spot) -> Result
 pub fn enter<C: Calls<File = F>, F: Drop>(calls: &mut C, spot: &Spot) -> Result<bool, Failure>
     ensures there { result ≡ Ok true → EntersFolder (C.log calls.old) (C.log calls.new) (string_bytes spot.now.room) (string_bytes spot.now.folder) }
     ensures lacking { result ≡ Ok false → FindsNoFolder (C.log calls.old) (C.log calls.new) (string_bytes spot.now.room) (string_bytes spot.now.folder) }
+    ensures failed { IfErr result (λ failure. failure ≡ Failure.Failed) }
     ensures fails { OnErr result (FailsToEnter (C.log calls.old) (C.log calls.new) (string_bytes spot.now.room) (string_bytes spot.now.folder)) }
 {
     enter_room(calls, spot)?;
@@ -147,6 +154,8 @@ pub fn enter<C: Calls<File = F>, F: Drop>(calls: &mut C, spot: &Spot) -> Result<
 
 fn add_folder<C: Calls<File = F>, F: Drop>(calls: &mut C, spot: &Spot) -> Result<Answer, Failure>
     ensures makes { IfOk result (MakesFolder (C.log calls.old) (C.log calls.new) (string_bytes spot.now.room) (string_bytes spot.now.folder)) }
+    ensures failed { IfErr result (λ failure. failure ≡ Failure.Failed) }
+    ensures fails { OnErr result (FailsToMakeFolder (C.log calls.old) (C.log calls.new) (string_bytes spot.now.room) (string_bytes spot.now.folder)) }
 {
     enter_room(calls, spot)?;
     if calls.make_folder(spot.folder.as_str())? {
@@ -167,6 +176,7 @@ fn remove_top<C: Calls<File = F>, F: Drop>(
     spot: &Spot,
 ) -> Result<Answer, Failure>
     ensures removes { IfOk result (RemovesTop (C.log calls.old) (C.log calls.new) (string_bytes spot.now.room)) }
+    ensures fails { IfErr result (FailsToRemoveTop (C.log calls.old) (C.log calls.new) (string_bytes spot.now.room)) }
 {
     enter_room(calls, spot)?;
     match least_name(calls, alloc, spot.room.as_str())? {
@@ -181,6 +191,7 @@ fn remove_item<C: Calls<File = F>, F: Drop>(
     spot: &Spot,
 ) -> Result<Answer, Failure>
     ensures removes { IfOk result (RemovesItem (C.log calls.old) (C.log calls.new) (string_bytes spot.now.room) (string_bytes spot.now.folder)) }
+    ensures fails { IfErr result (FailsToRemoveItem (C.log calls.old) (C.log calls.new) (string_bytes spot.now.room) (string_bytes spot.now.folder)) }
 {
     enter_room(calls, spot)?;
     match calls.remove_folder(spot.folder.as_str())? {
@@ -204,6 +215,7 @@ fn least_name<C: Calls<File = F>, F: Drop>(
 ) -> Result<Option<Name>, Failure>
     ensures empty { result ≡ Ok None → Makes (listed_folder path.now (Ok []) ∷ []) (C.log calls.old) (C.log calls.new) }
     ensures least { IfOk result (λ least. IfSome least (λ least. (names : List (List ℕ)) × Makes (listed_folder path.now (Ok names) ∷ []) (C.log calls.old) (C.log calls.new) × IsLeast names least)) }
+    ensures fails { IfErr result (λ failure. Makes (listed_folder path.now (Err failure) ∷ []) (C.log calls.old) (C.log calls.new)) }
 {
     let names = names_in(calls, alloc, path)?;
     let Some(least) = names.first() else {
@@ -233,6 +245,7 @@ fn list_in<C: Calls<File = F>, F: Drop>(
     spot: &Spot,
 ) -> Result<Answer, Failure>
     ensures lists { IfOk result (TellsFolder (C.log calls.old) (C.log calls.new) (string_bytes spot.now.room) (string_bytes spot.now.folder)) }
+    ensures fails { IfErr result (FailsToList (C.log calls.old) (C.log calls.new) (string_bytes spot.now.room) (string_bytes spot.now.folder)) }
 {
     if !enter(calls, spot)? {
         return Ok(Answer::NoFolder);

@@ -1,5 +1,6 @@
 //! The rooms: which items of ROOT they are, and the steps that name, find and rename them.
 ghost use Rattle.std.specs.Prelude.{◌≡◌, ◌≤◌, ◌<◌, ◌∷◌, [], ◌++◌, ◌⊎◌, length, position, true, false, None, Ok, Err, IsSome, IfSome, IfOk, IfErr, OnErr, OnOk, slice_set, string_bytes};
+ghost use Rattle.store_folder.specs.Failing.{FailsToRenameRoom};
 ghost use Rattle.store_folder.specs.Paths.{IsNameable, item_of, room_path};
 ghost use Rattle.store_folder.specs.StepPlaces.{room_name};
 ghost use Rattle.store_folder.specs.Rooms.{if_room, LooksForRoom, FindsRooms, ListsRooms, IsStill, InRoom, MovesRoom, RenamesRoom};
@@ -90,7 +91,7 @@ fn move_to<C: Calls<File = F>, F: Drop>(
     to: &Name,
 ) -> Result<(), Failure>
     ensures moved { OnOk result (Makes (renamed_item old.now (item_of root.now to.now) (Ok tt) ∷ []) (C.log calls.old) (C.log calls.new)) }
-    ensures fails { IsNameable to.now → IfErr result (λ failure. (failure ≡ Failure.NoMemory) ⊎ Makes (renamed_item old.now (item_of root.now to.now) (Err failure) ∷ []) (C.log calls.old) (C.log calls.new)) }
+    ensures fails { IfErr result (λ failure. ((IsNameable to.now → failure ≡ Failure.NoMemory) × (C.log calls.new ≡ C.log calls.old)) ⊎ ((failure ≡ Failure.Failed) × Makes (renamed_item old.now (item_of root.now to.now) (Err failure) ∷ []) (C.log calls.old) (C.log calls.new))) }
 {
     let new = item_path(alloc, root, to)?;
     let renamed = calls.rename(old, new.as_str());
@@ -130,6 +131,7 @@ impl<C: Calls<File = F>, F: Drop> Disk<C, F> {
     /// Gives a room a name that no room has. Its open files stay open.
     pub fn rename_room(&mut self, room: u64, to: &Name) -> Result<Answer, Failure>
         ensures renames { IfOk result (λ answer. InRoom self.old room answer (C.log self.old.calls) (C.log self.new.calls) (RenamesRoom self.old self.new to.now (C.log self.old.calls) (C.log self.new.calls) room answer)) }
+        ensures fails { IfErr result (FailsToRenameRoom (C.log self.old.calls) (C.log self.new.calls) self.old room to.now) }
         ensures failed { OnErr result ((self.new.rooms.items ≡ self.old.rooms.items) ⊎ ((self.new.rooms.items ≡ slice_set self.old.rooms.items room to.now) × MovesRoom (string_bytes self.old.root) (room_path self.old room) to.now (Err Failure.Failed) (C.log self.old.calls) (C.log self.new.calls))) }
         ensures root { self.new.root ≡ self.old.root }
         ensures numbered { self.new.is_numbered ≡ self.old.is_numbered }

@@ -8,12 +8,12 @@ ghost use Rattle.store_folder.specs.Counting.{untold, CountsFaults};
 ghost use Rattle.folder_calls.specs.Doubts.{doubt_of};
 ghost use Rattle.folder_calls.specs.Noted.{noted, doubt_by};
 ghost use Rattle.store_folder.specs.Ends.{told_of, Ends, KeepsDoubts};
+ghost use Rattle.store_folder.specs.Leaving.{Attempts};
 ghost use Rattle.store_folder.specs.Made.{MakesStep};
 ghost use Rattle.folder_calls.specs.Own.{is_own};
-ghost use Rattle.store_folder.specs.Places.{file_of, ActsOnFile, BecomesOwn, takes_name};
 ghost use Rattle.store_folder.specs.Rooms.{IsStill};
 ghost use Rattle.store_folder.specs.Steps.{Numbers, Performs};
-ghost use Rattle.store_folder.specs.Syncing.{refusal, is_refused, IsDoubtedBy};
+ghost use Rattle.store_folder.specs.Syncing.{refusal, is_refused, synced_by, IsDoubtedFor};
 ghost use Rattle.store_folder.specs.StepPlaces.{place_of};
 ghost use Rattle.store_folder.specs.Stored.{stored_of, root_of};
 
@@ -141,7 +141,7 @@ impl<C: Calls<File = F> + Drop, F: Drop> Store for StoreByCalls<C, F> {
         ensures counted { CountsFaults (stored_of self.old) (stored_of self.new) result }
         ensures performs { IfOk result (λ answer. MakesStep C.log self.old.disk self.new.disk (step_of step.now) answer) }
         ensures ends { Ends C.log self.old self.new (step_of step.now) result }
-        ensures doubts { KeepsDoubts C.log C.unsynced self.old self.new (step_of step.now) }
+        ensures doubts { KeepsDoubts C.log C.unsynced C.told self.old self.new (step_of step.now) }
         ensures refused { is_refused self.old.doubts (step_of step.now) ≡ true → IsErrOf result Trouble.Fault }
         ensures still { IfSome (refusal self.old.doubts (step_of step.now)) (λ doubt. IsStill self.old.disk self.new.disk × (C.log self.new.disk.calls ≡ C.log self.old.disk.calls) × (C.told self.new.disk.calls ≡ Some (Reason.Unsynced doubt))) }
         ensures lasts { (item : Item) → (doubt : Doubt) → doubt_of self.old.doubts item ≡ Some doubt → doubt_of self.new.doubts item ≡ Some doubt }
@@ -201,15 +201,13 @@ fn attempt<C: Calls<File = F> + Drop, F: Drop>(
     step: &Step<'_>,
 ) -> Result<Answer, Failure>
     ensures performs { IfOk result (λ answer. (numbered : Disk C F) × Numbers disk.old numbered (C.log disk.old.calls) (C.log numbered.calls) × Performs numbered disk.new (C.log numbered.calls) (C.log disk.new.calls) (step_of step.now) answer) }
-    ensures on_file { disk.old.is_numbered ≡ true → is_refused doubts.old (step_of step.now) ≡ false → IfSome (file_of (step_of step.now)) (λ key. ActsOnFile disk.old key (C.log disk.old.calls) (C.log disk.new.calls) (step_of step.now) result) }
     ensures well { IfOk result (λ _. failed_calls (C.log disk.new.calls) ≡ failed_calls (C.log disk.old.calls)) }
     ensures root { disk.new.root ≡ disk.old.root }
     ensures refused { is_refused doubts.old (step_of step.now) ≡ true → result ≡ Err Failure.Failed }
     ensures still { IfSome (refusal doubts.old (step_of step.now)) (λ doubt. IsStill disk.old disk.new × (C.log disk.new.calls ≡ C.log disk.old.calls) × (C.told disk.new.calls ≡ noted (C.told disk.old.calls) (Reason.Unsynced doubt))) }
-    ensures doubted { is_refused doubts.old (step_of step.now) ≡ false → HasRisen (C.unsynced disk.old.calls) (C.unsynced disk.new.calls) → IsDoubtedBy doubts.new (step_of step.now) }
+    ensures doubted { is_refused doubts.old (step_of step.now) ≡ false → HasRisen (C.unsynced disk.old.calls) (C.unsynced disk.new.calls) → IsDoubtedFor doubts.new (step_of step.now) (doubt_by (C.told disk.new.calls)) }
     ensures only { HasRisen (C.unsynced disk.old.calls) (C.unsynced disk.new.calls) ⊎ (doubts.new ≡ doubts.old) }
-    ensures own { disk.old.is_numbered ≡ true → (key : FileKey) → is_own disk.new.own key ≡ true → (is_own disk.old.own key ≡ true) ⊎ BecomesOwn disk.old (file_of (step_of step.now)) key (C.log disk.old.calls) }
-    ensures renames { disk.old.is_numbered ≡ true → is_refused doubts.old (step_of step.now) ≡ false → (key : FileKey) → takes_name (step_of step.now) key ≡ true → is_own disk.new.own key ≡ false }
+    ensures attempted { is_refused doubts.old (step_of step.now) ≡ false → Attempts C.log disk.old disk.new (step_of step.now) result }
     ensures lasts { (item : Item) → (doubt : Doubt) → doubt_of doubts.old item ≡ Some doubt → doubt_of doubts.new item ≡ Some doubt }
 {
     if let Some(doubt) = refusal(doubts, step) {
@@ -224,7 +222,7 @@ fn attempt<C: Calls<File = F> + Drop, F: Drop>(
 
 // Puts in doubt what the step syncs, where more syncs have failed than before it, or where the count is at its end.
 fn note_syncs<C: Calls>(doubts: &mut Doubts, calls: &C, step: &Step<'_>, before: u64)
-    ensures doubted { HasRisen before (C.unsynced calls.now) → IsDoubtedBy doubts.new (step_of step.now) }
+    ensures doubted { HasRisen before (C.unsynced calls.now) → IsDoubtedFor doubts.new (step_of step.now) (unwrap_or (doubt_of doubts.old (synced_by (step_of step.now))) (doubt_by (C.told calls.now))) }
     ensures only { HasRisen before (C.unsynced calls.now) ⊎ (doubts.new ≡ doubts.old) }
     ensures lasts { (item : Item) → (doubt : Doubt) → doubt_of doubts.old item ≡ Some doubt → doubt_of doubts.new item ≡ Some doubt }
 {

@@ -1,5 +1,6 @@
 //! The calls of the system, but that each sync fails while a file of this name stands where the tests run.
 ghost use Rattle.std.specs.Prelude.{◌≡◌, None, IfErr};
+ghost use Rattle.folder_calls.specs.Noted.{Tells};
 ghost use Rattle.folder_calls.specs.Syncs.{counting};
 
 use folder_calls::{Asked, Calls, Failure, Kind, Reason, Removal, System, SystemCalls};
@@ -22,6 +23,7 @@ pub(crate) struct FailingCalls<R> {
 impl<R: System> FailingCalls<R> {
     fn may_sync(&mut self) -> Result<(), Failure>
         ensures failed { IfErr result (λ failure. failure ≡ Failure.Failed) }
+        ensures tells { Tells Asked.Sync self.old.calls.last self.new.calls.last result }
         ensures syncs { self.new.unsynced ≡ self.old.unsynced }
     {
         if let Ok(false) = fs::exists(&self.rt, NO_SYNC) {
@@ -37,6 +39,7 @@ impl<R: System> FailingCalls<R> {
     // Counts a sync that ended so, where it failed.
     fn count(&mut self, end: Result<(), Failure>) -> Result<(), Failure>
         ensures same { result ≡ end }
+        ensures calls { self.new.calls ≡ self.old.calls }
         ensures syncs { self.new.unsynced ≡ counting end self.old.unsynced }
     {
         if end.is_err() {

@@ -25,6 +25,15 @@ fn tell(line: &mut Line, command: Command) {
         Command::Flatten { name } => named(line, "flatten ", &name.name()),
         Command::Recover { name } => named(line, "recover ", &name.name()),
         Command::Migrate { name } => named(line, "migrate ", &name.name()),
+        Command::Names { name } => named(line, "names ", &name.name()),
+        Command::Pack { name, region } => {
+            named(line, "pack ", &name.name());
+            line.fill(" into %", &[region]);
+        }
+        Command::Unpack { name, file } => {
+            named(line, "unpack ", &name.name());
+            named(line, " file ", &file.name());
+        }
         Command::Trunc { name, size } => {
             named(line, "trunc ", &name.name());
             line.fill(" to %", &[size]);
@@ -53,6 +62,11 @@ migrate f: migrate f
 trunc f 0: trunc f to 0
 trunc 7 18446744073709551615: trunc 7 to 18446744073709551615
 rename a b: rename a to b
+names f: names f
+pack f 0: pack f into 0
+pack 7 255: pack 7 into 255
+unpack f a: unpack f file a
+unpack a a: unpack a file a
 ls: ls
 : none
 help: none
@@ -81,6 +95,26 @@ trunc f 18446744073709551616: none
 trunc f -1: none
 rename a: none
 rename a b c: none
+names: none
+names f g: none
+names .f: none
+unpack f: none
+pack f 256: none
+pack f 00: none
+pack f -1: none
+pack f -: none
+pack f 0 a: none
+pack .f 0: none
+unpack f a b: none
+unpack .f a: none
+unpack f .a: none
+pack f: none
+pack f 256: none
+pack f 00: none
+pack f -1: none
+pack f -: none
+pack f 0 a: none
+pack .f 0: none
 ";
 
 #[test]

@@ -1,5 +1,6 @@
 mod Behind
 mod Ends
+pub mod Facts
 mod FirstBytes
 mod OneFile
 mod Naming

@@ -50,16 +50,16 @@ ReadTrouble = (caller : ℕ) (start end : Moment) (reader : OpenReader) (cut : L
     → FailsByStore caller (state_after end.state between) reading why
 
 module _ (begun : Moment) (opening : List Event) (reader : OpenReader) (o : HasOpenedIn 0 begun opening reader) (sound : IsSoundAt (moment_seen begun opening reader o)) where
-  abbrev seen : Moment
+  abbrev pub seen : Moment
   seen = moment_seen begun opening reader o
 
-  scans_tell : ScanLaw → IsBytes (file_seen begun opening reader o) → ScansTell reader (file_seen begun opening reader o) seen.state
+  pub scans_tell : ScanLaw → IsBytes (file_seen begun opening reader o) → ScansTell reader (file_seen begun opening reader o) seen.state
   scans_tell law are = λ region between scanning told known lawful runs. law 0 region (moment_after begun o.before) seen reader o.cut between scanning told known lawful sound o.has are runs
 
-  reads_tell : ReadLaw → ReadsTell reader (file_seen begun opening reader o) seen.state
+  pub reads_tell : ReadLaw → ReadsTell reader (file_seen begun opening reader o) seen.state
   reads_tell law = λ between reading at len bytes lawful runs. law 0 (moment_after begun o.before) seen reader o.cut between reading at len bytes lawful sound o.has runs
 
-  reads_fail : ReadTrouble → ReadsFail reader seen.state
+  pub reads_fail : ReadTrouble → ReadsFail reader seen.state
   reads_fail law = λ between reading at len why lawful runs. law 0 (moment_after begun o.before) seen reader o.cut between reading at len why lawful sound o.has runs
 
 pub unpacked : OpeningsEnd → ScanLaw → ReadLaw → ReadTrouble → (name file : Name) (start : Moment) (told : Result (Option (List ℕ)) ScanStuck) (end : State) → IsSoundAt start → Unpacks name file start.state told end

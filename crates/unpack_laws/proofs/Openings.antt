@@ -32,7 +32,7 @@ pub record HasSeen (seen : Moment) (opened : State) : Type 0 where
   pub sound : IsSoundAt seen
   pub reached : HasReached seen.state opened
 
-has_seen : (start : Moment) (events : List Event) (reader : OpenReader) (o : HasOpenedIn 0 start events reader) → IsLawful start.state events → IsSoundAt start → HasSeen (moment_seen start events reader o) (state_after start.state events)
+pub has_seen : (start : Moment) (events : List Event) (reader : OpenReader) (o : HasOpenedIn 0 start events reader) → IsLawful start.state events → IsSoundAt start → HasSeen (moment_seen start events reader o) (state_after start.state events)
 has_seen start events reader o lawful sound =
     let shown : List Event = o.first ∷ o.more in
     let rest : List Event = o.listing ∷ o.later in

@@ -1,7 +1,5 @@
-use Rattle.std.proofs.Common.{◌≡◌, ◌∙◌, ap, true}
-use Rattle.clap.specs.Words.{app_of}
+use Rattle.std.proofs.Common.{◌∙◌, ap, true}
 use Rattle.clap.specs.Simple.{app_of_fields, on_top}
-use Rattle.command_line.specs.Parser.{program}
 use Rattle.command_line.proofs.parser.program.Goals as goal
 
 pub returns : goal.returns

@@ -1,4 +1,5 @@
 use Rattle.pack_files.specs.Scanning.{scan_program}
+use Rattle.pack_core.proofs.Broken.{begins_so}
 use Rattle.pack_core.proofs.Freely.{asks_so, makes_so}
 use Rattle.pack_core.proofs.Looked.{looked_so}
 use Rattle.pack_core.proofs.Looks.{scan_free, scan_looks}
@@ -13,3 +14,6 @@ returns-clause-makes g c = makes_so c.drive_freely.result _ (scan_program c.args
 pub returns-clause-looks : goal.returns-clause-looks
 returns-clause-looks g c =
     looked_so c.drive_freely.result _ (scan_program c.args.reader.now c.args.region) c.args.mount.now c.drive_freely.new.mount c.in_ok-machine.ensures (scan_looks c.args.reader.now c.args.region) c.drive_freely.ensures.drives c.drive_freely.ensures.broken_off
+
+pub returns-clause-broken_off : goal.returns-clause-broken_off
+returns-clause-broken_off g c = begins_so c.drive_freely.result _ (scan_program c.args.reader.now c.args.region) c.args.mount.now c.drive_freely.new.mount c.in_ok-machine.ensures c.drive_freely.ensures.broken_off

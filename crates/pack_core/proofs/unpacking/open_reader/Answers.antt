@@ -1,4 +1,5 @@
 use Rattle.opening_flow.specs.Opening.{opening_program}
+use Rattle.pack_core.proofs.Broken.{begins_so}
 use Rattle.pack_core.proofs.Freely.{asks_so, makes_so}
 use Rattle.pack_core.proofs.Looked.{looked_so}
 use Rattle.pack_core.proofs.Looks.{opening_free, opening_looks}
@@ -12,3 +13,6 @@ returns-clause-makes g c = makes_so c.drive_freely.result _ (opening_program c.a
 
 pub returns-clause-looks : goal.returns-clause-looks
 returns-clause-looks g c = looked_so c.drive_freely.result _ (opening_program c.args.name 1) c.args.mount.now c.drive_freely.new.mount c.new.ensures (opening_looks c.args.name) c.drive_freely.ensures.drives c.drive_freely.ensures.broken_off
+
+pub returns-clause-broken_off : goal.returns-clause-broken_off
+returns-clause-broken_off g c = begins_so c.drive_freely.result _ (opening_program c.args.name 1) c.args.mount.now c.drive_freely.new.mount c.new.ensures c.drive_freely.ensures.broken_off

@@ -1,5 +1,6 @@
 use Rattle.std.proofs.Common.{arith}
 use Rattle.writer_flow.specs.Opening.{open_program}
+use Rattle.pack_core.proofs.Broken.{begins_so}
 use Rattle.pack_core.proofs.Freely.{asks_so, makes_so}
 use Rattle.pack_puts.proofs.Writers.{open_free}
 use Rattle.pack_puts.proofs.packing.open_writer.Goals as goal
@@ -9,3 +10,6 @@ drive_freely-requires g c = record { free = asks_so _ _ c.new.ensures (open_free
 
 pub returns-clause-makes : goal.returns-clause-makes
 returns-clause-makes g c = makes_so c.drive_freely.result _ (open_program c.args.name 0 64) c.args.mount.now c.drive_freely.new.mount c.new.ensures c.drive_freely.ensures.drives
+
+pub returns-clause-broken_off : goal.returns-clause-broken_off
+returns-clause-broken_off g c = begins_so c.drive_freely.result _ (open_program c.args.name 0 64) c.args.mount.now c.drive_freely.new.mount c.new.ensures c.drive_freely.ensures.broken_off

@@ -3,6 +3,8 @@ use Rattle.pack_input.specs.declared.files.NamedFile.{NamedFile}
 use Rattle.pack_puts.specs.declared.putting.Put.{Put}
 use Rattle.pack_puts.specs.declared.putting.Put.TheVariants.{Made, Full, Stopped}
 use Rattle.pack_puts.specs.Putting.{IsWithin, PutsEach}
+use Rattle.mount_core.proofs.Memory.{on_err}
+use Rattle.pack_puts.proofs.Breaking.{put_broken}
 use Rattle.pack_puts.proofs.Putted.{file_splits, file_taken, puts_more, puts_stop, puts_value}
 use Rattle.pack_puts.proofs.putting.put_all.Goals as goal
 
@@ -36,3 +38,11 @@ loop-file-preserved g c =
       until = within.1;
       fine = c.in_ok-handle.ensures.fine;
     }
+
+pub returns-in_err-handle-clause-broken_off : goal.returns-in_err-handle-clause-broken_off
+returns-in_err-handle-clause-broken_off g c =
+    let f : NamedFile = c.file-item.result in
+    let i : ℕ = c.loop-file.file-index in
+    on_err c.from_residual.result _
+    (put_broken c.args.region c.args.files.now (take i c.args.files.now) f (drop (i + 1) c.args.files.now) c.args.handle c.args.at c.args.mount.now c.loop-file.placing.handle c.loop-file.placing.place c.loop-file.mount c.put_file.new.mount
+    (file_splits c.args.files.now i f c.loop-file-test.true c.file-item.is) c.loop-file.invariant.puts c.in_err-handle.ensures.broken_off)

@@ -1,5 +1,8 @@
 use Rattle.writer_flow.specs.Syncing.{sync_program}
 use Rattle.pack_core.proofs.Freely.{asks_so}
+use Rattle.mount_core.proofs.Memory.{on_err}
+use Rattle.pack_puts.specs.Settling.{to_sync}
+use Rattle.pack_puts.proofs.Breaking.{begun_so, close_broken}
 use Rattle.pack_puts.proofs.Told.{made_so, settled}
 use Rattle.pack_puts.proofs.Writers.{sync_free}
 use Rattle.pack_puts.proofs.settling.settle.Goals as goal
@@ -7,8 +10,18 @@ use Rattle.pack_puts.proofs.settling.settle.Goals as goal
 pub drive_freely-requires : goal.drive_freely-requires
 drive_freely-requires g c = record { free = asks_so _ _ c.new.ensures (sync_free c.args.handle); fine = c.requires }
 
-pub returns : goal.returns
-returns g c =
+pub returns-clause-settles : goal.returns-clause-settles
+returns-clause-settles g c =
     settled c.args.handle c.args.mount.now c.drive_freely.new.mount c.close.new.mount c.in_ok-synced.synced c.close.result
     (made_so _ (sync_program c.args.handle) c.args.mount.now c.in_ok-synced.synced c.drive_freely.new.mount c.new.ensures c.in_ok-synced.ensures.drives)
-    c.close.ensures
+    c.close.ensures.closes
+
+pub returns-clause-broken_off : goal.returns-clause-broken_off
+returns-clause-broken_off g c =
+    close_broken c.args.handle c.in_ok-synced.synced c.args.mount.now c.drive_freely.new.mount c.close.new.mount c.close.result
+    (made_so _ (sync_program c.args.handle) c.args.mount.now c.in_ok-synced.synced c.drive_freely.new.mount c.new.ensures c.in_ok-synced.ensures.drives)
+    c.close.ensures.broken_off
+
+pub returns-in_err-synced-clause-broken_off : goal.returns-in_err-synced-clause-broken_off
+returns-in_err-synced-clause-broken_off g c =
+    on_err c.from_residual.result _ (to_sync (begun_so _ (sync_program c.args.handle) c.args.mount.now c.drive_freely.new.mount c.new.ensures c.in_err-synced.ensures.broken_off))

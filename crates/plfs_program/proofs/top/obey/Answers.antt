@@ -21,5 +21,23 @@ returns-in-Migrate g c words are one =
     let so = rw c.in-Migrate.is at (rw c.in-Some.is at c.in-Ok.ensures.same) in
     c.migrate.ensures words (subst (λ command. IsCommand words command) so are)
 
+pub returns-in-Unpack : goal.returns-in-Unpack
+returns-in-Unpack g c words are one =
+    let so = rw c.in-Unpack.is at (rw c.in-Some.is at c.in-Ok.ensures.same) in
+    c.unpack.ensures words (subst (λ command. IsCommand words command) so are)
+
+pub returns-in-Names : goal.returns-in-Names
+returns-in-Names g c words are one =
+    let so = rw c.in-Names.is at (rw c.in-Some.is at c.in-Ok.ensures.same) in
+    c.names.ensures words (subst (λ command. IsCommand words command) so are)
+
 pub returns-in-Planned : goal.returns-in-Planned
 returns-in-Planned g c words are one = c.play_plan.ensures words c.args.command are (rw c.in-Planned.is at (rw c.in-Some.is at c.in-Ok.ensures.same)).0
+
+pub pack-requires : goal.pack-requires
+pack-requires g c = (rw c.in-Pack.is at (rw c.in-Some.is at c.in-Ok.ensures.same)).1
+
+pub returns-in-Pack : goal.returns-in-Pack
+returns-in-Pack g c words are one =
+    let so = rw c.in-Pack.is at (rw c.in-Some.is at c.in-Ok.ensures.same) in
+    c.pack.ensures words (subst (λ command. IsCommand words command) so.0 are)

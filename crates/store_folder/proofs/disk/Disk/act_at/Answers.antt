@@ -1,4 +1,5 @@
-use Rattle.std.proofs.Common.{◌≡◌, ◌⊎◌, true, Result, Ok, Err, sym, subst, rules}
+use Rattle.std.proofs.Common.{◌≡◌, ◌⊎◌, ◌∙◌, ◌<◌, inl, inr, length, true, Result, Ok, Err, sym, subst, rules}
+use Rattle.std.proofs.lemmas.Bool.{cases_lt}
 use Rattle.store_api.specs.declared.step.Answer.{Answer}
 use Rattle.store_api.specs.Step.{step_of}
 use Rattle.folder_calls.specs.declared.failure.Failure.{Failure}
@@ -9,6 +10,7 @@ use Rattle.folder_calls.specs.Keys.{same_file}
 use Rattle.folder_calls.specs.Own.{is_own}
 use Rattle.store_folder.specs.Places.{FindsFile, IsNamed, ActsAt}
 use Rattle.store_folder.specs.Paths.{room_path, folder_path}
+use Rattle.store_folder.proofs.Staying.{stays}
 use Rattle.store_folder.proofs.Acting.{acts_found, acts_missing, acts_failed, becomes_own}
 use Rattle.store_folder.proofs.disk.Disk.act_at.Goals as goal
 
@@ -74,3 +76,23 @@ returns-in_err-answer-in-There-clause-own g c other own =
     let Finds : Found g.row.F.Denot → Type 0 = λ found. FindsFile (held_at c.args.self.now.open key) (is_own c.args.self.now.own key) (g.C.Calls.log c.args.self.now.calls) (g.C.Calls.log c.find.new.self.calls) room (folder_path room key.folder) key.file found in
     let Owns : OwnFiles → Type 0 = λ files. (is_own files other ≡ true) ⊎ ((same_file key other ≡ true) × (c.in-There.held.len ≡ 0)) in
     becomes_own c.args.self.now key (g.C.Calls.log c.args.self.now.calls) (g.C.Calls.log c.find.new.self.calls) c.in-There.held other (is_own c.args.self.now.own other ≡ true) (λ past. search (rules, c.in-There.is, (c.in-Ok.ensures.no_room past).0)) (λ within. subst Finds c.in-There.is (c.in-Ok.ensures.finds within)) (subst Owns c.in-Ok.ensures.own (c.own_if_empty.ensures.only other own))
+
+pub returns-in-Err-clause-opened : goal.returns-in-Err-clause-opened
+returns-in-Err-clause-opened g c other held there = inl (stays other held c.args.key.now _ _ (c.find.ensures.others other) there)
+
+pub returns-in-Not-clause-opened : goal.returns-in-Not-clause-opened
+returns-in-Not-clause-opened g c other held there = inl (stays other held c.args.key.now _ _ (c.find.ensures.others other) there)
+
+pub returns-in_err-answer-in-There-clause-opened : goal.returns-in_err-answer-in-There-clause-opened
+returns-in_err-answer-in-There-clause-opened g c other held there = inl (stays other held c.args.key.now _ _ (c.find.ensures.others other) there)
+
+pub returns-in_ok-answer-in-There-clause-opened : goal.returns-in_ok-answer-in-There-clause-opened
+returns-in_ok-answer-in-There-clause-opened g c other held there =
+    let key = c.args.key.now in
+    let room = room_path c.args.self.now key.room in
+    let Finds : Found g.row.F.Denot → Type 0 = λ found. FindsFile (held_at c.args.self.now.open key) (is_own c.args.self.now.own key) (g.C.Calls.log c.args.self.now.calls) (g.C.Calls.log c.find.new.self.calls) room (folder_path room key.folder) key.file found in
+    let within : key.room < length c.args.self.now.rooms.items = elim (cases_lt key.room (length c.args.self.now.rooms.items)) [ inl is ↦ is | inr past ↦ absurd (search (rules, c.in-There.is, (c.in-Ok.ensures.no_room past).0)) ] in
+    elim (c.keep.ensures.opened other held there) [
+      | inl was ↦ inl (stays other held key _ _ (c.find.ensures.others other) was)
+      | inr kept ↦ inr (kept.0, (c.in-There.held, (g.C.Calls.log c.find.new.self.calls), subst Finds c.in-There.is (c.in-Ok.ensures.finds within), c.in_ok-answer-in-There.ensures.acts, kept.1 ∙ c.in_ok-answer-in-There.ensures.after))
+    ]

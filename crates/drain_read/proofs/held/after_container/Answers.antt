@@ -1,0 +1,11 @@
+use Rattle.std.proofs.Common.{ap, ◌∙◌}
+use Rattle.story.specs.Program.{followed_by}
+use Rattle.flow.specs.Replies.{Tries, on_ok}
+use Rattle.drain_read.specs.declared.read.Contained.{Contained}
+use Rattle.drain_read.specs.Holding.{lists_settled}
+use Rattle.drain_read.proofs.held.after_container.Goals as goal
+
+pub returns-clause-goes_on : goal.returns-clause-goes_on
+returns-clause-goes_on c =
+    c.container_on.ensures.goes_on
+    ∙ ap (λ (p : Tries Contained). followed_by p (on_ok (lists_settled c.args.room))) c.in_ok-turn.ensures.goes_on

@@ -1,0 +1,13 @@
+-- A story that fits a run: which container each line speaks of.
+use Rattle.headline.specs.Run.{Run}
+use Rattle.headline.specs.Names.{Story}
+use Rattle.headline.specs.Opened.{HasOpened}
+use Rattle.headline.specs.Readers.{HasNames, HasOld, HasReaders}
+
+-- The containers that it says have the names by which the lines speak of them, and the files of the writers that lines opened. Their readers see what was told
+-- before, and what the tree before had.
+pub record Fits (run : Run) (story : Story) : Type 0 where
+  pub names : HasNames run story
+  pub opened : HasOpened run story
+  pub readers : HasReaders run story
+  pub old : HasOld run story

@@ -1,0 +1,7 @@
+pub mod Answered
+pub mod HasOnly
+pub mod Isolated
+pub mod Lasting
+pub mod Later
+pub mod OnlyUnits
+pub mod Packed

@@ -1,0 +1,17 @@
+-- What a command reads and writes.
+use Rattle.std.specs.Prelude.{Bool, true, false}
+use Rattle.command_line.specs.declared.commands.Command.{Command}
+use Rattle.command_line.specs.declared.commands.Command.TheVariants as command
+
+-- it reads standard input: a script, or the small files that it packs
+abbrev pub reads_the_input : Command → Bool
+reads_the_input command.Run = true
+reads_the_input command.Play = true
+reads_the_input (command.Pack _ _) = true
+reads_the_input _ = false
+
+-- it writes the bytes of a file
+abbrev pub writes_a_file : Command → Bool
+writes_a_file (command.Cat _) = true
+writes_a_file (command.Unpack _ _) = true
+writes_a_file _ = false

@@ -1,0 +1,10 @@
+pub mod Facts
+mod Seen
+mod LookLemmas
+mod MarkLemmas
+mod LoopLemmas
+mod ListLemmas
+mod IdLemmas
+mod FileLemmas
+mod FolderLemmas
+mod ShapeLemmas

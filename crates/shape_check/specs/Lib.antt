@@ -1,0 +1,6 @@
+pub mod Seeing
+pub mod Rightness
+pub mod Told
+pub mod Places
+pub mod Files
+pub mod Shape

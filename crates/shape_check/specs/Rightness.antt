@@ -1,0 +1,58 @@
+-- When what a check finds is right.
+use Rattle.std.specs.Prelude.{◌≡◌}
+use Rattle.plfs_types.specs.Counts.{HasRisen}
+use Rattle.store_api.specs.declared.tree.Tree.{Tree}
+use Rattle.store_api.specs.declared.store.Trouble.{Trouble}
+use Rattle.store_api.specs.declared.store.Trouble.TheVariants as trouble
+use Rattle.store_api.specs.Acts.{Stored}
+use Rattle.tree_laws.specs.Complaints.{Complaint, IsBroken}
+use Rattle.tree_laws.specs.Complaints as complaint
+use Rattle.shape_check.specs.declared.finding.Complaint as code
+use Rattle.shape_check.specs.declared.finding.Complaint.TheVariants as variant
+use Rattle.shape_check.specs.declared.finding.Finding.{Finding}
+use Rattle.shape_check.specs.declared.finding.Finding.TheVariants.{Broken, Fault, NoMemory, Untold}
+use Rattle.shape_check.specs.Seeing.{IsSeen}
+
+-- the complaint that a value of the program stands for
+abbrev pub complaint_of : code.Complaint → Complaint
+complaint_of (variant.RoomName room) = complaint.room_name room
+complaint_of (variant.NoFolder room folder) = complaint.no_folder room folder
+complaint_of (variant.NoAccess room) = complaint.no_access room
+complaint_of (variant.ForeignFolder room folder) = complaint.foreign_folder room folder
+complaint_of (variant.Foreign room path) = complaint.foreign room path
+complaint_of (variant.NoMark path) = complaint.no_mark path
+complaint_of (variant.Filled room path) = complaint.filled room path
+complaint_of (variant.Unmarked room path) = complaint.unmarked room path
+complaint_of (variant.TwoHosts room writer) = complaint.two_hosts room writer
+complaint_of (variant.Entry room path place) = complaint.entry room path place
+complaint_of (variant.LongLog room path) = complaint.long_log room path
+complaint_of (variant.Unaccounted room path) = complaint.unaccounted room path
+complaint_of (variant.Untrue room path) = complaint.untrue room path
+complaint_of (variant.Unsettled room path) = complaint.unsettled room path
+complaint_of (variant.Between room path stamp) = complaint.between room path stamp
+complaint_of (variant.TwoTruncates room stamp) = complaint.two_truncates room stamp
+complaint_of (variant.WrongIndex room path) = complaint.wrong_index room path
+
+-- what a trouble of the store is
+abbrev pub finding_of : Trouble → Finding
+finding_of trouble.Fault = Fault
+finding_of trouble.NoMemory = NoMemory
+
+-- a complaint is right of the tree, and a store that tells its tree answers
+abbrev pub IsRight : Tree → Finding → Type 0
+IsRight tree (Broken complaint) = IsBroken tree (complaint_of complaint)
+IsRight tree Fault = Unit {0}
+IsRight tree NoMemory = Unit {0}
+IsRight tree Untold = ⊥
+
+-- why a check of what has this property ended early: a fault comes only where the count rose
+pub record Fails (P : Tree → Type 0) (old new : Stored) (finding : Finding) : Type 0 where
+  pub cause : finding ≡ Fault → HasRisen old.faults new.faults
+  pub right : (tree : Tree) → IsSeen old tree → P tree → IsRight tree finding
+
+-- the store gave no answer
+abbrev pub NoAnswer : Stored → Stored → Finding → Type 0
+NoAnswer old new Fault = HasRisen old.faults new.faults
+NoAnswer old new NoMemory = Unit {0}
+NoAnswer old new (Broken complaint) = ⊥
+NoAnswer old new Untold = ⊥
