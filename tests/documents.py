@@ -15,8 +15,12 @@ from pathlib import Path
 SENTENCE_WORDS, CELL_WORDS = 25, 40
 README_WORDS = 1200
 INDEX_LINES = 40
+LEMMA_FILES = 20
+EDITS = 4
 # Crates without code whose README tells the theorem, and two whose definitions all laws stand on.
 LAWS = ["gathering", "drain_sound", "mount_shape", "mount_losses", "mount_undamaged", "mount_sound", "mount_model", "story"]
+# What such a page has: the theorem in words, the tree of lemmas, where to begin.
+THEOREM = ["**The theorem", "## The tree of lemmas", "## Where to begin"]
 
 
 def documents(top):
@@ -147,6 +151,34 @@ def misnamed_promises(top):
                 yield f"{other.relative_to(top)}: a link to {place} shows {name}"
 
 
+def defines(text, name, is_code):
+    """Whether the text of a file defines what has this name: a function or a type of code, else a definition of specs."""
+    if is_code:
+        return re.search(rf"\b(fn|struct|enum|trait|type|const) {name}\b", text)
+    return re.search(rf"^\s*(abbrev|data|record|pub data|pub record) (pub )?{name}\b", text, re.M)
+
+
+def has_label(text, label, is_code):
+    """Whether the text of a file has a clause, a field or a case of this name."""
+    return re.search(rf"\b(ensures|ghost) {label}\b" if is_code else rf"^\s*(pub )?{label}\b.*:", text, re.M)
+
+
+def unclaused_promises(top):
+    """What a row of PROMISES links to stands in that file, with the clauses or fields that the row names behind the link."""
+    page = top / "docs" / "PROMISES.md"
+    for place, cell in re.findall(r'^\| (?:<a id="(\w+)"></a>)?[^|]*\|[^|]*\| (.*) \|$', page.read_text(), re.M):
+        for name, path, labels in re.findall(r"\[`([\w:]+)`\]\(([^)#]+)\)(?: \(([^)]*)\))?", cell):
+            file = page.parent / path
+            if not file.exists():
+                continue
+            text, is_code = file.read_text(), file.suffix == ".rt"
+            if not defines(text, name.split("::")[-1], is_code):
+                yield f"docs/PROMISES.md: the row {place} links to {name} in {path}, which has it not"
+            for label in re.findall(r"`(\w+)`", labels):
+                if not has_label(text, label, is_code):
+                    yield f"docs/PROMISES.md: the row {place} names {label} of {name}, which {path} has not"
+
+
 def crates(top):
     rows = [line.partition("#")[0] for line in (top / "crates.txt").read_text().split("\n")]
     return [re.match(r"\w+", row)[0] for row in rows if ":" in row]
@@ -163,14 +195,18 @@ def untold_crates(top):
 
 
 def borders(top):
-    """The modules of a crate's proofs, other than Facts, that other crates cite: (crate, module) and who cites it."""
+    """The modules of a crate's proofs, other than Facts, that other crates cite: (crate, module) and who cites it.
+
+    A module in a folder of a topic is named with it, as Moments.Issuing."""
     known, found = set(crates(top)), {}
     for part in ("src", "specs", "proofs"):
         for file in (top / "crates").glob(f"*/{part}/**/*"):
             if file.suffix in (".rt", ".antt"):
                 citing = file.relative_to(top).parts[1]
-                for crate, module in re.findall(r"\buse Rattle\.(\w+)\.proofs\.(\w+)", file.read_text()):
+                for crate, module, inner in re.findall(r"\buse Rattle\.(\w+)\.proofs\.(\w+)(?:\.(\w+))?", file.read_text()):
                     if crate in known and crate != citing and module != "Facts":
+                        if (top / "crates" / crate / "proofs" / module / f"{inner}.antt").exists():
+                            module = f"{module}.{inner}"
                         found.setdefault((crate, module), set()).add(citing)
     return found
 
@@ -212,17 +248,45 @@ def untold_laws(top):
 
 def untold_theorems(top):
     for crate in crates(top):
-        if (crate.endswith("_laws") or crate in LAWS) and not (top / "crates" / crate / "README.md").exists():
-            yield f"crates/{crate}: there is no README.md"
+        if crate.endswith("_laws") or crate in LAWS:
+            page = top / "crates" / crate / "README.md"
+            if not page.exists():
+                yield f"crates/{crate}: there is no README.md"
+            else:
+                yield from (f"crates/{crate}/README.md: it lacks {part}" for part in THEOREM if part not in page.read_text())
     for page in top.glob("crates/*/README.md"):
         text = page.read_text()
         crate = page.parent.name
         for owner, name in laws(top):
             if owner == crate and not re.search(rf"\b{name}\b", text):
                 yield f"crates/{crate}/README.md: the law {name} is named nowhere"
-        for file in re.findall(r"`(proofs/\w+|specs/\w+)`", text):
+        for file in re.findall(r"`((?:proofs|specs)/[\w/]+)`", text):
             if not any((page.parent / f"{file}{end}").exists() for end in (".antt", "")):
                 yield f"crates/{crate}/README.md: there is no {file}"
+
+
+def crowded_proofs(top):
+    """Lemma files stand in folders by topic where they are many: those of proofs/, and those of each topic."""
+    for proofs in sorted(top.glob("crates/*/proofs")):
+        for folder in [proofs] + sorted(it for it in proofs.iterdir() if it.is_dir() and it.name[0].isupper()):
+            files = [it for it in folder.glob("*.antt") if it.name != "Lib.antt"]
+            if len(files) > LEMMA_FILES:
+                yield f"{folder.relative_to(top)}: {len(files)} files of lemmas side by side, and at most {LEMMA_FILES} are wanted"
+
+
+def crowded_edits(top):
+    for folder in sorted(top.glob("crates/*/must-fail")):
+        edits = list(folder.glob("*.edit"))
+        if len(edits) > EDITS:
+            yield f"{folder.relative_to(top)}: {len(edits)} edits that the gate tries, and at most {EDITS} are wanted"
+
+
+def unlisted_questions(top):
+    """The list at the head of DECISIONS has each question, in the order of the page."""
+    text = (top / "docs" / "DECISIONS.md").read_text()
+    asked, listed = re.findall(r"^## (.*)$", text, re.M), re.findall(r"^- \[([^\]]+)\]\(#", text, re.M)
+    if asked != listed:
+        yield f"docs/DECISIONS.md: its list and its questions differ in {', '.join(sorted(set(asked) ^ set(listed))) or 'their order'}"
 
 
 def dead_names(top):
@@ -323,8 +387,8 @@ def differing_versions(top):
             yield f"{paper} is of the version {found and found[1]}, and ./plfs --version tells {version}"
 
 
-RULES = [long_ones, long_first_page, long_manual, broken_links, misnamed_promises, untold_crates, untold_borders, untold_laws, untold_theorems, dead_names, long_index,
-         glossary,
+RULES = [long_ones, long_first_page, long_manual, broken_links, misnamed_promises, unclaused_promises, untold_crates, untold_borders, untold_laws, untold_theorems,
+         crowded_proofs, crowded_edits, unlisted_questions, dead_names, long_index, glossary,
          differing_commands, differing_options, differing_versions]
 
 

@@ -12,6 +12,8 @@ from trial import SECONDS, WORK, check, listed, same, size_limit, true
 from units import CONTENT_BYTES, REGION, REGIONS, Bad, View, unit
 
 NO_FILE = "0 refused no-file\n"
+# what helps where a place of a file is of no small file
+UNLESS_MORE = "restore it from a copy, unless more than small files was written to it"
 # Of a container so many files are written out.
 SOME = 8
 MOST_INPUT = 2**20
@@ -86,7 +88,7 @@ def a_container_whose_first_byte_is_of_no_small_file_is_damage_of_the_view(trial
     trial.ends(0, "actor a\na open p\na write 0 text:A\na close\n")
     for words in (("unpack", "p", "z"), ("names", "p"), ("pack", "p", "0")):
         ended = trial.ends(7, "a 6869\n", words=words, lines="0 damaged view 0\n")
-        true(f"standard error of {words} is {ended.err!r}", ended.err.startswith(f"plfs: {trial.root}") and ended.err.count("\n") == 1)
+        same(f"standard error of {words}", ended.err, f"plfs: {trial.root}/p: damaged view 0: {UNLESS_MORE}\n")
     # The scan of one region tells nothing of another.
     packs(trial, "p", 1, "a 6869\n", f"packed 1 end {REGION + 19}\n")
     same("the whole is as bad as before", as_read_by_hand(trial, "p"), 0)
@@ -519,6 +521,14 @@ def damage_of_a_container_is_told_by_the_commands_of_small_files(trial):
         what = f"damaged {index.relative_to(trial.root / 'p')} 0"
         ended = trial.ends(7, "a 68\n", words=words, lines=f"0 {what}\n")
         same(f"standard error of {words}", ended.err, f"plfs: {trial.root}/p: {what}: restore it from a copy\n")
+
+
+@check
+def what_helps_against_damage_of_the_view_is_told_at_its_place(trial):
+    trial.ends(0, "actor a\na open p\na write 0 hex:01000000000000000200000000000000616869\na write 19 text:A\na close\n")
+    for words in (("unpack", "p", "a"), ("names", "p"), ("pack", "p", "0")):
+        ended = trial.ends(7, "b 68\n", words=words, lines="0 damaged view 19\n")
+        same(f"standard error of {words}", ended.err, f"plfs: {trial.root}/p: damaged view 19: {UNLESS_MORE}\n")
 
 
 # the manual's limit for `run` and `pack`

@@ -3,7 +3,6 @@ ghost use Rattle.std.specs.Prelude.{◌≡◌, ◌≤◌, ◌<◌, ◌+◌, ◌^
 ghost use Rattle.mount_model.specs.declared.reply.Reply.TheVariants.{NoMemory as WantsMemory};
 ghost use Rattle.story.specs.Program.{followed_by};
 ghost use Rattle.flow.specs.Replies.{on_ok};
-ghost use Rattle.index_reader.specs.Replies.{log_length_in as length_of};
 ghost use Rattle.mount_model.specs.Paths as paths;
 ghost use Rattle.drain_read.specs.Holding.{held_program, lists_settled, measures, unknown as unknown_of};
 ghost use Rattle.drain_read.specs.Stages.{container_turn, container_turn_left, held_bound, held_calls, held_left, held_rest, held_stage_rest, held_turn, held_turn_left, IsOwedContainer, IsOwedHeld};
@@ -14,10 +13,10 @@ use crate::settled::settled;
 use crate::waiting::Waiting;
 use container_layout::{Item, metadata, print};
 use flow::{Stuck, trouble};
+use index_reader::log_length_in;
 use mount_model::{Call, Look, Reply};
 use plfs_types::{Cover, CoverList, IdList, NoMemory, Path, Sequence};
 use std::alloc::Global;
-use store_api::Answer;
 
 /// What a target has of a writer with an index dropping there.
 #[derive(Clone, Copy)]
@@ -79,20 +78,6 @@ fn log_path(writer: &WriterRead) -> Path
         host: writer.host,
         writer: writer.writer,
     })
-}
-
-/// The length of a log, which has no bytes where it is absent.
-fn log_length_in(reply: &Reply) -> Option<u64>
-    ensures { result ≡ length_of reply.now }
-{
-    match reply {
-        Reply::Looked(answer) => match answer {
-            Answer::Number { value } => Some(*value),
-            Answer::Absent => Some(0),
-            _ => None,
-        },
-        _ => None,
-    }
 }
 
 /// Asks for the length of the next log, or ends.

@@ -26,7 +26,7 @@ use Rattle.index_reader.specs.Truncs.{trunc_program}
 use Rattle.index_reader.specs.Hosts.{hosts_of}
 use Rattle.index_reader.specs.Runs.{merged_of}
 use Rattle.index_reader.specs.Gathered.{IsGatheredOf, pieces_of_each, covers_of}
-use Rattle.index_reader.proofs.RunLemmas.{runs_of-is, merged_of-is}
+use Rattle.index_reader.proofs.Indices.RunLemmas.{runs_of-is, merged_of-is}
 use Rattle.gather_flow.specs.OneIndex.{gathered_of, reader_of, attr_of}
 use Rattle.gather_flow.specs.Shares.{by_itself, worker_program, programs_from}
 use Rattle.gather_flow.specs.Gathering.{if_truncs_listed, reads_truncs, after_share, shares_from}

@@ -34,7 +34,7 @@ pub(crate) fn add(bytes: &mut Bytes, more: &[u8]) -> Result<(), NoMemory>
 }
 
 /// So many of the bytes that were told are left.
-#[tactic(auto, using(crate::proofs::FileLemmas::bytes_going_on))]
+#[tactic(auto, using(crate::proofs::Containers::FileLemmas::bytes_going_on))]
 pub(crate) fn read_on(path: Path, told: u64, left: u64, sofar: Bytes) -> AfterPart
     requires { left ≤ told }
     ensures goes_on { (room : ℕ) → part_left room result ≡ bytes_left room path told left sofar }
@@ -66,7 +66,7 @@ pub(crate) fn read_first(room: u64, path: Path, told: u64) -> Call
 }
 
 /// What is left behind the first bytes of so many.
-#[tactic(auto, using(crate::proofs::FileLemmas::first_full, crate::proofs::FileLemmas::first_short))]
+#[tactic(auto, using(crate::proofs::Containers::FileLemmas::first_full, crate::proofs::Containers::FileLemmas::first_short))]
 pub(crate) fn read_rest(
     alloc: Global,
     path: Path,

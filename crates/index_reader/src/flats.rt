@@ -52,7 +52,7 @@ pub(crate) fn flat_path(id: u64) -> Path
 }
 
 /// The flattened index that the bytes are, or the place of the first fault.
-#[tactic(auto, using(crate::proofs::CoverOrder::flat_rises))]
+#[tactic(auto, using(crate::proofs::Indices::CoverOrder::flat_rises))]
 fn told(alloc: Global, bytes: &[u8]) -> Result<Result<Flattened, u64>, NoMemory>
     ensures { IfOk result (λ told. told ≡ flat_told bytes.now) }
 {

@@ -42,6 +42,7 @@ pub use opened::OpenReader;
 pub use opening::{AfterOpen, OpenRead};
 pub use placing::found as dropping_of;
 pub use reading::Reading;
+pub use replies::log_length_in;
 pub use sharing::{Share, ShareRead};
 pub use tail_flow::TailFlow;
 pub use truncs::TruncRead;

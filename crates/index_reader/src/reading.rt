@@ -34,14 +34,26 @@ pub(crate) enum Stage {
     Ended(Result<Bytes, Stuck>),
 }
 
+/// As many zeros as are added at a time.
+static ZEROS: [u8; 4096] = [0; 4096];
+
+fn zeros(len: usize) -> &'static [u8]
+    requires { len ≤ 4096 }
+    ensures { result.now ≡ replicate len 0 }
+{
+    &ZEROS[..len]
+}
+
 /// Adds so many zeros.
+#[tactic(auto, using(crate::proofs::ZeroLemmas::zeros_left))]
 fn add_zeros(bytes: &mut Bytes, len: u64) -> Result<(), NoMemory>
     ensures { OnOk result (bytes.new ≡ bytes.old ++ replicate len 0) }
 {
     let mut left = len;
     while left > 0 {
-        add(bytes, &[0])?;
-        left -= 1;
+        let some = left.min(4096);
+        add(bytes, zeros(some as usize))?;
+        left -= some;
     }
     Ok(())
 }

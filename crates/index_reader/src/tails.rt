@@ -201,7 +201,7 @@ fn look(tail: &mut Tail, log: u64, asked: u64, ended: bool, bytes: &[u8]) -> Res
 }
 
 /// So many entries are left.
-#[tactic(auto, using(crate::proofs::TailLemmas::reads_going_on))]
+#[tactic(auto, using(crate::proofs::Indices::TailLemmas::reads_going_on))]
 fn reading(dropping: Dropping, tail: Tail, log: u64, whole: u64, left: u64, ended: bool) -> After
     requires pieces { All HasPiece tail.entries }
     requires within { tail.cover.count + left ≤ whole }

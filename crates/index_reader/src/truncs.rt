@@ -48,7 +48,7 @@ fn names_told(alloc: Global, names: &[Name]) -> Result<Result<TruncList, Stuck>,
 }
 
 /// The truncates that the names tell, in order. They are sorted once.
-#[tactic(auto, using(crate::proofs::TruncOrder::listed_sorted, crate::proofs::TruncOrder::listed_none))]
+#[tactic(auto, using(crate::proofs::Containers::TruncOrder::listed_sorted, crate::proofs::Containers::TruncOrder::listed_none))]
 fn truncs_in(alloc: Global, names: &[Name]) -> Result<Result<TruncList, Stuck>, NoMemory>
     ensures { IfOk result (λ found. found ≡ truncs_of names.now []) }
 {

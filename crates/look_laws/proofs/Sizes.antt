@@ -33,7 +33,7 @@ use Rattle.gathering.specs.Listing.{AreTruncsAt}
 use Rattle.gathering.specs.Moments.{HadTrunc, IsSoundAt, Moment, issued_by, landed, landed_by}
 use Rattle.gathering.specs.View.{WritersRise, changes_in, own_entries, writes_in}
 use Rattle.gathering.proofs.Facts.{in_a_room, in_tree, landed_at, landed_is_first, prefix_of, size_of_pieces, stands}
-use Rattle.gathering.proofs.Viewing.{All-take, entries_split, in_order-take}
+use Rattle.gathering.proofs.OpenReaders.Viewing.{All-take, entries_split, in_order-take}
 use Rattle.reader_laws.proofs.Facts.{AreRunsOf, IsBounded, runs_are}
 use Rattle.look_laws.proofs.Cuts.{IsLeftOf}
 use Rattle.look_laws.proofs.Ends.{pieces_reach, reach, reach_within, reached}

@@ -38,8 +38,8 @@ use Rattle.gathering.specs.Seen.{asked_in}
 use Rattle.gathering.specs.View.{own_entries}
 use Rattle.plain_file.specs.Size.{last_trunc}
 use Rattle.gathering.proofs.Facts.{folder_listed, found_any, grows_after, grows_trans, legal_first, legal_rest, moment-append, sound_after, stood_grows}
-use Rattle.gathering.proofs.Truncates.{truncs_listed}
-use Rattle.gathering.proofs.Viewing.{tails_are}
+use Rattle.gathering.proofs.Containers.Truncates.{truncs_listed}
+use Rattle.gathering.proofs.OpenReaders.Viewing.{tails_are}
 use Rattle.reader_laws.proofs.Facts.{answered, calls_are, first_of}
 use Rattle.look_laws.specs.Looking.{HasToldOf, TellsOf}
 use Rattle.look_laws.proofs.Cuts.{IsLeftOf, cut_left}

@@ -11,3 +11,4 @@ mod putting;
 mod settling;
 
 pub use packing::{Packed, pack};
+pub use settling::settle;

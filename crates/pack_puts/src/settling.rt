@@ -44,7 +44,7 @@ fn close<S: Store + Drop, C: Clock + Drop>(
 }
 
 /// Syncs the writer, and closes it.
-pub(crate) fn settle<S: Store + Drop, C: Clock + Drop>(
+pub fn settle<S: Store + Drop, C: Clock + Drop>(
     mount: &mut Mount<S, C>,
     handle: WriterHandle,
 ) -> Result<Result<(), Stuck>, NoMemory>

@@ -5,3 +5,4 @@ pub mod Lasting
 pub mod Later
 pub mod OnlyUnits
 pub mod Packed
+pub mod Troubles

@@ -30,10 +30,12 @@ ghost use Rattle.pack_puts.specs.declared.packing.Packed.{Packed};
 ghost use Rattle.pack_puts.specs.Packing.{Packs};
 ghost use Rattle.packing_laws.specs.HasOnly.{HasFirstUnits, HasOnlyUnits, IsOfUnits, TreeIsOfUnits};
 ghost use Rattle.packing_laws.specs.OnlyUnits.{Filing};
+ghost use Rattle.packing_laws.specs.Troubles.{TellsNoDamage};
 
 use opening_laws::an_opening_opens_a_reader;
 use pack_laws::a_scan_tells_the_units_of_its_region;
 use reader_laws::an_open_reader_reads_its_file;
+use trouble_laws::a_statement_shows_no_damage;
 
 /// A law: where a container has only units, each file that a reader may see there has bytes, and of each region just the first
 /// units: those of the cut up to the first that isn't in it.
@@ -58,18 +60,19 @@ pub fn a_scan_of_units_finds_none_bad()
 }
 
 /// A law: where the container of the name has only units as a caller by itself begins, its unpacking, its naming and its packing
-/// tell of no bad place.
-pub fn no_place_is_bad()
+/// end well, in a fault or in a refusal. Nothing is told to be damaged, and no place to be bad.
+pub fn a_container_of_units_shows_no_damage()
     ensures unpack { (filing : Filing) (name file : Name) (start : Moment) (told : Result (Option (List ℕ)) ScanStuck) (end : State) → IsSoundAt start → IsOfUnits filing start name
-        → Unpacks name file start.state told end → (place : ℕ) → told ≡ Err (Bad place) → ⊥ }
+        → Unpacks name file start.state told end → TellsNoDamage told }
     ensures names { (filing : Filing) (name : Name) (start : Moment) (told : Result (List Name) ScanStuck) (end : State) → IsSoundAt start → IsOfUnits filing start name
-        → Names name start.state told end → (place : ℕ) → told ≡ Err (Bad place) → ⊥ }
+        → Names name start.state told end → TellsNoDamage told }
     ensures pack { (filing : Filing) (name : Name) (region : ℕ) (files : List NamedFile) (start : Moment) (told : Result Packed ScanStuck) (end : State) → region < REGIONS → IsSoundAt start → IsOfUnits filing start name
-        → Packs name region files start.state told end → (place : ℕ) → told ≡ Err (Bad place) → ⊥ }
+        → Packs name region files start.state told end → TellsNoDamage told }
 {
     an_opening_opens_a_reader();
     a_scan_tells_the_units_of_its_region();
     an_open_reader_reads_its_file();
+    a_statement_shows_no_damage();
 }
 
 /// A law: a mounting over a sound tree leaves the container of a name so, where it has only units in that tree. So the law above

@@ -36,6 +36,9 @@ use store_folder::{FolderStore, Place};
 /// What helps where something is damaged.
 const CURE: &str = "restore it from a copy";
 
+/// What helps where a place of a file breaks a rule of small files. It may hold other bytes rightly.
+const CURE_OF_VIEW: &str = "restore it from a copy, unless more than small files was written to it";
+
 /// The folders that a command is run over. All runs are over this one type, so that the program is compiled once.
 type Folders = Backing<FolderStore<HostRuntime>>;
 
@@ -356,11 +359,23 @@ fn tell_damage(
     let room = Place::of_room(place.room);
     let root = Spelled(root);
     let _ = match said.damage().split_once(' ') {
-        Some(("0", what)) => eprintln!(rt; "plfs: {root}{room}: {what}: {CURE}"),
+        Some(("0", what)) => {
+            let cure = cure(what);
+            eprintln!(rt; "plfs: {root}{room}: {what}: {cure}")
+        }
         Some((line, what)) => eprintln!(rt; "plfs: {root}: line {line}: {what}: {CURE}"),
         None if said.has_lines => eprintln!(rt; "plfs: {root}: damaged: {CURE}"),
         None => eprintln!(rt; "plfs: {root}{place}: damaged: {CURE}"),
     };
+}
+
+// What helps where this is damaged.
+fn cure(what: &str) -> &'static str {
+    if what.starts_with("damaged view ") {
+        CURE_OF_VIEW
+    } else {
+        CURE
+    }
 }
 
 // The words behind the program's name, or None where one of them is no text.

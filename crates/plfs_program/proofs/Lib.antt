@@ -1,21 +1,4 @@
-mod Calls
-mod CatCourses
-mod CatLemmas
-mod CommandLemmas
-mod CompleteLaws
-mod CourseLaws
-mod CourseLemmas
-mod Lines
-mod ListingLemmas
-mod MarkLaws
-mod MigrateCourses
-mod MountLemmas
-mod InputLemmas
-mod OutputLemmas
-mod PackCourses
-mod PackInputs
-mod Pieces
-mod Plain
-mod SmallCourses
-mod SmallTexts
-mod SoundMarks
+mod Courses
+pub mod Facts
+mod Mounts
+mod Streams

@@ -1,7 +1,6 @@
 -- The commands, and the scripts that they play.
-use Rattle.std.specs.Prelude.{◌≡◌, ◌⊎◌, ℕ, ◌≤◌, ◌<◌, Bool, true, false, List, [], ◌∷◌, Option, Some, None, codes}
+use Rattle.std.specs.Prelude.{◌≡◌, ◌⊎◌, ℕ, ◌≤◌, ◌<◌, List, [], ◌∷◌, Option, Some, None, codes}
 use Rattle.plfs_types.specs.Names.{IsLogicalName}
-use Rattle.command_line.specs.Commands.{IsCommand}
 use Rattle.command_line.specs.declared.commands.Command.{Command}
 use Rattle.command_line.specs.declared.commands.Command.TheVariants as command
 use Rattle.script_lang.specs.Generated.{generated}
@@ -71,16 +70,12 @@ IsBuiltCommand asked = (planned : Plan) × IsPlanned asked planned
 abbrev pub IsServed : Command → Type 0
 IsServed asked = IsBuiltCommand asked ⊎ (asked ≡ command.Run)
 
--- the command is about the small files of a container, whose bytes may be no units
-abbrev pub is_of_small_files : Command → Bool
-is_of_small_files (command.Pack name region) = true
-is_of_small_files (command.Unpack name file) = true
-is_of_small_files (command.Names name) = true
-is_of_small_files other = false
-
--- the words are such a command
-abbrev pub AreOfSmallFiles : List (List ℕ) → Type 0
-AreOfSmallFiles words = (asked : Command) × IsCommand words asked × (is_of_small_files asked ≡ true)
+-- the name of the container whose small files the command packs, unpacks or names
+abbrev pub container_of : Command → Option (List ℕ)
+container_of (command.Pack name region) = Some name
+container_of (command.Unpack name file) = Some name
+container_of (command.Names name) = Some name
+container_of other = None
 
 -- the files that it names have logical names, and its writers are 1 to 256
 abbrev pub FitsCommand : Command → Type 0

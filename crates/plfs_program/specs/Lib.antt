@@ -21,3 +21,4 @@ pub mod SmallFiles
 pub mod SoundTrees
 pub mod Summary
 pub mod Ways
+pub mod UnitTrees

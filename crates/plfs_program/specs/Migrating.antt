@@ -56,7 +56,7 @@ said_status (Ok out) = 0
 said_status (Err outcome) = status_of (line_zero outcome ∷ [])
 
 -- it was broken off by such an outcome
-abbrev pub is_broken_by : (Outcome → Bool) → Said → Bool
+abbrev pub is_broken_by : {A : Type 0} → (Outcome → Bool) → Result A Outcome → Bool
 is_broken_by test (Ok out) = false
 is_broken_by test (Err outcome) = test outcome
 

@@ -1,6 +1,8 @@
 -- What becomes of small files that are packed.
-use Rattle.std.specs.Prelude.{ℕ, ◌≡◌, ◌⊎◌, List, [], ◌∷◌, ◌++◌, length, Option, Some, Result, Ok, Err, codes}
+use Rattle.std.specs.Prelude.{ℕ, ◌≡◌, ◌⊎◌, List, [], ◌∷◌, ◌++◌, length, true, false, Option, Some, Result, Ok, Err, codes}
 use Rattle.std.specs.Fmt.{decimal}
+use Rattle.plfs_types.specs.Counts.{HasRisen}
+use Rattle.plfs_types.specs.Names.{IsLogicalName}
 use Rattle.edge_io.specs.Sink.{Taking}
 use Rattle.store_api.specs.Acts.{Stored}
 use Rattle.mount_model.specs.State.{State}
@@ -18,12 +20,13 @@ use Rattle.pack_puts.specs.declared.packing.Packed.TheVariants.{All, Full}
 use Rattle.script_lang.specs.declared.line.Outcome.{Outcome}
 use Rattle.report_text.specs.Text.{text_of}
 use Rattle.plfs_program.specs.Ends.{Ends, IsUntouched, IsSaid}
-use Rattle.plfs_program.specs.Migrating.{IsReported, line_zero}
+use Rattle.plfs_program.specs.Migrating.{IsReported, is_broken_by, line_zero}
 use Rattle.plfs_program.specs.Mounting.{unmounted_of}
-use Rattle.plfs_program.specs.Outcomes.{status_of}
+use Rattle.plfs_program.specs.Outcomes.{is_damage, is_fault, status_of}
 use Rattle.plfs_program.specs.Output.{IsPrinted, IsCutOff}
 use Rattle.plfs_program.specs.Playing.{IsStoreLeft}
 use Rattle.plfs_program.specs.SmallFiles.{outcome_of}
+use Rattle.plfs_program.specs.UnitTrees.{TellsUnitsOf}
 
 -- ---- what is said
 
@@ -78,10 +81,14 @@ pub data IsEndOf (times : Option (List ℕ)) (before after : Stored) (name : Lis
   unmounted : (trouble : MountTrouble) (outcome : Outcome) → FailsToMount before trouble after → unmounted_of trouble ≡ Some outcome → ended ≡ Err outcome → IsEndOf times before after name region files ended
   mounted : (result : Result Packed ScanStuck) → IsPackedOn times before name region files result after → ended ≡ end_of result → IsEndOf times before after name region files ended
 
+-- That is said of the packing. A fault is the store's own, and there is no damage where the store told a sound tree in which the container of the name has
+-- only units.
 pub record IsPackedAs (name : List ℕ) (region : ℕ) (files : List NamedFile) (ended : PackEnd) (e : Ends) : Type 0 where
   pub after : Stored
   pub left : e.stored_after ≡ Some after
   pub came : IsEndOf e.times e.stored after name region files ended
+  pub cause : is_broken_by is_fault ended ≡ true → HasRisen e.stored.faults after.faults
+  pub undamaged : IsLogicalName name → TellsUnitsOf e.stored name → is_broken_by is_damage ended ≡ false
 
 -- caller 0 by itself packed these files, or was broken off
 abbrev pub HasBegunToPack : List ℕ → ℕ → List NamedFile → State → State → Type 0

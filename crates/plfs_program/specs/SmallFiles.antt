@@ -1,5 +1,7 @@
 -- What becomes of small files of a container that are read.
-use Rattle.std.specs.Prelude.{ℕ, ◌≡◌, List, [], ◌∷◌, ◌++◌, Option, Some, None, Result, Ok, Err, codes}
+use Rattle.std.specs.Prelude.{ℕ, ◌≡◌, List, [], ◌∷◌, ◌++◌, Option, Some, None, Result, Ok, Err, true, false, codes}
+use Rattle.plfs_types.specs.Counts.{HasRisen}
+use Rattle.plfs_types.specs.Names.{IsLogicalName}
 use Rattle.edge_io.specs.Sink.{Taking}
 use Rattle.store_api.specs.Acts.{Stored}
 use Rattle.plain_file.specs.declared.pieces.Piece.{Piece}
@@ -24,12 +26,13 @@ use Rattle.script_lang.specs.declared.line.Why.TheVariants.{NoFile}
 use Rattle.report_text.specs.Items.{list_text}
 use Rattle.report_text.specs.Text.{text_of}
 use Rattle.plfs_program.specs.Ends.{Ends}
-use Rattle.plfs_program.specs.Migrating.{IsReported, line_zero}
+use Rattle.plfs_program.specs.Migrating.{IsReported, is_broken_by, line_zero}
 use Rattle.plfs_program.specs.Mounting.{unmounted_of}
-use Rattle.plfs_program.specs.Outcomes.{status_of}
+use Rattle.plfs_program.specs.Outcomes.{is_damage, is_fault, status_of}
 use Rattle.plfs_program.specs.Output.{IsPrinted, IsCutOff}
 use Rattle.plfs_program.specs.Playing.{IsStoreLeft}
 use Rattle.plfs_program.specs.SoundTrees.{TellsSoundTree}
+use Rattle.plfs_program.specs.UnitTrees.{TellsUnitsOf}
 
 -- ---- what is said
 
@@ -90,24 +93,27 @@ pub data IsToldOf {R : Type 0} (Reads : Does R) (Holds : Claims R) (tells : Resu
   unmounted : (trouble : MountTrouble) (outcome : Outcome) → FailsToMount before trouble after → unmounted_of trouble ≡ Some outcome → told ≡ Err outcome → IsToldOf Reads Holds tells times before after told
   mounted : (result : Result R ScanStuck) → IsReadOn Reads Holds times before result after → told ≡ tells result → IsToldOf Reads Holds tells times before after told
 
-pub record IsToldAs {R : Type 0} (Reads : Does R) (Holds : Claims R) (tells : Result R ScanStuck → Told) (told : Told) (e : Ends) : Type 0 where
+-- That is told. A fault is the store's own, and there is no damage where the store told a sound tree in which the container of the name has only units.
+pub record IsToldAs {R : Type 0} (name : Name) (Reads : Does R) (Holds : Claims R) (tells : Result R ScanStuck → Told) (told : Told) (e : Ends) : Type 0 where
   pub after : Stored
   pub left : e.stored_after ≡ Some after
   pub came : IsToldOf Reads Holds tells e.times e.stored after told
+  pub cause : is_broken_by is_fault told ≡ true → HasRisen e.stored.faults after.faults
+  pub undamaged : IsLogicalName name → TellsUnitsOf e.stored name → is_broken_by is_damage told ≡ false
 
 -- What becomes of it: the text is printed, or a front of it where the sink broke. Where memory was refused there is none.
-pub data ReadCourse {R : Type 0} (Reads : Does R) (Holds : Claims R) (tells : Result R ScanStuck → Told) (e : Ends) (status : ℕ) : Type 0 where
-  printed : (told : Told) → IsToldAs Reads Holds tells told e → IsPrinted (told_text told) e.taking e.taking_after → status ≡ told_status told → ReadCourse Reads Holds tells e status
-  cut_off : (told : Told) → IsToldAs Reads Holds tells told e → IsCutOff (told_text told) e.taking e.taking_after → status ≡ 6 → ReadCourse Reads Holds tells e status
-  exhausted : IsStoreLeft HasLooked e → e.taking_after ≡ e.taking → status ≡ 3 → ReadCourse Reads Holds tells e status
+pub data ReadCourse {R : Type 0} (name : Name) (Reads : Does R) (Holds : Claims R) (tells : Result R ScanStuck → Told) (e : Ends) (status : ℕ) : Type 0 where
+  printed : (told : Told) → IsToldAs name Reads Holds tells told e → IsPrinted (told_text told) e.taking e.taking_after → status ≡ told_status told → ReadCourse name Reads Holds tells e status
+  cut_off : (told : Told) → IsToldAs name Reads Holds tells told e → IsCutOff (told_text told) e.taking e.taking_after → status ≡ 6 → ReadCourse name Reads Holds tells e status
+  exhausted : IsStoreLeft HasLooked e → e.taking_after ≡ e.taking → status ≡ 3 → ReadCourse name Reads Holds tells e status
 
 -- of one small file: its content, or that there is none
 abbrev pub UnpackCourse : List ℕ → List ℕ → Ends → ℕ → Type 0
-UnpackCourse name file = ReadCourse (Unpacks name file) (λ pieces bytes from end result. IsContent pieces bytes file from end result) told_of_file
+UnpackCourse name file = ReadCourse name (Unpacks name file) (λ pieces bytes from end result. IsContent pieces bytes file from end result) told_of_file
 
 -- of the names of all
 abbrev pub NamesCourse : List ℕ → Ends → ℕ → Type 0
-NamesCourse name = ReadCourse (Names name) AreNames told_of_names
+NamesCourse name = ReadCourse name (Names name) AreNames told_of_names
 
 -- ---- on a mount
 

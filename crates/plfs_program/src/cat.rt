@@ -106,7 +106,7 @@ fn write_piece<S: Store + Drop, C: Clock + Drop, O: Sink>(
 }
 
 /// Prints one line, and ends with its status.
-pub(crate) fn say_line<O: Sink>(alloc: Global, out: &mut O, line: Line) -> u8
+pub fn say_line<O: Sink>(alloc: Global, out: &mut O, line: Line) -> u8
     requires { HaveText (line ∷ []) }
     ensures told { ((result ≡ status (line ∷ [])) × IsPrinted (text_of (line ∷ [])) (O.taking out.old) (O.taking out.new))
         ⊎ ((result ≡ 6) × IsCutOff (text_of (line ∷ [])) (O.taking out.old) (O.taking out.new))
@@ -145,7 +145,7 @@ pub(crate) fn cat_mounted<S: Store + Drop, C: Clock + Drop, O: Sink>(
 }
 
 /// Says why there is no mount, and answers the status.
-pub(crate) fn say_unmounted<O: Sink>(alloc: Global, out: &mut O, trouble: MountTrouble) -> u8
+pub fn say_unmounted<O: Sink>(alloc: Global, out: &mut O, trouble: MountTrouble) -> u8
     ensures { ((lines : List TheLine) × IsUnmounted trouble lines × (((result ≡ status lines) × IsPrinted (text_of lines) (O.taking out.old) (O.taking out.new)) ⊎ ((result ≡ 6) × IsCutOff (text_of lines) (O.taking out.old) (O.taking out.new))))
         ⊎ ((result ≡ 3) × (O.taking out.new ≡ O.taking out.old)) }
 {

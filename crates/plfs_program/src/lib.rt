@@ -18,6 +18,9 @@ mod summary;
 mod top;
 mod work;
 
+pub use cat::{say_line, say_unmounted};
 pub use laws::{a_run_leaves_a_sound_tree, marks_are_why, marks_decide};
+pub use migrating::push_number;
 pub use running::plfs;
-pub use top::{Ended, USAGE, single};
+pub use small_files::say_text;
+pub use top::{Ended, USAGE, ends, say, single};

@@ -19,7 +19,7 @@ use std::alloc::Global;
 use store_api::Store;
 
 /// A word and a number more.
-pub(crate) fn push_number(text: &mut Vec<u8>, word: &[u8], number: u128) -> Result<(), NoMemory>
+pub fn push_number(text: &mut Vec<u8>, word: &[u8], number: u128) -> Result<(), NoMemory>
     ensures { OnOk result (text.new.items ≡ text.old.items ++ (word.now ++ decimal number)) }
 {
     let mut buffer = Buffer::new();

@@ -18,6 +18,9 @@ use crate::top::{Ended, ends, say};
 use edge_io::{Clock, Sink, Source};
 use mount_core::Mount;
 use pack_input::{FileList, InputTrouble, Kind, read};
+use packing_laws::{
+    a_container_of_units_shows_no_damage, a_fault_is_the_stores, a_mounting_leaves_units_alone,
+};
 use plfs_types::LogicalName;
 use std::alloc::Global;
 use store_api::Store;
@@ -37,6 +40,9 @@ fn pack_files<S: Store + Drop, C: Clock + Drop, O: Sink>(
     requires known { region < REGIONS }
     ensures { PackCourse name region files.now (ends_of (C.times clock) (O.taking out.old) (O.taking out.new) (S.stored store) (option_map S.stored result.store)) result.status }
 {
+    a_mounting_leaves_units_alone();
+    a_container_of_units_shows_no_damage();
+    a_fault_is_the_stores();
     match Mount::open(alloc, store, clock) {
         Ok(mount) => {
             let mut mount = mount;

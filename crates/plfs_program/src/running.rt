@@ -6,13 +6,14 @@ ghost use Rattle.command_line.specs.declared.commands.Command.TheVariants.{Run};
 ghost use Rattle.script_lang.specs.Grammar.{IsScript};
 ghost use Rattle.script_lang.specs.Ranges.{FitsScript};
 ghost use Rattle.run_core.specs.Conditions.{IsPlayable};
-ghost use Rattle.plfs_program.specs.Commands.{IsServed, AreOfSmallFiles};
+ghost use Rattle.plfs_program.specs.Commands.{IsServed};
 ghost use Rattle.plfs_program.specs.Complete.{IsAsked, HadNoTrouble, IsDone};
 ghost use Rattle.plfs_program.specs.Course.{Course, InputCourse};
 ghost use Rattle.plfs_program.specs.Ends.{ends_of};
 ghost use Rattle.plfs_program.specs.Playing.{PlayCourse};
 ghost use Rattle.plfs_program.specs.Showing.{all_lines};
 ghost use Rattle.plfs_program.specs.SoundTrees.{TellsSoundTree, LeavesSoundTree};
+ghost use Rattle.plfs_program.specs.UnitTrees.{AskForUnits};
 ghost use Rattle.plfs_program.specs.Ways.{on_threads};
 
 use crate::input::{NoInput, read_input};
@@ -148,10 +149,10 @@ fn follow<
 /// replies before it, and these are the lines of their statements. What `single` says of a play's lines, of what is left of
 /// the store, of line 0 and of the statuses holds of them too.
 ///
-/// Where the store told a sound tree, the lines of each reader are those of one plain file; no line of another command
-/// than the three of small files tells of damage, and its status is not 7; and a sound tree is left.
-/// Where moreover the words are those of such another command, the script has no fault, no count of the source, the sink or the store has
-/// risen and the sink took something of each piece, the status is 0, 1 or 3.
+/// Where the store told a sound tree, the lines of each reader are those of one plain file, and a sound tree is left.
+/// Where moreover the container whose small files are packed or read has only units, no line tells of damage, and the status is not 7.
+/// Where besides that the words are those of a command, the script or the small files have no fault, no count of the source, the sink or the
+/// store has risen and the sink took something of each piece, the status is 0, 1 or 3.
 pub fn plfs<
     R: Threads + Wait + Sync,
     S: Store + Drop + Send,
@@ -170,9 +171,9 @@ pub fn plfs<
     gate: &G,
 ) -> Ended<S>
     ensures course { Course IsServed words.now (I.given input.old) (I.given input.new) (ends_of (C.times clock) (O.taking out.old) (O.taking out.new) (S.stored store) (option_map S.stored result.store)) result.status }
-    ensures undamaged { TellsSoundTree (S.stored store) → (AreOfSmallFiles words.now → ⊥) → result.status ≢ 7 }
+    ensures undamaged { TellsSoundTree (S.stored store) → AskForUnits words.now (S.stored store) → result.status ≢ 7 }
     ensures sound { TellsSoundTree (S.stored store) → LeavesSoundTree (option_map S.stored result.store) }
-    ensures complete { TellsSoundTree (S.stored store) → (AreOfSmallFiles words.now → ⊥) → IsAsked IsServed words.now (I.given input.old) (I.given input.new) → HadNoTrouble (I.given input.old) (I.given input.new) (ends_of (C.times clock) (O.taking out.old) (O.taking out.new) (S.stored store) (option_map S.stored result.store)) → IsDone result.status }
+    ensures complete { TellsSoundTree (S.stored store) → AskForUnits words.now (S.stored store) → IsAsked IsServed words.now (I.given input.old) (I.given input.new) → HadNoTrouble (I.given input.old) (I.given input.new) (ends_of (C.times clock) (O.taking out.old) (O.taking out.new) (S.stored store) (option_map S.stored result.store)) → IsDone result.status }
 {
     a_failed_mounting_leaves_a_sound_tree();
     follow(rt, alloc, words, input, out, store, clock, gate)

@@ -47,7 +47,7 @@ fn say_trouble<O: Sink>(alloc: Global, out: &mut O, why: ScanStuck) -> u8
 }
 
 /// Writes this text, and answers this status where all of it was taken.
-pub(crate) fn say_text<O: Sink>(out: &mut O, text: &[u8], status: u8) -> u8
+pub fn say_text<O: Sink>(out: &mut O, text: &[u8], status: u8) -> u8
     ensures { IsReported text.now status (O.taking out.old) (O.taking out.new) result }
 {
     match write_out(out, text) {

@@ -5,7 +5,7 @@ ghost use Rattle.edge_io.specs.Source.{Given};
 ghost use Rattle.command_line.specs.declared.commands.Command.{Command as Asked};
 ghost use Rattle.command_line.specs.declared.commands.Command.TheVariants.{Play, Cat, Migrate, Names, Unpack};
 ghost use Rattle.plfs_types.specs.Names.{IsLogicalName};
-ghost use Rattle.plfs_program.specs.Commands.{IsBuiltCommand, IsPlanned, FitsCommand, AreOfSmallFiles};
+ghost use Rattle.plfs_program.specs.Commands.{IsBuiltCommand, IsPlanned, FitsCommand};
 ghost use Rattle.script_lang.specs.Faults.{HasFault};
 ghost use Rattle.script_lang.specs.Grammar.{IsScript};
 ghost use Rattle.script_lang.specs.Ranges.{FitsScript};
@@ -17,6 +17,7 @@ ghost use Rattle.plfs_program.specs.Ends.{ends_of, IsSaid};
 ghost use Rattle.plfs_program.specs.Output.{IsPrinted, IsCutOff};
 ghost use Rattle.plfs_program.specs.Showing.{shows_of};
 ghost use Rattle.plfs_program.specs.SoundTrees.{TellsSoundTree, LeavesSoundTree};
+ghost use Rattle.plfs_program.specs.UnitTrees.{AskForUnits};
 ghost use Rattle.plfs_program.specs.Ways.{Way, by_turns};
 
 use crate::cat::{cat_mounted, say_unmounted};
@@ -34,6 +35,9 @@ use command_line::Command;
 use edge_io::{Clock, Sink, Source};
 use mount_core::Mount;
 use mount_sound::a_failed_mounting_leaves_a_sound_tree;
+use packing_laws::{
+    a_container_of_units_shows_no_damage, a_fault_is_the_stores, a_mounting_leaves_units_alone,
+};
 use plfs_types::{LogicalName, Word};
 use script_lang::{Kind, Script, ScriptTrouble};
 use std::alloc::Global;
@@ -56,7 +60,7 @@ pub struct Ended<S> {
 }
 
 /// The end of a run with this status.
-pub(crate) fn ends<S>(store: S, status: u8) -> Ended<S>
+pub fn ends<S>(store: S, status: u8) -> Ended<S>
     ensures store { result.store ≡ Some store }
     ensures status { result.status ≡ status }
 {
@@ -67,7 +71,7 @@ pub(crate) fn ends<S>(store: S, status: u8) -> Ended<S>
 }
 
 /// Prints one line.
-pub(crate) fn say<O: Sink>(out: &mut O, line: &[u8])
+pub fn say<O: Sink>(out: &mut O, line: &[u8])
     ensures { IsPrinted line.now (O.taking out.old) (O.taking out.new) ⊎ IsCutOff line.now (O.taking out.old) (O.taking out.new) }
 {
     let _ = write_out(out, line);
@@ -239,6 +243,9 @@ fn unpack<S: Store + Drop, C: Clock + Drop, I: Source, O: Sink>(
     ensures { (words : List (List ℕ)) → IsCommand words (Unpack name file) → Course IsBuiltCommand words (I.given input.old) (I.given input.new) (ends_of (C.times clock) (O.taking out.old) (O.taking out.new) (S.stored store) (option_map S.stored result.store)) result.status }
 {
     who_unpacks_sees_one_file();
+    a_mounting_leaves_units_alone();
+    a_container_of_units_shows_no_damage();
+    a_fault_is_the_stores();
     match Mount::open(alloc, store, clock) {
         Ok(mount) => {
             let mut mount = mount;
@@ -265,6 +272,9 @@ fn names<S: Store + Drop, C: Clock + Drop, I: Source, O: Sink>(
     ensures { (words : List (List ℕ)) → IsCommand words (Names name) → Course IsBuiltCommand words (I.given input.old) (I.given input.new) (ends_of (C.times clock) (O.taking out.old) (O.taking out.new) (S.stored store) (option_map S.stored result.store)) result.status }
 {
     who_names_sees_one_file();
+    a_mounting_leaves_units_alone();
+    a_container_of_units_shows_no_damage();
+    a_fault_is_the_stores();
     match Mount::open(alloc, store, clock) {
         Ok(mount) => {
             let mut mount = mount;
@@ -361,12 +371,12 @@ fn follow<S: Store + Drop, C: Clock + Drop, I: Source, O: Sink>(
 /// with it, and `marks_decide` that its answers exclude each other.
 ///
 /// Where the store told a sound tree, the lines of each reader of the play are those of one plain file, which `cat` writes,
-/// or a front of it; no line of another command than the three of small files tells of damage, and its status is not 7; `migrate` leaves no
-/// closed writer out, but those whose entries are too many, and its counts are right; `unpack` and `names` saw one file of the container,
-/// and where that has bytes below 256, they tell what stands there, or its first place that breaks a rule, or the store failed; and a sound
-/// tree is left.
-/// Where moreover the words are those of such another command, the script has no fault, no count of the source, the sink or the store has
-/// risen and the sink took something of each piece, the status is 0, 1 or 3.
+/// or a front of it; `migrate` leaves no closed writer out, but those whose entries are too many, and its counts are right; `unpack` and
+/// `names` saw one file of the container, and where that has bytes below 256, they tell what stands there, or its first place that breaks a
+/// rule, or the store failed; and a sound tree is left. Where moreover the container whose small files are packed or read has only units, no
+/// line tells of damage, and the status is not 7.
+/// Where besides that the words are those of a command, the script or the small files have no fault, no count of the source, the sink or the
+/// store has risen and the sink took something of each piece, the status is 0, 1 or 3. A fault is told only where a count of the store has risen.
 pub fn single<S: Store + Drop, C: Clock + Drop, I: Source, O: Sink>(
     alloc: Global,
     words: &[Word],
@@ -376,9 +386,9 @@ pub fn single<S: Store + Drop, C: Clock + Drop, I: Source, O: Sink>(
     clock: C,
 ) -> Ended<S>
     ensures course { Course IsBuiltCommand words.now (I.given input.old) (I.given input.new) (ends_of (C.times clock) (O.taking out.old) (O.taking out.new) (S.stored store) (option_map S.stored result.store)) result.status }
-    ensures undamaged { TellsSoundTree (S.stored store) → (AreOfSmallFiles words.now → ⊥) → result.status ≢ 7 }
+    ensures undamaged { TellsSoundTree (S.stored store) → AskForUnits words.now (S.stored store) → result.status ≢ 7 }
     ensures sound { TellsSoundTree (S.stored store) → LeavesSoundTree (option_map S.stored result.store) }
-    ensures complete { TellsSoundTree (S.stored store) → (AreOfSmallFiles words.now → ⊥) → IsAsked IsBuiltCommand words.now (I.given input.old) (I.given input.new) → HadNoTrouble (I.given input.old) (I.given input.new) (ends_of (C.times clock) (O.taking out.old) (O.taking out.new) (S.stored store) (option_map S.stored result.store)) → IsDone result.status }
+    ensures complete { TellsSoundTree (S.stored store) → AskForUnits words.now (S.stored store) → IsAsked IsBuiltCommand words.now (I.given input.old) (I.given input.new) → HadNoTrouble (I.given input.old) (I.given input.new) (ends_of (C.times clock) (O.taking out.old) (O.taking out.new) (S.stored store) (option_map S.stored result.store)) → IsDone result.status }
 {
     a_failed_mounting_leaves_a_sound_tree();
     follow(alloc, words, input, out, store, clock)

@@ -4,6 +4,8 @@ use Rattle.edge_io.specs.Source.{Given}
 use Rattle.script_lang.specs.declared.script.Script.{Script}
 use Rattle.script_lang.specs.Faults.{Fault}
 use Rattle.script_lang.specs.Laws.{OneScript, OneFault, NeverBoth}
+use Rattle.pack_input.specs.Input.{Fault as PackFault}
+use Rattle.pack_input.specs.Laws.{OneInput, OneFault as OnePackFault, NeverBoth as NeverPacked}
 use Rattle.command_line.specs.declared.commands.Command.{Command}
 use Rattle.command_line.specs.declared.commands.Command.TheVariants as command
 use Rattle.command_line.specs.Commands.{IsCommand}
@@ -14,6 +16,8 @@ use Rattle.plfs_program.specs.Course.{Course, InputCourse, IsInput, usage_line, 
 use Rattle.plfs_program.specs.Ends.{Ends, IsSaid, IsUntouched}
 use Rattle.plfs_program.specs.Faults.{fault_line}
 use Rattle.plfs_program.specs.Migrating.{MigrateCourse}
+use Rattle.plfs_program.specs.Packing.{PackCourse, PackInputCourse, pack_fault_line}
+use Rattle.plfs_program.specs.Packing as packing
 use Rattle.plfs_program.specs.Playing.{PlayCourse}
 use Rattle.plfs_program.specs.Showing.{Shows, all_lines, shows_of}
 use Rattle.plfs_program.specs.SmallFiles.{NamesCourse, UnpackCourse}
@@ -21,9 +25,10 @@ use Rattle.plfs_program.specs.Output.{IsPrinted}
 use Rattle.plfs_program.specs.Ways.{by_turns, on_threads}
 use Rattle.program_replay.specs.Twice.{BeginAlike, PrintAlike}
 use Rattle.program_replay.proofs.Cats.{cat_twice}
-use Rattle.program_replay.proofs.Each.{migrate_twice, read_twice}
+use Rattle.program_replay.proofs.Each.{migrate_twice, pack_twice, read_twice}
 use Rattle.program_replay.proofs.Finds.{Isolated, unpack_one_way}
 use Rattle.program_replay.proofs.Inputs.{input_one}
+use Rattle.program_replay.proofs.Packs.{pack_one_way}
 use Rattle.program_replay.proofs.Scans.{names_one_way}
 use Rattle.program_replay.proofs.Twice.{print_both, not_cut}
 use Rattle.program_replay.proofs.Words.{one_command}
@@ -45,11 +50,18 @@ pub record Plays (given after : Given) (e : Ends) (status : ℕ) : Type 0 where
   pub input : IsInput bytes given after
   pub course : InputCourse by_turns bytes e status
 
+-- small files were read, and this became of them
+pub record PacksSo (name : List ℕ) (region : ℕ) (given after : Given) (e : Ends) (status : ℕ) : Type 0 where
+  pub bytes : List ℕ
+  pub input : IsInput bytes given after
+  pub course : PackInputCourse name region bytes e status
+
 abbrev pub DoesSo : Command → Given → Given → Ends → ℕ → Type 0
 DoesSo command.Run given after e status = ⊥
 DoesSo command.Play given after e status = Plays given after e status
 DoesSo (command.Cat name) given after e status = CatCourse name e status
 DoesSo (command.Migrate name) given after e status = MigrateCourse name e status
+DoesSo (command.Pack name region) given after e status = PacksSo name region given after e status
 DoesSo (command.Unpack name file) given after e status = UnpackCourse name file e status
 DoesSo (command.Names name) given after e status = NamesCourse name e status
 DoesSo asked given after e status = PlansSo asked e status
@@ -79,23 +91,19 @@ unplanned words (command.Trunc name size) is p = did (command.Trunc name size) (
 unplanned words (command.Rename name to) is p = did (command.Rename name to) (p.plan, p.has) is p
 unplanned words command.Ls is p = did command.Ls (p.plan, p.has) is p
 
--- no files are packed
-abbrev pub PacksNone : List (List ℕ) → Type 0
-PacksNone words = (name : List ℕ) (region : ℕ) → IsCommand words (command.Pack name region) → ⊥
-
-went : (words : List (List ℕ)) (given after : Given) (e : Ends) (status : ℕ) → PacksNone words → HadNoTrouble given after e → status ≢ 3 → Course IsBuiltCommand words given after e status → WentSo words given after e status
-went words given after e status no_pack quiet fed (usage missing same kept said two) = none missing kept said two
-went words given after e status no_pack quiet fed (unread way served spelled risen kept same five) = absurd (quiet.source risen)
-went words given after e status no_pack quiet fed (read by_turns bytes served spelled input course) = did command.Play tt spelled (record { bytes = bytes; input = input; course = course })
-went words given after e status no_pack quiet fed (read on_threads bytes served spelled input course) = absurd (none_some served.0 served.1)
-went words given after e status no_pack quiet fed (planned asked plan spelled has same course) = unplanned words asked spelled (record { plan = plan; has = has; course = course })
-went words given after e status no_pack quiet fed (cats name spelled same course) = did (command.Cat name) tt spelled course
-went words given after e status no_pack quiet fed (migrates name spelled same course) = did (command.Migrate name) tt spelled course
-went words given after e status no_pack quiet fed (packs_unread name region spelled risen kept same five) = absurd (quiet.source risen)
-went words given after e status no_pack quiet fed (packs name region bytes spelled input course) = absurd (no_pack name region spelled)
-went words given after e status no_pack quiet fed (unpacks name file spelled same course) = did (command.Unpack name file) tt spelled course
-went words given after e status no_pack quiet fed (names_all name spelled same course) = did (command.Names name) tt spelled course
-went words given after e status no_pack quiet fed (hungry kept same three) = absurd (fed three)
+went : (words : List (List ℕ)) (given after : Given) (e : Ends) (status : ℕ) → HadNoTrouble given after e → status ≢ 3 → Course IsBuiltCommand words given after e status → WentSo words given after e status
+went words given after e status quiet fed (usage missing same kept said two) = none missing kept said two
+went words given after e status quiet fed (unread way served spelled risen kept same five) = absurd (quiet.source risen)
+went words given after e status quiet fed (read by_turns bytes served spelled input course) = did command.Play tt spelled (record { bytes = bytes; input = input; course = course })
+went words given after e status quiet fed (read on_threads bytes served spelled input course) = absurd (none_some served.0 served.1)
+went words given after e status quiet fed (planned asked plan spelled has same course) = unplanned words asked spelled (record { plan = plan; has = has; course = course })
+went words given after e status quiet fed (cats name spelled same course) = did (command.Cat name) tt spelled course
+went words given after e status quiet fed (migrates name spelled same course) = did (command.Migrate name) tt spelled course
+went words given after e status quiet fed (packs_unread name region spelled risen kept same five) = absurd (quiet.source risen)
+went words given after e status quiet fed (packs name region bytes spelled input course) = did (command.Pack name region) tt spelled (record { bytes = bytes; input = input; course = course })
+went words given after e status quiet fed (unpacks name file spelled same course) = did (command.Unpack name file) tt spelled course
+went words given after e status quiet fed (names_all name spelled same course) = did (command.Names name) tt spelled course
+went words given after e status quiet fed (hungry kept same three) = absurd (fed three)
 
 -- a line that was said is printed
 said_whole : (given after : Given) (e : Ends) (line : List ℕ) → HadNoTrouble given after e → IsSaid line e → IsPrinted line e.taking e.taking_after
@@ -107,7 +115,7 @@ abbrev pub PrintsTheSame : Type 0
 PrintsTheSame = (script : Script) (shows : Shows) (given after another later : Given) (e f : Ends) (status other : ℕ) → BeginAlike e f → HadNoTrouble given after e → HadNoTrouble another later f
     → status ≢ 3 → other ≢ 3 → PlayCourse by_turns script shows e status → PlayCourse by_turns script shows f other → PrintAlike e f status other
 
-module _ (one_script : OneScript) (one_fault : OneFault) (never : NeverBoth) (isolated : Isolated) (prints : PrintsTheSame) (given after another later : Given) (e f : Ends) (alike : BeginAlike e f) (quiet : HadNoTrouble given after e) (quiet_too : HadNoTrouble another later f) where
+module _ (one_script : OneScript) (one_fault : OneFault) (never : NeverBoth) (one_files : OneInput) (one_pack_fault : OnePackFault) (never_packed : NeverPacked) (isolated : Isolated) (prints : PrintsTheSame) (given after another later : Given) (e f : Ends) (alike : BeginAlike e f) (quiet : HadNoTrouble given after e) (quiet_too : HadNoTrouble another later f) where
   input_twice : (bytes : List ℕ) (status other : ℕ) → status ≢ 3 → other ≢ 3 → InputCourse by_turns bytes e status → InputCourse by_turns bytes f other → PrintAlike e f status other
   input_twice bytes status other fed fed_too (faulty fault has kept said is) (faulty too has_too kept_too said_too is_too) =
       let same : too ≡ fault = one_fault bytes too fault has_too has in
@@ -127,6 +135,25 @@ module _ (one_script : OneScript) (one_fault : OneFault) (never : NeverBoth) (is
       let same : y.bytes ≡ x.bytes = input_one (2 ^ 20 + 1) input y.bytes x.bytes another later given after told_too told y.input x.input in
       input_twice x.bytes status other fed fed_too x.course (subst (λ z. InputCourse by_turns z f other) same y.course)
 
+  pack_input_twice : (name : List ℕ) (region : ℕ) (bytes : List ℕ) (status other : ℕ) → status ≢ 3 → other ≢ 3 → PackInputCourse name region bytes e status → PackInputCourse name region bytes f other → PrintAlike e f status other
+  pack_input_twice name region bytes status other fed fed_too (packing.faulty fault has kept said is) (packing.faulty too has_too kept_too said_too is_too) =
+      let same : too ≡ fault = one_pack_fault bytes too fault has_too has in
+      let whole = said_whole another later f (pack_fault_line too) quiet_too said_too in
+      print_both (pack_fault_line fault) e f status other (said_whole given after e (pack_fault_line fault) quiet said)
+      (subst (λ (x : PackFault). IsPrinted (pack_fault_line x) f.taking f.taking_after) same whole) (is ∙ sym is_too) (kept ∙ ap Some (sym alike.stored) ∙ sym kept_too)
+  pack_input_twice name region bytes status other fed fed_too (packing.faulty fault has kept said is) (packing.packed files input course) = absurd (never_packed bytes files fault input has)
+  pack_input_twice name region bytes status other fed fed_too (packing.packed files input course) (packing.faulty fault has kept said is) = absurd (never_packed bytes files fault input has)
+  pack_input_twice name region bytes status other fed fed_too (packing.packed files input course) (packing.packed too input_too course_too) =
+      let same : too ≡ files = one_files bytes too files input_too input in
+      pack_twice given after another later e f alike quiet quiet_too name region files (pack_one_way name region files) status other fed fed_too course (subst (λ fs. PackCourse name region fs f other) same course_too)
+  pack_input_twice name region bytes status other fed fed_too (packing.starved kept same is) b = absurd (fed is)
+  pack_input_twice name region bytes status other fed fed_too a (packing.starved kept same is) = absurd (fed_too is)
+
+  packs_twice : (input : List ℕ) (name : List ℕ) (region : ℕ) (status other : ℕ) → given.left ≡ Some input → another.left ≡ Some input → status ≢ 3 → other ≢ 3 → PacksSo name region given after e status → PacksSo name region another later f other → PrintAlike e f status other
+  packs_twice input name region status other told told_too fed fed_too x y =
+      let same : y.bytes ≡ x.bytes = input_one (2 ^ 20 + 1) input y.bytes x.bytes another later given after told_too told y.input x.input in
+      pack_input_twice name region x.bytes status other fed fed_too x.course (subst (λ z. PackInputCourse name region z f other) same y.course)
+
   plans_twice : (asked : Command) (status other : ℕ) → status ≢ 3 → other ≢ 3 → PlansSo asked e status → PlansSo asked f other → PrintAlike e f status other
   plans_twice asked status other fed fed_too x y =
       let some : Some y.plan ≡ Some x.plan = sym y.has ∙ x.has in
@@ -139,9 +166,9 @@ module _ (one_script : OneScript) (one_fault : OneFault) (never : NeverBoth) (is
   does_twice input command.Play status other told told_too fed fed_too x y = plays_twice input status other told told_too fed fed_too x y
   does_twice input (command.Cat name) status other told told_too fed fed_too x y = cat_twice given after another later e f alike quiet quiet_too name status other fed fed_too x y
   does_twice input (command.Migrate name) status other told told_too fed fed_too x y = migrate_twice given after another later e f alike quiet quiet_too name status other fed fed_too x y
-  does_twice input (command.Pack name region) status other told told_too fed fed_too x y = plans_twice (command.Pack name region) status other fed fed_too x y
-  does_twice input (command.Unpack name file) status other told told_too fed fed_too x y = read_twice given after another later e f alike quiet quiet_too _ _ _ (unpack_one_way isolated name file) status other fed fed_too x y
-  does_twice input (command.Names name) status other told told_too fed fed_too x y = read_twice given after another later e f alike quiet quiet_too _ _ _ (names_one_way name) status other fed fed_too x y
+  does_twice input (command.Pack name region) status other told told_too fed fed_too x y = packs_twice input name region status other told told_too fed fed_too x y
+  does_twice input (command.Unpack name file) status other told told_too fed fed_too x y = read_twice given after another later e f alike quiet quiet_too _ _ _ _ (unpack_one_way isolated name file) status other fed fed_too x y
+  does_twice input (command.Names name) status other told told_too fed fed_too x y = read_twice given after another later e f alike quiet quiet_too _ _ _ _ (names_one_way name) status other fed fed_too x y
   does_twice input (command.Gen writers) status other told told_too fed fed_too x y = plans_twice (command.Gen writers) status other fed fed_too x y
   does_twice input (command.Stat name) status other told told_too fed fed_too x y = plans_twice (command.Stat name) status other fed fed_too x y
   does_twice input (command.Map name) status other told told_too fed fed_too x y = plans_twice (command.Map name) status other fed fed_too x y
@@ -160,7 +187,7 @@ module _ (one_script : OneScript) (one_fault : OneFault) (never : NeverBoth) (is
   run_twice words input status other told told_too fed fed_too (none missing kept said two) (none missing_too kept_too said_too two_too) =
       print_both usage_line e f status other (said_whole given after e usage_line quiet said) (said_whole another later f usage_line quiet_too said_too) (two ∙ sym two_too) (kept ∙ ap Some (sym alike.stored) ∙ sym kept_too)
 
-  pub courses_twice : (words : List (List ℕ)) (input : List ℕ) (status other : ℕ) → PacksNone words → given.left ≡ Some input → another.left ≡ Some input → status ≢ 3 → other ≢ 3
+  pub courses_twice : (words : List (List ℕ)) (input : List ℕ) (status other : ℕ) → given.left ≡ Some input → another.left ≡ Some input → status ≢ 3 → other ≢ 3
       → Course IsBuiltCommand words given after e status → Course IsBuiltCommand words another later f other → PrintAlike e f status other
-  courses_twice words input status other no_pack told told_too fed fed_too a b =
-      run_twice words input status other told told_too fed fed_too (went words given after e status no_pack quiet fed a) (went words another later f other no_pack quiet_too fed_too b)
+  courses_twice words input status other told told_too fed fed_too a b =
+      run_twice words input status other told told_too fed fed_too (went words given after e status quiet fed a) (went words another later f other quiet_too fed_too b)

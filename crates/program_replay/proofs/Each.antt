@@ -10,11 +10,15 @@ use Rattle.migrate_core.specs.declared.migrated.Migrated.{Migrated}
 use Rattle.migrate_core.specs.Migrating.{migrate_program}
 use Rattle.lone_flow.specs.Driving.{Makes}
 use Rattle.pack_files.specs.declared.scan.ScanStuck.{ScanStuck}
+use Rattle.pack_input.specs.declared.files.NamedFile.{NamedFile}
+use Rattle.pack_puts.specs.Packing.{Packs}
 use Rattle.plfs_program.specs.Complete.{HadNoTrouble}
 use Rattle.plfs_program.specs.Ends.{Ends}
 use Rattle.plfs_program.specs.Migrating.{MigrateCourse, IsMigratedAs, IsSaidOf, Said, said_of, said_text, said_status}
 use Rattle.plfs_program.specs.Migrating as m
 use Rattle.plfs_program.specs.Output.{IsPrinted}
+use Rattle.plfs_program.specs.Packing.{IsEndOf, PackCourse, PackEnd, end_of, packed_status, packed_text}
+use Rattle.plfs_program.specs.Packing as packing
 use Rattle.plfs_program.specs.SmallFiles.{Does, Claims, Told, ReadCourse, IsToldAs, IsToldOf, told_text, told_status}
 use Rattle.plfs_program.specs.SmallFiles as s
 use Rattle.program_replay.specs.Twice.{BeginAlike, PrintAlike}
@@ -48,25 +52,40 @@ module _ (given after another later_given : Given) (e f : Ends) (alike : BeginAl
   migrated name ends said left (m.mounted ended on says) = came on.start on.end ended on.mounted on.made on.left says
 
   pub migrate_twice : (name : List ℕ) (status other : ℕ) → status ≢ 3 → other ≢ 3 → MigrateCourse name e status → MigrateCourse name f other → PrintAlike e f status other
-  migrate_twice name status other fed fed_too (m.printed said p text is) (m.printed too q text_too is_too) =
-      lone_twice (Makes (migrate_program name)) said_of Err said_text said_status (makes_one_way (migrate_program name)) said too p.after q.after status other p.left q.left (migrated name e said p.after p.came) (migrated name f too q.after q.came)
+  migrate_twice name status other fed fed_too (m.printed said a text is) (m.printed too b text_too is_too) =
+      lone_twice (Makes (migrate_program name)) said_of Err said_text said_status (makes_one_way (migrate_program name)) said too a.after b.after status other a.left b.left (migrated name e said a.after a.came) (migrated name f too b.after b.came)
       text text_too is is_too
-  migrate_twice name status other fed fed_too (m.cut_off said p part is) b = absurd (not_cut given after e (said_text said) quiet part)
+  migrate_twice name status other fed fed_too (m.cut_off said a part is) b = absurd (not_cut given after e (said_text said) quiet part)
   migrate_twice name status other fed fed_too (m.exhausted left kept is) b = absurd (fed is)
-  migrate_twice name status other fed fed_too a (m.cut_off too q part is) = absurd (not_cut another later_given f (said_text too) quiet_too part)
+  migrate_twice name status other fed fed_too a (m.cut_off too b part is) = absurd (not_cut another later_given f (said_text too) quiet_too part)
   migrate_twice name status other fed fed_too a (m.exhausted left kept is) = absurd (fed_too is)
+
+  -- ---- packings
+
+  packed_on : (name : List ℕ) (region : ℕ) (files : List NamedFile) (ends : Ends) (ended : PackEnd) (left : Stored) → IsEndOf ends.times ends.stored left name region files ended → CameTo (Packs name region files) end_of Err ends.times ends.stored left ended
+  packed_on name region files ends ended left (packing.unmounted why outcome failed is says) = broke why outcome failed is says
+  packed_on name region files ends ended left (packing.mounted result on says) = came on.start on.end result on.mounted on.packs on.left says
+
+  pub pack_twice : (name : List ℕ) (region : ℕ) (files : List NamedFile) → GoesOneWay (Packs name region files) → (status other : ℕ) → status ≢ 3 → other ≢ 3 → PackCourse name region files e status → PackCourse name region files f other → PrintAlike e f status other
+  pack_twice name region files goes status other fed fed_too (packing.printed ended a text is) (packing.printed too b text_too is_too) =
+      lone_twice (Packs name region files) end_of Err (packed_text files) packed_status goes ended too a.after b.after status other a.left b.left (packed_on name region files e ended a.after a.came) (packed_on name region files f too b.after b.came)
+      text text_too is is_too
+  pack_twice name region files goes status other fed fed_too (packing.cut_off ended a part is) b = absurd (not_cut given after e (packed_text files ended) quiet part)
+  pack_twice name region files goes status other fed fed_too (packing.exhausted left kept is) b = absurd (fed is)
+  pack_twice name region files goes status other fed fed_too a (packing.cut_off too b part is) = absurd (not_cut another later_given f (packed_text files too) quiet_too part)
+  pack_twice name region files goes status other fed fed_too a (packing.exhausted left kept is) = absurd (fed_too is)
 
   -- ---- small files
 
-  module _ {R : Type 0} (Did : Does R) (Holds : Claims R) (tells : Result R ScanStuck → Told) where
+  module _ {R : Type 0} (name : Name) (Did : Does R) (Holds : Claims R) (tells : Result R ScanStuck → Told) where
     read_on : (ends : Ends) (told : Told) (left : Stored) → IsToldOf Did Holds tells ends.times ends.stored left told → CameTo Did tells Err ends.times ends.stored left told
     read_on ends told left (s.unmounted why outcome failed is says) = broke why outcome failed is says
     read_on ends told left (s.mounted result on says) = came on.start on.end result on.mounted on.reads on.left says
 
-    pub read_twice : GoesOneWay Did → (status other : ℕ) → status ≢ 3 → other ≢ 3 → ReadCourse Did Holds tells e status → ReadCourse Did Holds tells f other → PrintAlike e f status other
-    read_twice goes status other fed fed_too (s.printed told p text is) (s.printed too q text_too is_too) =
-        lone_twice Did tells Err told_text told_status goes told too p.after q.after status other p.left q.left (read_on e told p.after p.came) (read_on f too q.after q.came) text text_too is is_too
-    read_twice goes status other fed fed_too (s.cut_off told p part is) b = absurd (not_cut given after e (told_text told) quiet part)
+    pub read_twice : GoesOneWay Did → (status other : ℕ) → status ≢ 3 → other ≢ 3 → ReadCourse name Did Holds tells e status → ReadCourse name Did Holds tells f other → PrintAlike e f status other
+    read_twice goes status other fed fed_too (s.printed told a text is) (s.printed too b text_too is_too) =
+        lone_twice Did tells Err told_text told_status goes told too a.after b.after status other a.left b.left (read_on e told a.after a.came) (read_on f too b.after b.came) text text_too is is_too
+    read_twice goes status other fed fed_too (s.cut_off told a part is) b = absurd (not_cut given after e (told_text told) quiet part)
     read_twice goes status other fed fed_too (s.exhausted left kept is) b = absurd (fed is)
-    read_twice goes status other fed fed_too a (s.cut_off too q part is) = absurd (not_cut another later_given f (told_text too) quiet_too part)
+    read_twice goes status other fed fed_too a (s.cut_off too b part is) = absurd (not_cut another later_given f (told_text too) quiet_too part)
     read_twice goes status other fed fed_too a (s.exhausted left kept is) = absurd (fed_too is)

@@ -2,8 +2,6 @@
 ghost use Rattle.std.specs.Prelude.{◌≡◌, ◌≢◌, ℕ, List, Some};
 ghost use Rattle.edge_io.specs.Source.{Given};
 ghost use Rattle.script_lang.specs.declared.script.Script.{Script};
-ghost use Rattle.command_line.specs.declared.commands.Command.TheVariants.{Pack};
-ghost use Rattle.command_line.specs.Commands.{IsCommand};
 ghost use Rattle.plfs_program.specs.Commands.{IsBuiltCommand};
 ghost use Rattle.plfs_program.specs.Complete.{HadNoTrouble};
 ghost use Rattle.plfs_program.specs.Course.{Course};
@@ -13,6 +11,7 @@ ghost use Rattle.plfs_program.specs.Showing.{Shows};
 ghost use Rattle.plfs_program.specs.Ways.{by_turns};
 ghost use Rattle.program_replay.specs.Twice.{BeginAlike, PrintAlike};
 
+use pack_input::inputs_are_told_apart;
 use script_lang::scripts_are_told_apart;
 use unit_format::others_change_nothing;
 
@@ -31,12 +30,11 @@ pub fn plays_print_the_same()
         → PrintAlike e f status other }
 {}
 
-/// A law: two runs of `single` with the same words, not those of `pack`, that begin so, before one input that the source tells, print the same
-/// text, end with the same status and leave the same store. All of it follows from the words, the input, the store and the
+/// A law: two runs of `single` with the same words that begin so, before one input that the source tells, print the same text, end with the
+/// same status and leave the same store. All of it follows from the words, the input, the store and the
 /// clock.
 pub fn single_runs_print_the_same()
     ensures { (words : List (List ℕ)) (input : List ℕ) (given after another later : Given) (e f : Ends) (status other : ℕ)
-        → ((name : List ℕ) (region : ℕ) → IsCommand words (Pack name region) → ⊥)
         → given.left ≡ Some input
         → another.left ≡ Some input
         → BeginAlike e f
@@ -49,6 +47,7 @@ pub fn single_runs_print_the_same()
         → PrintAlike e f status other }
 {
     scripts_are_told_apart();
+    inputs_are_told_apart();
     others_change_nothing();
     plays_print_the_same();
 }

@@ -15,10 +15,10 @@ use Rattle.gathering.specs.Moments.{Moment, Dropping, Grows, Stood, issued_by, l
 use Rattle.gathering.specs.Gathering.{Gathered, IsAdmissible, CoversLanded}
 use Rattle.gathering.specs.View.{WritersRise, covered_in, own_entries, writes_in}
 use Rattle.gathering.proofs.Facts.{alike, among_left, among_right, entries_stay, length-entries, length_taken, one_gathered, prefix_of, stood_grows}
-use Rattle.gathering.proofs.Viewing.{entries_split}
+use Rattle.gathering.proofs.OpenReaders.Viewing.{entries_split}
 use Rattle.reader_laws.specs.Covering.{cover_with, empty_cover, counts_in}
-use Rattle.reader_laws.proofs.Counts.{AreRightFor, its_cover, itself, none_in, of_writer, one_in, covered_other, take_none, writer_of}
-use Rattle.reader_laws.proofs.Cuts.{either_part}
+use Rattle.reader_laws.proofs.OpenReaders.Counts.{AreRightFor, its_cover, itself, none_in, of_writer, one_in, covered_other, take_none, writer_of}
+use Rattle.reader_laws.proofs.OpenReaders.Cuts.{either_part}
 
 -- ---- the covers of a cut
 

@@ -31,20 +31,20 @@ use Rattle.gathering.specs.Listing.{AreTruncsAt, IsAmong}
 use Rattle.gathering.specs.Opening.{HasView}
 use Rattle.gathering.specs.View.{changes_in, covered_in, tails_in, tails_of, writes_in, WritersRise}
 use Rattle.gathering.proofs.Facts.{all_at, among_left, among_right, any_found, found_any, grows_after, grows_trans, keys_in, later_truncates, legal_first, legal_rest, length-entries, length_taken, moment-append, prefix_of, same_entries, scan_found, seen, seen_grows, seen_split, sound_after}
-use Rattle.gathering.proofs.Gathers.{AdmissibleEach, gathers_all}
-use Rattle.gathering.proofs.Seeing.{seen_waits}
-use Rattle.gathering.proofs.Truncates.{truncs_listed as truncs_stood}
-use Rattle.gathering.proofs.Viewing.{bytes_all, entries_of-changes, keys_differ, tails_are, truncs_of-changes}
+use Rattle.gathering.proofs.Logs.Gathers.{AdmissibleEach, gathers_all}
+use Rattle.gathering.proofs.Moments.Seeing.{seen_waits}
+use Rattle.gathering.proofs.Containers.Truncates.{truncs_listed as truncs_stood}
+use Rattle.gathering.proofs.OpenReaders.Viewing.{bytes_all, entries_of-changes, keys_differ, tails_are, truncs_of-changes}
 use Rattle.reader_laws.specs.Covering.{counts_in, cover_with}
 use Rattle.reader_laws.specs.Listing.{AreListed, HasListedTruncs}
 use Rattle.reader_laws.specs.Opened.{HasOpenReader}
 use Rattle.reader_laws.specs.Sharing.{in_room, host_in_room, cover_before, IsShareOf}
-use Rattle.reader_laws.proofs.Calling.{calls_append}
-use Rattle.reader_laws.proofs.Counts.{AreRightFor, IsCounted, cover_is, counts_are, covers_counted}
-use Rattle.reader_laws.proofs.Cuts.{all_by, among_map, cut_rises, dropping_of, either_part, matching}
-use Rattle.reader_laws.proofs.Histories.{listed_by, truncs_listed}
-use Rattle.reader_laws.proofs.Listings.{HasTop, top_run}
-use Rattle.reader_laws.proofs.Openings.{IsBegun, begun, hosts_in_room, share_gathered}
+use Rattle.reader_laws.proofs.Calls.Calling.{calls_append}
+use Rattle.reader_laws.proofs.OpenReaders.Counts.{AreRightFor, IsCounted, cover_is, counts_are, covers_counted}
+use Rattle.reader_laws.proofs.OpenReaders.Cuts.{all_by, among_map, cut_rises, dropping_of, either_part, matching}
+use Rattle.reader_laws.proofs.Calls.Histories.{listed_by, truncs_listed}
+use Rattle.reader_laws.proofs.Containers.Listings.{HasTop, top_run}
+use Rattle.reader_laws.proofs.OpenReaders.Openings.{IsBegun, begun, hosts_in_room, share_gathered}
 use Rattle.refresh_index.specs.Refreshing.{unpacked, all_unpacked}
 use Rattle.refresh_laws.specs.Refreshing.{RefreshesAlone, IsRefreshOf, HasRefreshedIn}
 use Rattle.refresh_laws.proofs.FormerLemmas.{covered_same, formerly, landed_before, not_below, right_still}

@@ -24,8 +24,8 @@ use Rattle.gathering.proofs.Facts.{all_at, any_found, scan_found, seen}
 use Rattle.reader_laws.specs.Listing.{AreListed}
 use Rattle.reader_laws.specs.Opened.{HasOpenReader}
 use Rattle.reader_laws.specs.Sharing.{in_room, host_in_room}
-use Rattle.reader_laws.proofs.Cuts.{all_by, among_map, cut_rises, dropping_of, map_among, matching}
-use Rattle.reader_laws.proofs.Listings.{HasTop, top_run}
+use Rattle.reader_laws.proofs.OpenReaders.Cuts.{all_by, among_map, cut_rises, dropping_of, map_among, matching}
+use Rattle.reader_laws.proofs.Containers.Listings.{HasTop, top_run}
 use Rattle.refresh_index.specs.Hosts.{hosts_below, hosts_from, hosts_with, is_other, moved, without}
 use Rattle.refresh_index.specs.Refreshing.{all_unpacked}
 use Rattle.refresh_index.proofs.HostLemmas.{IsListed, hosts_with_listed}

@@ -25,12 +25,12 @@ use Rattle.reader_laws.specs.Failing.{FailsByStore, IsContainerAt}
 use Rattle.reader_laws.specs.Listing.{AreListed}
 use Rattle.reader_laws.specs.Opened.{HasOpenReader}
 use Rattle.reader_laws.specs.Sharing.{in_room}
-use Rattle.reader_laws.proofs.Counts.{AreRightFor}
-use Rattle.reader_laws.proofs.Cuts.{all_by, among_map, cut_rises, dropping_of, matching}
-use Rattle.reader_laws.proofs.Listings.{HasTop, top_run}
-use Rattle.reader_laws.proofs.ScanFails.{top_fails}
-use Rattle.reader_laws.proofs.ShareFails.{IsSafe, gathers_fail}
-use Rattle.reader_laws.proofs.TruncFails.{truncs_fail}
+use Rattle.reader_laws.proofs.OpenReaders.Counts.{AreRightFor}
+use Rattle.reader_laws.proofs.OpenReaders.Cuts.{all_by, among_map, cut_rises, dropping_of, matching}
+use Rattle.reader_laws.proofs.Containers.Listings.{HasTop, top_run}
+use Rattle.reader_laws.proofs.Faults.ScanFails.{top_fails}
+use Rattle.reader_laws.proofs.Faults.ShareFails.{IsSafe, gathers_fail}
+use Rattle.reader_laws.proofs.Faults.TruncFails.{truncs_fail}
 use Rattle.refresh_index.specs.Refreshing.{all_unpacked}
 use Rattle.refresh_laws.proofs.FormerLemmas.{formerly, landed_before, right_still}
 use Rattle.refresh_laws.proofs.RefreshLemmas.{unpacked_listed}

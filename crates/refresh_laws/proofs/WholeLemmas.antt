@@ -23,9 +23,9 @@ use Rattle.reader_laws.specs.Failing.{IsContainerAt}
 use Rattle.reader_laws.specs.Listing.{AreListed}
 use Rattle.reader_laws.specs.Opened.{HasOpenReader}
 use Rattle.reader_laws.specs.Sharing.{host_in_room}
-use Rattle.reader_laws.proofs.Cuts.{dropping_of}
+use Rattle.reader_laws.proofs.OpenReaders.Cuts.{dropping_of}
 use Rattle.reader_laws.proofs.Facts.{container_later, share_gathered}
-use Rattle.reader_laws.proofs.Listings.{HasTop, top_run}
+use Rattle.reader_laws.proofs.Containers.Listings.{HasTop, top_run}
 use Rattle.refresh_index.specs.declared.refreshing.RefreshOut.{RefreshOut}
 use Rattle.refresh_index.specs.Hosts.{hosts_with}
 use Rattle.refresh_index.proofs.HostLemmas.{Rise, by_rise}

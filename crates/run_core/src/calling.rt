@@ -17,7 +17,7 @@ pub(crate) fn greets(call: &Call) -> bool
 }
 
 /// Makes a call that its caller may make.
-#[tactic(auto, using(crate::proofs::Leading::called))]
+#[tactic(auto, using(crate::proofs::Players::Leading::called))]
 pub(crate) fn call<S: Store + Drop, C: Clock + Drop>(
     mount: &mut Mount<S, C>,
     caller: u64,

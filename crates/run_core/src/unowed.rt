@@ -9,7 +9,7 @@ use mount_model::{Ask, Reply};
 use store_api::Store;
 
 /// Makes a call of actor 0, for which nothing is owed of the mount's state.
-#[tactic(auto, using(crate::proofs::UnowedCalls::unowed_called))]
+#[tactic(auto, using(crate::proofs::Players::UnowedCalls::unowed_called))]
 pub(crate) fn call_unowed<S: Store + Drop, C: Clock + Drop>(
     mount: &mut Mount<S, C>,
     ask: &Ask,

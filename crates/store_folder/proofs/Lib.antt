@@ -11,3 +11,4 @@ pub mod Acting
 pub mod Entering
 pub mod InRooms
 pub mod Staying
+pub mod FailedRooms

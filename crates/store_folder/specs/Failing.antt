@@ -12,6 +12,7 @@ use Rattle.folder_calls.specs.declared.reason.Kind.TheVariants.{Absent as Nothin
 use Rattle.folder_calls.specs.Calls.{Log, Makes, looked_at, listed_folder, created_file, made_folder, synced_folder, removed_file, removed_folder, renamed_item}
 use Rattle.folder_calls.specs.Parts.{IsRoomName}
 use Rattle.store_folder.specs.declared.disk.Disk.{Disk}
+use Rattle.store_folder.specs.FailedBuilding.{FailsToMakeRoom}
 use Rattle.store_folder.specs.Files.{IsNoFile}
 use Rattle.store_folder.specs.Folders.{IsNoEntry, FailsToEnter}
 use Rattle.store_folder.specs.Paths.{IsNameable, IsNameableFolder, item_of, room_path, folder_path}
@@ -87,12 +88,13 @@ abbrev pub IsNamedFolder : {C F : Type 0} → Disk C F → ℕ → List ℕ → 
 IsNamedFolder disk room folder = IsNameable (room_name disk room) × IsNameableFolder folder
 
 module _ {C F : Type 0} (disk : Disk C F) (log later : Log F) where
-  -- A step failed with no call, or its calls did, which are these. Of a room that is made only this is said: no room has
-  -- its name. A step on a file's content ends as is said of its file.
+  -- A step failed with no call, or its calls did, which are these. No room has the name of one that could not be made. A
+  -- step on a file's content ends as is said of its file.
   abbrev pub Fails : Step → Failure → Type 0
   Fails rooms failure = (failure ≡ NoMemory) × (later ≡ log)
   Fails (find_room name) failure = ⊥
-  Fails (make_room name folders files) failure = position (λ there. same_name there name) disk.rooms.items ≡ None
+  Fails (make_room name folders files) failure =
+      (position (λ there. same_name there name) disk.rooms.items ≡ None) × FailsToMakeRoom (string_bytes disk.root) name folders files log later failure
   Fails (rename_room room to) failure = FailsToRenameRoom log later disk room to failure
   Fails (make_folder room folder) failure =
       FailsUncalled log later (IsNamedFolder disk room folder) failure ⊎ ((failure ≡ Failed) × FailsToMakeFolder log later (room_path disk room) (folder_path (room_path disk room) folder))

@@ -15,6 +15,7 @@ use Rattle.folder_calls.specs.Opened.{held_at}
 use Rattle.folder_calls.specs.Own.{is_own}
 use Rattle.store_folder.specs.declared.disk.Disk.{Disk}
 use Rattle.store_folder.specs.declared.files.Found.TheVariants.{There}
+use Rattle.store_folder.specs.FailedListing.{FailsToListRooms}
 use Rattle.store_folder.specs.Failing.{Fails}
 use Rattle.store_folder.specs.NewRooms.{MakesRoom}
 use Rattle.store_folder.specs.Paths.{item_of, room_path, folder_path}
@@ -83,8 +84,8 @@ pub record EndsAmongRooms {C F : Type 0} (log : C → Log F) (old new : Disk C F
   pub renames : (key : FileKey) → takes_name step key ≡ true → is_own new.own key ≡ false
   pub keeps_own : (key : FileKey) → is_own old.own key ≡ true → takes_name step key ≡ false → is_own new.own key ≡ true
 
--- A step was tried: the rooms have no numbers and could not be listed, and nothing changed, or it went on among
--- numbered rooms.
+-- A step was tried: the rooms have no numbers and could not be listed, by these calls, and nothing changed, or it went on
+-- among numbered rooms.
 pub data Attempts {C F : Type 0} (log : C → Log F) (old new : Disk C F) (step : Step) (end : Result Answer Failure) : Type 0 where
-  unlisted : (failure : Failure) → end ≡ Err failure → old.is_numbered ≡ false → IsStill old new → Attempts log old new step end
+  unlisted : (failure : Failure) → end ≡ Err failure → old.is_numbered ≡ false → IsStill old new → FailsToListRooms (string_bytes old.root) (log old.calls) (log new.calls) failure → Attempts log old new step end
   among : (rooms : Disk C F) → Numbers old rooms (log old.calls) (log rooms.calls) → EndsAmongRooms log rooms new step end → Attempts log old new step end

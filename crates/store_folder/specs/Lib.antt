@@ -5,7 +5,10 @@ pub mod Folders
 pub mod Files
 pub mod Leftovers
 pub mod NewRooms
+pub mod FailedClearing
+pub mod FailedBuilding
 pub mod Rooms
+pub mod FailedListing
 pub mod StepPlaces
 pub mod Places
 pub mod Steps

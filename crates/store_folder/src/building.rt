@@ -1,8 +1,8 @@
 //! How a room is made: it is built in a folder of ROOT that is no room, and then that folder gets the room's name.
 ghost use Rattle.std.specs.Prelude.{◌≡◌, ◌∷◌, [], ◌++◌, ◌⊎◌, All, Err, None, Option, position, IsOk, IfOk, IfErr, OnOk, OnErr, string_bytes};
 ghost use Rattle.store_api.specs.Names.{same_name};
-ghost use Rattle.folder_calls.specs.Parts.{IsPart};
-ghost use Rattle.store_folder.specs.ForEach.{ForEach};
+ghost use Rattle.store_folder.specs.FailedBuilding.{FailsToBuildFolder, FailsToPutFile, FailsToBuildFile, FailsToFill, FailsToBuildRoom, FailsToMakeRoom};
+ghost use Rattle.store_folder.specs.ForEach.{ForEach, FailsAtOne};
 ghost use Rattle.store_folder.specs.Paths.{IsNameable, item_of};
 ghost use Rattle.store_folder.specs.NewRooms.{BuildsFolder, PutsFile, BuildsFile, TakesPlace, Fills, BuildsRoom, MakesRoom};
 ghost use Rattle.store_folder.specs.Rooms.{AddsRoom};
@@ -18,7 +18,8 @@ use store_api::Answer;
 
 impl<C: Calls<File = F>, F: Drop> Disk<C, F> {
     /// Adds a room with these folders and empty top files: they are built and synced in a folder that is no room,
-    /// and then that folder gets the room's name.
+    /// and then that folder gets the room's name. Where the building fails, what was built is cleared, as far as the
+    /// system does that.
     pub fn make_room(
         &mut self,
         name: &Name,
@@ -27,7 +28,7 @@ impl<C: Calls<File = F>, F: Drop> Disk<C, F> {
     ) -> Result<Answer, Failure>
         ensures adds { IfOk result (AddsRoom self.old self.new name.now (C.log self.old.calls) (C.log self.new.calls) folders.now files.now) }
         ensures failed { OnErr result ((self.new.rooms.items ≡ self.old.rooms.items) ⊎ ((self.new.rooms.items ≡ self.old.rooms.items ++ name.now ∷ []) × MakesRoom (string_bytes self.old.root) (item_of (string_bytes self.old.root) name.now) folders.now files.now (Err Failure.Failed) (C.log self.old.calls) (C.log self.new.calls))) }
-        ensures fails { OnErr result (position (λ room. same_name room name.now) self.old.rooms.items ≡ None) }
+        ensures fails { IfErr result (λ failure. (position (λ room. same_name room name.now) self.old.rooms.items ≡ None) × FailsToMakeRoom (string_bytes self.old.root) name.now folders.now files.now (C.log self.old.calls) (C.log self.new.calls) failure) }
         ensures root { self.new.root ≡ self.old.root }
         ensures numbered { self.new.is_numbered ≡ self.old.is_numbered }
         ensures open { self.new.open ≡ self.old.open }
@@ -71,7 +72,8 @@ fn build_room<C: Calls<File = F>, F: Drop>(
     files: &[Name],
 ) -> Result<(), Failure>
     ensures built { OnOk result (BuildsRoom root.now path.now folders.now files.now (C.log calls.old) (C.log calls.new)) }
-    ensures parts { ¬ (All IsPart folders.now × All IsPart files.now) → (result ≡ Err Failure.Failed) × (C.log calls.new ≡ C.log calls.old) }
+    ensures fails { IfErr result (FailsToBuildRoom root.now path.now folders.now files.now (C.log calls.old) (C.log calls.new)) }
+    ensures parts { ¬ (All IsNameable folders.now × All IsNameable files.now) → (result ≡ Err Failure.Failed) × (C.log calls.new ≡ C.log calls.old) }
 {
     check_parts(folders)?;
     check_parts(files)?;
@@ -93,6 +95,7 @@ fn build_at<C: Calls<File = F>, F: Drop>(
     files: &[Name],
 ) -> Result<(), Failure>
     ensures built { OnOk result (Fills new.now path.now folders.now files.now (C.log calls.old) (C.log calls.new)) }
+    ensures fails { All IsNameable folders.now → All IsNameable files.now → IfErr result (FailsToFill new.now path.now folders.now files.now (C.log calls.old) (C.log calls.new)) }
 {
     build_folders(calls, alloc, new, folders)?;
     build_files(calls, alloc, new, files)?;
@@ -107,6 +110,7 @@ fn build_folders<C: Calls<File = F>, F: Drop>(
     folders: &[Name],
 ) -> Result<(), Failure>
     ensures built { OnOk result (ForEach (BuildsFolder new.now) folders.now (C.log calls.old) (C.log calls.new)) }
+    ensures fails { All IsNameable folders.now → IfErr result (λ failure. FailsAtOne (BuildsFolder new.now) (FailsToBuildFolder new.now failure) folders.now (C.log calls.old) (C.log calls.new)) }
 {
     for folder in folders {
         build_folder(calls, alloc, new, folder)?;
@@ -122,6 +126,7 @@ fn build_folder<C: Calls<File = F>, F: Drop>(
     folder: &Name,
 ) -> Result<(), Failure>
     ensures built { OnOk result (BuildsFolder new.now folder.now (C.log calls.old) (C.log calls.new)) }
+    ensures fails { IsNameable folder.now → IfErr result (λ failure. FailsToBuildFolder new.now failure folder.now (C.log calls.old) (C.log calls.new)) }
 {
     let path = item_path(alloc, new, folder)?;
     calls.make_folder(path.as_str())?;
@@ -135,6 +140,7 @@ fn build_files<C: Calls<File = F>, F: Drop>(
     files: &[Name],
 ) -> Result<(), Failure>
     ensures built { OnOk result (ForEach (BuildsFile new.now) files.now (C.log calls.old) (C.log calls.new)) }
+    ensures fails { All IsNameable files.now → IfErr result (λ failure. FailsAtOne (BuildsFile new.now) (FailsToBuildFile new.now failure) files.now (C.log calls.old) (C.log calls.new)) }
 {
     for file in files {
         build_file(calls, alloc, new, file)?;
@@ -150,6 +156,7 @@ fn build_file<C: Calls<File = F>, F: Drop>(
     file: &Name,
 ) -> Result<(), Failure>
     ensures built { OnOk result (BuildsFile new.now file.now (C.log calls.old) (C.log calls.new)) }
+    ensures fails { IsNameable file.now → IfErr result (λ failure. FailsToBuildFile new.now failure file.now (C.log calls.old) (C.log calls.new)) }
 {
     let path = item_path(alloc, new, file)?;
     let put = put_file(calls, path.as_str());
@@ -159,6 +166,8 @@ fn build_file<C: Calls<File = F>, F: Drop>(
 
 fn put_file<C: Calls<File = F>, F: Drop>(calls: &mut C, path: &str) -> Result<(), Failure>
     ensures put { OnOk result ((made : Option F) × PutsFile path.now made (C.log calls.old) (C.log calls.new)) }
+    ensures failed { IfErr result (λ failure. failure ≡ Failure.Failed) }
+    ensures fails { OnErr result (FailsToPutFile path.now (C.log calls.old) (C.log calls.new)) }
 {
     match calls.create(path)? {
         Some(file) => calls.sync(&file),
@@ -168,12 +177,22 @@ fn put_file<C: Calls<File = F>, F: Drop>(calls: &mut C, path: &str) -> Result<()
 
 // Fails where one of the names can't stand in a path.
 fn check_parts(names: &[Name]) -> Result<(), Failure>
-    ensures parts { OnOk result (All IsPart names.now) }
+    ensures parts { OnOk result (All IsNameable names.now) }
     ensures only { All IsNameable names.now → IsOk result }
     ensures failed { IfErr result (λ failure. failure ≡ Failure.Failed) }
 {
     for name in names {
-        part(name)?;
+        check_part(name)?;
     }
+    Ok(())
+}
+
+// Fails where the name can't stand in a path. The bytes of a text are UTF-8.
+fn check_part(name: &Name) -> Result<(), Failure>
+    ensures part { OnOk result (IsNameable name.now) }
+    ensures only { IsNameable name.now → IsOk result }
+    ensures failed { IfErr result (λ failure. failure ≡ Failure.Failed) }
+{
+    let _bytes = part(name)?.as_bytes();
     Ok(())
 }

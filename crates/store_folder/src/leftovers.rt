@@ -1,7 +1,8 @@
 //! What the making of a room leaves where it is broken off: folders of ROOT that are no rooms, which are used again.
-ghost use Rattle.std.specs.Prelude.{◌≡◌, ◌∷◌, [], Ok, IfOk, OnOk, string_bytes};
+ghost use Rattle.std.specs.Prelude.{◌≡◌, ◌∷◌, [], Ok, IfOk, IfErr, OnOk, OnErr, string_bytes};
 ghost use Rattle.folder_calls.specs.Calls.{Log, Makes, looked_at};
-ghost use Rattle.store_folder.specs.ForEach.{ForEach};
+ghost use Rattle.store_folder.specs.FailedClearing.{FailsToRemoveLeftover, FailsToClearItem, FailsToEmpty, FailsToClear, FailsToTry, FailsToTakePlace};
+ghost use Rattle.store_folder.specs.ForEach.{ForEach, FailsAtOne};
 ghost use Rattle.store_folder.specs.Leftovers.{RemovesLeftover, ClearsItem, Empties, Clears, Tries};
 ghost use Rattle.store_folder.specs.NewRooms.{TakesPlace};
 
@@ -17,6 +18,7 @@ pub fn new_folder<C: Calls<File = F>, F: Drop>(
     root: &str,
 ) -> Result<String, Failure>
     ensures taken { IfOk result (λ new. TakesPlace root.now (string_bytes new) (C.log calls.old) (C.log calls.new)) }
+    ensures fails { IfErr result (FailsToTakePlace root.now (C.log calls.old) (C.log calls.new)) }
 {
     for k in 0..u64::MAX {
         let path = format!(in alloc; "{}/.new.{k}", root)?;
@@ -34,6 +36,7 @@ fn make_new<C: Calls<File = F>, F: Drop>(
     path: &str,
 ) -> Result<bool, Failure>
     ensures tried { IfOk result (Tries path.now (C.log calls.old) (C.log calls.new)) }
+    ensures fails { IfErr result (FailsToTry path.now (C.log calls.old) (C.log calls.new)) }
 {
     if calls.make_folder(path)? {
         return Ok(true);
@@ -52,6 +55,7 @@ pub fn clear<C: Calls<File = F>, F: Drop>(
     path: &str,
 ) -> Result<bool, Failure>
     ensures cleared { IfOk result (Clears path.now (C.log calls.old) (C.log calls.new)) }
+    ensures fails { IfErr result (FailsToClear path.now (C.log calls.old) (C.log calls.new)) }
 {
     match calls.look(path)? {
         Kind::Folder => empty(calls, alloc, path),
@@ -68,6 +72,7 @@ fn empty<C: Calls<File = F>, F: Drop>(
     path: &str,
 ) -> Result<bool, Failure>
     ensures emptied { IfOk result (Empties path.now (C.log calls.old) (C.log calls.new)) }
+    ensures fails { IfErr result (FailsToEmpty path.now (C.log calls.old) (C.log calls.new)) }
 {
     let names = calls.list(alloc, path)?;
     let cleared = clear_items(calls, alloc, path, names.as_slice());
@@ -84,6 +89,7 @@ fn clear_items<C: Calls<File = F>, F: Drop>(
     names: &[Name],
 ) -> Result<(), Failure>
     ensures cleared { OnOk result (ForEach (ClearsItem folder.now) names.now (C.log calls.old) (C.log calls.new)) }
+    ensures fails { IfErr result (λ failure. FailsAtOne (ClearsItem folder.now) (FailsToClearItem folder.now failure) names.now (C.log calls.old) (C.log calls.new)) }
 {
     for name in names {
         clear_item(calls, alloc, folder, name)?;
@@ -98,6 +104,7 @@ fn clear_item<C: Calls<File = F>, F: Drop>(
     name: &Name,
 ) -> Result<(), Failure>
     ensures cleared { OnOk result (ClearsItem folder.now name.now (C.log calls.old) (C.log calls.new)) }
+    ensures fails { IfErr result (λ failure. FailsToClearItem folder.now failure name.now (C.log calls.old) (C.log calls.new)) }
 {
     let path = item_path(alloc, folder, name)?;
     let cleared = remove_leftover(calls, path.as_str());
@@ -107,6 +114,8 @@ fn clear_item<C: Calls<File = F>, F: Drop>(
 
 fn remove_leftover<C: Calls<File = F>, F: Drop>(calls: &mut C, path: &str) -> Result<(), Failure>
     ensures removed { OnOk result ((kind : Kind) × (between : Log F) × Makes (looked_at path.now (Ok kind) ∷ []) (C.log calls.old) between × RemovesLeftover path.now kind between (C.log calls.new)) }
+    ensures failed { IfErr result (λ failure. failure ≡ Failure.Failed) }
+    ensures fails { OnErr result (FailsToRemoveLeftover path.now (C.log calls.old) (C.log calls.new)) }
 {
     match calls.look(path)? {
         Kind::Folder => {

@@ -1,5 +1,6 @@
 //! The rooms: which items of ROOT they are, and the steps that name, find and rename them.
 ghost use Rattle.std.specs.Prelude.{◌≡◌, ◌≤◌, ◌<◌, ◌∷◌, [], ◌++◌, ◌⊎◌, length, position, true, false, None, Ok, Err, IsSome, IfSome, IfOk, IfErr, OnErr, OnOk, slice_set, string_bytes};
+ghost use Rattle.store_folder.specs.FailedListing.{FailsToLookForRoom, FailsToFindRooms, FailsToListRooms};
 ghost use Rattle.store_folder.specs.Failing.{FailsToRenameRoom};
 ghost use Rattle.store_folder.specs.Paths.{IsNameable, item_of, room_path};
 ghost use Rattle.store_folder.specs.StepPlaces.{room_name};
@@ -26,6 +27,7 @@ fn place_of(rooms: &[Name], name: &Name) -> Option<usize>
 // Adds the name where it is a room's.
 fn push_room(rooms: &mut Vec<Name>, is_room: bool, name: &Name) -> Result<(), Failure>
     ensures pushed { OnOk result (rooms.new.items ≡ rooms.old.items ++ if_room is_room name.now) }
+    ensures memory { IfErr result (λ failure. failure ≡ Failure.NoMemory) }
 {
     if is_room {
         rooms.push(*name)?;
@@ -40,6 +42,7 @@ fn list_rooms<C: Calls<File = F>, F: Drop>(
     root: &str,
 ) -> Result<Vec<Name>, Failure>
     ensures listed { IfOk result (λ rooms. ListsRooms root.now rooms.items (C.log calls.old) (C.log calls.new)) }
+    ensures fails { IfErr result (FailsToListRooms root.now (C.log calls.old) (C.log calls.new)) }
 {
     let names = calls.list(alloc, root)?;
     let mut rooms = rooms_among(calls, alloc, root, names.as_slice())?;
@@ -55,6 +58,7 @@ fn rooms_among<C: Calls<File = F>, F: Drop>(
     names: &[Name],
 ) -> Result<Vec<Name>, Failure>
     ensures found { IfOk result (λ rooms. FindsRooms root.now names.now rooms.items (C.log calls.old) (C.log calls.new)) }
+    ensures fails { IfErr result (FailsToFindRooms root.now names.now (C.log calls.old) (C.log calls.new)) }
 {
     let mut rooms = Vec::new(alloc);
     for name in names {
@@ -72,6 +76,7 @@ fn is_room<C: Calls<File = F>, F: Drop>(
     name: &Name,
 ) -> Result<bool, Failure>
     ensures looked { IfOk result (λ is_room. LooksForRoom root.now name.now is_room (C.log calls.old) (C.log calls.new)) }
+    ensures fails { IfErr result (FailsToLookForRoom root.now name.now (C.log calls.old) (C.log calls.new)) }
 {
     if !is_room_name(name.bytes()) {
         return Ok(false);
@@ -119,6 +124,7 @@ impl<C: Calls<File = F>, F: Drop> Disk<C, F> {
         ensures open { self.new.open ≡ self.old.open }
         ensures own { self.new.own ≡ self.old.own }
         ensures failed { OnErr result (IsStill self.old self.new) }
+        ensures fails { IfErr result (FailsToListRooms (string_bytes self.old.root) (C.log self.old.calls) (C.log self.new.calls)) }
     {
         if self.is_numbered {
             return Ok(());

@@ -1,5 +1,5 @@
-use Rattle.gathering.proofs.Sample.{gathering, lists_truncs, later}
-use Rattle.gathering.proofs.SampleReader.{start, cut, beside_torn_flush}
+use Rattle.gathering.proofs.Samples.Sample.{gathering, lists_truncs, later}
+use Rattle.gathering.proofs.Samples.SampleReader.{start, cut, beside_torn_flush}
 use Rattle.gathering.proofs.example.a_reader_opens_beside_a_torn_flush.Goals as goal
 
 pub returns : goal.returns

@@ -1,4 +1,4 @@
-use Rattle.gathering.proofs.Placing.{place_of}
+use Rattle.gathering.proofs.Moments.Placing.{place_of}
 use Rattle.gathering.proofs.histories.call_has_place.Goals as goal
 
 pub returns : goal.returns

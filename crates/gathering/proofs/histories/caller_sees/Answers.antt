@@ -1,4 +1,4 @@
-use Rattle.gathering.proofs.Seeing.{seen}
+use Rattle.gathering.proofs.Moments.Seeing.{seen}
 use Rattle.gathering.proofs.histories.caller_sees.Goals as goal
 
 pub returns : goal.returns

@@ -1,4 +1,4 @@
-use Rattle.gathering.proofs.Bounds.{flush_lands}
+use Rattle.gathering.proofs.Moments.Bounds.{flush_lands}
 use Rattle.gathering.proofs.histories.flush_lands.Goals as goal
 
 pub returns : goal.returns

@@ -1,4 +1,4 @@
-use Rattle.gathering.proofs.Seeing.{grows_after}
+use Rattle.gathering.proofs.Moments.Seeing.{grows_after}
 use Rattle.gathering.proofs.histories.history_grows.Goals as goal
 
 pub returns : goal.returns

@@ -1,4 +1,4 @@
-use Rattle.gathering.proofs.Bounds.{landed_most}
+use Rattle.gathering.proofs.Moments.Bounds.{landed_most}
 use Rattle.gathering.proofs.histories.nothing_lands_unflushed.Goals as goal
 
 pub returns : goal.returns

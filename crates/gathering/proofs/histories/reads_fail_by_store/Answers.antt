@@ -1,4 +1,4 @@
-use Rattle.gathering.proofs.Failing.{read_ends}
+use Rattle.gathering.proofs.OpenReaders.Failing.{read_ends}
 use Rattle.gathering.proofs.histories.reads_fail_by_store.Goals as goal
 
 pub returns : goal.returns

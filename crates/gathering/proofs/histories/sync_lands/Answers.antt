@@ -1,4 +1,4 @@
-use Rattle.gathering.proofs.Bounds.{sync_lands}
+use Rattle.gathering.proofs.Moments.Bounds.{sync_lands}
 use Rattle.gathering.proofs.histories.sync_lands.Goals as goal
 
 pub returns : goal.returns

@@ -1,4 +1,4 @@
-use Rattle.gathering.proofs.Bounds.{trunc_stays}
+use Rattle.gathering.proofs.Moments.Bounds.{trunc_stays}
 use Rattle.gathering.proofs.histories.truncates_stay.Goals as goal
 
 pub returns : goal.returns

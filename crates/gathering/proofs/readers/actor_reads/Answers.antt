@@ -1,4 +1,4 @@
-use Rattle.gathering.proofs.Actors.{actor_answers}
+use Rattle.gathering.proofs.OpenReaders.Actors.{actor_answers}
 use Rattle.gathering.proofs.readers.actor_reads.Goals as goal
 
 pub returns : goal.returns

@@ -1,4 +1,4 @@
-use Rattle.gathering.proofs.Opening.{opened_flat, shared_flat}
+use Rattle.gathering.proofs.OpenReaders.Opening.{opened_flat, shared_flat}
 use Rattle.gathering.proofs.readers.an_opened_flattened_index_is_right.Goals as goal
 
 pub returns-clause-alone : goal.returns-clause-alone

@@ -1,4 +1,4 @@
-use Rattle.gathering.proofs.Flats.{flattened_pieces}
+use Rattle.gathering.proofs.Indices.Flats.{flattened_pieces}
 use Rattle.gathering.proofs.readers.flattening_changes_nothing.Goals as goal
 
 pub returns : goal.returns

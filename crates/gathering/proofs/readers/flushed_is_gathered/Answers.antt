@@ -1,4 +1,4 @@
-use Rattle.gathering.proofs.Bounds.{flushed_gathered}
+use Rattle.gathering.proofs.Moments.Bounds.{flushed_gathered}
 use Rattle.gathering.proofs.readers.flushed_is_gathered.Goals as goal
 
 pub returns : goal.returns

@@ -1,4 +1,4 @@
-use Rattle.gathering.proofs.Readable.{gathered_follow}
+use Rattle.gathering.proofs.Logs.Readable.{gathered_follow}
 use Rattle.gathering.proofs.readers.gathered_entries_are_in_order.Goals as goal
 
 pub returns : goal.returns

@@ -1,4 +1,4 @@
-use Rattle.gathering.proofs.Readable.{gathered_readable}
+use Rattle.gathering.proofs.Logs.Readable.{gathered_readable}
 use Rattle.gathering.proofs.readers.gathered_entries_are_readable.Goals as goal
 
 pub returns : goal.returns

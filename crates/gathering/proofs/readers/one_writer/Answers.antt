@@ -1,4 +1,4 @@
-use Rattle.gathering.proofs.Gathers.{gathers}
+use Rattle.gathering.proofs.Logs.Gathers.{gathers}
 use Rattle.gathering.proofs.readers.one_writer.Goals as goal
 
 pub returns : goal.returns

@@ -1,4 +1,4 @@
-use Rattle.gathering.proofs.Parts.{parts_in_logs}
+use Rattle.gathering.proofs.OpenReaders.Parts.{parts_in_logs}
 use Rattle.gathering.proofs.readers.parts_lie_in_logs.Goals as goal
 
 pub returns : goal.returns

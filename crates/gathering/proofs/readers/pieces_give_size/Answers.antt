@@ -1,4 +1,4 @@
-use Rattle.gathering.proofs.Answering.{size_of_pieces}
+use Rattle.gathering.proofs.OpenReaders.Answering.{size_of_pieces}
 use Rattle.gathering.proofs.readers.pieces_give_size.Goals as goal
 
 pub returns : goal.returns

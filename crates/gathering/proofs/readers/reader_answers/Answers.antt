@@ -1,4 +1,4 @@
-use Rattle.gathering.proofs.Opening.{answers_last}
+use Rattle.gathering.proofs.OpenReaders.Opening.{answers_last}
 use Rattle.gathering.proofs.readers.reader_answers.Goals as goal
 
 pub returns : goal.returns

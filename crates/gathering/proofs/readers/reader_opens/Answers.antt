@@ -1,4 +1,4 @@
-use Rattle.gathering.proofs.Opening.{opened}
+use Rattle.gathering.proofs.OpenReaders.Opening.{opened}
 use Rattle.gathering.proofs.readers.reader_opens.Goals as goal
 
 pub returns : goal.returns

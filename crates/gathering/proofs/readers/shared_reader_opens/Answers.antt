@@ -1,4 +1,4 @@
-use Rattle.gathering.proofs.Opening.{shared_opened}
+use Rattle.gathering.proofs.OpenReaders.Opening.{shared_opened}
 use Rattle.gathering.proofs.readers.shared_reader_opens.Goals as goal
 
 pub returns : goal.returns

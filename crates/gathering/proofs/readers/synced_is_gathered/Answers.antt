@@ -1,4 +1,4 @@
-use Rattle.gathering.proofs.Bounds.{synced_gathered}
+use Rattle.gathering.proofs.Moments.Bounds.{synced_gathered}
 use Rattle.gathering.proofs.readers.synced_is_gathered.Goals as goal
 
 pub returns : goal.returns

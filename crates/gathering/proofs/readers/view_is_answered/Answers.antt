@@ -1,4 +1,4 @@
-use Rattle.gathering.proofs.Opening.{view_answers}
+use Rattle.gathering.proofs.OpenReaders.Opening.{view_answers}
 use Rattle.gathering.proofs.readers.view_is_answered.Goals as goal
 
 pub returns : goal.returns

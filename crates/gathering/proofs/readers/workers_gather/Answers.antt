@@ -1,4 +1,4 @@
-use Rattle.gathering.proofs.Shares.{workers_gathered}
+use Rattle.gathering.proofs.OpenReaders.Shares.{workers_gathered}
 use Rattle.gathering.proofs.readers.workers_gather.Goals as goal
 
 pub returns : goal.returns

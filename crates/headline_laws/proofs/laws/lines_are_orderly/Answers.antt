@@ -1,4 +1,4 @@
-use Rattle.headline_laws.proofs.Orderly.{orderly, play_orderly}
+use Rattle.headline_laws.proofs.OrderlyLines.Orderly.{orderly, play_orderly}
 use Rattle.headline_laws.proofs.laws.lines_are_orderly.Goals as goal
 
 pub returns-clause-right : goal.returns-clause-right

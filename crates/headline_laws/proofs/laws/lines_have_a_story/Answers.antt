@@ -1,4 +1,4 @@
-use Rattle.headline_laws.proofs.Homes.{has_story, play_has_story}
+use Rattle.headline_laws.proofs.Trees.Homes.{has_story, play_has_story}
 use Rattle.headline_laws.proofs.laws.lines_have_a_story.Goals as goal
 
 pub returns-clause-right : goal.returns-clause-right

@@ -1,4 +1,4 @@
-use Rattle.headline_laws.proofs.Still.{still}
+use Rattle.headline_laws.proofs.Trees.Still.{still}
 use Rattle.headline_laws.proofs.laws.what_stood_stands.Goals as goal
 
 pub returns : goal.returns

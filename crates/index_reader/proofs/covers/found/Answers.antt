@@ -1,7 +1,7 @@
 use Rattle.std.proofs.Common.{nat_lt, rules, sym}
 use Rattle.std.proofs.lemmas.List.Sorted.{IsPartitionPoint-from_clause}
 use Rattle.plfs_types.specs.declared.entries.Cover.{Cover}
-use Rattle.index_reader.proofs.Found.{partitioned, passed, found_at, past_all, other_here}
+use Rattle.index_reader.proofs.Containers.Found.{partitioned, passed, found_at, past_all, other_here}
 use Rattle.index_reader.proofs.covers.found.Goals as goal
 use Rattle.index_reader.proofs.covers.found.Goals.{else-place-covers-via-then-place-covers+else-covers-place, else-place-covers-via-else-place-covers}
 

@@ -1,6 +1,6 @@
 use Rattle.std.proofs.Common.{sym, subst}
 use Rattle.index_reader.specs.Gathered.{AreFirstOf}
-use Rattle.index_reader.proofs.FirstLemmas.{first_of}
+use Rattle.index_reader.proofs.Indices.FirstLemmas.{first_of}
 use Rattle.index_reader.proofs.firsts.first_covers.Goals as goal
 
 pub returns : goal.returns

@@ -2,7 +2,7 @@ use Rattle.std.proofs.Common.{◌≡◌, ◌∙◌, ap, map, rules, sym}
 use Rattle.std.specs.Map.Iter.{deref_pair}
 use Rattle.std.proofs.lemmas.Map.Iter.{iter_end}
 use Rattle.std.proofs.lemmas.Simd.{map-map}
-use Rattle.index_reader.proofs.FirstLemmas.{values}
+use Rattle.index_reader.proofs.Indices.FirstLemmas.{values}
 use Rattle.index_reader.proofs.firsts.in_order.Goals as goal
 
 pub returns : goal.returns

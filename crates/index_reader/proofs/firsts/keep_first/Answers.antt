@@ -3,7 +3,7 @@ use Rattle.std.specs.Prelude.{is_some, cond}
 use Rattle.std.specs.BTreeMap.{is_at}
 use Rattle.std.specs.Ordering.{nat_cmp}
 use Rattle.index_reader.specs.Firsts.{AreAtOwn}
-use Rattle.index_reader.proofs.FirstLemmas.{kept_first, taken_first, own_inserted}
+use Rattle.index_reader.proofs.Indices.FirstLemmas.{kept_first, taken_first, own_inserted}
 use Rattle.index_reader.proofs.firsts.keep_first.Goals as goal
 
 pub returns-then-contains_key : goal.returns-then-contains_key

@@ -2,7 +2,7 @@ use Rattle.std.proofs.Common.{refl}
 use Rattle.index_reader.specs.declared.flats.FlatStep.TheVariants.{Bytes}
 use Rattle.index_reader.specs.FileStages.{part_left}
 use Rattle.index_reader.specs.OpenStages.{after_flat}
-use Rattle.index_reader.proofs.FileLemmas.{flat_goes_on}
+use Rattle.index_reader.proofs.Containers.FileLemmas.{flat_goes_on}
 use Rattle.index_reader.proofs.flats.after_part.Goals as goal
 
 pub returns-clause-goes_on : goal.returns-clause-goes_on

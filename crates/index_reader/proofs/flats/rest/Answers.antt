@@ -1,6 +1,6 @@
 use Rattle.index_reader.specs.FileStages.{part_left}
 use Rattle.index_reader.specs.OpenStages.{after_flat}
-use Rattle.index_reader.proofs.FileLemmas.{flat_rest_goes_on}
+use Rattle.index_reader.proofs.Containers.FileLemmas.{flat_rest_goes_on}
 use Rattle.index_reader.proofs.flats.rest.Goals as goal
 
 pub returns-clause-goes_on : goal.returns-clause-goes_on

@@ -1,5 +1,5 @@
 use Rattle.std.proofs.Common.{Ok, ap, sym, ◌∙◌}
-use Rattle.index_reader.proofs.FlatRuleLemmas.{flat_told-valid, flat_told-bad}
+use Rattle.index_reader.proofs.Indices.FlatRuleLemmas.{flat_told-valid, flat_told-bad}
 use Rattle.index_reader.proofs.flats.told.Goals as goal
 
 pub returns-in-Ok : goal.returns-in-Ok

@@ -1,7 +1,7 @@
 use Rattle.std.proofs.Common.{nat_lt, rules, sym}
 use Rattle.std.proofs.lemmas.List.Sorted.{IsPartitionPoint-from_clause}
 use Rattle.plain_file.specs.declared.parts.WriterHost.{WriterHost}
-use Rattle.index_reader.proofs.Found.{partitioned, passed, found_at, past_all, other_here}
+use Rattle.index_reader.proofs.Containers.Found.{partitioned, passed, found_at, past_all, other_here}
 use Rattle.index_reader.proofs.hosts.found.Goals as goal
 use Rattle.index_reader.proofs.hosts.found.Goals.{else-place-hosts-via-then-place-hosts+else-hosts-place, else-place-hosts-via-else-place-hosts}
 

@@ -1,6 +1,6 @@
 use Rattle.std.proofs.Common.{◌≡◌, ◌∙◌, sym, Option, Some, None}
 use Rattle.container_layout.specs.declared.items.Item.{Item}
-use Rattle.index_reader.proofs.ItemLemmas.{flat_item-here, flat_item-other, flat_item-none}
+use Rattle.index_reader.proofs.Containers.ItemLemmas.{flat_item-here, flat_item-other, flat_item-none}
 use Rattle.index_reader.proofs.newest.flat_item.Goals as goal
 
 pub returns-in_err-item : goal.returns-in_err-item

@@ -1,5 +1,5 @@
 use Rattle.index_reader.specs.OpenStages.{after_flat, open_left}
-use Rattle.index_reader.proofs.OpenLemmas.{flat_later}
+use Rattle.index_reader.proofs.Containers.OpenLemmas.{flat_later}
 use Rattle.index_reader.proofs.opening.after_flat_read.Goals as goal
 
 pub returns-clause-goes_on : goal.returns-clause-goes_on

@@ -1,7 +1,7 @@
 use Rattle.std.proofs.Common.{None, ◌∙◌, ap, sym}
 use Rattle.index_reader.specs.Newest.{newest_in}
 use Rattle.index_reader.specs.OpenStages.{open_left}
-use Rattle.index_reader.proofs.OpenLemmas.{newest_then}
+use Rattle.index_reader.proofs.Containers.OpenLemmas.{newest_then}
 use Rattle.index_reader.proofs.opening.after_flats.Goals as goal
 
 pub returns-in-Ok-clause-goes_on : goal.returns-in-Ok-clause-goes_on

@@ -1,7 +1,7 @@
 use Rattle.std.proofs.Common.{◌∙◌, ap, sym}
 use Rattle.index_reader.specs.Tops.{top_shows}
 use Rattle.index_reader.specs.OpenStages.{open_left}
-use Rattle.index_reader.proofs.OpenLemmas.{top_then}
+use Rattle.index_reader.proofs.Containers.OpenLemmas.{top_then}
 use Rattle.index_reader.proofs.opening.after_top.Goals as goal
 
 pub returns-clause-goes_on : goal.returns-clause-goes_on

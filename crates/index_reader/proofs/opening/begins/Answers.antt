@@ -1,4 +1,4 @@
-use Rattle.index_reader.proofs.OpenLemmas.{newest_read}
+use Rattle.index_reader.proofs.Containers.OpenLemmas.{newest_read}
 use Rattle.index_reader.proofs.opening.begins.Goals as goal
 
 pub returns-in-Some-clause-goes_on : goal.returns-in-Some-clause-goes_on

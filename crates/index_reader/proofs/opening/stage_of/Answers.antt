@@ -1,4 +1,4 @@
-use Rattle.index_reader.proofs.OpenLemmas.{flat_same}
+use Rattle.index_reader.proofs.Containers.OpenLemmas.{flat_same}
 use Rattle.index_reader.proofs.opening.stage_of.Goals as goal
 
 pub returns-in-GoesOn-clause-goes_on : goal.returns-in-GoesOn-clause-goes_on

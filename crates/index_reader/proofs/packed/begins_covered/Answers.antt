@@ -1,4 +1,4 @@
-use Rattle.index_reader.proofs.PackedLemmas.{first_of_one}
+use Rattle.index_reader.proofs.Indices.PackedLemmas.{first_of_one}
 use Rattle.index_reader.proofs.packed.begins_covered.Goals as goal
 
 pub end_of-bytes-requires : goal.end_of-bytes-requires

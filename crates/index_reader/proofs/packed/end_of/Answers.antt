@@ -1,5 +1,5 @@
 use Rattle.std.proofs.Common.{arith, sym}
-use Rattle.index_reader.proofs.PackedLemmas.{ends_all, stamped_last}
+use Rattle.index_reader.proofs.Indices.PackedLemmas.{ends_all, stamped_last}
 use Rattle.index_reader.proofs.packed.end_of.Goals as goal
 
 pub overflow_add-result : goal.overflow_add-result

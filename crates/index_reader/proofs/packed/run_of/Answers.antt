@@ -1,6 +1,6 @@
 use Rattle.std.proofs.Common.{◌<◌, ◌≤◌, ◌-◌, ℕ, List, sym, subst, length-drop}
 use Rattle.index_entry.specs.Spelling.{number_in}
-use Rattle.index_reader.proofs.PackedLemmas.{Seeking, sought_here, sought_further}
+use Rattle.index_reader.proofs.Indices.PackedLemmas.{Seeking, sought_here, sought_further}
 use Rattle.index_reader.proofs.packed.run_of.Goals as goal
 
 pub returns-then-number-count-clause-value : goal.returns-then-number-count-clause-value

@@ -1,4 +1,4 @@
-use Rattle.index_reader.proofs.PackedLemmas.{Seeking}
+use Rattle.index_reader.proofs.Indices.PackedLemmas.{Seeking}
 use Rattle.index_reader.proofs.packed.run_of.Given as goal
 
 abbrev pub invariant-loop-left : goal.invariant-loop-left

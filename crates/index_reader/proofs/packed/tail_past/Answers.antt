@@ -1,7 +1,7 @@
 use Rattle.std.proofs.Common.{◌≡◌, ◌∙◌, List, All, ap, drop, sym, subst}
 use Rattle.plfs_types.specs.declared.entries.Entry.{Entry}
 use Rattle.interval_merge.specs.Writer.{HasPiece}
-use Rattle.index_reader.proofs.PackedLemmas.{pieces_of_one}
+use Rattle.index_reader.proofs.Indices.PackedLemmas.{pieces_of_one}
 use Rattle.index_reader.proofs.packed.tail_past.Goals as goal
 
 pub returns-clause-pieces : goal.returns-clause-pieces

@@ -1,6 +1,6 @@
 use Rattle.std.proofs.Common.{sym}
-use Rattle.index_reader.proofs.PackRuleLemmas.{pack_told-packs, pack_told-bad}
-use Rattle.index_reader.proofs.PackedLemmas.{packed_of_one, packed_whole}
+use Rattle.index_reader.proofs.Indices.PackRuleLemmas.{pack_told-packs, pack_told-bad}
+use Rattle.index_reader.proofs.Indices.PackedLemmas.{packed_of_one, packed_whole}
 use Rattle.index_reader.proofs.packed.told.Goals as goal
 
 pub returns-in-Ok-clause-value : goal.returns-in-Ok-clause-value

@@ -1,6 +1,6 @@
 use Rattle.std.proofs.Common.{◌∙◌, ap, sym}
 use Rattle.index_reader.specs.Packed.{headed_program}
-use Rattle.index_reader.proofs.FileLemmas.{damaged_tail, whole_tail, headed_then}
+use Rattle.index_reader.proofs.Containers.FileLemmas.{damaged_tail, whole_tail, headed_then}
 use Rattle.index_reader.proofs.packs.after_head.Goals as goal
 
 pub returns-in-Fault-clause-goes_on : goal.returns-in-Fault-clause-goes_on

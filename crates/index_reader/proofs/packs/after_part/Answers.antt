@@ -2,7 +2,7 @@ use Rattle.std.proofs.Common.{refl}
 use Rattle.index_reader.specs.declared.steps.PackStep.TheVariants.{Rest}
 use Rattle.index_reader.specs.FileStages.{part_left}
 use Rattle.index_reader.specs.Stages.{after_left}
-use Rattle.index_reader.proofs.FileLemmas.{pack_goes_on}
+use Rattle.index_reader.proofs.Containers.FileLemmas.{pack_goes_on}
 use Rattle.index_reader.proofs.packs.after_part.Goals as goal
 
 pub returns-clause-goes_on : goal.returns-clause-goes_on

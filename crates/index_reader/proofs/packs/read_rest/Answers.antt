@@ -1,6 +1,6 @@
 use Rattle.index_reader.specs.FileStages.{part_left}
 use Rattle.index_reader.specs.Stages.{after_left}
-use Rattle.index_reader.proofs.FileLemmas.{pack_rests}
+use Rattle.index_reader.proofs.Containers.FileLemmas.{pack_rests}
 use Rattle.index_reader.proofs.packs.read_rest.Goals as goal
 
 pub returns-clause-goes_on : goal.returns-clause-goes_on

@@ -1,7 +1,7 @@
 use Rattle.std.proofs.Common.{nat_lt, rules, sym}
 use Rattle.std.proofs.lemmas.List.Sorted.{IsPartitionPoint-from_clause}
 use Rattle.index_reader.specs.declared.listing.Dropping.{Dropping}
-use Rattle.index_reader.proofs.Found.{partitioned, passed, found_at, past_all, other_here}
+use Rattle.index_reader.proofs.Containers.Found.{partitioned, passed, found_at, past_all, other_here}
 use Rattle.index_reader.proofs.placing.found.Goals as goal
 use Rattle.index_reader.proofs.placing.found.Goals.{else-place-droppings-via-then-place-droppings+else-droppings-place, else-place-droppings-via-else-place-droppings}
 

@@ -1,6 +1,6 @@
 use Rattle.std.proofs.Common.{◌≡◌, ◌∙◌, sym, Option, Some, None}
 use Rattle.container_layout.specs.declared.items.Item.{Item}
-use Rattle.index_reader.proofs.ItemLemmas.{hostdir_item-here, hostdir_item-other, hostdir_item-none}
+use Rattle.index_reader.proofs.Containers.ItemLemmas.{hostdir_item-here, hostdir_item-other, hostdir_item-none}
 use Rattle.index_reader.proofs.scanning.hostdir_item.Goals as goal
 
 pub returns-in_err-item : goal.returns-in_err-item

@@ -1,7 +1,7 @@
 use Rattle.std.proofs.Common.{◌<◌, ◌+◌, ◌-◌, ◌++◌, ◌∙◌, ℕ, List, ap, length, arith, length-append}
 use Rattle.std.specs.List.{range_with_len}
 use Rattle.index_reader.specs.Tops.{shown}
-use Rattle.index_reader.proofs.TopLemmas.{one_shown, shown_step}
+use Rattle.index_reader.proofs.Containers.TopLemmas.{one_shown, shown_step}
 use Rattle.index_reader.proofs.tops.shown.Goals as goal
 
 pub loop-folder-preserved : goal.loop-folder-preserved

@@ -1,7 +1,7 @@
 use Rattle.std.proofs.Common.{◌<◌, ◌+◌, ◌-◌, ◌++◌, [], ◌∷◌, ◌∙◌, ℕ, List, map, ap}
 use Rattle.std.specs.List.{range_with_len}
 use Rattle.container_layout.specs.Paths.{hostdir_of}
-use Rattle.index_reader.proofs.TopLemmas.{names_step}
+use Rattle.index_reader.proofs.Containers.TopLemmas.{names_step}
 use Rattle.index_reader.proofs.tops.top_names.Goals as goal
 
 pub loop-host-preserved : goal.loop-host-preserved

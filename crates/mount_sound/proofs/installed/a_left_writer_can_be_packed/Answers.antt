@@ -1,4 +1,4 @@
-use Rattle.mount_sound.proofs.Installing.{left_packs}
+use Rattle.mount_sound.proofs.Indices.Installing.{left_packs}
 use Rattle.mount_sound.proofs.installed.a_left_writer_can_be_packed.Goals as goal
 
 pub returns : goal.returns

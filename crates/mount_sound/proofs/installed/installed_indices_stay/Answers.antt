@@ -1,4 +1,4 @@
-use Rattle.mount_sound.proofs.Installing.{indices_stay}
+use Rattle.mount_sound.proofs.Indices.Installing.{indices_stay}
 use Rattle.mount_sound.proofs.installed.installed_indices_stay.Goals as goal
 
 pub returns : goal.returns

@@ -1,4 +1,4 @@
-use Rattle.mount_sound.proofs.Fine.{step_fine}
+use Rattle.mount_sound.proofs.Moments.Fine.{step_fine}
 use Rattle.mount_sound.proofs.laws.fineness_lasts.Goals as goal
 
 pub returns : goal.returns

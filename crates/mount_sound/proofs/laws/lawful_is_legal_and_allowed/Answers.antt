@@ -1,4 +1,4 @@
-use Rattle.mount_sound.proofs.Histories.{lawful_parts, lawful_of}
+use Rattle.mount_sound.proofs.Moments.Histories.{lawful_parts, lawful_of}
 use Rattle.mount_sound.proofs.laws.lawful_is_legal_and_allowed.Goals as goal
 
 pub returns-clause-to : goal.returns-clause-to

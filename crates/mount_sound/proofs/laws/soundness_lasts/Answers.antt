@@ -1,4 +1,4 @@
-use Rattle.mount_sound.proofs.SoundLater.{history_keeps}
+use Rattle.mount_sound.proofs.Moments.SoundLater.{history_keeps}
 use Rattle.mount_sound.proofs.laws.soundness_lasts.Goals as goal
 
 pub returns : goal.returns

@@ -1,4 +1,4 @@
-use Rattle.mount_sound.proofs.HasLanded.{landed_was_issued}
+use Rattle.mount_sound.proofs.Soundness.HasLanded.{landed_was_issued}
 use Rattle.mount_sound.proofs.laws.what_landed_was_issued.Goals as goal
 
 pub returns : goal.returns

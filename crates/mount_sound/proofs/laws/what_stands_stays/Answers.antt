@@ -1,4 +1,4 @@
-use Rattle.mount_sound.proofs.LandedLater.{items_stay}
+use Rattle.mount_sound.proofs.Moments.LandedLater.{items_stay}
 use Rattle.mount_sound.proofs.laws.what_stands_stays.Goals as goal
 
 pub returns : goal.returns

@@ -1,4 +1,4 @@
-use Rattle.packing_laws.proofs.Isolating.{answers_same}
+use Rattle.packing_laws.proofs.SmallFiles.Isolating.{answers_same}
 use Rattle.packing_laws.proofs.isolation.other_units_change_no_answer.Goals as goal
 
 pub returns : goal.returns

@@ -1,4 +1,4 @@
-use Rattle.packing_laws.proofs.Answering.{runs_same}
+use Rattle.packing_laws.proofs.SmallFiles.Answering.{runs_same}
 use Rattle.packing_laws.proofs.isolation.other_units_change_no_run.Goals as goal
 
 pub returns : goal.returns

@@ -1,4 +1,4 @@
-use Rattle.packing_laws.proofs.Lasting.{keeps_mounts}
+use Rattle.packing_laws.proofs.Kept.Lasting.{keeps_mounts}
 use Rattle.packing_laws.proofs.packed.kept_writes_stay.Goals as goal
 
 pub returns-clause-sound : goal.returns-clause-sound

@@ -1,4 +1,4 @@
-use Rattle.packing_laws.proofs.Lasting.{opened_holds}
+use Rattle.packing_laws.proofs.Kept.Lasting.{opened_holds}
 use Rattle.packing_laws.proofs.packed.later_readers_hold_kept_writes.Goals as goal
 
 pub returns : goal.returns

@@ -1,4 +1,4 @@
-use Rattle.packing_laws.proofs.Readers.{packed_held}
+use Rattle.packing_laws.proofs.Kept.Readers.{packed_held}
 use Rattle.packing_laws.proofs.packed.later_readers_hold_packed_files.Goals as goal
 
 pub returns : goal.returns

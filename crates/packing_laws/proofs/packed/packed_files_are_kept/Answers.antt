@@ -1,4 +1,4 @@
-use Rattle.packing_laws.proofs.Packing.{packed_keeps}
+use Rattle.packing_laws.proofs.Kept.Packing.{packed_keeps}
 use Rattle.packing_laws.proofs.packed.packed_files_are_kept.Goals as goal
 
 pub returns : goal.returns

@@ -1,4 +1,4 @@
-use Rattle.packing_laws.proofs.FirstUnits.{scan_good, scan_told}
+use Rattle.packing_laws.proofs.SmallFiles.FirstUnits.{scan_good, scan_told}
 use Rattle.packing_laws.proofs.units.a_scan_of_units_finds_none_bad.Goals as goal
 
 pub returns-clause-scan : goal.returns-clause-scan

@@ -1,4 +1,4 @@
-use Rattle.play_laws.proofs.Undamaging.{play_undamaged, right_undamaged}
+use Rattle.play_laws.proofs.Lines.Undamaging.{play_undamaged, right_undamaged}
 use Rattle.play_laws.proofs.laws.no_line_is_damaged.Goals as goal
 
 pub returns-clause-right : goal.returns-clause-right

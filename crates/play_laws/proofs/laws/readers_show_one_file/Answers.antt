@@ -1,4 +1,4 @@
-use Rattle.play_laws.proofs.Casts.{play_shows, readers_show}
+use Rattle.play_laws.proofs.Lines.Casts.{play_shows, readers_show}
 use Rattle.play_laws.proofs.laws.readers_show_one_file.Goals as goal
 
 pub returns-clause-right : goal.returns-clause-right

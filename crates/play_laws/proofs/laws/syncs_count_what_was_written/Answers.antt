@@ -1,4 +1,4 @@
-use Rattle.play_laws.proofs.Counted.{play_counts, right_counts}
+use Rattle.play_laws.proofs.Lines.Counted.{play_counts, right_counts}
 use Rattle.play_laws.proofs.laws.syncs_count_what_was_written.Goals as goal
 
 pub returns-clause-right : goal.returns-clause-right

@@ -1,6 +1,6 @@
 use Rattle.std.proofs.Common.{sym, ◌∙◌, arith}
-use Rattle.plfs_program.proofs.CatCourses.{line_text}
-use Rattle.plfs_program.proofs.CatLemmas.{opening_plays, opening_starves, reads_none, reads_more, reads_all, reads_fail, no_reader}
+use Rattle.plfs_program.proofs.Courses.CatCourses.{line_text}
+use Rattle.plfs_program.proofs.Streams.CatLemmas.{opening_plays, opening_starves, reads_none, reads_more, reads_all, reads_fail, no_reader}
 use Rattle.plfs_program.proofs.cat.cat_mounted.Goals as goal
 
 pub say_line-requires : goal.say_line-requires

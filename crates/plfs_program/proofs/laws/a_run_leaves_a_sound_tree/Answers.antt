@@ -1,4 +1,4 @@
-use Rattle.plfs_program.proofs.Calls.{leaves_sound, play_runs}
+use Rattle.plfs_program.proofs.Courses.Calls.{leaves_sound, play_runs}
 use Rattle.plfs_program.proofs.laws.a_run_leaves_a_sound_tree.Goals as goal
 
 pub returns-clause-play : goal.returns-clause-play

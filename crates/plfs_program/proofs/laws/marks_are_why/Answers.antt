@@ -1,4 +1,4 @@
-use Rattle.plfs_program.proofs.MountLemmas.{why_fails, has_next}
+use Rattle.plfs_program.proofs.Mounts.MountLemmas.{why_fails, has_next}
 use Rattle.plfs_program.proofs.laws.marks_are_why.Goals as goal
 
 pub returns-clause-broke_off : goal.returns-clause-broke_off

@@ -1,4 +1,4 @@
-use Rattle.plfs_program.proofs.MarkLaws as law
+use Rattle.plfs_program.proofs.Mounts.MarkLaws as law
 use Rattle.plfs_program.proofs.laws.marks_decide.Goals as goal
 
 pub returns-clause-spent_or_next : goal.returns-clause-spent_or_next

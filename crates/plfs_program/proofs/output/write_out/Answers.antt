@@ -1,5 +1,5 @@
 use Rattle.std.proofs.Common.{arith}
-use Rattle.plfs_program.proofs.OutputLemmas.{taken_on}
+use Rattle.plfs_program.proofs.Streams.OutputLemmas.{taken_on}
 use Rattle.plfs_program.proofs.output.write_out.Goals as goal
 
 pub loop-done-preserved : goal.loop-done-preserved

@@ -1,6 +1,6 @@
 use Rattle.std.proofs.Common.{refl, rules}
 use Rattle.plfs_program.specs.Course.{packs, packs_unread}
-use Rattle.plfs_program.proofs.PackCourses.{course_of_bytes}
+use Rattle.plfs_program.proofs.Courses.PackCourses.{course_of_bytes}
 use Rattle.plfs_program.proofs.pack_run.pack.Goals as goal
 
 pub returns-in-Ok : goal.returns-in-Ok

@@ -1,7 +1,7 @@
 use Rattle.pack_input.specs.Answers.{IsTrouble}
 use Rattle.pack_input.specs.declared.trouble.InputTrouble.TheVariants.{Fault}
 use Rattle.plfs_program.specs.Packing.{packed}
-use Rattle.plfs_program.proofs.PackInputs.{fault_value, input_small}
+use Rattle.plfs_program.proofs.Streams.PackInputs.{fault_value, input_small}
 use Rattle.plfs_program.proofs.pack_run.pack_bytes.Goals as goal
 
 pub pack_files-ended-requires-clause-small : goal.pack_files-ended-requires-clause-small

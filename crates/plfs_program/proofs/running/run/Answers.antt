@@ -1,7 +1,7 @@
 use Rattle.std.proofs.Common.{refl, rules, inr}
 use Rattle.plfs_program.specs.Course.{read, unread}
 use Rattle.plfs_program.specs.Ways.{on_threads}
-use Rattle.plfs_program.proofs.CourseLemmas.{course_of_slice}
+use Rattle.plfs_program.proofs.Courses.CourseLemmas.{course_of_slice}
 use Rattle.plfs_program.proofs.running.run.Goals as goal
 
 pub returns-in-Ok : goal.returns-in-Ok

@@ -3,7 +3,7 @@ use Rattle.std.specs.Option.{option_map}
 use Rattle.plfs_program.specs.Ends.{ends_of, Ends}
 use Rattle.plfs_program.specs.Showing.{all_lines}
 use Rattle.plfs_program.specs.Ways.{on_threads}
-use Rattle.plfs_program.proofs.CourseLemmas.{reported}
+use Rattle.plfs_program.proofs.Courses.CourseLemmas.{reported}
 use Rattle.plfs_program.proofs.running.run_script.Goals as goal
 
 pub returns : goal.returns

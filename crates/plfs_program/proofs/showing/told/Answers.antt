@@ -1,4 +1,4 @@
-use Rattle.plfs_program.proofs.Lines.{behind_text}
+use Rattle.plfs_program.proofs.Courses.Lines.{behind_text}
 use Rattle.plfs_program.proofs.showing.told.Goals as goal
 
 pub told_all-requires-in-PastOpening : goal.told_all-requires-in-PastOpening

@@ -1,6 +1,6 @@
 use Rattle.std.proofs.Common.{rules}
 use Rattle.std.proofs.lemmas.Grind.{common_steps}
-use Rattle.plfs_program.proofs.SmallTexts.{names_cons}
+use Rattle.plfs_program.proofs.Streams.SmallTexts.{names_cons}
 use Rattle.plfs_program.proofs.small_files.push_names.Goals as goal
 
 pub returns : goal.returns

@@ -2,7 +2,7 @@ use Rattle.std.proofs.Common.{refl, ap, sym}
 use Rattle.std.specs.Option.{option_map}
 use Rattle.plfs_program.specs.Course.{cats}
 use Rattle.plfs_program.specs.Ends.{Ends, ends_of}
-use Rattle.plfs_program.proofs.CatCourses.{mounted_so, unmounted_so}
+use Rattle.plfs_program.proofs.Courses.CatCourses.{mounted_so, unmounted_so}
 use Rattle.plfs_program.proofs.top.cat.Goals as goal
 
 pub returns-in-Ok : goal.returns-in-Ok

@@ -3,7 +3,7 @@ use Rattle.std.specs.Option.{option_map}
 use Rattle.plfs_program.specs.Ends.{ends_of, Ends}
 use Rattle.plfs_program.specs.Course.{faulty}
 use Rattle.plfs_program.specs.Faults.{fault_line}
-use Rattle.plfs_program.proofs.CourseLemmas.{said_as}
+use Rattle.plfs_program.proofs.Courses.CourseLemmas.{said_as}
 use Rattle.plfs_program.proofs.top.end_faulty.Goals as goal
 
 pub returns : goal.returns

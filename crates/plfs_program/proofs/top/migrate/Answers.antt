@@ -3,7 +3,7 @@ use Rattle.std.specs.Option.{option_map}
 use Rattle.mount_sound.proofs.Facts.{mounted_fine}
 use Rattle.plfs_program.specs.Course.{migrates}
 use Rattle.plfs_program.specs.Ends.{Ends, ends_of}
-use Rattle.plfs_program.proofs.MigrateCourses.{migrated_so, not_mounted_so}
+use Rattle.plfs_program.proofs.Courses.MigrateCourses.{migrated_so, not_mounted_so}
 use Rattle.plfs_program.proofs.top.migrate.Goals as goal
 
 pub migrate_mounted-status-requires : goal.migrate_mounted-status-requires

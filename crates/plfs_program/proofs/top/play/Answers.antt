@@ -1,7 +1,7 @@
 use Rattle.std.proofs.Common.{refl, rules}
 use Rattle.plfs_program.specs.Course.{read, unread}
 use Rattle.plfs_program.specs.Ways.{by_turns}
-use Rattle.plfs_program.proofs.CourseLemmas.{course_of_slice}
+use Rattle.plfs_program.proofs.Courses.CourseLemmas.{course_of_slice}
 use Rattle.plfs_program.proofs.top.play.Goals as goal
 
 pub returns-in-Ok : goal.returns-in-Ok

@@ -1,4 +1,4 @@
-use Rattle.reader_laws.proofs.LogReads.{reads_bytes, reads_trouble}
+use Rattle.reader_laws.proofs.Calls.LogReads.{reads_bytes, reads_trouble}
 use Rattle.reader_laws.proofs.laws.an_open_reader_reads_its_file.Goals as goal
 
 pub returns-clause-bytes : goal.returns-clause-bytes

@@ -1,4 +1,4 @@
-use Rattle.reader_laws.proofs.ShareFails.{shares_fail, truncates_fail}
+use Rattle.reader_laws.proofs.Faults.ShareFails.{shares_fail, truncates_fail}
 use Rattle.reader_laws.proofs.laws.shares_and_truncates_fail_by_store.Goals as goal
 
 pub returns-clause-shares : goal.returns-clause-shares

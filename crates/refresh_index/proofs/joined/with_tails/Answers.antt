@@ -1,7 +1,7 @@
 use Rattle.std.proofs.Common.{◌≡◌, ap, ◌∙◌}
 use Rattle.plain_file.specs.Size.{size_from}
 use Rattle.plain_file.specs.Sources.{source_at, newer_source, kept_source}
-use Rattle.index_reader.proofs.RunLemmas.{runs_of-is}
+use Rattle.index_reader.proofs.Indices.RunLemmas.{runs_of-is}
 use Rattle.refresh_index.specs.Refreshing.{merged, clipped}
 use Rattle.refresh_index.proofs.joined.with_tails.Goals as goal
 

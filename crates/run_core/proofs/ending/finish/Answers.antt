@@ -3,9 +3,9 @@ use Rattle.std.proofs.Common.{◌+◌, List, subst, drop}
 use Rattle.script_lang.specs.declared.script.Numbered.{Numbered}
 use Rattle.run_core.specs.World.{AllStand}
 use Rattle.share_workers.proofs.Facts.{taken_item}
-use Rattle.run_core.proofs.Tables.{left_item}
-use Rattle.run_core.proofs.Finishing.{tells_none, tells_more, has_line}
-use Rattle.run_core.proofs.BrokenPlays.{next_end_breaks}
+use Rattle.run_core.proofs.Plays.Tables.{left_item}
+use Rattle.run_core.proofs.Plays.Finishing.{tells_none, tells_more, has_line}
+use Rattle.run_core.proofs.Plays.BrokenPlays.{next_end_breaks}
 use Rattle.run_core.proofs.ending.finish.Goals as goal
 
 pub loop-statement-init : goal.loop-statement-init

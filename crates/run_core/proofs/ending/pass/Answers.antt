@@ -1,7 +1,7 @@
 use Rattle.share_workers.proofs.Facts.{on_err}
 use Rattle.std.proofs.Common.{refl, get_or}
 use Rattle.std.proofs.lemmas.Option.{slice_get-get_or}
-use Rattle.run_core.proofs.BrokenTurns.{passed_breaks}
+use Rattle.run_core.proofs.Players.BrokenTurns.{passed_breaks}
 use Rattle.run_core.proofs.ending.pass.Goals as goal
 
 pub returns-clause-passes : goal.returns-clause-passes

@@ -1,4 +1,4 @@
-use Rattle.run_core.proofs.Rightness.{play_right}
+use Rattle.run_core.proofs.Lines.Rightness.{play_right}
 use Rattle.run_core.proofs.laws.a_play_is_right.Goals as goal
 
 pub returns : goal.returns

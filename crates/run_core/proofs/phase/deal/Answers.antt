@@ -4,7 +4,7 @@ use Rattle.script_lang.specs.declared.script.Numbered.{Numbered}
 use Rattle.script_lang.specs.declared.script.Statement.{Statement}
 use Rattle.run_core.specs.World.{IsDealt}
 use Rattle.share_workers.proofs.Facts.{taken_item}
-use Rattle.run_core.proofs.Dealing.{dealt_none, dealt_more}
+use Rattle.run_core.proofs.Plays.Dealing.{dealt_none, dealt_more}
 use Rattle.run_core.proofs.phase.deal.Goals as goal
 
 pub loop-statement-init : goal.loop-statement-init

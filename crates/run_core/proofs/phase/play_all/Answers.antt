@@ -5,9 +5,9 @@ use Rattle.script_lang.specs.declared.script.Phase.{Phase}
 use Rattle.script_lang.specs.Ranges.{FitsPhase}
 use Rattle.run_core.specs.World.{PlayedSoFar}
 use Rattle.share_workers.proofs.Facts.{taken_item}
-use Rattle.run_core.proofs.Phases.{no_phase, one_phase_more}
-use Rattle.run_core.proofs.Tables.{left_item}
-use Rattle.run_core.proofs.BrokenPlays.{next_phase_breaks}
+use Rattle.run_core.proofs.Plays.Phases.{no_phase, one_phase_more}
+use Rattle.run_core.proofs.Plays.Tables.{left_item}
+use Rattle.run_core.proofs.Plays.BrokenPlays.{next_phase_breaks}
 use Rattle.run_core.proofs.phase.play_all.Goals as goal
 
 pub loop-phase-init : goal.loop-phase-init

@@ -4,11 +4,11 @@ use Rattle.script_lang.specs.declared.script.Numbered.{Numbered}
 use Rattle.script_lang.specs.declared.script.Turned.{Turned}
 use Rattle.run_core.specs.Written.{turns_of, whose}
 use Rattle.run_core.specs.World.{AllStand, Dealt, TookTurns, Tells}
-use Rattle.run_core.proofs.Tables.{stand_fit, keep_stand}
-use Rattle.run_core.proofs.Dealing.{all_dealt}
+use Rattle.run_core.proofs.Plays.Tables.{stand_fit, keep_stand}
+use Rattle.run_core.proofs.Plays.Dealing.{all_dealt}
 use Rattle.run_core.specs.Broken.{EndsBreak, TurnsBreak}
-use Rattle.run_core.proofs.BrokenPlays.{ends_break_phase, phase_not_begun, turns_break_phase}
-use Rattle.run_core.proofs.Phases.{played_phase}
+use Rattle.run_core.proofs.Plays.BrokenPlays.{ends_break_phase, phase_not_begun, turns_break_phase}
+use Rattle.run_core.proofs.Plays.Phases.{played_phase}
 use Rattle.run_core.proofs.phase.play_phase.Goals as goal
 
 pub take_turns-requires-clause-fit : goal.take_turns-requires-clause-fit

@@ -2,7 +2,7 @@ use Rattle.std.proofs.Common.{◌≡◌, ◌+◌, List, length, take, sym, subst
 use Rattle.run_core.specs.declared.player.Player.{Player}
 use Rattle.run_core.specs.World.{IsCast}
 use Rattle.share_workers.proofs.Facts.{taken_item}
-use Rattle.run_core.proofs.Phases.{no_cast, cast_more}
+use Rattle.run_core.proofs.Plays.Phases.{no_cast, cast_more}
 use Rattle.run_core.proofs.playing.cast_of.Goals as goal
 
 pub loop-declared-init : goal.loop-declared-init

@@ -7,10 +7,10 @@ use Rattle.script_lang.specs.Ranges.{FitsPhase}
 use Rattle.run_core.specs.declared.player.Player.{Player}
 use Rattle.run_core.specs.World.{IsCast, PlayedSoFar}
 use Rattle.run_core.specs.Broken.{PlayIsBroken}
-use Rattle.run_core.proofs.BrokenPlays.{cast_breaks, play_not_begun}
-use Rattle.run_core.proofs.Phases.{is_play}
-use Rattle.run_core.proofs.Caused.{play_caused}
-use Rattle.run_core.proofs.WorksText.{play_has_text}
+use Rattle.run_core.proofs.Plays.BrokenPlays.{cast_breaks, play_not_begun}
+use Rattle.run_core.proofs.Plays.Phases.{is_play}
+use Rattle.run_core.proofs.Lines.Caused.{play_caused}
+use Rattle.run_core.proofs.Lines.WorksText.{play_has_text}
 use Rattle.run_core.proofs.playing.play.Goals as goal
 
 pub play_all-requires-clause-fits : goal.play_all-requires-clause-fits

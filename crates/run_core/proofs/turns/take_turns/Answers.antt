@@ -1,8 +1,8 @@
 use Rattle.share_workers.proofs.Facts.{on_err}
 use Rattle.std.proofs.Common.{get_or}
 use Rattle.std.proofs.lemmas.List.{drop_more, take_more}
-use Rattle.run_core.proofs.Rounds.{took_none, one_line_more}
-use Rattle.run_core.proofs.BrokenPlays.{next_turns_break}
+use Rattle.run_core.proofs.Plays.Rounds.{took_none, one_line_more}
+use Rattle.run_core.proofs.Plays.BrokenPlays.{next_turns_break}
 use Rattle.run_core.proofs.turns.take_turns.Goals as goal
 
 pub loop-turned-init : goal.loop-turned-init

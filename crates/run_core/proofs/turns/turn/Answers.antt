@@ -2,7 +2,7 @@ use Rattle.share_workers.proofs.Facts.{on_err}
 use Rattle.std.proofs.Common.{refl, sym, subst, get_or}
 use Rattle.std.proofs.lemmas.Option.{slice_get-get_or}
 use Rattle.run_core.specs.Moving.{IsDone}
-use Rattle.run_core.proofs.Tables.{set_here}
+use Rattle.run_core.proofs.Plays.Tables.{set_here}
 use Rattle.run_core.proofs.turns.turn.Goals as goal
 
 pub take_turn-requires : goal.take_turn-requires

@@ -1,6 +1,6 @@
 use Rattle.share_workers.proofs.Facts.{on_err}
-use Rattle.run_core.proofs.Rounds.{took_none, turn_more, turns_end}
-use Rattle.run_core.proofs.BrokenPlays.{next_turn_breaks}
+use Rattle.run_core.proofs.Plays.Rounds.{took_none, turn_more, turns_end}
+use Rattle.run_core.proofs.Plays.BrokenPlays.{next_turn_breaks}
 use Rattle.run_core.proofs.turns.turns_of.Goals as goal
 
 pub loop-i-init : goal.loop-i-init

@@ -1,5 +1,5 @@
 use Rattle.std.proofs.Common.{◌==◌, sym}
-use Rattle.script_lang.proofs.Cuts.{before-cut, after-cut, before-whole, after-whole}
+use Rattle.script_lang.proofs.Scripts.Cuts.{before-cut, after-cut, before-whole, after-whole}
 use Rattle.script_lang.proofs.data.around_colon.Goals as goal
 
 pub returns-in-Some-clause-before : goal.returns-in-Some-clause-before

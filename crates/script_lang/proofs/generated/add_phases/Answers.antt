@@ -1,4 +1,4 @@
-use Rattle.script_lang.proofs.GeneratedLemmas.{all_phases}
+use Rattle.script_lang.proofs.Scripts.GeneratedLemmas.{all_phases}
 use Rattle.script_lang.proofs.generated.add_phases.Goals as goal
 
 pub returns : goal.returns

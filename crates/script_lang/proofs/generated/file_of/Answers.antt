@@ -1,6 +1,6 @@
 use Rattle.std.proofs.Common.{subst, sym, ◌∙◌}
 use Rattle.plfs_types.specs.Names.{IsLogicalName}
-use Rattle.script_lang.proofs.GeneratedLemmas.{is_file_name}
+use Rattle.script_lang.proofs.Scripts.GeneratedLemmas.{is_file_name}
 use Rattle.script_lang.proofs.generated.file_of.Goals as goal
 
 pub unwrap-requires : goal.unwrap-requires

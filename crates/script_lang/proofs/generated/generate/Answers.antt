@@ -2,7 +2,7 @@ use Rattle.std.proofs.Common.{◌≡◌, subst, sym}
 use Rattle.script_lang.specs.declared.script.Script.{Script}
 use Rattle.script_lang.specs.Generated.{generated}
 use Rattle.script_lang.specs.Ranges.{FitsScript}
-use Rattle.script_lang.proofs.GeneratedLemmas.{generated_fits}
+use Rattle.script_lang.proofs.Scripts.GeneratedLemmas.{generated_fits}
 use Rattle.script_lang.proofs.generated.generate.Goals as goal
 
 pub returns-clause-fits : goal.returns-clause-fits

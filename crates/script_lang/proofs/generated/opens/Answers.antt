@@ -1,7 +1,7 @@
 use Rattle.std.proofs.Common.{◌≡◌, ◌%◌, ◌*◌, [], ◌∷◌, ◌∙◌, arith}
 use Rattle.script_lang.specs.declared.script.Statement.TheVariants.{Open}
 use Rattle.script_lang.specs.Generated.{file_of, said}
-use Rattle.script_lang.proofs.GeneratedLemmas.{lines_so_far, says_more}
+use Rattle.script_lang.proofs.Scripts.GeneratedLemmas.{lines_so_far, says_more}
 use Rattle.script_lang.proofs.generated.opens.Goals as goal
 
 pub say-requires : goal.say-requires

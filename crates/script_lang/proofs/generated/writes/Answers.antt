@@ -1,7 +1,7 @@
 use Rattle.std.proofs.Common.{◌≡◌, ◌%◌, ◌*◌, [], ◌∷◌, ◌∙◌, arith}
 use Rattle.script_lang.specs.declared.script.Statement.TheVariants.{Write}
 use Rattle.script_lang.specs.Generated.{block_place, block, said}
-use Rattle.script_lang.proofs.GeneratedLemmas.{lines_so_far, says_more}
+use Rattle.script_lang.proofs.Scripts.GeneratedLemmas.{lines_so_far, says_more}
 use Rattle.script_lang.proofs.generated.writes.Goals as goal
 
 pub say-requires : goal.say-requires

@@ -1,5 +1,5 @@
 use Rattle.std.proofs.Common.{refl}
-use Rattle.script_lang.proofs.FileNames.{file_name_ok, file_name_err}
+use Rattle.script_lang.proofs.Arguments.FileNames.{file_name_ok, file_name_err}
 use Rattle.script_lang.proofs.names.file_name.Goals as goal
 
 pub returns-in-Some : goal.returns-in-Some

@@ -1,4 +1,4 @@
-use Rattle.script_lang.proofs.Decimals.{is_written, is_read}
+use Rattle.script_lang.proofs.Arguments.Decimals.{is_written, is_read}
 use Rattle.script_lang.proofs.numbers.number.Goals as goal
 
 pub returns-clause-written : goal.returns-clause-written

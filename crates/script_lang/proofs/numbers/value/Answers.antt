@@ -1,5 +1,5 @@
 use Rattle.std.proofs.Common.{arith}
-use Rattle.script_lang.proofs.Digits.{value_stops, value_ends}
+use Rattle.script_lang.proofs.Arguments.Digits.{value_stops, value_ends}
 use Rattle.script_lang.proofs.numbers.value.Goals as goal
 
 pub returns-in-None : goal.returns-in-None

@@ -1,5 +1,5 @@
 use Rattle.std.proofs.Common.{◌≡◌, drop}
-use Rattle.script_lang.proofs.Digits.{value_from}
+use Rattle.script_lang.proofs.Arguments.Digits.{value_from}
 use Rattle.script_lang.proofs.numbers.value.Given as goal
 
 abbrev pub invariant-loop-byte : goal.invariant-loop-byte

@@ -1,4 +1,4 @@
-use Rattle.script_lang.proofs.ExactLemmas.{one_script, one_fault, never_both, always_one}
+use Rattle.script_lang.proofs.Scripts.ExactLemmas.{one_script, one_fault, never_both, always_one}
 use Rattle.script_lang.proofs.spelling.scripts_are_told_apart.Goals as goal
 
 pub returns-clause-one_script : goal.returns-clause-one_script

@@ -1,4 +1,4 @@
-use Rattle.script_lang.proofs.StatementLemmas.{one_statement}
+use Rattle.script_lang.proofs.Lines.StatementLemmas.{one_statement}
 use Rattle.script_lang.proofs.spelling.statements_are_told_apart.Goals as goal
 
 pub returns : goal.returns

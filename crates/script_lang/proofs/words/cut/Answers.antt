@@ -1,5 +1,5 @@
 use Rattle.std.proofs.Common.{◌==◌, sym}
-use Rattle.script_lang.proofs.Cuts.{parts-cut, parts-whole}
+use Rattle.script_lang.proofs.Scripts.Cuts.{parts-cut, parts-whole}
 use Rattle.script_lang.proofs.words.cut.Goals as goal
 
 pub returns-in-Some-clause-parts : goal.returns-in-Some-clause-parts

@@ -1,8 +1,9 @@
-use Rattle.store_folder.proofs.Finding.{GoesOn}
+use Rattle.std.proofs.Common.{take}
+use Rattle.store_folder.specs.Rooms.{FindsRooms}
 use Rattle.store_folder.proofs.rooms.rooms_among.Given as goal
 
 abbrev pub invariant-loop-name : goal.invariant-loop-name
 invariant-loop-name g l =
     record {
-      found : GoesOn l.root l.names l.name-index l.rooms.items (g.C.Calls.log l.fn.calls) (g.C.Calls.log l.calls);
+      found : FindsRooms l.root (take l.name-index l.names) l.rooms.items (g.C.Calls.log l.fn.calls) (g.C.Calls.log l.calls);
     }

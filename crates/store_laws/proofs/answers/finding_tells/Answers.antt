@@ -1,4 +1,4 @@
-use Rattle.store_laws.proofs.Answering.{find_tells}
+use Rattle.store_laws.proofs.Looks.Answering.{find_tells}
 use Rattle.store_laws.proofs.answers.finding_tells.Goals as goal
 
 pub returns : goal.returns

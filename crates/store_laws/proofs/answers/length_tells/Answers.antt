@@ -1,4 +1,4 @@
-use Rattle.store_laws.proofs.Answering.{length_tells}
+use Rattle.store_laws.proofs.Looks.Answering.{length_tells}
 use Rattle.store_laws.proofs.answers.length_tells.Goals as goal
 
 pub returns : goal.returns

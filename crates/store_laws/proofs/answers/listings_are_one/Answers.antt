@@ -1,4 +1,4 @@
-use Rattle.store_laws.proofs.Listed.{names_are_one}
+use Rattle.store_laws.proofs.Looks.Listed.{names_are_one}
 use Rattle.store_laws.proofs.answers.listings_are_one.Goals as goal
 
 pub returns : goal.returns

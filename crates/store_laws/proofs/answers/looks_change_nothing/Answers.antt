@@ -1,4 +1,4 @@
-use Rattle.store_laws.proofs.Answering.{look_told}
+use Rattle.store_laws.proofs.Looks.Answering.{look_told}
 use Rattle.store_laws.proofs.answers.looks_change_nothing.Goals as goal
 
 pub returns : goal.returns

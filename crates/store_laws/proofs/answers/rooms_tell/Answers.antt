@@ -1,4 +1,4 @@
-use Rattle.store_laws.proofs.Answering.{rooms_tell}
+use Rattle.store_laws.proofs.Looks.Answering.{rooms_tell}
 use Rattle.store_laws.proofs.answers.rooms_tell.Goals as goal
 
 pub returns : goal.returns

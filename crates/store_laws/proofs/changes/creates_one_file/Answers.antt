@@ -1,4 +1,4 @@
-use Rattle.store_laws.proofs.Creating.{create_cases}
+use Rattle.store_laws.proofs.Steps.Creating.{create_cases}
 use Rattle.store_laws.proofs.changes.creates_one_file.Goals as goal
 
 pub returns : goal.returns

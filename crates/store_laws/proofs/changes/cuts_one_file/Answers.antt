@@ -1,4 +1,4 @@
-use Rattle.store_laws.proofs.Writing.{cut_cases}
+use Rattle.store_laws.proofs.Steps.Writing.{cut_cases}
 use Rattle.store_laws.proofs.changes.cuts_one_file.Goals as goal
 
 pub returns : goal.returns

@@ -1,4 +1,4 @@
-use Rattle.store_laws.proofs.Moving.{replace_cases}
+use Rattle.store_laws.proofs.Steps.Moving.{replace_cases}
 use Rattle.store_laws.proofs.changes.moves_one_file.Goals as goal
 
 pub returns : goal.returns

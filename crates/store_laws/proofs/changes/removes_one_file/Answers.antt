@@ -1,4 +1,4 @@
-use Rattle.store_laws.proofs.Removing.{remove_cases}
+use Rattle.store_laws.proofs.Steps.Removing.{remove_cases}
 use Rattle.store_laws.proofs.changes.removes_one_file.Goals as goal
 
 pub returns : goal.returns

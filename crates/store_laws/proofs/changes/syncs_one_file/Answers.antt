@@ -1,4 +1,4 @@
-use Rattle.store_laws.proofs.Syncing.{sync_cases}
+use Rattle.store_laws.proofs.Steps.Syncing.{sync_cases}
 use Rattle.store_laws.proofs.changes.syncs_one_file.Goals as goal
 
 pub returns : goal.returns

@@ -1,4 +1,4 @@
-use Rattle.store_laws.proofs.Writing.{write_cases}
+use Rattle.store_laws.proofs.Steps.Writing.{write_cases}
 use Rattle.store_laws.proofs.changes.writes_one_file.Goals as goal
 
 pub returns : goal.returns

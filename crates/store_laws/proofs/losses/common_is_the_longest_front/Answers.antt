@@ -1,5 +1,5 @@
 use Rattle.store_api.proofs.Facts.{common_within}
-use Rattle.store_laws.proofs.Common.{common_same, common_longest}
+use Rattle.store_laws.proofs.Trees.Common.{common_same, common_longest}
 use Rattle.store_laws.proofs.losses.common_is_the_longest_front.Goals as goal
 
 pub returns-clause-within : goal.returns-clause-within

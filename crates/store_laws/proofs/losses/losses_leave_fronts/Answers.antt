@@ -1,4 +1,4 @@
-use Rattle.store_laws.proofs.Losing.{have_lost}
+use Rattle.store_laws.proofs.Trees.Losing.{have_lost}
 use Rattle.store_laws.proofs.losses.losses_leave_fronts.Goals as goal
 
 pub returns : goal.returns

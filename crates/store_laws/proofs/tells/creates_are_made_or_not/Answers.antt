@@ -1,4 +1,4 @@
-use Rattle.store_laws.proofs.Telling.{create_told}
+use Rattle.store_laws.proofs.Trees.Telling.{create_told}
 use Rattle.store_laws.proofs.tells.creates_are_made_or_not.Goals as goal
 
 pub returns : goal.returns

@@ -1,4 +1,4 @@
-use Rattle.store_laws.proofs.Telling.{acts_told}
+use Rattle.store_laws.proofs.Trees.Telling.{acts_told}
 use Rattle.store_laws.proofs.tells.told_trees_go_on.Goals as goal
 
 pub returns : goal.returns

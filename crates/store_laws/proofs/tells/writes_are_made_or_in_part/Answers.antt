@@ -1,4 +1,4 @@
-use Rattle.store_laws.proofs.Telling.{write_told}
+use Rattle.store_laws.proofs.Trees.Telling.{write_told}
 use Rattle.store_laws.proofs.tells.writes_are_made_or_in_part.Goals as goal
 
 pub returns : goal.returns

@@ -1,4 +1,4 @@
-use Rattle.store_laws.proofs.Lengthening.{lengthens_told}
+use Rattle.store_laws.proofs.Trees.Lengthening.{lengthens_told}
 use Rattle.store_laws.proofs.touches.files_only_grow.Goals as goal
 
 pub returns : goal.returns

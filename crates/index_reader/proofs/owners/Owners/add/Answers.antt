@@ -1,6 +1,6 @@
 use Rattle.std.proofs.Common.{◌≡◌, ◌∙◌, ap, false, sym, subst}
 use Rattle.index_reader.specs.Scanning.{has_writer, owner, placed}
-use Rattle.index_reader.proofs.OwnerLemmas.{owners, placed_is}
+use Rattle.index_reader.proofs.Containers.OwnerLemmas.{owners, placed_is}
 use Rattle.index_reader.proofs.owners.Owners.add.Goals as goal
 
 pub returns : goal.returns

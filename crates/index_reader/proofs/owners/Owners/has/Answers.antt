@@ -1,6 +1,6 @@
 use Rattle.std.proofs.Common.{◌≡◌, ◌∙◌, sym, subst}
 use Rattle.index_reader.specs.Scanning.{has_writer}
-use Rattle.index_reader.proofs.OwnerLemmas.{has_is}
+use Rattle.index_reader.proofs.Containers.OwnerLemmas.{has_is}
 use Rattle.index_reader.proofs.owners.Owners.has.Goals as goal
 
 pub returns : goal.returns

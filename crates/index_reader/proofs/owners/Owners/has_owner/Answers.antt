@@ -1,6 +1,6 @@
 use Rattle.std.proofs.Common.{◌≡◌, nat_eq, false, sym, subst}
 use Rattle.index_reader.specs.Opening.{has_owner}
-use Rattle.index_reader.proofs.OwnerLemmas.{has_owner-some, has_owner-none}
+use Rattle.index_reader.proofs.Containers.OwnerLemmas.{has_owner-some, has_owner-none}
 use Rattle.index_reader.proofs.owners.Owners.has_owner.Goals as goal
 
 pub returns-in-Some : goal.returns-in-Some

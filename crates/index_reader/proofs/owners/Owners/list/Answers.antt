@@ -3,7 +3,7 @@ use Rattle.std.specs.Map.Iter.{deref_pair}
 use Rattle.std.proofs.lemmas.Map.Iter.{iter_end}
 use Rattle.std.proofs.lemmas.Simd.{map-map}
 use Rattle.index_reader.specs.Scanning.{Ascends, owner}
-use Rattle.index_reader.proofs.OwnerLemmas.{owners, owners_ascend}
+use Rattle.index_reader.proofs.Containers.OwnerLemmas.{owners, owners_ascend}
 use Rattle.index_reader.proofs.owners.Owners.list.Goals as goal
 
 pub returns-clause-value : goal.returns-clause-value

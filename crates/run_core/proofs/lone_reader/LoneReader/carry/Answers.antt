@@ -2,8 +2,8 @@ use Rattle.share_workers.proofs.Facts.{on_err}
 use Rattle.std.proofs.Common.{sym, ap, ◌∙◌}
 use Rattle.actor_core.specs.Progress.{with_reply}
 use Rattle.actor_core.specs.Standings.{progress_of}
-use Rattle.run_core.proofs.LoneSteps.{asks_next, is_out, not_near, nearer, no_line_left, carries}
-use Rattle.run_core.proofs.LoneBreaks.{lone_stops, lone_stops_at}
+use Rattle.run_core.proofs.LoneActors.LoneSteps.{asks_next, is_out, not_near, nearer, no_line_left, carries}
+use Rattle.run_core.proofs.LoneActors.LoneBreaks.{lone_stops, lone_stops_at}
 use Rattle.share_workers.proofs.Facts.{not_refused}
 use Rattle.run_core.proofs.lone_reader.LoneReader.carry.Goals as goal
 

@@ -3,9 +3,9 @@ use Rattle.std.proofs.Common.{◌≤◌, sym, subst}
 use Rattle.actor_core.specs.declared.kept.Kept.{Kept}
 use Rattle.actor_core.specs.Standings.{progress_of}
 use Rattle.run_core.specs.Working.{IsPlainProgress}
-use Rattle.run_core.proofs.LoneSteps.{idle_kept, begins, makes, is_idle}
-use Rattle.run_core.proofs.LoneBreaks.{begun_one_breaks, one_not_begun}
-use Rattle.run_core.proofs.LoneWorks.{its_own, work_plain}
+use Rattle.run_core.proofs.LoneActors.LoneSteps.{idle_kept, begins, makes, is_idle}
+use Rattle.run_core.proofs.LoneActors.LoneBreaks.{begun_one_breaks, one_not_begun}
+use Rattle.run_core.proofs.LoneActors.LoneWorks.{its_own, work_plain}
 use Rattle.run_core.proofs.lone_reader.LoneReader.make.Goals as goal
 
 pub carry-requires : goal.carry-requires

@@ -1,6 +1,6 @@
 use Rattle.std.proofs.Common.{refl, ap, ◌∙◌, ◌++◌}
 use Rattle.std.specs.Option.{option_to_list}
-use Rattle.run_core.proofs.Turning.{begins_next}
+use Rattle.run_core.proofs.Players.Turning.{begins_next}
 use Rattle.run_core.proofs.player.Player.begin_next.Goals as goal
 
 pub returns-clause-begins : goal.returns-clause-begins

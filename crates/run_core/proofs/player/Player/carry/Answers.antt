@@ -3,10 +3,10 @@ use Rattle.std.proofs.Common.{refl, sym, ap, ◌∙◌}
 use Rattle.actor_core.specs.Progress.{with_reply}
 use Rattle.actor_core.specs.Standings.{progress_of}
 use Rattle.share_workers.proofs.Facts.{not_refused}
-use Rattle.run_core.proofs.Works.{asks_next, is_out, not_idle, no_line_left}
-use Rattle.run_core.proofs.Turning.{after_reply}
-use Rattle.run_core.proofs.Approaching.{not_near, nearer, line_passes}
-use Rattle.run_core.proofs.BrokenTurns.{pass_stops, pass_stops_at}
+use Rattle.run_core.proofs.Players.Works.{asks_next, is_out, not_idle, no_line_left}
+use Rattle.run_core.proofs.Players.Turning.{after_reply}
+use Rattle.run_core.proofs.Players.Approaching.{not_near, nearer, line_passes}
+use Rattle.run_core.proofs.Players.BrokenTurns.{pass_stops, pass_stops_at}
 use Rattle.run_core.proofs.player.Player.carry.Goals as goal
 
 pub loop-ask-init : goal.loop-ask-init

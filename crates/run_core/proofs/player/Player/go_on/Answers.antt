@@ -3,9 +3,9 @@ use Rattle.std.proofs.Common.{refl, sym, ap, ◌∙◌}
 use Rattle.actor_core.specs.Progress.{with_reply}
 use Rattle.actor_core.specs.Standings.{progress_of}
 use Rattle.share_workers.proofs.Facts.{not_refused}
-use Rattle.run_core.proofs.Works.{asks_next, is_out}
-use Rattle.run_core.proofs.Turning.{not_yet, further, turned, greeted, called, no_further_call}
-use Rattle.run_core.proofs.BrokenTurns.{turn_stops, turn_stops_at}
+use Rattle.run_core.proofs.Players.Works.{asks_next, is_out}
+use Rattle.run_core.proofs.Players.Turning.{not_yet, further, turned, greeted, called, no_further_call}
+use Rattle.run_core.proofs.Players.BrokenTurns.{turn_stops, turn_stops_at}
 use Rattle.run_core.proofs.player.Player.go_on.Goals as goal
 
 pub loop-ask-init : goal.loop-ask-init

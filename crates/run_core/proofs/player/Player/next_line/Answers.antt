@@ -2,8 +2,8 @@ use Rattle.share_workers.proofs.Facts.{on_err}
 use Rattle.std.proofs.Common.{refl, sym, ap, ◌∙◌, ◌++◌}
 use Rattle.std.specs.Option.{option_to_list}
 use Rattle.run_core.specs.declared.player.Player.{Player}
-use Rattle.run_core.proofs.Approaching.{same_begins, was_ahead}
-use Rattle.run_core.proofs.BrokenTurns.{begun_breaks, pass_not_begun}
+use Rattle.run_core.proofs.Players.Approaching.{same_begins, was_ahead}
+use Rattle.run_core.proofs.Players.BrokenTurns.{begun_breaks, pass_not_begun}
 use Rattle.run_core.proofs.player.Player.next_line.Goals as goal
 
 pub returns-in-Some-clause-passes : goal.returns-in-Some-clause-passes

@@ -1,6 +1,6 @@
 use Rattle.share_workers.proofs.Facts.{on_err}
-use Rattle.run_core.proofs.Turning.{not_yet, further, turned, begun, all_done}
-use Rattle.run_core.proofs.BrokenTurns.{turn_breaks, turn_stops}
+use Rattle.run_core.proofs.Players.Turning.{not_yet, further, turned, begun, all_done}
+use Rattle.run_core.proofs.Players.BrokenTurns.{turn_breaks, turn_stops}
 use Rattle.run_core.proofs.player.Player.take_turn.Goals as goal
 
 pub turn-init : goal.turn-init

@@ -1,6 +1,6 @@
 use Rattle.std.proofs.Common.{◌∙◌}
 use Rattle.script_lang.specs.Names.{is_word}
-use Rattle.script_lang.proofs.Keys.{same_place}
+use Rattle.script_lang.proofs.Scripts.Keys.{same_place}
 use Rattle.script_lang.proofs.cast.Cast.place.Goals as goal
 
 pub returns-in-Some-clause-place : goal.returns-in-Some-clause-place

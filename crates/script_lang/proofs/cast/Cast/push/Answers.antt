@@ -1,6 +1,6 @@
 use Rattle.std.proofs.Common.{◌∙◌, ◌∷◌, ◌++◌, [], ap}
 use Rattle.std.specs.Map.{values_of}
-use Rattle.script_lang.proofs.Keys.{inserted_behind, agree_behind, values_behind}
+use Rattle.script_lang.proofs.Scripts.Keys.{inserted_behind, agree_behind, values_behind}
 use Rattle.script_lang.proofs.cast.Cast.push.Goals as goal
 
 pub invariant_of-self-2 : goal.invariant_of-self-2

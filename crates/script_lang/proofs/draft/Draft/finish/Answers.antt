@@ -1,7 +1,7 @@
 use Rattle.std.proofs.Common.{◌≡◌, subst}
 use Rattle.script_lang.specs.Drafts.{script_in}
 use Rattle.script_lang.specs.Ranges.{FitsScript}
-use Rattle.script_lang.proofs.Keeping.{script_fits}
+use Rattle.script_lang.proofs.Scripts.Keeping.{script_fits}
 use Rattle.script_lang.proofs.draft.Draft.finish.Goals as goal
 
 pub returns-clause-fits : goal.returns-clause-fits

@@ -1,7 +1,7 @@
 use Rattle.std.proofs.Common.{◌≡◌, true, subst}
 use Rattle.script_lang.specs.declared.meaning.Meaning.TheVariants as meaning
 use Rattle.script_lang.specs.Drafts.{FitsDraft, draft_with}
-use Rattle.script_lang.proofs.Keeping.{still_fits}
+use Rattle.script_lang.proofs.Scripts.Keeping.{still_fits}
 use Rattle.script_lang.proofs.draft.Draft.take.Goals as goal
 
 pub returns-in_ok-push-in-Begins-clause-fits : goal.returns-in_ok-push-in-Begins-clause-fits

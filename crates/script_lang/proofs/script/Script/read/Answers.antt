@@ -1,4 +1,4 @@
-use Rattle.script_lang.proofs.Answering.{told_script, told_fault, script_told, fault_told}
+use Rattle.script_lang.proofs.Scripts.Answering.{told_script, told_fault, script_told, fault_told}
 use Rattle.script_lang.proofs.script.Script.read.Goals as goal
 
 pub returns-clause-script : goal.returns-clause-script

@@ -27,7 +27,7 @@ returns-clause-well g c =
 
 pub returns-in_err-number_rooms-clause-attempted : goal.returns-in_err-number_rooms-clause-attempted
 returns-in_err-number_rooms-clause-attempted g c =
-    unlisted c.in_err-number_rooms.field-0.0 (search rules) (no_numbers c.args.self.now.is_numbered _ c.number_rooms.result tt c.in_err-number_rooms.field-0.0 c.number_rooms.ensures.done (search rules)) c.in_err-number_rooms.ensures.failed
+    unlisted c.in_err-number_rooms.field-0.0 (search rules) (no_numbers c.args.self.now.is_numbered _ c.number_rooms.result tt c.in_err-number_rooms.field-0.0 c.number_rooms.ensures.done (search rules)) c.in_err-number_rooms.ensures.failed c.in_err-number_rooms.ensures.fails
 
 pub returns-clause-attempted : goal.returns-clause-attempted
 returns-clause-attempted g c =

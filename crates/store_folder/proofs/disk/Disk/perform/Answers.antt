@@ -72,6 +72,11 @@ returns-in-Length-clause-performs g c =
     ] in
     if_ok_map c.act_at.result _ _ (λ answer acts. performs_of_its_file c.args.self.now c.act_at.new.self _ _ answer (its_key c.in-Length-1.room c.in-Length-1.folder c.in-Length-1.file) (step_of c.args.step.now) its (c.act_at.ensures.rooms, acts)) c.act_at.ensures.acts
 
+pub returns-in-MakeRoom-clause-fails : goal.returns-in-MakeRoom-clause-fails
+returns-in-MakeRoom-clause-fails g c =
+    let FailsBy : Step → Type 0 = λ step. IfErr c.make_room.result (Fails c.args.self.now (g.C.Calls.log c.args.self.now.calls) (g.C.Calls.log c.make_room.new.self.calls) step) in
+    subst FailsBy (sym (ap step_of c.in-MakeRoom.is)) c.make_room.ensures.fails
+
 pub returns-in-MakeFolder-clause-fails : goal.returns-in-MakeFolder-clause-fails
 returns-in-MakeFolder-clause-fails g c =
     let FailsBy : Step → Type 0 = λ step. IfErr c.make_folder.result (Fails c.args.self.now (g.C.Calls.log c.args.self.now.calls) (g.C.Calls.log c.make_folder.new.self.calls) step) in

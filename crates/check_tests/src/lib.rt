@@ -1,0 +1,6 @@
+//! Tests of the check of a tree: one sound container beside its room of marks, and changes that each make one complaint
+//! right.
+#![tactic(auto)]
+
+#[cfg(test)]
+mod rows;

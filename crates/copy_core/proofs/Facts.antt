@@ -1,0 +1,2 @@
+-- What other crates may cite of this crate's proofs.
+pub use Rattle.copy_core.proofs.Calls.{begun_copying_called, copied_called}

@@ -1,0 +1,17 @@
+use Rattle.std.proofs.Common.{◌≡◌, ◌≤◌, ◌-◌, take}
+use Rattle.edge_io.specs.Source.{HandsOver}
+use Rattle.plfs_types.specs.declared.bytes.TheConstants.{MAX_BLOCK}
+use Rattle.copy_core.proofs.reading.fill.Given as goal
+
+-- so many bytes were handed over
+abbrev pub invariant-loop-count : goal.invariant-loop-count
+invariant-loop-count g l =
+    let given = g.I.Source.given in
+    record {
+      within : l.count ≤ MAX_BLOCK;
+      handed : HandsOver (take l.count l.into) (given l.fn.input).left (given l.input).left;
+      faults : (given l.input).faults ≡ (given l.fn.input).faults;
+    }
+
+abbrev pub decreases-loop-count : goal.decreases-loop-count
+decreases-loop-count g l = MAX_BLOCK - l.count

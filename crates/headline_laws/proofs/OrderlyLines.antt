@@ -1,0 +1,8 @@
+-- The lines of a run are orderly.
+pub mod Answering
+pub mod Causes
+pub mod Numbering
+pub mod Orderly
+pub mod Places
+pub mod Standing
+pub mod Synced

@@ -1,0 +1,9 @@
+-- What each statement does, and what its actor keeps.
+pub mod Chains
+pub mod Did
+pub mod Does
+pub mod Ends
+pub mod Handles
+pub mod Hosts
+pub mod Known
+pub mod Refreshed

@@ -1,0 +1,9 @@
+-- Of each line its part of the history, and the container that it speaks of.
+pub mod Apart
+pub mod Attributed
+pub mod Entered
+pub mod Lines
+pub mod Named
+pub mod Opened
+pub mod Parts
+pub mod Shown

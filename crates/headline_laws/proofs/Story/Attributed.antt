@@ -1,0 +1,370 @@
+-- Each call of the history that makes a container, writes, truncates or renames is one of an actor, made in the part of one of its lines, whose statement may ask it.
+use Rattle.std.proofs.Common.{◌≡◌, ◌≤◌, ◌⊎◌, ◌+◌, inl, inr, ℕ, zero, suc, Bool, true, false, List, [], ◌∷◌, ◌++◌, length, Option, Some, None, refl, sym, ap, ◌∙◌, subst, arith, append_assoc, length-append, nat_eq, if◌then◌else◌}
+use Rattle.std.specs.Prelude.{⊤, slice_get}
+use Rattle.std.specs.List.{AllByRecursion, Any}
+use Rattle.std.proofs.lemmas.Bool.Decides.{nat_tests}
+use Rattle.std.proofs.lemmas.Option.{same_Some}
+use Rattle.turn_object.specs.Callers.{IsOwn, made_by}
+use Rattle.turn_object.specs.Front.{KeepsIn}
+use Rattle.story.specs.Calls.{AreCallsOf, AreCallsOfEach}
+use Rattle.story.specs.MakesCalls.{EachPlays, Role, callers}
+use Rattle.story.specs.Performers.{left_of, told_at, told_by_each}
+use Rattle.story.specs.Plays.{Plays, PlaysAll}
+use Rattle.story.specs.Process.{asks, ends, pauses, shares, tells}
+use Rattle.story.specs.Program.{AsksOnly, Program, ask, done}
+use Rattle.story.proofs.Facts.{entries_both, entries_first}
+use Rattle.mount_model.specs.declared.call.Ask.{Ask}
+use Rattle.mount_model.specs.declared.call.Call.{Call}
+use Rattle.mount_model.specs.declared.reply.Reply.{Reply}
+use Rattle.mount_model.specs.History.{Event}
+use Rattle.mount_model.specs.State.{State}
+use Rattle.gathering.specs.Moments.{IsSoundAt, Moment}
+use Rattle.gathering.proofs.Facts.{all_at, any_found, is_among}
+use Rattle.plain_file.proofs.Facts.{Among}
+use Rattle.script_lang.specs.Ranges.{FitsScript}
+use Rattle.script_lang.specs.declared.line.Line.{Line}
+use Rattle.script_lang.specs.declared.script.ActorDecl.{ActorDecl}
+use Rattle.script_lang.specs.declared.script.Numbered.{Numbered}
+use Rattle.script_lang.specs.declared.script.Phase.{Phase}
+use Rattle.actor_core.specs.declared.kept.Kept.{Kept}
+use Rattle.actor_core.specs.Endings.{Ending}
+use Rattle.actor_core.specs.Owed.{EachAsksOnly}
+use Rattle.actor_core.specs.Progress.{fresh}
+use Rattle.actor_core.specs.Statements.{work_of}
+use Rattle.actor_core.specs.Work.{Work}
+use Rattle.run_core.specs.Cast.{cast_from, statements_in}
+use Rattle.run_core.specs.Course.{Course, course_of, one_by_one, own as own_statements, then_line, through}
+use Rattle.run_core.specs.Play.{IsRight}
+use Rattle.run_core.specs.Written.{whose}
+use Rattle.play_laws.proofs.Facts.{Anyhow, ComesTo, GoesSo, IsQuiet, IsQuietly, MayAsk, Next, either_goes, statement_asks}
+use Rattle.play_laws.specs.OneFile.{OneFile}
+use Rattle.play_laws.specs.OneWriter.{OneWriter}
+use Rattle.headline.specs.Run.{IsLine, Run, Told, own, told}
+use Rattle.headline.specs.Files.{reader_next}
+use Rattle.headline.specs.Changes.{Writing, none, writing_next}
+use Rattle.headline_laws.proofs.OrderlyLines.Answering.{among_filter}
+use Rattle.headline_laws.proofs.Statements.Known.{Known, known_next, known_waits}
+use Rattle.headline_laws.proofs.Story.Lines.{AnyLine, HasRooms, ShownLine, chain_here, container, nothing_known, reads_in, whole_history}
+use Rattle.headline_laws.proofs.Story.Shown.{ShownEach}
+
+-- ---- an event among others
+
+head_of : {X : Type 0} (a b : X) (xs ys : List X) → a ∷ xs ≡ b ∷ ys → a ≡ b
+head_of a b xs ys same = cc
+
+tail_of : {X : Type 0} (a b : X) (xs ys : List X) → a ∷ xs ≡ b ∷ ys → xs ≡ ys
+tail_of a b xs ys same = cc
+
+-- one of the first events, or one of the others
+either_part : {X : Type 0} (first rest pre : List X) (x : X) (post : List X) → first ++ rest ≡ pre ++ x ∷ post → ((u : List X) × (first ≡ pre ++ x ∷ u) × (post ≡ u ++ rest)) ⊎ ((u : List X) × (pre ≡ first ++ u) × (rest ≡ u ++ x ∷ post))
+either_part [] rest pre x post is = inr (pre, refl, is)
+either_part (y ∷ first) rest [] x post is = inl (first, ap (λ z. z ∷ first) (head_of y x (first ++ rest) post is), sym (tail_of y x (first ++ rest) post is))
+either_part {X} (y ∷ first) rest (z ∷ pre) x post is = elim (either_part first rest pre x post (tail_of y z (first ++ rest) (pre ++ x ∷ post) is)) as (λ _. ((u : List X) × (y ∷ first ≡ (z ∷ pre) ++ x ∷ u) × (post ≡ u ++ rest)) ⊎ ((u : List X) × (z ∷ pre ≡ (y ∷ first) ++ u) × (rest ≡ u ++ x ∷ post))) [
+  | inl (u, front, later) ↦ inl (u, ap (λ zs. y ∷ zs) front ∙ ap (λ w. w ∷ (pre ++ x ∷ u)) (head_of y z (first ++ rest) (pre ++ x ∷ post) is), later)
+  | inr (u, front, later) ↦ inr (u, ap (λ zs. z ∷ zs) front ∙ ap (λ w. w ∷ (first ++ u)) (sym (head_of y z (first ++ rest) (pre ++ x ∷ post) is)), later)
+]
+
+-- a caller that makes no call has none
+none_of : (n : ℕ) (pre : List Event) (e : Event) (post : List Event) → made_by n (pre ++ e ∷ post) ≡ [] → e.caller ≡ n → ⊥
+none_of n pre e post calls its = not_none (made_by n pre) (sym (ap (λ z. made_by n pre ++ z) (entries_first n e post its)) ∙ sym (entries_both n pre (e ∷ post)) ∙ calls)
+  where
+    not_none : (xs : List Event) → xs ++ (e ∷ made_by n post) ≡ [] → ⊥
+    not_none [] is = absurd (cc)
+    not_none (x ∷ xs) is = absurd (cc)
+
+none_there : (n : ℕ) (events pre : List Event) (e : Event) (post : List Event) → events ≡ pre ++ e ∷ post → made_by n events ≡ [] → e.caller ≡ n → ⊥
+none_there n events pre e post is calls its = none_of n pre e post (ap (made_by n) (sym is) ∙ calls) its
+
+-- ---- the actor's own calls in a part
+
+module _ (n : ℕ) (these : Call → Type 0) (good : Ending → Type 0) where
+  came_asks : (work : Work) (mine : List Event) (spent : List (List Event)) (e : Ending) → GoesSo these good work → ComesTo n work mine spent e → (pre : List Event) (ev : Event) (post : List Event) → mine ≡ pre ++ ev ∷ post → ev.caller ≡ n → these ev.ask.call
+  came_asks ends mine spent e goes comes pre ev post is its = absurd goes
+  came_asks (pauses work) mine spent e goes comes pre ev post is its = absurd goes
+  came_asks (tells end work) mine spent e goes comes pre ev post is its = absurd (none_there n mine pre ev post is (ap (made_by n) comes.0) its)
+  came_asks (asks question k) mine spent e goes m pre ev post is its =
+      elim (either_part m.before (m.call ∷ m.after) pre ev post (sym m.all ∙ is)) as (λ _. these ev.ask.call) [
+        | inl (u, front, later) ↦ absurd (none_there n m.before pre ev u front m.none_before its)
+        | inr (u, front, later) ↦ first_or_later u later (λ v more. came_asks (k m.call.reply) m.after spent e (either_goes these good question.stop (k m.call.reply) (goes.1 m.call.reply)) m.goes_on v ev post more its)
+      ]
+    where
+      first_or_later : (u : List Event) → m.call ∷ m.after ≡ u ++ ev ∷ post → ((v : List Event) → m.after ≡ v ++ ev ∷ post → these ev.ask.call) → these ev.ask.call
+      first_or_later [] later rest = subst (λ (x : Event). these x.ask.call) (head_of m.call ev m.after post later) (subst (λ (q : Ask). these q.call) (sym m.asked) goes.0)
+      first_or_later (y ∷ u) later rest = rest u (tail_of m.call y m.after (u ++ ev ∷ post) later)
+  came_asks (shares programs k alone) mine spent e goes (inl w) pre ev post is its =
+      elim (either_part w.before (w.during ++ w.after) pre ev post (sym w.all ∙ is)) as (λ _. these ev.ask.call) [
+        | inl (u, front, later) ↦ absurd (none_there n w.before pre ev u front w.none_before its)
+        | inr (u, front, later) ↦ elim (either_part w.during w.after u ev post later) as (λ _. these ev.ask.call) [
+          | inl (v, middle, more) ↦ absurd (none_there n w.during u ev v middle w.none_during its)
+          | inr (v, middle, more) ↦ came_asks (k w.results) w.after w.later e (goes.0 w.results) w.goes_on v ev post more its
+        ]
+      ]
+  came_asks (shares programs k alone) mine spent e goes (inr comes) pre ev post is its = came_asks alone mine spent e goes.1 comes pre ev post is its
+
+-- ---- workers only look
+
+abbrev AreQuiet : List Event → Type 0
+AreQuiet calls = AllByRecursion (λ (e : Event). IsQuietly e.ask) calls
+
+abbrev AllQuiet : List (List Event) → Type 0
+AllQuiet workers = AllByRecursion AreQuiet workers
+
+calls_quiet : {R : Type 0} (p : Program Ask Reply R) (calls : List Event) (result : R) → AsksOnly IsQuietly p → AreCallsOf p calls result → AreQuiet calls
+calls_quiet (done r) calls result quiet are = subst AreQuiet (sym are.0) tt
+calls_quiet (ask q k) [] result quiet are = absurd are
+calls_quiet (ask q k) (e ∷ calls) result quiet are = (subst IsQuietly (sym are.0) quiet.0, calls_quiet (k e.reply) calls result (quiet.1 e.reply) are.1)
+
+each_quiet : {R : Type 0} (ps : List (Program Ask Reply R)) (calls : List (List Event)) (results : List R) → EachAsksOnly IsQuietly ps → AreCallsOfEach ps calls results → AllQuiet calls
+each_quiet [] [] [] quiet are = tt
+each_quiet [] [] (x ∷ xs) quiet are = absurd are
+each_quiet [] (c ∷ calls) xs quiet are = absurd are
+each_quiet (p ∷ ps) [] xs quiet are = absurd are
+each_quiet (p ∷ ps) (c ∷ calls) [] quiet are = absurd are
+each_quiet (p ∷ ps) (c ∷ calls) (x ∷ xs) quiet are = (calls_quiet p c x quiet.0 are.0, each_quiet ps calls xs quiet.1 are.1)
+
+both_quiet : (xs ys : List (List Event)) → AllQuiet xs → AllQuiet ys → AllQuiet (xs ++ ys)
+both_quiet [] ys a b = b
+both_quiet (x ∷ xs) ys a b = (a.0, both_quiet xs ys a.1 b)
+
+-- the workers of a course ask quietly
+abbrev CourseQuiet : Course → Type 0
+CourseQuiet ends = ⊤
+CourseQuiet (pauses p) = CourseQuiet p
+CourseQuiet (tells line p) = CourseQuiet p
+CourseQuiet (asks q k) = (reply : Reply) → CourseQuiet (k reply)
+CourseQuiet (shares programs k alone) = EachAsksOnly IsQuietly programs × ((results : List _) → CourseQuiet (k results)) × CourseQuiet alone
+
+then_quiet : (these : Call → Type 0) (good : Ending → Type 0) (number : ℕ) (next : Kept → Course) (work : Work) → GoesSo these good work → ((kept : Kept) → CourseQuiet (next kept)) → CourseQuiet (then_line number next work)
+then_quiet these good number next ends goes later = tt
+then_quiet these good number next (pauses work) goes later = absurd goes
+then_quiet these good number next (tells e work) goes later = later e.kept
+then_quiet these good number next (asks q k) goes later = λ reply. then_quiet these good number next (k reply) (either_goes these good q.stop (k reply) (goes.1 reply)) later
+then_quiet these good number next (shares programs k alone) goes later = (goes.2, (λ results. then_quiet these good number next (k results) (goes.0 results) later), then_quiet these good number next alone goes.1 later)
+
+one_quiet : (ss : List Numbered) (next : Kept → Course) (kept : Kept) → ((after : Kept) → CourseQuiet (next after)) → CourseQuiet (one_by_one ss next kept)
+one_quiet [] next kept later = later kept
+one_quiet (s ∷ ss) next kept later = then_quiet (MayAsk kept s.statement) Anyhow s.line (λ after. one_by_one ss next after) (work_of kept s.statement) (statement_asks kept s.statement) (λ after. one_quiet ss next after later)
+
+through_quiet : (actor : ℕ) (phases : List Phase) (kept : Kept) → CourseQuiet (through actor phases kept)
+through_quiet actor [] kept = tt
+through_quiet actor (phase ∷ phases) kept = one_quiet (own_statements actor phase.statements) (λ after. pauses (through actor phases after)) kept (λ after. through_quiet actor phases after)
+
+module _ (n : ℕ) where
+  plays_quiet : (p : Course) (part : List Event) (workers : List (List Event)) (lines : List Line) (left : Course) → CourseQuiet p → Plays n p part workers lines left → AllQuiet workers × CourseQuiet left
+  plays_quiet ends part workers lines left quiet plays = (subst AllQuiet (sym plays.0.no_workers) tt, subst CourseQuiet (sym plays.1) tt)
+  plays_quiet (pauses p) part workers lines left quiet plays = (subst AllQuiet (sym plays.0.no_workers) tt, subst CourseQuiet (sym plays.1) quiet)
+  plays_quiet (tells line p) part workers lines left quiet plays = plays_quiet p part workers plays.0 left quiet plays.2
+  plays_quiet (asks q k) part workers lines left quiet m = plays_quiet (k m.call.reply) m.after workers lines left (quiet m.call.reply) m.goes_on
+  plays_quiet (shares programs k alone) part workers lines left quiet (inl w) =
+      let more = plays_quiet (k w.results) w.after w.later lines left (quiet.1 w.results) w.goes_on in
+      (subst AllQuiet (sym w.are) (both_quiet w.these w.later (each_quiet programs w.these w.results quiet.0 w.made) more.0), more.1)
+  plays_quiet (shares programs k alone) part workers lines left quiet (inr plays) = plays_quiet alone part workers lines left quiet.2 plays
+
+  all_quiet : (p : Course) (blocks : List (List Event)) (workers : List (List Event)) (lines : List Line) → CourseQuiet p → PlaysAll n p blocks workers lines ends → AllQuiet workers
+  all_quiet p [] workers lines quiet plays = subst AllQuiet (sym plays.0) tt
+  all_quiet p (block ∷ blocks) workers lines quiet m =
+      let one = plays_quiet p block m.these m.told m.left quiet m.plays in
+      subst AllQuiet (sym m.are) (both_quiet m.these m.later one.0 (all_quiet m.left blocks m.later m.more one.1 m.goes_on))
+
+-- ---- who made a call
+
+abbrev ItsRole : Type 0
+ItsRole = Role Ask Reply State
+
+-- the actor of a role
+record ActorOf (phases : List Phase) (blocks : List (List Event)) (actors : List ActorDecl) (from place : ℕ) (role : ItsRole) : Type 0 where
+  pub declared : ActorDecl
+  pub there : slice_get actors place ≡ Some declared
+  pub at : ℕ
+  pub lines : List Line
+  pub plays : PlaysAll role.number (course_of at phases declared) blocks role.workers lines ends
+
+actor_of : (phases : List Phase) (blocks : List (List Event)) (told : List ℕ) (lines : List Line) (from : ℕ) (actors : List ActorDecl) (roles : List ItsRole) (place : ℕ) (role : ItsRole) → EachPlays (left_of (cast_from from phases actors)) blocks roles (told_by_each from actors told lines) → slice_get roles place ≡ Some role
+    → ActorOf phases blocks actors from place role
+actor_of phases blocks told lines from [] [] place role each here = absurd (cc)
+actor_of phases blocks told lines from [] (r ∷ roles) place role each here = absurd each
+actor_of phases blocks told lines from (d ∷ actors) [] place role each here = absurd (cc)
+actor_of phases blocks told lines from (d ∷ actors) (r ∷ roles) zero role each here =
+    let same : r ≡ role = same_Some r role here in
+    record { declared = d; there = refl; at = from; lines = told_at from told lines; plays = subst (λ (x : ItsRole). PlaysAll x.number (course_of from phases d) blocks x.workers (told_at from told lines) ends) same each.0 }
+actor_of phases blocks told lines from (d ∷ actors) (r ∷ roles) (suc place) role each here =
+    let a = actor_of phases blocks told lines (from + 1) actors roles place role each.1 here in
+    record { declared = a.declared; there = a.there; at = a.at; lines = a.lines; plays = a.plays }
+
+-- whose calls they are
+record WhoseCalls (history : List Event) (roles : List ItsRole) (calls : List Event) : Type 0 where
+  pub place : ℕ
+  pub role : ItsRole
+  pub there : slice_get roles place ≡ Some role
+  pub are : Among calls role.workers ⊎ (calls ≡ made_by role.number history)
+
+whose_calls : (history : List Event) (roles : List ItsRole) (calls : List Event) → Among calls (callers history roles) → WhoseCalls history roles calls
+whose_calls history [] calls at = absurd at
+whose_calls history (role ∷ roles) calls at = elim (in_either role.workers (made_by role.number history ∷ callers history roles) at) as (λ _. WhoseCalls history (role ∷ roles) calls) [
+  | inl worker ↦ record { place = 0; role = role; there = refl; are = inl worker }
+  | inr (inl same) ↦ record { place = 0; role = role; there = refl; are = inr same }
+  | inr (inr later) ↦ let w = whose_calls history roles calls later in record { place = suc w.place; role = w.role; there = w.there; are = w.are }
+]
+  where
+    in_either : (xs ys : List (List Event)) → Among calls (xs ++ ys) → Among calls xs ⊎ Among calls ys
+    in_either [] ys there = inr there
+    in_either (x ∷ xs) ys (inl same) = inl (inl same)
+    in_either (x ∷ xs) ys (inr there) = elim (in_either xs ys there) as (λ _. Among calls (x ∷ xs) ⊎ Among calls ys) [
+      | inl one ↦ inl (inr one)
+      | inr other ↦ inr other
+    ]
+
+-- each call of a caller is one of its own
+made_there : (n : ℕ) (pre : List Event) (e : Event) (post : List Event) → e.caller ≡ n → Among e (made_by n (pre ++ e ∷ post))
+made_there n pre e post its = subst (Among e) (sym (entries_both n pre (e ∷ post) ∙ ap (λ z. made_by n pre ++ z) (entries_first n e post its))) (behind (made_by n pre))
+  where
+    behind : (xs : List Event) → Among e (xs ++ e ∷ made_by n post)
+    behind [] = inl refl
+    behind (x ∷ xs) = inr (behind xs)
+
+own_of : (n : ℕ) (events : List Event) (e : Event) → Among e (made_by n events) → e.caller ≡ n
+own_of n [] e at = absurd at
+own_of n (x ∷ events) e at = by (nat_eq x.caller n) refl at (λ later. own_of n events e later)
+  where
+    by : (b : Bool) → nat_eq x.caller n ≡ b → Among e (if b then x ∷ made_by n events else made_by n events) → (Among e (made_by n events) → e.caller ≡ n) → e.caller ≡ n
+    by true is (inl same) rest = let its : x.caller ≡ n = grind (arith, nat_tests) in ap (λ (z : Event). z.caller) same ∙ its
+    by true is (inr later) rest = rest later
+    by false is later rest = rest later
+
+quiet_at : (calls : List Event) (e : Event) → AreQuiet calls → Among e calls → IsQuietly e.ask
+quiet_at [] e quiet at = absurd at
+quiet_at (x ∷ calls) e quiet (inl same) = subst (λ (z : Event). IsQuietly z.ask) (sym same) quiet.0
+quiet_at (x ∷ calls) e quiet (inr at) = quiet_at calls e quiet.1 at
+
+quiet_among : (workers : List (List Event)) (calls : List Event) → AllQuiet workers → Among calls workers → AreQuiet calls
+quiet_among [] calls quiet at = absurd at
+quiet_among (x ∷ workers) calls quiet (inl same) = subst AreQuiet (sym same) quiet.0
+quiet_among (x ∷ workers) calls quiet (inr at) = quiet_among workers calls quiet.1 at
+
+-- a call that isn't quiet is an actor's own
+record OwnCall (run : Run) (start end : State) (right : IsRight run.script start run.lines end) (e : Event) : Type 0 where
+  pub place : ℕ
+  pub declared : ActorDecl
+  pub there : slice_get run.script.actors place ≡ Some declared
+  pub role : ItsRole
+  pub role_there : slice_get right.calls.roles place ≡ Some role
+  pub own : e.caller ≡ role.number
+
+own_call : (run : Run) (start end : State) (right : IsRight run.script start run.lines end) (pre : List Event) (e : Event) (post : List Event) → right.history ≡ pre ++ e ∷ post → (IsQuiet e.ask.call → ⊥) → OwnCall run start end right e
+own_call run start end right pre e post is loud =
+    let history = right.history in
+    let roles = right.calls.roles in
+    let at : Among e history = subst (Among e) (sym is) (there pre) in
+    let anybody = all_at (λ (x : Event). Any (λ (calls : List Event). IsOwn calls x.caller) (callers history roles)) history e right.calls.nobody_else at in
+    let f = any_found (λ (calls : List Event). IsOwn calls e.caller) (callers history roles) anybody in
+    let w = whose_calls history roles f.0 f.1 in
+    let a = actor_of run.script.phases right.calls.blocks (whose (statements_in run.script.phases)) run.lines 0 run.script.actors roles w.place w.role right.calls.plays w.there in
+    elim w.are as (λ _. OwnCall run start end right e) [
+      | inl worker ↦
+          let quiet = quiet_among w.role.workers f.0 (all_quiet w.role.number (course_of a.at run.script.phases a.declared) right.calls.blocks w.role.workers a.lines (through_quiet a.at run.script.phases (fresh a.declared.host a.declared.cap)) a.plays) worker in
+          let keeps : KeepsIn history f.0 = all_at (KeepsIn history) (callers history roles) f.0 right.calls.whole f.1 in
+          absurd (loud (quiet_at f.0 e quiet (its_calls f.0 keeps f.2)))
+      | inr mine ↦ record { place = w.place; declared = a.declared; there = a.there; role = w.role; role_there = w.there; own = its_number w.role.number f.0 mine f.2 }
+    ]
+  where
+    there : (xs : List Event) → Among e (xs ++ e ∷ post)
+    there [] = inl refl
+    there (x ∷ xs) = inr (there xs)
+
+    its_calls : (calls : List Event) → KeepsIn right.history calls → IsOwn calls e.caller → Among e calls
+    its_calls [] keeps its = absurd its
+    its_calls (c ∷ calls) keeps its = subst (Among e) keeps (subst (λ es. Among e (made_by c.caller es)) (sym is) (made_there c.caller pre e post (sym its)))
+
+    its_number : (number : ℕ) (calls : List Event) → calls ≡ made_by number right.history → IsOwn calls e.caller → e.caller ≡ number
+    its_number number [] mine its = absurd its
+    its_number number (c ∷ calls) mine its = sym its ∙ own_of number right.history c (subst (Among c) mine (inl refl))
+
+-- ---- in the part of which line
+
+module _ (m : Moment) (sound : IsSoundAt m) (n : ℕ) (history : List Event) (blocks : List (List Event)) (whole : Next m [] history) (nothing : ℕ) where
+  -- the event is in the part of this line
+  pub record InLine (of : Told → ℕ) (pre : List Event) (e : Event) (ts : List Told) : Type 0 where
+    pub t : Told
+    pub at : Among t ts
+    pub reader : Option Told
+    pub writing : Writing
+    pub line : ShownLine m sound n history blocks whole nothing of reader writing t
+    pub first : List Event
+    pub later : List Event
+    pub in_it : line.part.mine ≡ first ++ e ∷ later
+    pub before_is : pre ≡ line.part.earlier ++ first
+
+  find_line : (of : Told → ℕ) (sofar : List Event) (kept : Kept) (file : Option OneFile) (writer : Option OneWriter) (ts : List Told) (r : Option Told) (w : Writing) (each : ShownEach m sound n history blocks whole sofar kept file writer ts) → HasRooms m sound n history blocks whole nothing of sofar kept file writer ts each → Known of n sofar r w file writer
+      → (pre : List Event) (e : Event) (post : List Event) → history ≡ pre ++ e ∷ post → e.caller ≡ n → length sofar ≤ length pre → InLine of pre e ts
+  find_line of sofar kept file writer [] r w idle rooms_are k pre e post is its far = elim (either_part sofar idle.idle pre e post (sym idle.is ∙ is)) as (λ _. InLine of pre e []) [
+    | inl (u, front, later) ↦ let long = ap length front ∙ length-append pre (e ∷ u) in absurd (omega (arith, long, far))
+    | inr (u, front, later) ↦ absurd (none_there n idle.idle u e post later idle.none its)
+  ]
+  find_line of sofar kept file writer (t ∷ ts) r w (p, says, idle, s, more) rooms_are k pre e post is its far =
+      let before : Known of n p.earlier r w file writer = subst (λ es. Known of n es r w file writer) (sym idle.is) (known_waits of n sofar idle.idle r w file writer k) in
+      let after = known_next of m n p.earlier s.front s.rest r w t file s.new writer s.new_writer s.shows s.writes (reads_in of m n (record { before = p.earlier; events = s.front }) nothing file s.new s.new_writer t t.statement t.outcome s.shows rooms_are.0) before in
+      elim (either_part p.earlier (p.mine ++ p.later) pre e post (sym p.split ∙ is)) as (λ _. InLine of pre e (t ∷ ts)) [
+        | inl (u, front, later) ↦ elim (either_part sofar idle.idle pre e u (sym idle.is ∙ front)) as (λ _. InLine of pre e (t ∷ ts)) [
+          | inl (v, early, rest) ↦ let long = ap length early ∙ length-append pre (e ∷ v) in absurd (omega (arith, long, far))
+          | inr (v, early, rest) ↦ absurd (none_there n idle.idle v e u rest idle.none its)
+        ]
+        | inr (u, front, later) ↦ elim (either_part p.mine p.later u e post later) as (λ _. InLine of pre e (t ∷ ts)) [
+          | inl (v, inside, rest) ↦ record {
+            t = t;
+            at = inl refl;
+            reader = r;
+            writing = w;
+            line = record { kept = kept; file = file; writer = writer; part = p; says = says; shown = s; known = before; here = rooms_are.0 };
+            first = u;
+            later = v;
+            in_it = inside;
+            before_is = front;
+          }
+          | inr (v, inside, rest) ↦
+              let behind : pre ≡ (p.earlier ++ p.mine) ++ v = front ∙ ap (λ z. p.earlier ++ z) inside ∙ sym (append_assoc p.earlier p.mine v) in
+              let long = ap length behind ∙ length-append (p.earlier ++ p.mine) v in
+              let f = find_line of (p.earlier ++ p.mine) p.e.kept s.new s.new_writer ts (reader_next r t t.outcome) (writing_next w t.statement t.outcome) more rooms_are.1 (subst (λ es. Known of n (p.earlier ++ es) (reader_next r t t.outcome) (writing_next w t.statement t.outcome) s.new s.new_writer) (sym s.split) after) pre e post is its (omega (arith, long)) in
+              record { t = f.t; at = inr f.at; reader = f.reader; writing = f.writing; line = f.line; first = f.first; later = f.later; in_it = f.in_it; before_is = f.before_is }
+        ]
+      ]
+
+-- ---- the law of this file
+
+module _ (run : Run) (m : Moment) (end : State) (fits : FitsScript run.script) (sound : IsSoundAt m) (right : IsRight run.script m.state run.lines end) where
+  -- the call was made in the part of this line, by its actor, whose statement may ask it
+  pub record Attributed (pre : List Event) (e : Event) : Type 0 where
+    pub t : Told
+    pub is_line : IsLine run t
+    pub reader : Option Told
+    pub writing : Writing
+    pub line : AnyLine run m end fits sound right reader writing t
+    pub first : List Event
+    pub later : List Event
+    pub in_it : line.line.part.mine ≡ first ++ e ∷ later
+    pub before_is : pre ≡ line.line.part.earlier ++ first
+    pub own : e.caller ≡ line.number
+    pub asks : MayAsk line.line.kept t.statement e.ask.call
+
+  own_line : (actor : ℕ) (ts : List Told) (t : Told) → Among t (own actor ts) → Among t ts
+  own_line actor ts t at = among_filter (λ (s : Told). nat_eq s.actor actor) ts t at
+
+  pub attributed : (pre : List Event) (e : Event) (post : List Event) → right.history ≡ pre ++ e ∷ post → (IsQuiet e.ask.call → ⊥) → Attributed pre e
+  attributed pre e post is loud =
+      let o = own_call run m.state end right pre e post is loud in
+      let c = chain_here run m end fits sound right o.place o.declared o.there in
+      let n = c.parts.number in
+      let its : e.caller ≡ n = o.own ∙ c.parts.is_role o.role o.role_there in
+      let f = find_line m sound n right.history right.calls.blocks (whole_history run m end fits sound right) (length run.after.rooms) (container run m end fits sound right) [] c.parts.kept None None (own o.place (told run)) None none c.each c.rooms_are (nothing_known run m end fits sound right n) pre e post is its (omega arith) in
+      record {
+        t = f.t;
+        is_line = is_among (told run) f.t (own_line o.place (told run) f.t f.at);
+        reader = f.reader;
+        writing = f.writing;
+        line = record { number = n; line = f.line };
+        first = f.first;
+        later = f.later;
+        in_it = f.in_it;
+        before_is = f.before_is;
+        own = its;
+        asks = came_asks n (MayAsk f.line.kept f.t.statement) Anyhow (work_of f.line.kept f.t.statement) f.line.part.mine f.line.part.spent f.line.part.e (statement_asks f.line.kept f.t.statement) f.line.part.comes f.first e f.later f.in_it its;
+      }

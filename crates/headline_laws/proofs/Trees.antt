@@ -1,0 +1,7 @@
+-- What the tree after has, and what readers show of the tree before.
+pub mod Homes
+pub mod Old
+pub mod Openings
+pub mod Reading
+pub mod Still
+pub mod WriterStands

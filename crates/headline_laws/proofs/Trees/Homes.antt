@@ -1,0 +1,55 @@
+-- Of each writer that a line opened, the container that it entered has the index and the log in the tree after. What readers see of that which was told before.
+use Rattle.std.proofs.Common.{◌≡◌, ℕ, List, [], false, Some, sym, ◌∙◌, subst}
+use Rattle.std.specs.Prelude.{Option, slice_get}
+use Rattle.container_layout.specs.declared.items.Item.{Item}
+use Rattle.container_layout.specs.declared.items.Item.TheVariants.{Index, Log}
+use Rattle.store_api.specs.Acts.{Stored}
+use Rattle.mount_model.specs.Mounting.{IsMounted}
+use Rattle.mount_model.specs.State.{State}
+use Rattle.mount_sound.specs.Sound.{IsSoundTree}
+use Rattle.mount_sound.proofs.Facts.{mounted_sound}
+use Rattle.gathering.specs.Moments.{HadItem, IsSoundAt, Moment, moment_after}
+use Rattle.script_lang.specs.Ranges.{FitsScript}
+use Rattle.script_lang.specs.declared.line.Outcome.TheVariants as line
+use Rattle.run_core.specs.Play.{IsPlay, IsRight}
+use Rattle.run_core.proofs.Facts.{play_right}
+use Rattle.headline.specs.Run.{Run, Says, Told}
+use Rattle.headline.specs.Trees.{Has}
+use Rattle.headline.specs.Writers.{host_of}
+use Rattle.headline.specs.Names.{Story}
+use Rattle.headline.specs.Stories.{Fits}
+use Rattle.headline_laws.proofs.Story.Entered.{entered_once}
+use Rattle.headline_laws.proofs.Story.Lines.{container}
+use Rattle.headline_laws.proofs.Story.Named.{names_told}
+use Rattle.headline_laws.proofs.Trees.Old.{old_seen}
+use Rattle.headline_laws.proofs.Trees.Reading.{last_item, opened_line, readers_told}
+use Rattle.headline_laws.proofs.Trees.WriterStands.{line_stands}
+
+module _ (run : Run) (times : Option (List ℕ)) (opened : Stored) (start end : State) (fits : FitsScript run.script) (mounted : IsMounted 0 times opened start) (told : opened.tree ≡ Some run.before) (sound : IsSoundTree run.before)
+    (right : IsRight run.script start run.lines end) (left : end.store.tree ≡ Some run.after) where
+  abbrev Begin : Moment
+  Begin = record { state = start; issued = sound.issued }
+
+  abbrev sound_begin : IsSoundAt Begin
+  sound_begin = mounted_sound 0 times opened start run.before mounted told sound
+
+  -- the container of each line
+  abbrev homes : Story
+  homes = record { namings = []; of = container run Begin end fits sound_begin right }
+
+  both_here : (t : Told) (id : ℕ) → Says run t (line.Opened id) → Has run.after (homes.of t) (Index (host_of (slice_get run.script.actors t.actor)) id) × Has run.after (homes.of t) (Log (host_of (slice_get run.script.actors t.actor)) id)
+  both_here t id says =
+      let l = line_stands run Begin end fits sound_begin right t id says in
+      let s = l.stands in
+      let x = opened_line run Begin end fits sound_begin right t id says in
+      let one = entered_once start right.history l.number x.number s.dropping x.dropping right.leads.lawful s.entered x.entered (s.its_id ∙ sym x.its_id) in
+      let room : s.dropping.room ≡ homes.of t = one.room ∙ sym x.in_room in
+      let there : (item : Item) → HadItem (moment_after Begin right.history) s.dropping.room item → Has run.after (homes.of t) item = λ item had. subst (λ k. Has run.after k item) room (last_item run Begin end fits sound_begin right left s.dropping.room item had) in
+      (there (Index (host_of (slice_get run.script.actors t.actor)) id) s.index, there (Log (host_of (slice_get run.script.actors t.actor)) id) s.log)
+
+  pub has_story : run.in_order ≡ false → (story : Story) × Fits run story
+  has_story free = (homes, record { names = names_told run Begin end fits sound_begin right left; opened = record { index = λ t id says. (both_here t id says).0; log = λ t id says. (both_here t id says).1 }; readers = readers_told run Begin end fits sound_begin right left free; old = old_seen run times opened start end fits mounted told sound right })
+
+pub play_has_story : (run : Run) (times : Option (List ℕ)) (opened : Stored) (start end : State) → FitsScript run.script → IsMounted 0 times opened start → opened.tree ≡ Some run.before → IsSoundTree run.before → IsPlay run.script start run.lines end → end.store.tree ≡ Some run.after
+    → run.in_order ≡ false → (story : Story) × Fits run story
+play_has_story run times opened start end fits mounted told sound play left free = has_story run times opened start end fits mounted told sound (play_right run.script start run.lines end play) left free

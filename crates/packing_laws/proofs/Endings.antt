@@ -1,0 +1,3 @@
+-- How unpacking, naming and packing end in trouble.
+pub mod Causes
+pub mod Undamaged

@@ -1,0 +1,9 @@
+-- What the lines of truncates, renames and flattenings show of their container.
+pub mod Changes
+pub mod Covering
+pub mod Flattened
+pub mod Held
+pub mod Issued
+pub mod Makings
+pub mod Renamed
+pub mod Truncated

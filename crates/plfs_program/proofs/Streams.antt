@@ -1,0 +1,8 @@
+-- What is read of scripts and inputs, and what is written out.
+pub mod CatLemmas
+pub mod CommandLemmas
+pub mod InputLemmas
+pub mod OutputLemmas
+pub mod PackInputs
+pub mod Pieces
+pub mod SmallTexts

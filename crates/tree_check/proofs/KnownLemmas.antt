@@ -1,0 +1,151 @@
+-- What is shown of the items of a container.
+use Rattle.std.proofs.Common.{◌≡◌, ℕ, suc, ◌+◌, ◌≤◌, inl, inr, true, false, List, length, take, Option, Some, None, Result, Ok, Err, refl, ap, sym, ◌∙◌, subst, arith}
+use Rattle.std.specs.Prelude.{slice_get, IfErr, OnOk}
+use Rattle.std.specs.BTreeMap.{BTreeMap, get}
+use Rattle.std.specs.Ordering.{nat_cmp}
+use Rattle.std.proofs.lemmas.Bool.{false≢true}
+use Rattle.std.proofs.lemmas.List.{take_all}
+use Rattle.plfs_types.specs.declared.entries.Trunc.{Trunc}
+use Rattle.plfs_types.specs.declared.names.Path.{Path}
+use Rattle.container_layout.specs.declared.items.Item.{Item}
+use Rattle.container_layout.specs.declared.items.Item.TheVariants as item
+use Rattle.container_layout.specs.Paths.{IsAt}
+use Rattle.container_layout.proofs.Facts.{one_item}
+use Rattle.store_api.specs.declared.tree.Room.{Room}
+use Rattle.store_api.specs.declared.tree.Tree.{Tree}
+use Rattle.store_api.specs.Acts.{Stored}
+use Rattle.store_laws.specs.Files.{file_at}
+use Rattle.mount_sound.specs.Items.{HasItem, HasMeta, HasItemOf}
+use Rattle.shape_check.specs.declared.files.Place.{Place}
+use Rattle.shape_check.specs.declared.finding.Finding.{Finding}
+use Rattle.shape_check.specs.Files.{IsPlaced, OfPlace}
+use Rattle.shape_check.specs.Rightness.{Fails}
+use Rattle.shape_check.specs.Seeing.{IsLookedAt}
+use Rattle.shape_check.specs.Shape.{IsOneOf, EachAt}
+use Rattle.shape_check.proofs.Facts.{one_more, risen_on, seen_on}
+use Rattle.tree_check.specs.declared.droppings.Dropping.{Dropping}
+use Rattle.tree_check.specs.declared.owners.Owner.{Owner}
+use Rattle.tree_check.specs.Droppings.{IsDroppingOf, landed_of, AreBesideAll, IsBetween}
+use Rattle.tree_check.specs.Indices.{IsOwnedAt, OfOwnedAt}
+use Rattle.tree_check.specs.Known.{IsRightItem, IsRightAt, IsAtWork, OfWork, IsKnownAt, OfKnownAt, IsKnownAll, OfKnownAll, IsOpenAt, IsOpenEntry}
+use Rattle.tree_check.specs.Owners.{AreOwnersOf, left_before}
+use Rattle.tree_check.proofs.OwnerLemmas.{path_there}
+use Rattle.tree_check.proofs.WriterLemmas.{between_fails, fine_of, landed_number}
+
+-- ---- what is known of less
+
+module _ (place : Place) (owners : BTreeMap ℕ Owner) (truncs : List Trunc) (path : Path) where
+  as_owned : (tree : Tree) → IsKnownAt place owners truncs path tree → IsOwnedAt place owners path tree
+  as_owned tree known = record { owned = record { placed = known.at.placed; owners_are = known.owners_are }; bytes = known.at.bytes; there = known.at.there }
+
+  pub work_known : (Q : Tree → Room → Type 0) (old : Stored) (result : Result Unit Finding) → OnOk result (OfWork Q place truncs path old) → OnOk result (OfKnownAt Q place owners truncs path old)
+  work_known Q old (Err finding) q = tt
+  work_known Q old (Ok done) q = λ tree seen known. q tree seen known.at
+
+  pub work_fails : (old new : Stored) (result : Result Unit Finding) → IfErr result (Fails (IsAtWork place truncs path) old new) → IfErr result (Fails (IsKnownAt place owners truncs path) old new)
+  work_fails old new (Ok done) f = tt
+  work_fails old new (Err finding) f = record { cause = f.cause; right = λ tree seen known. f.right tree seen known.at }
+
+  pub owned_known : (Q : Tree → Room → Type 0) (old : Stored) (result : Result Unit Finding) → OnOk result (OfOwnedAt Q place owners path old) → OnOk result (OfKnownAt Q place owners truncs path old)
+  unfolding as_owned
+  owned_known Q old (Err finding) q = tt
+  owned_known Q old (Ok done) q = λ tree seen known. q tree seen (as_owned tree known)
+
+  pub owned_fails : (old new : Stored) (result : Result Unit Finding) → IfErr result (Fails (IsOwnedAt place owners path) old new) → IfErr result (Fails (IsKnownAt place owners truncs path) old new)
+  owned_fails old new (Ok done) f = tt
+  owned_fails old new (Err finding) f = record { cause = f.cause; right = λ tree seen known. f.right tree seen (as_owned tree known) }
+
+  pub placed_fails : (old new : Stored) (finding : Finding) → Fails (IsPlaced place) old new finding → Fails (IsKnownAt place owners truncs path) old new finding
+  placed_fails old new finding f = record { cause = f.cause; right = λ tree seen known. f.right tree seen known.at.placed }
+
+  -- ---- the item at a path
+
+  pub right_at : (it : Item) (old : Stored) (result : Result Unit Finding) → IsAt path it → OnOk result (OfKnownAt (IsRightItem it) place owners truncs path old) → OnOk result (OfKnownAt (IsRightAt path) place owners truncs path old)
+  right_at it old (Err finding) at q = tt
+  right_at it old (Ok done) at q = λ tree seen known other also. subst (λ (i : Item). IsRightItem i tree known.at.placed.room) (one_item path it other at also) (q tree seen known)
+
+  pub right_none : (old : Stored) → ((it : Item) → IsAt path it → None ≡ Some it) → OfKnownAt (IsRightAt path) place owners truncs path old
+  right_none old none = λ tree seen known it at. (let clash : None ≡ Some it = none it at in absurd (cc))
+
+  -- ---- the index dropping of a writer
+
+  module _ (host writer : ℕ) (is_index : IsAt path (item.Index host writer)) where
+    its_index : (tree : Tree) (known : IsKnownAt place owners truncs path tree) → HasItem known.at.placed.room (item.Index host writer) known.at.bytes
+    its_index tree known = record { is_item = is_index.is_item; there = ap (file_at known.at.placed.room) (sym is_index.printed) ∙ known.at.there }
+
+    left_meta : (room : Room) (found : Option Owner) → get nat_cmp owners writer ≡ found → left_before found ≡ true → AreOwnersOf owners room → HasItemOf room host writer → HasMeta room host writer
+    left_meta room None e l are has = absurd (false≢true l)
+    left_meta room (Some found) e l are has =
+        let known = are.known host writer has in
+        let one : Some found ≡ Some known.0 = sym e ∙ known.1 in
+        let same : found ≡ known.0 = cc in
+        subst (λ (h : ℕ). HasMeta room h writer) (ap (λ (o : Owner). o.host) same ∙ known.2) (are.left writer found e l)
+
+    pub index_left : (old : Stored) → left_before (get nat_cmp owners writer) ≡ true → OfKnownAt (IsRightItem (item.Index host writer)) place owners truncs path old
+    index_left old l = λ tree seen known stays. absurd (stays (left_meta known.at.placed.room (get nat_cmp owners writer) refl l known.owners_are (inl (known.at.bytes, its_index tree known))))
+
+    stays_open : (room : Room) → AreOwnersOf owners room → left_before (get nat_cmp owners writer) ≡ false → HasMeta room host writer → ⊥
+    stays_open room are l meta =
+        let gone = are.gone host writer meta in
+        false≢true (sym l ∙ ap left_before gone.1 ∙ gone.3)
+
+    module _ (dropping : Dropping) where
+      pub accounted_fails : (old mid new : Stored) (result : Result Unit Finding) → left_before (get nat_cmp owners writer) ≡ false → IsLookedAt old mid → OfPlace (IsDroppingOf host writer dropping) place old
+          → IfErr result (Fails (IsOpenAt place host writer dropping.landed) mid new) → IfErr result (Fails (IsKnownAt place owners truncs path) old new)
+      accounted_fails old mid new (Ok done) l looked is f = tt
+      accounted_fails old mid new (Err finding) l looked is f = record {
+        cause = λ e. risen_on old.faults mid.faults new.faults looked.counted (f.cause e);
+        right = λ tree seen known. f.right tree (seen_on old mid tree looked seen) (record {
+          placed = known.at.placed;
+          bytes = known.at.bytes;
+          has = its_index tree known;
+          landed_are = landed_number host writer dropping tree known.at.placed.room (is tree seen known.at.placed);
+          stays = stays_open known.at.placed.room known.owners_are l;
+        });
+      }
+
+      pub beside_fails : (old new : Stored) (result : Result Unit Finding) → OfPlace (IsDroppingOf host writer dropping) place old → IfErr result (IsBetween place.name host writer (landed_of dropping) truncs)
+          → IfErr result (Fails (IsKnownAt place owners truncs path) old new)
+      beside_fails old new result is wrong =
+          between_fails (IsKnownAt place owners truncs path) place host writer dropping truncs old new result is_index.is_item.widths.0 is_index.is_item.widths.1 (λ tree known. (known.at.placed, known.at.truncs_are)) is wrong
+
+      pub index_so : (old mid : Stored) (result : Result Unit Finding) → IsLookedAt old mid → OfPlace (IsDroppingOf host writer dropping) place old → OfPlace (IsOpenEntry host writer dropping.landed) place mid
+          → OnOk result (AreBesideAll truncs (landed_of dropping)) → OnOk result (OfKnownAt (IsRightItem (item.Index host writer)) place owners truncs path old)
+      index_so old mid (Err finding) looked is accounted beside = tt
+      index_so old mid (Ok done) looked is accounted beside = λ tree seen known stays. (
+          let d : IsDroppingOf host writer dropping tree known.at.placed.room = is tree seen known.at.placed in
+          record {
+            fine = fine_of host writer dropping truncs tree known.at.placed.room d known.at.truncs_are beside;
+            accounted = λ gone some. accounted tree (seen_on old mid tree looked seen) known.at.placed gone (omega (arith, some, landed_number host writer dropping tree known.at.placed.room d));
+          })
+
+-- ---- one item after the other
+
+module _ (place : Place) (owners : BTreeMap ℕ Owner) (truncs : List Trunc) (paths : List Path) where
+  at_path : (path : Path) (tree : Tree) → IsKnownAll place owners truncs paths tree → IsOneOf paths path → IsKnownAt place owners truncs path tree
+  at_path path tree known one = (let file = known.files path one in
+      record { at = record { placed = known.placed; bytes = file.0; there = file.1; truncs_are = known.truncs_are }; owners_are = known.owners_are })
+
+  pub items_none : (old : Stored) → OfKnownAll (EachAt IsRightAt (take 0 paths)) place owners truncs paths old
+  items_none old = λ tree seen known path one. absurd one
+
+  pub items_more : (i : ℕ) (path : Path) (old mid : Stored) → slice_get paths i ≡ Some path → IsLookedAt old mid → OfKnownAll (EachAt IsRightAt (take i paths)) place owners truncs paths old
+      → OfKnownAt (IsRightAt path) place owners truncs path mid → OfKnownAll (EachAt IsRightAt (take (i + 1) paths)) place owners truncs paths old
+  unfolding at_path
+  items_more i path old mid at looked before this = λ tree seen known other one. (
+      let next : i + 1 ≡ suc i = omega arith in
+      elim (one_more paths i path other at (subst (λ (n : ℕ). IsOneOf (take n paths) other) next one)) [
+        | inl earlier ↦ before tree seen known other earlier
+        | inr same ↦ subst (λ (p : Path). IsRightAt p tree known.placed.room) same (this tree (seen_on old mid tree looked seen) (at_path path tree known (path_there paths i path at)))
+      ])
+
+  pub items_all : (i : ℕ) (old : Stored) → length paths ≤ i → OfKnownAll (EachAt IsRightAt (take i paths)) place owners truncs paths old → OfKnownAll (EachAt IsRightAt paths) place owners truncs paths old
+  items_all i old past right = subst (λ (l : List Path). OfKnownAll (EachAt IsRightAt l) place owners truncs paths old) (take_all i paths past) right
+
+  pub item_fails_all : (i : ℕ) (path : Path) (old mid new : Stored) (result : Result Unit Finding) → slice_get paths i ≡ Some path → IsLookedAt old mid → IfErr result (Fails (IsKnownAt place owners truncs path) mid new)
+      → IfErr result (Fails (IsKnownAll place owners truncs paths) old new)
+  item_fails_all i path old mid new (Ok done) at looked f = tt
+  item_fails_all i path old mid new (Err finding) at looked f = record {
+    cause = λ e. risen_on old.faults mid.faults new.faults looked.counted (f.cause e);
+    right = λ tree seen known. f.right tree (seen_on old mid tree looked seen) (at_path path tree known (path_there paths i path at));
+  }

@@ -1,0 +1,13 @@
+mod WholeLemmas
+mod EntryLemmas
+mod Failing
+mod DroppingLemmas
+mod OwnerLemmas
+mod TruncLemmas
+mod WriterLemmas
+mod KnownLemmas
+mod IndexLemmas
+mod FlatLemmas
+mod ContainerLemmas
+mod RoomLemmas
+mod TreeLemmas

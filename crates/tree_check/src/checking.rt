@@ -1,0 +1,113 @@
+//! The check of a tree.
+ghost use Rattle.std.specs.Prelude.{◌≡◌, Some, IfErr, OnOk};
+ghost use Rattle.plfs_types.specs.Counts.{HasRisen};
+ghost use Rattle.store_api.specs.declared.tree.Tree.{Tree};
+ghost use Rattle.store_api.specs.AllKept.{all_kept};
+ghost use Rattle.mount_sound.specs.Sound.{IsSoundTree};
+ghost use Rattle.tree_laws.specs.Checked.{HoldsBytes};
+ghost use Rattle.tree_laws.specs.Listable.{IsListable};
+ghost use Rattle.shape_check.specs.declared.finding.Finding.TheVariants.{Fault};
+ghost use Rattle.shape_check.specs.Files.{IsPlaced, OfPlace};
+ghost use Rattle.shape_check.specs.Rightness.{Fails, IsRight};
+ghost use Rattle.shape_check.specs.Seeing.{IsLookedAt};
+ghost use Rattle.tree_check.specs.Rooms.{IsCheckedContainer, IsNamed, OfNamed, HasRooms, AreRight, OfTree};
+
+use crate::owners::owners_of;
+use crate::truncates::truncs_of;
+use crate::writers::check_items;
+use plfs_types::Name;
+use shape_check::{Finding, Place, check_marks, check_shape, find_room, marks_name, rooms};
+use std::alloc::Global;
+use store_api::Store;
+use tree_laws::a_checked_tree_is_sound;
+
+/// Whether the tree of the store is sound, where all its bytes are kept. It makes looks alone.
+pub fn check_tree<S: Store>(alloc: Global, store: &mut S) -> Result<(), Finding>
+    // Nothing changes.
+    ensures unchanged { (S.stored store.new).tree ≡ (S.stored store.old).tree }
+    // A tree that is found sound is sound, once all its bytes are kept.
+    ensures sound { (tree : Tree) → (S.stored store.old).tree ≡ Some tree → IsListable tree → HoldsBytes tree → OnOk result (IsSoundTree (all_kept tree)) }
+    // What is found wrong of a tree is so, and a store that tells its tree answers.
+    ensures right { (tree : Tree) → (S.stored store.old).tree ≡ Some tree → IsListable tree → IfErr result (IsRight (all_kept tree)) }
+    // A fault comes only where the store's count of faults rose.
+    ensures fault { IfErr result (λ finding. finding ≡ Fault → HasRisen (S.stored store.old).faults (S.stored store.new).faults) }
+{
+    a_checked_tree_is_sound();
+    check_all(alloc, store)
+}
+
+/// Whether all holds of the tree that is checked.
+fn check_all<S: Store>(alloc: Global, store: &mut S) -> Result<(), Finding>
+    ensures looked { IsLookedAt (S.stored store.old) (S.stored store.new) }
+    ensures ok { OnOk result (OfTree (S.stored store.old)) }
+    ensures err { IfErr result (Fails IsListable (S.stored store.old) (S.stored store.new)) }
+{
+    let names = rooms(store)?;
+    let marks = find_room(store, marks_name())?;
+    check_rooms(alloc, store, marks, names.as_slice())
+}
+
+/// Whether each room of these names is as in a sound tree.
+fn check_rooms<S: Store>(
+    alloc: Global,
+    store: &mut S,
+    marks: Option<u64>,
+    names: &[Name],
+) -> Result<(), Finding>
+    ensures looked { IsLookedAt (S.stored store.old) (S.stored store.new) }
+    ensures ok { OnOk result (AreRight marks names.now (S.stored store.old)) }
+    ensures err { IfErr result (Fails (HasRooms marks names.now) (S.stored store.old) (S.stored store.new)) }
+{
+    for name in names {
+        check_room(alloc, store, marks, *name)?;
+    }
+    Ok(())
+}
+
+/// Whether the room of this name is as in a sound tree.
+fn check_room<S: Store>(
+    alloc: Global,
+    store: &mut S,
+    marks: Option<u64>,
+    name: Name,
+) -> Result<(), Finding>
+    ensures looked { IsLookedAt (S.stored store.old) (S.stored store.new) }
+    ensures ok { OnOk result (OfNamed marks name (S.stored store.old)) }
+    ensures err { IfErr result (Fails (IsNamed marks name) (S.stored store.old) (S.stored store.new)) }
+{
+    let Some(number) = find_room(store, name)? else {
+        return Err(Finding::Untold);
+    };
+    if name == marks_name() {
+        check_marks(store, number)
+    } else {
+        check_container(
+            alloc,
+            store,
+            &Place {
+                name,
+                number,
+                marks,
+            },
+        )
+    }
+}
+
+/// Whether the container is as in a sound tree.
+fn check_container<S: Store>(alloc: Global, store: &mut S, place: &Place) -> Result<(), Finding>
+    ensures looked { IsLookedAt (S.stored store.old) (S.stored store.new) }
+    ensures ok { OnOk result (OfPlace IsCheckedContainer place.now (S.stored store.old)) }
+    ensures err { IfErr result (Fails (IsPlaced place.now) (S.stored store.old) (S.stored store.new)) }
+{
+    let paths = check_shape(alloc, store, place)?;
+    let owners = owners_of(alloc, place.name, paths.as_slice())?;
+    let truncs = truncs_of(alloc, place.name, paths.as_slice())?;
+    check_items(
+        alloc,
+        store,
+        place,
+        &owners,
+        truncs.as_slice(),
+        paths.as_slice(),
+    )
+}

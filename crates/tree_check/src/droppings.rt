@@ -1,0 +1,187 @@
+//! An index dropping that was read, and what is told of its writer.
+ghost use Rattle.std.specs.Prelude.{◌≡◌, ◌≤◌, ◌↔◌, IsTrue, length, take, IfOk, IfErr, OnOk};
+ghost use Rattle.tree_check.specs.Entries.{AreInOrder};
+ghost use Rattle.mount_model.specs.Paths.{index_path, log_path as log_path_of};
+ghost use Rattle.shape_check.specs.Files.{IsPlaced, OfPlace};
+ghost use Rattle.shape_check.specs.Rightness.{Fails};
+ghost use Rattle.shape_check.specs.Seeing.{IsLookedAt};
+ghost use Rattle.tree_check.specs.Droppings.{IsReadAs, IsOrderly, IsBadDropping, IsDroppingOf, AreBesideAll, IsBetween, AreOutside, IsFromTo, IsInside, IsLeftRight, IsLeftWrong};
+
+use crate::entries::{entries_of, judge, landed_of, sum_of};
+use crate::whole::{bytes_or_none, length_or_none};
+use container_layout::{Item, print};
+use plfs_types::{ENTRY_SIZE, Entry, EntryList, Name, Path, Trunc};
+use shape_check::{Complaint, Finding, Place};
+use std::alloc::Global;
+use store_api::Store;
+
+/// An index dropping that was read.
+#[derive(Drop)]
+pub(crate) struct Dropping {
+    /// Its length in bytes.
+    pub(crate) size: u64,
+    /// All its whole entries.
+    pub(crate) entries: EntryList,
+    /// How many of the first have landed.
+    pub(crate) landed: usize,
+}
+
+impl Dropping {
+    /// Those that have landed.
+    pub(crate) fn landed(&self) -> &[Entry]
+        requires { self.now.landed ≤ length self.now.entries }
+        ensures { result.now ≡ take self.now.landed self.now.entries }
+    {
+        &self.entries.as_slice()[..self.landed]
+    }
+}
+
+/// The path of a writer's index dropping.
+pub(crate) fn index_of(host: u32, writer: u64) -> Path
+    ensures { result ≡ index_path host writer }
+{
+    print(&Item::Index { host, writer })
+}
+
+/// The path of its log.
+fn log_of(host: u32, writer: u64) -> Path
+    ensures { result ≡ log_path_of host writer }
+{
+    print(&Item::Log { host, writer })
+}
+
+/// Reads a writer's index dropping, none where it isn't there, unless its entries aren't in order.
+pub(crate) fn read_dropping<S: Store>(
+    alloc: Global,
+    store: &mut S,
+    place: &Place,
+    host: u32,
+    writer: u64,
+) -> Result<Dropping, Finding>
+    ensures looked { IsLookedAt (S.stored store.old) (S.stored store.new) }
+    ensures orderly { IfOk result (IsOrderly writer) }
+    ensures ok { IfOk result (λ dropping. OfPlace (IsDroppingOf host writer dropping) place.now (S.stored store.old)) }
+    ensures err { IfErr result (Fails (IsPlaced place.now) (S.stored store.old) (S.stored store.new)) }
+{
+    let path = index_of(host, writer);
+    let bytes = bytes_or_none(alloc, store, place, &path)?;
+    let log = length_or_none(store, place, &log_of(host, writer))?;
+    dropping_of(alloc, place.name, &path, writer, bytes.as_slice(), log)
+}
+
+/// The dropping that these bytes are, beside a log of this length.
+fn dropping_of(
+    alloc: Global,
+    room: Name,
+    path: &Path,
+    writer: u64,
+    bytes: &[u8],
+    log: u64,
+) -> Result<Dropping, Finding>
+    ensures ok { IfOk result (IsReadAs writer bytes.now log) }
+    ensures err { IfErr result (IsBadDropping room path.now writer bytes.now) }
+{
+    let entries = entries_of(alloc, bytes)?;
+    judge(room, path, writer, entries.as_slice())?;
+    let landed = landed_of(log, entries.as_slice());
+    Ok(Dropping {
+        size: bytes.len() as u64,
+        entries,
+        landed,
+    })
+}
+
+/// Whether no truncate is between two of the writer's landed entries.
+#[tactic(auto, using(crate::proofs::EntryLemmas::ordered))]
+pub(crate) fn check_beside(
+    room: Name,
+    host: u32,
+    writer: u64,
+    landed: &[Entry],
+    truncs: &[Trunc],
+) -> Result<(), Finding>
+    requires { AreInOrder writer landed.now }
+    ensures ok { OnOk result (AreBesideAll truncs.now landed.now) }
+    ensures err { IfErr result (IsBetween room host writer landed.now truncs.now) }
+{
+    let Some(first) = landed.first() else {
+        return Ok(());
+    };
+    let sum = sum_of(landed);
+    check_between(room, host, writer, first.stamp, sum.stamp, truncs)
+}
+
+/// Whether the truncate has a stamp from the first to the last one.
+fn is_inside(first: u64, last: u64, trunc: &Trunc) -> bool
+    ensures { IsTrue result ↔ IsFromTo first last trunc.now }
+{
+    first <= trunc.stamp && trunc.stamp <= last
+}
+
+/// Whether no truncate has a stamp from the first to the last one.
+fn check_between(
+    room: Name,
+    host: u32,
+    writer: u64,
+    first: u64,
+    last: u64,
+    truncs: &[Trunc],
+) -> Result<(), Finding>
+    ensures ok { OnOk result (AreOutside first last truncs.now) }
+    ensures err { IfErr result (IsInside room host writer first last truncs.now) }
+{
+    for trunc in truncs {
+        if is_inside(first, last, trunc) {
+            return Err(Finding::Broken {
+                complaint: Complaint::Between {
+                    room,
+                    path: index_of(host, writer),
+                    stamp: trunc.stamp,
+                },
+            });
+        }
+    }
+    Ok(())
+}
+
+/// What a metadata dropping tells.
+#[derive(Clone, Copy)]
+pub(crate) struct Left {
+    pub(crate) last: u64,
+    pub(crate) bytes: u64,
+    pub(crate) stamp: u64,
+    pub(crate) host: u32,
+    pub(crate) writer: u64,
+}
+
+/// Whether the metadata dropping at this path tells of the landed entries, and the index dropping is just these.
+#[tactic(auto, using(crate::proofs::EntryLemmas::ordered))]
+pub(crate) fn judge_left(
+    room: Name,
+    path: &Path,
+    left: &Left,
+    dropping: &Dropping,
+) -> Result<(), Finding>
+    requires in_order { AreInOrder left.now.writer (take dropping.now.landed dropping.now.entries) }
+    requires within { dropping.now.landed ≤ length dropping.now.entries }
+    ensures ok { OnOk result (IsLeftRight left.now dropping.now) }
+    ensures err { IfErr result (IsLeftWrong room path.now left.now dropping.now) }
+{
+    let sum = sum_of(dropping.landed());
+    if left.last != sum.end || left.bytes != sum.bytes || left.stamp != sum.stamp {
+        return Err(Finding::Broken {
+            complaint: Complaint::Untrue { room, path: *path },
+        });
+    }
+    if dropping.size % ENTRY_SIZE as u64 != 0
+        || dropping.size / ENTRY_SIZE as u64 != dropping.landed as u64
+    {
+        return Err(Finding::Broken {
+            complaint: Complaint::Unsettled {
+                room,
+                path: index_of(left.host, left.writer),
+            },
+        });
+    }
+    Ok(())
+}
