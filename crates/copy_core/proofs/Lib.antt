@@ -1,5 +1,6 @@
 mod Blocks
 mod Calls
+mod Cases
 mod Clearings
 mod Copies
 pub mod Facts

@@ -1,5 +1,6 @@
 mod ContainerLemmas
 mod DrainLemmas
+pub mod Facts
 mod FirstLemmas
 mod FrontLemmas
 mod ItemLemmas

@@ -253,15 +253,22 @@ module _ (source : Moment) (s : IsSoundAt source) (number : ℕ) (name : Name) (
     ]
 
     -- bytes of the log
-    writes_log_target : (len : ℕ) → MayLeave tree (write_at n (log_path host writer).folder (log_path host writer).file (length (log_bytes room host writer)) (take len (drop (length (log_bytes room host writer)) (log_there source (dropping_in number host writer))))) after → IsTarget source number name after
-    writes_log_target len l =
-        let place : ℕ = length (log_bytes room host writer) in
+    writes_log_target : (place len : ℕ) → place ≤ length (log_bytes room host writer) → MayLeave tree (write_at n (log_path host writer).folder (log_path host writer).file place (take len (drop place (log_there source (dropping_in number host writer))))) after → IsTarget source number name after
+    writes_log_target place len behind l =
         let whole_log : List ℕ = log_there source (dropping_in number host writer) in
         let bytes : List ℕ = take len (drop place whole_log) in
         wrote_target (Log host writer) place bytes (λ part p c same.
         let old : bytes_of (file_at c.room (log_path host writer)) ≡ c.old = ap bytes_of c.there in
         let f = (t.drained n c.room c.has_room (ap (λ (r : Room). r.name) same ∙ at.named)).fronts host writer an in
-        let now : IsPrefix (overwritten c.old place part) whole_log = front_over whole_log c.old part place (subst (λ b. IsPrefix b whole_log) old f.log) c.within (prefix_trans part bytes (drop place whole_log) p (prefix_take len (drop place whole_log))) in (
+        let was : IsPrefix c.old whole_log = subst (λ b. IsPrefix b whole_log) old f.log in
+        let over : (b : List ℕ) → IsPrefix b bytes → IsPrefix (overwritten c.old place b) whole_log = λ b q. front_over whole_log c.old b place was c.within (prefix_trans b bytes (drop place whole_log) q (prefix_take len (drop place whole_log))) in
+        let now : IsPrefix (overwritten c.old place part) whole_log = over part p in
+        let repeats : (front : ℕ) → front ≤ length c.old → Repeats tree n (log_path host writer) place bytes front = λ front long r file there e k.
+        let room_is : r ≡ c.room = one_room r c.room (slice_get tree.rooms n) there c.has_room in
+        let is : file ≡ c.old = one_file file c.old (file_at c.room (log_path host writer)) (ap (λ x. file_at x (log_path host writer)) (sym room_is) ∙ e) c.there in
+        subst (λ x. take front (overwritten x place (take k bytes)) ≡ take front x) (sym is)
+        (front_takes front (overwritten c.old place (take k bytes)) whole_log (over (take k bytes) (prefix_take k bytes)) (omega (arith, long, length-overwritten c.old place (take k bytes) c.within))
+        ∙ sym (front_takes front c.old whole_log was long)) in (
           record {
             is_item = is_its_log;
             drains = tt;
@@ -278,7 +285,7 @@ module _ (source : Moment) (s : IsSoundAt source) (number : ℕ) (name : Name) (
             truncate = λ stamp size e. absurd (cc);
           },
           goes_on c.room c.new (Log host writer) is_its_log same c.others (λ x. cc) (λ last b stamp x. cc) (other_fronts c.room c.new (Index host writer) (Log host writer) an is_its_log (λ x. cc) c.others)
-              (written_fronts (Log host writer) place bytes part c l (λ before e front long named. inl (omega (arith, long, ap (λ o. length (bytes_of o)) e, ap (λ r. length (log_bytes r host writer)) same)))),
+              (written_fronts (Log host writer) place bytes part c l (λ before e front long named. inr (repeats front (omega (arith, long, ap length (one_file before c.old (file_at c.room (log_path host writer)) e c.there)))))),
         )) l
 
     -- entries of the index dropping
@@ -351,7 +358,7 @@ step_target source number name tree after x s t (step.opens n host writer room a
 step_target source number name tree after x s t (step.houses n host room at) l = houses_target source s number name tree t after n host room at l
 step_target source number name tree after x s t (step.index n host writer room at copied) l = index_target source s number name tree t after n host writer room at copied l
 step_target source number name tree after x s t (step.log n host writer room at copied) l = log_target source s number name tree t after n host writer room at copied l
-step_target source number name tree after x s t (step.writes_log n host writer len room at copied) l = writes_log_target source s number name tree t after n host writer room at copied len l
+step_target source number name tree after x s t (step.writes_log n host writer place len room at copied behind) l = writes_log_target source s number name tree t after n host writer room at copied place len behind l
 step_target source number name tree after x s t (step.writes_index n host writer from len room at copied behind) l = writes_index_target source s number name tree t after n host writer room at copied from len behind l
 step_target source number name tree after x s t (step.syncs_log n host writer room at) l = syncs_target source s number name tree t after n (log_path host writer) room at (λ folder file. cc) l
 step_target source number name tree after x s t (step.syncs_index n host writer room at) l = syncs_target source s number name tree t after n (index_path host writer) room at (λ folder file. cc) l

@@ -43,9 +43,10 @@ pub data IsDrainStep (source : Moment) (number : ℕ) (name : Name) (tree : Tree
   houses : (n host : ℕ) (room : Room) → IsNamedRoom tree n name room → IsDrainStep source number name tree (make_folder n (hostdir_of host))
   index : (n host writer : ℕ) (room : Room) → IsNamedRoom tree n name room → IsCopied source number tree room host writer → IsDrainStep source number name tree (create n (index_path host writer).folder (index_path host writer).file)
   log : (n host writer : ℕ) (room : Room) → IsNamedRoom tree n name room → IsCopied source number tree room host writer → IsDrainStep source number name tree (create n (log_path host writer).folder (log_path host writer).file)
-  -- bytes of its log, from where that ends; bytes of its entries, from one of them on that is there
-  writes_log : (n host writer len : ℕ) (room : Room) → IsNamedRoom tree n name room → IsCopied source number tree room host writer
-      → IsDrainStep source number name tree (write_at n (log_path host writer).folder (log_path host writer).file (length (log_bytes room host writer)) (take len (drop (length (log_bytes room host writer)) (log_there source (dropping_in number host writer)))))
+  -- bytes of its log, from a place within it or its end on; bytes of its entries, from one of them on that is there
+  writes_log : (n host writer at len : ℕ) (room : Room) → IsNamedRoom tree n name room → IsCopied source number tree room host writer
+      → at ≤ length (log_bytes room host writer)
+      → IsDrainStep source number name tree (write_at n (log_path host writer).folder (log_path host writer).file at (take len (drop at (log_there source (dropping_in number host writer)))))
   writes_index : (n host writer from len : ℕ) (room : Room) → IsNamedRoom tree n name room → IsCopied source number tree room host writer
       → ENTRY_SIZE * from ≤ length (bytes_of (file_at room (index_path host writer)))
       → IsDrainStep source number name tree (write_at n (index_path host writer).folder (index_path host writer).file (ENTRY_SIZE * from) (take len (drop (ENTRY_SIZE * from) (index_there source (dropping_in number host writer)))))

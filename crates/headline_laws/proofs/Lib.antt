@@ -1,4 +1,5 @@
 pub mod Facts
+mod Contents
 mod OrderlyLines
 mod Statements
 mod Story

@@ -7,6 +7,7 @@ use Rattle.std.proofs.lemmas.List.{length-append}
 use Rattle.std.proofs.lemmas.Bool.Decides.{nat_tests}
 use Rattle.plfs_types.specs.declared.entries.Trunc.{Trunc}
 use Rattle.plfs_types.specs.declared.entries.WriterCount.{WriterCount}
+use Rattle.plain_file.specs.declared.pieces.Piece.{Piece}
 use Rattle.plain_file.specs.File.{slice}
 use Rattle.plain_file.proofs.Facts.{Among}
 use Rattle.gathering.specs.Moments.{Dropping, Moment}
@@ -23,11 +24,12 @@ use Rattle.script_lang.specs.declared.script.Numbered.{Numbered}
 use Rattle.script_lang.specs.declared.script.Statement.{Statement}
 use Rattle.script_lang.specs.declared.script.Statement.TheVariants.{Flatten, Map, Read, Recover, Refresh, Rename, Rclose, Ropen, Stat, Trunc as Truncate, Verify}
 use Rattle.outcomes.specs.Data.{bytes_of, length_of}
+use Rattle.outcomes.specs.Outcomes.{map_text}
 use Rattle.outcomes.proofs.DataLemmas.{length_is}
 use Rattle.run_core.specs.Course.{own as own_statements}
 use Rattle.play_laws.specs.Comparing.{BeginsOtherwise, FirstDifference}
 use Rattle.play_laws.specs.Ending.{DoesNothing}
-use Rattle.play_laws.specs.OneFile.{OneFile, printed_cut, seen_bytes}
+use Rattle.play_laws.specs.OneFile.{ArePiecesSeen, OneFile, printed_cut, seen_bytes}
 use Rattle.play_laws.specs.OneWriter.{OneWriter}
 use Rattle.play_laws.specs.Opening.{Stretch}
 use Rattle.play_laws.specs.Readers.{ShowsEach}
@@ -68,10 +70,20 @@ abbrev pub RefreshesSo : OneFile → Statement → Outcome → Type 0
 RefreshesSo former Refresh outcome = TellsLater former outcome
 RefreshesSo former other outcome = ⊤
 
--- The line answers of the bytes of the file that the actor has, and a refresh tells of a later one. Where it has none, it does neither.
+-- a map tells of the file's pieces
+abbrev pub TellsPieces : OneFile → Outcome → Type 0
+TellsPieces file (line.Map text) = (pieces : List Piece) × ArePiecesSeen file pieces × (text ≡ map_text pieces)
+TellsPieces file other = ⊤
+
+abbrev pub MapsSo : OneFile → Statement → Outcome → Type 0
+MapsSo file Map outcome = TellsPieces file outcome
+MapsSo file other outcome = ⊤
+
+-- The line answers of the bytes of the file that the actor has, or tells of its pieces, and a refresh tells of a later one. Where it has none, it does none of these.
 pub record Step (file : Option OneFile) (s : Statement) (o : Outcome) (new : Option OneFile) : Type 0 where
   pub answers : (f0 : OneFile) → ((f : OneFile) → file ≡ Some f → f0 ≡ f) → Answers (seen_bytes f0) s o
   pub refreshes : (f0 : OneFile) → ((f : OneFile) → file ≡ Some f → f0 ≡ f) → RefreshesSo f0 s o
+  pub maps : (f0 : OneFile) → ((f : OneFile) → file ≡ Some f → f0 ≡ f) → MapsSo f0 s o
   pub next : Next file o new
 
 nothing_reads : (why : Why) (o : Outcome) → DoesNothing why o → IsNoReader o
@@ -110,8 +122,8 @@ differs_at at wanted found place d = record {
 
 module _ (start : Moment) (caller : ℕ) (stretch : Stretch) where
   opening_step : (name : List ℕ) (workers : ℕ) (o : Outcome) (new : Option OneFile) → ShowsOpening start caller stretch name o new → Step None (Ropen name workers) o new
-  opening_step name workers (line.Reader size cut truncs) new shows = record { answers = λ f0 is. tt; refreshes = λ f0 is. tt; next = (shows.0, shows.1, shows.3) }
-  opening_step name workers o new shows = record { answers = λ f0 is. tt; refreshes = λ f0 is. tt; next = keeps_next None new o tt (no_file None new shows.0) }
+  opening_step name workers (line.Reader size cut truncs) new shows = record { answers = λ f0 is. tt; refreshes = λ f0 is. tt; maps = λ f0 is. tt; next = (shows.0, shows.1, shows.3) }
+  opening_step name workers o new shows = record { answers = λ f0 is. tt; refreshes = λ f0 is. tt; maps = λ f0 is. tt; next = keeps_next None new o tt (no_file None new shows.0) }
 
   read_reads : (file : OneFile) (at len : ℕ) (o : Outcome) → ShowsRead start stretch file at len o → IsNoReader o
   read_reads file at len (line.Reader size cut truncs) shows = absurd shows
@@ -126,8 +138,8 @@ module _ (start : Moment) (caller : ℕ) (stretch : Stretch) where
   read_nothing why at len o does bytes = tt
 
   read_step : (old : Option OneFile) (at len : ℕ) (o : Outcome) (new : Option OneFile) → Shows start caller stretch old (Read at len) o new → Step old (Read at len) o new
-  read_step None at len o new shows = record { answers = λ f0 is. read_nothing _ at len o shows.1 (seen_bytes f0); refreshes = λ f0 is. tt; next = keeps_next None new o (nothing_reads _ o shows.1) (same_file None new shows.0) }
-  read_step (Some file) at len o new shows = record { answers = λ f0 is. read_answers file at len o shows.1 (seen_bytes f0) (ap (λ (x : OneFile). seen_bytes x) (is file refl)); refreshes = λ f0 is. tt; next = keeps_next (Some file) new o (read_reads file at len o shows.1) (same_file (Some file) new shows.0) }
+  read_step None at len o new shows = record { answers = λ f0 is. read_nothing _ at len o shows.1 (seen_bytes f0); refreshes = λ f0 is. tt; maps = λ f0 is. tt; next = keeps_next None new o (nothing_reads _ o shows.1) (same_file None new shows.0) }
+  read_step (Some file) at len o new shows = record { answers = λ f0 is. read_answers file at len o shows.1 (seen_bytes f0) (ap (λ (x : OneFile). seen_bytes x) (is file refl)); refreshes = λ f0 is. tt; maps = λ f0 is. tt; next = keeps_next (Some file) new o (read_reads file at len o shows.1) (same_file (Some file) new shows.0) }
 
   verified_reads : (file : OneFile) (at : ℕ) (content : Data) (o : Outcome) → ShowsVerified start stretch file at content o → IsNoReader o
   verified_reads file at content (line.Reader size cut truncs) shows = absurd shows
@@ -146,16 +158,24 @@ module _ (start : Moment) (caller : ℕ) (stretch : Stretch) where
   verify_nothing why at content o does bytes = tt
 
   verify_step : (old : Option OneFile) (at : ℕ) (content : Data) (o : Outcome) (new : Option OneFile) → Shows start caller stretch old (Verify at content) o new → Step old (Verify at content) o new
-  verify_step None at content o new shows = record { answers = λ f0 is. verify_nothing _ at content o shows.1 (seen_bytes f0); refreshes = λ f0 is. tt; next = keeps_next None new o (nothing_reads _ o shows.1) (same_file None new shows.0) }
-  verify_step (Some file) at content o new shows = record { answers = λ f0 is. verified_answers file at content o shows.1 (seen_bytes f0) (ap (λ (x : OneFile). seen_bytes x) (is file refl)); refreshes = λ f0 is. tt; next = keeps_next (Some file) new o (verified_reads file at content o shows.1) (same_file (Some file) new shows.0) }
+  verify_step None at content o new shows = record { answers = λ f0 is. verify_nothing _ at content o shows.1 (seen_bytes f0); refreshes = λ f0 is. tt; maps = λ f0 is. tt; next = keeps_next None new o (nothing_reads _ o shows.1) (same_file None new shows.0) }
+  verify_step (Some file) at content o new shows = record { answers = λ f0 is. verified_answers file at content o shows.1 (seen_bytes f0) (ap (λ (x : OneFile). seen_bytes x) (is file refl)); refreshes = λ f0 is. tt; maps = λ f0 is. tt; next = keeps_next (Some file) new o (verified_reads file at content o shows.1) (same_file (Some file) new shows.0) }
 
   map_reads : (file : OneFile) (o : Outcome) → ShowsMap file o → IsNoReader o
   map_reads file (line.Reader size cut truncs) shows = absurd (cc)
   map_reads file o shows = tt
 
+  map_nothing : (why : Why) (file : OneFile) (o : Outcome) → DoesNothing why o → TellsPieces file o
+  map_nothing why file (line.Map text) does = absurd does
+  map_nothing why file o does = tt
+
+  map_shows : (file : OneFile) (o : Outcome) → ShowsMap file o → TellsPieces file o
+  map_shows file (line.Map text) shows = shows
+  map_shows file o shows = tt
+
   map_step : (old : Option OneFile) (o : Outcome) (new : Option OneFile) → Shows start caller stretch old Map o new → Step old Map o new
-  map_step None o new shows = record { answers = λ f0 is. tt; refreshes = λ f0 is. tt; next = keeps_next None new o (nothing_reads _ o shows.1) (same_file None new shows.0) }
-  map_step (Some file) o new shows = record { answers = λ f0 is. tt; refreshes = λ f0 is. tt; next = keeps_next (Some file) new o (map_reads file o shows.1) (same_file (Some file) new shows.0) }
+  map_step None o new shows = record { answers = λ f0 is. tt; refreshes = λ f0 is. tt; maps = λ f0 is. map_nothing _ f0 o shows.1; next = keeps_next None new o (nothing_reads _ o shows.1) (same_file None new shows.0) }
+  map_step (Some file) o new shows = record { answers = λ f0 is. tt; refreshes = λ f0 is. tt; maps = λ f0 is. subst (λ (x : OneFile). TellsPieces x o) (sym (is file refl)) (map_shows file o shows.1); next = keeps_next (Some file) new o (map_reads file o shows.1) (same_file (Some file) new shows.0) }
 
   closing_next : (old : Option OneFile) (o : Outcome) (new : Option OneFile) → ShowsClosing old o new → Next old o new
   closing_next None (line.Reader size cut truncs) new shows = absurd shows.1
@@ -198,23 +218,23 @@ module _ (start : Moment) (caller : ℕ) (stretch : Stretch) where
   refresh_later former o new shows = tt
 
   refresh_step : (old : Option OneFile) (o : Outcome) (new : Option OneFile) → ShowsRefresh start caller stretch old o new → Step old Refresh o new
-  refresh_step None o new shows = record { answers = λ f0 is. tt; refreshes = λ f0 is. refresh_nothing _ f0 o shows.1; next = keeps_next None new o (nothing_reads _ o shows.1) (same_file None new shows.0) }
-  refresh_step (Some former) o new shows = record { answers = λ f0 is. tt; refreshes = λ f0 is. subst (λ (x : OneFile). TellsLater x o) (sym (is former refl)) (refresh_later former o new shows); next = refresh_next former o new shows }
+  refresh_step None o new shows = record { answers = λ f0 is. tt; refreshes = λ f0 is. refresh_nothing _ f0 o shows.1; maps = λ f0 is. tt; next = keeps_next None new o (nothing_reads _ o shows.1) (same_file None new shows.0) }
+  refresh_step (Some former) o new shows = record { answers = λ f0 is. tt; refreshes = λ f0 is. subst (λ (x : OneFile). TellsLater x o) (sym (is former refl)) (refresh_later former o new shows); maps = λ f0 is. tt; next = refresh_next former o new shows }
 
   pub step_of : (old : Option OneFile) (s : Statement) (o : Outcome) (new : Option OneFile) → Shows start caller stretch old s o new → Step old s o new
   step_of None (Ropen name workers) o new shows = opening_step name workers o new shows
-  step_of (Some file) (Ropen name workers) o new shows = record { answers = λ f0 is. tt; refreshes = λ f0 is. tt; next = keeps_next (Some file) new o (nothing_reads _ o shows.1) (same_file (Some file) new shows.0) }
+  step_of (Some file) (Ropen name workers) o new shows = record { answers = λ f0 is. tt; refreshes = λ f0 is. tt; maps = λ f0 is. tt; next = keeps_next (Some file) new o (nothing_reads _ o shows.1) (same_file (Some file) new shows.0) }
   step_of old (Read at len) o new shows = read_step old at len o new shows
   step_of old (Verify at content) o new shows = verify_step old at content o new shows
   step_of old Map o new shows = map_step old o new shows
   step_of old Refresh o new shows = refresh_step old o new shows
-  step_of old Rclose o new shows = record { answers = λ f0 is. tt; refreshes = λ f0 is. tt; next = closing_next old o new shows }
-  step_of old (Stat name) o new shows = record { answers = λ f0 is. tt; refreshes = λ f0 is. tt; next = keeps_next old new o (look_reads name o shows.1) (same_file old new shows.0) }
-  step_of old (Truncate name size) o new shows = record { answers = λ f0 is. tt; refreshes = λ f0 is. tt; next = keeps_next old new o (truncate_reads name size o shows.1) (same_file old new shows.0) }
-  step_of old (Rename name to) o new shows = record { answers = λ f0 is. tt; refreshes = λ f0 is. tt; next = keeps_next old new o (rename_reads name to o shows.1) (same_file old new shows.0) }
-  step_of old (Recover name) o new shows = record { answers = λ f0 is. tt; refreshes = λ f0 is. tt; next = keeps_next old new o (recovery_reads name o shows.1) (same_file old new shows.0) }
-  step_of old (Flatten name) o new shows = record { answers = λ f0 is. tt; refreshes = λ f0 is. tt; next = keeps_next old new o (flattening_reads name o shows.1) (same_file old new shows.0) }
-  step_of old s o new shows = record { answers = λ f0 is. tt; refreshes = λ f0 is. tt; next = keeps_next old new o (none_reads o shows.1) (same_file old new shows.0) }
+  step_of old Rclose o new shows = record { answers = λ f0 is. tt; refreshes = λ f0 is. tt; maps = λ f0 is. tt; next = closing_next old o new shows }
+  step_of old (Stat name) o new shows = record { answers = λ f0 is. tt; refreshes = λ f0 is. tt; maps = λ f0 is. tt; next = keeps_next old new o (look_reads name o shows.1) (same_file old new shows.0) }
+  step_of old (Truncate name size) o new shows = record { answers = λ f0 is. tt; refreshes = λ f0 is. tt; maps = λ f0 is. tt; next = keeps_next old new o (truncate_reads name size o shows.1) (same_file old new shows.0) }
+  step_of old (Rename name to) o new shows = record { answers = λ f0 is. tt; refreshes = λ f0 is. tt; maps = λ f0 is. tt; next = keeps_next old new o (rename_reads name to o shows.1) (same_file old new shows.0) }
+  step_of old (Recover name) o new shows = record { answers = λ f0 is. tt; refreshes = λ f0 is. tt; maps = λ f0 is. tt; next = keeps_next old new o (recovery_reads name o shows.1) (same_file old new shows.0) }
+  step_of old (Flatten name) o new shows = record { answers = λ f0 is. tt; refreshes = λ f0 is. tt; maps = λ f0 is. tt; next = keeps_next old new o (flattening_reads name o shows.1) (same_file old new shows.0) }
+  step_of old s o new shows = record { answers = λ f0 is. tt; refreshes = λ f0 is. tt; maps = λ f0 is. tt; next = keeps_next old new o (none_reads o shows.1) (same_file old new shows.0) }
 
 -- ---- one line after the other
 
@@ -232,7 +252,7 @@ each_chain start caller stretch file writer (s ∷ ss) (l ∷ lines) (mine, rest
   each_chain start caller (record { before = stretch.before ++ mine; events = rest }) new_file new_writer ss lines more,
 )
 
-abbrev Shown : Option OneFile → List Told → Type 0
+abbrev pub Shown : Option OneFile → List Told → Type 0
 Shown file [] = ⊤
 Shown file (t ∷ ts) = (new : Option OneFile) × Step file t.statement t.outcome new × Shown new ts
 
@@ -251,10 +271,10 @@ own_shown actor place (s ∷ ss) (l ∷ lines) file chain =
 
 -- ---- the lines of one reader
 
-abbrev AllBehind : ℕ → List Told → Type 0
+abbrev pub AllBehind : ℕ → List Told → Type 0
 AllBehind n ts = AllByRecursion (λ (t : Told). n < t.place) ts
 
-rise_behind : (n place : ℕ) (ts : List Told) → n < place → Rise place ts → AllBehind n ts
+pub rise_behind : (n place : ℕ) (ts : List Told) → n < place → Rise place ts → AllBehind n ts
 rise_behind n place [] far rise = tt
 rise_behind n place (t ∷ ts) far rise = (omega (arith, far, rise.0), rise_behind n (t.place + 1) ts (omega (arith, far, rise.0)) rise.1)
 
@@ -269,17 +289,17 @@ same_one f g is = cc
 
 -- the line says so of the reader's file
 abbrev pub SaysOf : OneFile → Told → Type 0
-SaysOf f0 s = Answers (seen_bytes f0) s.statement s.outcome × RefreshesSo f0 s.statement s.outcome
+SaysOf f0 s = Answers (seen_bytes f0) s.statement s.outcome × RefreshesSo f0 s.statement s.outcome × MapsSo f0 s.statement s.outcome
 
 module _ (t0 : Told) where
   -- where it is the reader, the actor's file is this one
-  abbrev Agrees : OneFile → Option Told → Option OneFile → Type 0
+  abbrev pub Agrees : OneFile → Option Told → Option OneFile → Type 0
   Agrees f0 r file = r ≡ Some t0 → (f : OneFile) → file ≡ Some f → f0 ≡ f
 
   apart : (t : Told) → t0.place < t.place → t ≡ t0 → ⊥
   apart t far same = let is : t.place ≡ t0.place = ap (λ (z : Told). z.place) same in absurd (omega (arith, far, is))
 
-  apart_before : (t : Told) → t.place < t0.place → t ≡ t0 → ⊥
+  pub apart_before : (t : Told) → t.place < t0.place → t ≡ t0 → ⊥
   apart_before t far same = let is : t.place ≡ t0.place = ap (λ (z : Told). z.place) same in absurd (omega (arith, far, is))
 
   some_apart : (t : Told) → (t ≡ t0 → ⊥) → Some t ≡ Some t0 → ⊥
@@ -290,15 +310,15 @@ module _ (t0 : Told) where
   agrees_next f0 r file new t line.ReaderClosed far next agrees = λ is f e. absurd (cc)
   agrees_next f0 r file new t o far next agrees = λ is f e. agrees is f (next f e)
 
-  later : (f0 : OneFile) (ts : List Told) (file : Option OneFile) (r : Option Told) → AllBehind t0.place ts → Shown file ts → Agrees f0 r file → (pre : List Told) (s : Told) (post : List Told) → ts ≡ pre ++ s ∷ post → reader_after r pre ≡ Some t0 → SaysOf f0 s
+  pub later : (f0 : OneFile) (ts : List Told) (file : Option OneFile) (r : Option Told) → AllBehind t0.place ts → Shown file ts → Agrees f0 r file → (pre : List Told) (s : Told) (post : List Told) → ts ≡ pre ++ s ∷ post → reader_after r pre ≡ Some t0 → SaysOf f0 s
   later f0 [] file r behind shown agrees [] s post is after = absurd (cc)
   later f0 [] file r behind shown agrees (p ∷ pre) s post is after = absurd (cc)
-  later f0 (t ∷ ts) file r behind (new, step, more) agrees [] s post is after = subst (SaysOf f0) (heads t s ts post is) (step.answers f0 (λ f e. agrees after f e), step.refreshes f0 (λ f e. agrees after f e))
+  later f0 (t ∷ ts) file r behind (new, step, more) agrees [] s post is after = subst (SaysOf f0) (heads t s ts post is) (step.answers f0 (λ f e. agrees after f e), step.refreshes f0 (λ f e. agrees after f e), step.maps f0 (λ f e. agrees after f e))
   later f0 (t ∷ ts) file r behind (new, step, more) agrees (p ∷ pre) s post is after =
       later f0 ts new (reader_next r t t.outcome) behind.1 more (agrees_next f0 r file new t t.outcome behind.0 step.next agrees) pre s post (tails t p ts (pre ++ s ∷ post) is)
       (subst (λ (z : Told). reader_after (reader_next r z z.outcome) pre ≡ Some t0) (sym (heads t p ts (pre ++ s ∷ post) is)) after)
 
-  not_next : (r : Option Told) (t : Told) (o : Outcome) → (t ≡ t0 → ⊥) → r ≢ Some t0 → reader_next r t o ≢ Some t0
+  pub not_next : (r : Option Told) (t : Told) (o : Outcome) → (t ≡ t0 → ⊥) → r ≢ Some t0 → reader_next r t o ≢ Some t0
   not_next r t (line.Reader size cut truncs) far other = some_apart t far
   not_next r t line.ReaderClosed far other = λ is. absurd (cc)
   not_next r t o far other = other

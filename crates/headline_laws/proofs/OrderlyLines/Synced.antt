@@ -23,13 +23,13 @@ use Rattle.headline_laws.proofs.OrderlyLines.Places.{actors, actors_whose, own_s
 -- ---- one line
 
 -- neither an opening nor a write
-abbrev IsOther : Outcome → Type 0
+abbrev pub IsOther : Outcome → Type 0
 IsOther (line.Opened id) = ⊥
 IsOther (line.Wrote place len (Some stamp)) = ⊥
 IsOther other = Unit {0}
 
 -- the same writes of the same writer
-record Same (b a : Account) : Type 0 where
+pub record Same (b a : Account) : Type 0 where
   pub latest : b.latest ≡ a.latest
   pub writes : b.writes ≡ a.writes
 
@@ -40,7 +40,7 @@ where_latest : (b : Bool) (x a : Account) → Same x a → Same (if b then x els
 where_latest true x a s = s
 where_latest false x a s = itself a
 
-room_same : (cap : ℕ) (a : Account) → Same (made_room cap a) a
+pub room_same : (cap : ℕ) (a : Account) → Same (made_room cap a) a
 room_same cap a = elim (nat_le cap (length a.writes - a.least)) as (λ b. Same (if b then record { latest = a.latest; writes = a.writes; least = if nat_eq a.least a.most then length a.writes else a.least; most = length a.writes } else a) a) [
   | true ↦ record { latest = refl; writes = refl }
   | false ↦ itself a
@@ -66,7 +66,7 @@ line_same id cap a Close line.Stopped is = record { latest = refl; writes = refl
 line_same id cap a Close o is = itself a
 line_same id cap a s o is = itself a
 
-told_same : (id cap : ℕ) (a : Account) (s : Statement) (o : Outcome) → IsOther o → Same (told_of id cap a s o) a
+pub told_same : (id cap : ℕ) (a : Account) (s : Statement) (o : Outcome) → IsOther o → Same (told_of id cap a s o) a
 told_same id cap a s (line.Opened other) is = absurd is
 told_same id cap a s o is = where_latest a.latest (after_line id cap a s o) a (line_same id cap a s o is)
 

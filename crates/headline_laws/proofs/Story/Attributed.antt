@@ -18,11 +18,12 @@ use Rattle.mount_model.specs.declared.call.Call.{Call}
 use Rattle.mount_model.specs.declared.reply.Reply.{Reply}
 use Rattle.mount_model.specs.History.{Event}
 use Rattle.mount_model.specs.State.{State}
-use Rattle.gathering.specs.Moments.{IsSoundAt, Moment}
+use Rattle.gathering.specs.Moments.{Dropping, IsSoundAt, Moment}
 use Rattle.gathering.proofs.Facts.{all_at, any_found, is_among}
 use Rattle.plain_file.proofs.Facts.{Among}
 use Rattle.script_lang.specs.Ranges.{FitsScript}
 use Rattle.script_lang.specs.declared.line.Line.{Line}
+use Rattle.script_lang.specs.declared.line.Outcome.TheVariants as outcome
 use Rattle.script_lang.specs.declared.script.ActorDecl.{ActorDecl}
 use Rattle.script_lang.specs.declared.script.Numbered.{Numbered}
 use Rattle.script_lang.specs.declared.script.Phase.{Phase}
@@ -39,24 +40,26 @@ use Rattle.run_core.specs.Written.{whose}
 use Rattle.play_laws.proofs.Facts.{Anyhow, ComesTo, GoesSo, IsQuiet, IsQuietly, MayAsk, Next, either_goes, statement_asks}
 use Rattle.play_laws.specs.OneFile.{OneFile}
 use Rattle.play_laws.specs.OneWriter.{OneWriter}
+use Rattle.play_laws.specs.Opening.{Stretch}
+use Rattle.play_laws.specs.Writing.{ShowsWriting}
 use Rattle.headline.specs.Run.{IsLine, Run, Told, own, told}
 use Rattle.headline.specs.Files.{reader_next}
 use Rattle.headline.specs.Changes.{Writing, none, writing_next}
 use Rattle.headline_laws.proofs.OrderlyLines.Answering.{among_filter}
-use Rattle.headline_laws.proofs.Statements.Known.{Known, known_next, known_waits}
+use Rattle.headline_laws.proofs.Statements.Known.{Known, known_next, known_waits, writer_step}
 use Rattle.headline_laws.proofs.Story.Lines.{AnyLine, HasRooms, ShownLine, chain_here, container, nothing_known, reads_in, whole_history}
 use Rattle.headline_laws.proofs.Story.Shown.{ShownEach}
 
 -- ---- an event among others
 
-head_of : {X : Type 0} (a b : X) (xs ys : List X) → a ∷ xs ≡ b ∷ ys → a ≡ b
+pub head_of : {X : Type 0} (a b : X) (xs ys : List X) → a ∷ xs ≡ b ∷ ys → a ≡ b
 head_of a b xs ys same = cc
 
-tail_of : {X : Type 0} (a b : X) (xs ys : List X) → a ∷ xs ≡ b ∷ ys → xs ≡ ys
+pub tail_of : {X : Type 0} (a b : X) (xs ys : List X) → a ∷ xs ≡ b ∷ ys → xs ≡ ys
 tail_of a b xs ys same = cc
 
 -- one of the first events, or one of the others
-either_part : {X : Type 0} (first rest pre : List X) (x : X) (post : List X) → first ++ rest ≡ pre ++ x ∷ post → ((u : List X) × (first ≡ pre ++ x ∷ u) × (post ≡ u ++ rest)) ⊎ ((u : List X) × (pre ≡ first ++ u) × (rest ≡ u ++ x ∷ post))
+pub either_part : {X : Type 0} (first rest pre : List X) (x : X) (post : List X) → first ++ rest ≡ pre ++ x ∷ post → ((u : List X) × (first ≡ pre ++ x ∷ u) × (post ≡ u ++ rest)) ⊎ ((u : List X) × (pre ≡ first ++ u) × (rest ≡ u ++ x ∷ post))
 either_part [] rest pre x post is = inr (pre, refl, is)
 either_part (y ∷ first) rest [] x post is = inl (first, ap (λ z. z ∷ first) (head_of y x (first ++ rest) post is), sym (tail_of y x (first ++ rest) post is))
 either_part {X} (y ∷ first) rest (z ∷ pre) x post is = elim (either_part first rest pre x post (tail_of y z (first ++ rest) (pre ++ x ∷ post) is)) as (λ _. ((u : List X) × (y ∷ first ≡ (z ∷ pre) ++ x ∷ u) × (post ≡ u ++ rest)) ⊎ ((u : List X) × (z ∷ pre ≡ (y ∷ first) ++ u) × (rest ≡ u ++ x ∷ post))) [
@@ -72,13 +75,13 @@ none_of n pre e post calls its = not_none (made_by n pre) (sym (ap (λ z. made_b
     not_none [] is = absurd (cc)
     not_none (x ∷ xs) is = absurd (cc)
 
-none_there : (n : ℕ) (events pre : List Event) (e : Event) (post : List Event) → events ≡ pre ++ e ∷ post → made_by n events ≡ [] → e.caller ≡ n → ⊥
+pub none_there : (n : ℕ) (events pre : List Event) (e : Event) (post : List Event) → events ≡ pre ++ e ∷ post → made_by n events ≡ [] → e.caller ≡ n → ⊥
 none_there n events pre e post is calls its = none_of n pre e post (ap (made_by n) (sym is) ∙ calls) its
 
 -- ---- the actor's own calls in a part
 
 module _ (n : ℕ) (these : Call → Type 0) (good : Ending → Type 0) where
-  came_asks : (work : Work) (mine : List Event) (spent : List (List Event)) (e : Ending) → GoesSo these good work → ComesTo n work mine spent e → (pre : List Event) (ev : Event) (post : List Event) → mine ≡ pre ++ ev ∷ post → ev.caller ≡ n → these ev.ask.call
+  pub came_asks : (work : Work) (mine : List Event) (spent : List (List Event)) (e : Ending) → GoesSo these good work → ComesTo n work mine spent e → (pre : List Event) (ev : Event) (post : List Event) → mine ≡ pre ++ ev ∷ post → ev.caller ≡ n → these ev.ask.call
   came_asks ends mine spent e goes comes pre ev post is its = absurd goes
   came_asks (pauses work) mine spent e goes comes pre ev post is its = absurd goes
   came_asks (tells end work) mine spent e goes comes pre ev post is its = absurd (none_there n mine pre ev post is (ap (made_by n) comes.0) its)
@@ -281,9 +284,27 @@ own_call run start end right pre e post is loud =
 
 -- ---- in the part of which line
 
+-- a line of these, which opened this writer
+pub record OpenedBy (Good : Told → Type 0) (x : OneWriter) : Type 0 where
+  pub line : Told
+  pub good : Good line
+  pub says : line.outcome ≡ outcome.Opened x.dropping.writer
+
+-- behind a line that is one of these the writer was opened by one, where it was before
+opened_next : (Good : Told → Type 0) (m : Moment) (n : ℕ) (stretch : Stretch) (t : Told) (old new : Option OneWriter) → Good t → ShowsWriting m n stretch old t.statement t.outcome new → ((x : OneWriter) → old ≡ Some x → OpenedBy Good x) → (x : OneWriter) → new ≡ Some x → OpenedBy Good x
+opened_next Good m n stretch t old new good shows had x is = elim (writer_step m n stretch old t.statement t.outcome new shows) as (λ _. OpenedBy Good x) [
+  | inl opens ↦
+      let one : opens.it ≡ x = same_Some opens.it x (sym opens.has ∙ is) in
+      record { line = t; good = good; says = opens.says ∙ ap (λ k. outcome.Opened k) (opens.its_id ∙ ap (λ (y : OneWriter). y.dropping.writer) one) }
+  | inr keeps ↦
+      let k = keeps.same x is in
+      let o = had k.0 k.1 in
+      record { line = o.line; good = o.good; says = o.says ∙ ap (λ (d : Dropping). outcome.Opened d.writer) (sym k.2) }
+]
+
 module _ (m : Moment) (sound : IsSoundAt m) (n : ℕ) (history : List Event) (blocks : List (List Event)) (whole : Next m [] history) (nothing : ℕ) where
   -- the event is in the part of this line
-  pub record InLine (of : Told → ℕ) (pre : List Event) (e : Event) (ts : List Told) : Type 0 where
+  pub record InLine (Good : Told → Type 0) (of : Told → ℕ) (pre : List Event) (e : Event) (ts : List Told) : Type 0 where
     pub t : Told
     pub at : Among t ts
     pub reader : Option Told
@@ -293,22 +314,24 @@ module _ (m : Moment) (sound : IsSoundAt m) (n : ℕ) (history : List Event) (bl
     pub later : List Event
     pub in_it : line.part.mine ≡ first ++ e ∷ later
     pub before_is : pre ≡ line.part.earlier ++ first
+    pub opened : (x : OneWriter) → line.writer ≡ Some x → OpenedBy Good x
 
-  find_line : (of : Told → ℕ) (sofar : List Event) (kept : Kept) (file : Option OneFile) (writer : Option OneWriter) (ts : List Told) (r : Option Told) (w : Writing) (each : ShownEach m sound n history blocks whole sofar kept file writer ts) → HasRooms m sound n history blocks whole nothing of sofar kept file writer ts each → Known of n sofar r w file writer
-      → (pre : List Event) (e : Event) (post : List Event) → history ≡ pre ++ e ∷ post → e.caller ≡ n → length sofar ≤ length pre → InLine of pre e ts
-  find_line of sofar kept file writer [] r w idle rooms_are k pre e post is its far = elim (either_part sofar idle.idle pre e post (sym idle.is ∙ is)) as (λ _. InLine of pre e []) [
+  find_line : (Good : Told → Type 0) (of : Told → ℕ) (sofar : List Event) (kept : Kept) (file : Option OneFile) (writer : Option OneWriter) (ts : List Told) (r : Option Told) (w : Writing) (each : ShownEach m sound n history blocks whole sofar kept file writer ts) → HasRooms m sound n history blocks whole nothing of sofar kept file writer ts each → Known of n sofar r w file writer
+      → ((t : Told) → Among t ts → Good t) → ((x : OneWriter) → writer ≡ Some x → OpenedBy Good x)
+      → (pre : List Event) (e : Event) (post : List Event) → history ≡ pre ++ e ∷ post → e.caller ≡ n → length sofar ≤ length pre → InLine Good of pre e ts
+  find_line Good of sofar kept file writer [] r w idle rooms_are k all had pre e post is its far = elim (either_part sofar idle.idle pre e post (sym idle.is ∙ is)) as (λ _. InLine Good of pre e []) [
     | inl (u, front, later) ↦ let long = ap length front ∙ length-append pre (e ∷ u) in absurd (omega (arith, long, far))
     | inr (u, front, later) ↦ absurd (none_there n idle.idle u e post later idle.none its)
   ]
-  find_line of sofar kept file writer (t ∷ ts) r w (p, says, idle, s, more) rooms_are k pre e post is its far =
+  find_line Good of sofar kept file writer (t ∷ ts) r w (p, says, idle, s, more) rooms_are k all had pre e post is its far =
       let before : Known of n p.earlier r w file writer = subst (λ es. Known of n es r w file writer) (sym idle.is) (known_waits of n sofar idle.idle r w file writer k) in
       let after = known_next of m n p.earlier s.front s.rest r w t file s.new writer s.new_writer s.shows s.writes (reads_in of m n (record { before = p.earlier; events = s.front }) nothing file s.new s.new_writer t t.statement t.outcome s.shows rooms_are.0) before in
-      elim (either_part p.earlier (p.mine ++ p.later) pre e post (sym p.split ∙ is)) as (λ _. InLine of pre e (t ∷ ts)) [
-        | inl (u, front, later) ↦ elim (either_part sofar idle.idle pre e u (sym idle.is ∙ front)) as (λ _. InLine of pre e (t ∷ ts)) [
+      elim (either_part p.earlier (p.mine ++ p.later) pre e post (sym p.split ∙ is)) as (λ _. InLine Good of pre e (t ∷ ts)) [
+        | inl (u, front, later) ↦ elim (either_part sofar idle.idle pre e u (sym idle.is ∙ front)) as (λ _. InLine Good of pre e (t ∷ ts)) [
           | inl (v, early, rest) ↦ let long = ap length early ∙ length-append pre (e ∷ v) in absurd (omega (arith, long, far))
           | inr (v, early, rest) ↦ absurd (none_there n idle.idle v e u rest idle.none its)
         ]
-        | inr (u, front, later) ↦ elim (either_part p.mine p.later u e post later) as (λ _. InLine of pre e (t ∷ ts)) [
+        | inr (u, front, later) ↦ elim (either_part p.mine p.later u e post later) as (λ _. InLine Good of pre e (t ∷ ts)) [
           | inl (v, inside, rest) ↦ record {
             t = t;
             at = inl refl;
@@ -319,12 +342,14 @@ module _ (m : Moment) (sound : IsSoundAt m) (n : ℕ) (history : List Event) (bl
             later = v;
             in_it = inside;
             before_is = front;
+            opened = had;
           }
           | inr (v, inside, rest) ↦
               let behind : pre ≡ (p.earlier ++ p.mine) ++ v = front ∙ ap (λ z. p.earlier ++ z) inside ∙ sym (append_assoc p.earlier p.mine v) in
               let long = ap length behind ∙ length-append (p.earlier ++ p.mine) v in
-              let f = find_line of (p.earlier ++ p.mine) p.e.kept s.new s.new_writer ts (reader_next r t t.outcome) (writing_next w t.statement t.outcome) more rooms_are.1 (subst (λ es. Known of n (p.earlier ++ es) (reader_next r t t.outcome) (writing_next w t.statement t.outcome) s.new s.new_writer) (sym s.split) after) pre e post is its (omega (arith, long)) in
-              record { t = f.t; at = inr f.at; reader = f.reader; writing = f.writing; line = f.line; first = f.first; later = f.later; in_it = f.in_it; before_is = f.before_is }
+              let f = find_line Good of (p.earlier ++ p.mine) p.e.kept s.new s.new_writer ts (reader_next r t t.outcome) (writing_next w t.statement t.outcome) more rooms_are.1 (subst (λ es. Known of n (p.earlier ++ es) (reader_next r t t.outcome) (writing_next w t.statement t.outcome) s.new s.new_writer) (sym s.split) after)
+              (λ q at. all q (inr at)) (opened_next Good m n (record { before = p.earlier; events = s.front }) t writer s.new_writer (all t (inl refl)) s.writes had) pre e post is its (omega (arith, long)) in
+              record { t = f.t; at = inr f.at; reader = f.reader; writing = f.writing; line = f.line; first = f.first; later = f.later; in_it = f.in_it; before_is = f.before_is; opened = f.opened }
         ]
       ]
 
@@ -343,6 +368,7 @@ module _ (run : Run) (m : Moment) (end : State) (fits : FitsScript run.script) (
     pub in_it : line.line.part.mine ≡ first ++ e ∷ later
     pub before_is : pre ≡ line.line.part.earlier ++ first
     pub own : e.caller ≡ line.number
+    pub opened : (x : OneWriter) → line.line.writer ≡ Some x → OpenedBy (IsLine run) x
     pub asks : MayAsk line.line.kept t.statement e.ask.call
 
   own_line : (actor : ℕ) (ts : List Told) (t : Told) → Among t (own actor ts) → Among t ts
@@ -354,7 +380,8 @@ module _ (run : Run) (m : Moment) (end : State) (fits : FitsScript run.script) (
       let c = chain_here run m end fits sound right o.place o.declared o.there in
       let n = c.parts.number in
       let its : e.caller ≡ n = o.own ∙ c.parts.is_role o.role o.role_there in
-      let f = find_line m sound n right.history right.calls.blocks (whole_history run m end fits sound right) (length run.after.rooms) (container run m end fits sound right) [] c.parts.kept None None (own o.place (told run)) None none c.each c.rooms_are (nothing_known run m end fits sound right n) pre e post is its (omega arith) in
+      let f = find_line m sound n right.history right.calls.blocks (whole_history run m end fits sound right) (length run.after.rooms) (IsLine run) (container run m end fits sound right) [] c.parts.kept None None (own o.place (told run)) None none c.each c.rooms_are (nothing_known run m end fits sound right n)
+      (λ q at. is_among (told run) q (own_line o.place (told run) q at)) (λ x is. absurd (cc)) pre e post is its (omega arith) in
       record {
         t = f.t;
         is_line = is_among (told run) f.t (own_line o.place (told run) f.t f.at);
@@ -366,5 +393,6 @@ module _ (run : Run) (m : Moment) (end : State) (fits : FitsScript run.script) (
         in_it = f.in_it;
         before_is = f.before_is;
         own = its;
+        opened = f.opened;
         asks = came_asks n (MayAsk f.line.kept f.t.statement) Anyhow (work_of f.line.kept f.t.statement) f.line.part.mine f.line.part.spent f.line.part.e (statement_asks f.line.kept f.t.statement) f.line.part.comes f.first e f.later f.in_it its;
       }

@@ -55,7 +55,7 @@ same_answers old event n room host most step own asked =
     subst (λ c. Answers old n c event.reply event.after) (ap (λ (a : Ask). a.call) asked) (subst (λ k. Answers old k event.ask.call event.reply event.after) own (whole_answers old event.caller event.ask event.reply event.after (ap (λ (a : Ask). a.stop) asked) step))
 
 -- one that entered behind these events has an id above what was drawn before them
-later_entered : (state : State) (first : List Event) (event : Event) (rest : List Event) (n room host most w : ℕ) → IsLawful state (first ++ event ∷ rest) → event.caller ≡ n → event.ask ≡ unbroken (Enter room host most) → event.reply ≡ Entered w → last_id state < w
+pub later_entered : (state : State) (first : List Event) (event : Event) (rest : List Event) (n room host most w : ℕ) → IsLawful state (first ++ event ∷ rest) → event.caller ≡ n → event.ask ≡ unbroken (Enter room host most) → event.reply ≡ Entered w → last_id state < w
 later_entered state [] event rest n room host most w lawful own asked said =
     let d = enter_draws n room host most w state event.reply event.after said (same_answers state event n room host most lawful.1 own asked) in
     let next = d.is_next in
@@ -74,7 +74,7 @@ tails : (a b : Event) (xs ys : List Event) → a ∷ xs ≡ b ∷ ys → xs ≡ 
 tails a b xs ys is = cc
 
 -- behind one that entered none enters as the same writer
-not_again : (state : State) (event : Event) (first rest : List Event) (other : Event) (n k room host most room2 host2 most2 w : ℕ) → IsLawful state (event ∷ (first ++ other ∷ rest)) → event.caller ≡ n → event.ask ≡ unbroken (Enter room host most) → event.reply ≡ Entered w → other.caller ≡ k → other.ask ≡ unbroken (Enter room2 host2 most2) → other.reply ≡ Entered w → ⊥
+pub not_again : (state : State) (event : Event) (first rest : List Event) (other : Event) (n k room host most room2 host2 most2 w : ℕ) → IsLawful state (event ∷ (first ++ other ∷ rest)) → event.caller ≡ n → event.ask ≡ unbroken (Enter room host most) → event.reply ≡ Entered w → other.caller ≡ k → other.ask ≡ unbroken (Enter room2 host2 most2) → other.reply ≡ Entered w → ⊥
 not_again state event first rest other n k room host most room2 host2 most2 w lawful own asked said own2 asked2 said2 =
     let d = enter_draws n room host most w state event.reply event.after said (same_answers state event n room host most lawful.1 own asked) in
     let far = later_entered event.after first other rest k room2 host2 most2 w lawful.2 own2 asked2 said2 in

@@ -132,10 +132,11 @@ module _ (m : Moment) (sound : IsSoundAt m) (n : ℕ) (history : List Event) (bl
     pub here : of t ≡ room_here shown
 
   pub shown_at : (of : Told → ℕ) (ts : List Told) (t : Told) (rest : List Told) (done : List Event) (kept : Kept) (file : Option OneFile) (writer : Option OneWriter) (r : Option Told) (w : Writing) (each : ShownEach m sound n history blocks whole done kept file writer (ts ++ t ∷ rest)) → HasRooms of done kept file writer (ts ++ t ∷ rest) each
-      → Known of n done r w file writer → (l : ShownLine of (reader_after r ts) (writing_after w ts) t) × (length done ≤ length l.part.earlier)
+      → Known of n done r w file writer
+      → (l : ShownLine of (reader_after r ts) (writing_after w ts) t) × (length done ≤ length l.part.earlier) × ShownEach m sound n history blocks whole (l.part.earlier ++ l.part.mine) l.part.e.kept l.shown.new l.shown.new_writer rest
   shown_at of [] t rest done kept file writer r w (p, says, idle, s, more) rooms_are k =
       let long = ap length idle.is ∙ length-append done idle.idle in
-      (record { kept = kept; file = file; writer = writer; part = p; says = says; shown = s; known = subst (λ es. Known of n es r w file writer) (sym idle.is) (known_waits of n done idle.idle r w file writer k); here = rooms_are.0 }, omega (arith, long))
+      (record { kept = kept; file = file; writer = writer; part = p; says = says; shown = s; known = subst (λ es. Known of n es r w file writer) (sym idle.is) (known_waits of n done idle.idle r w file writer k); here = rooms_are.0 }, omega (arith, long), more)
   shown_at of (q ∷ ts) t rest done kept file writer r w (p, says, idle, s, more) rooms_are k =
       let before : Known of n p.earlier r w file writer = subst (λ es. Known of n es r w file writer) (sym idle.is) (known_waits of n done idle.idle r w file writer k) in
       let after = known_next of m n p.earlier s.front s.rest r w q file s.new writer s.new_writer s.shows s.writes (reads_in of m n (record { before = p.earlier; events = s.front }) nothing file s.new s.new_writer q q.statement q.outcome s.shows rooms_are.0) before in
@@ -143,7 +144,7 @@ module _ (m : Moment) (sound : IsSoundAt m) (n : ℕ) (history : List Event) (bl
       let long = ap length idle.is ∙ length-append done idle.idle in
       let behind = length-append p.earlier p.mine in
       let far = l.1 in
-      (l.0, omega (arith, long, behind, far))
+      (l.0, omega (arith, long, behind, far), l.2)
 
   -- of two lines of the actor the part of the later one lies behind
   pub record TwoLines (of : Told → ℕ) (r : Option Told) (w : Writing) (s t : Told) : Type 0 where
@@ -221,7 +222,7 @@ module _ (run : Run) (m : Moment) (end : State) (fits : FitsScript run.script) (
                 (λ s among. at s (own_actor actor (told run) s among));
           }
 
-  chain_of : (t : Told) → IsLine run t → ChainOf t.actor
+  pub chain_of : (t : Told) → IsLine run t → ChainOf t.actor
   chain_of t is_line = (let (d, here, p) = plays_here run m.state end fits right t is_line in chain_here t.actor d here)
 
   pub nothing_known : (number : ℕ) → Known container number [] None none None None
@@ -238,13 +239,21 @@ module _ (run : Run) (m : Moment) (end : State) (fits : FitsScript run.script) (
       (each : ShownEach m sound c.parts.number right.history right.calls.blocks whole_history [] c.parts.kept None None all)
       × HasRooms m sound c.parts.number right.history right.calls.blocks whole_history Nothing container [] c.parts.kept None None all each
 
-  pub line_here : (t : Told) → IsLine run t → AnyLine (reader_at run t) (writing_at run t) t
-  line_here t is_line =
+  -- with the actor's lines behind it
+  pub record LineOn (t : Told) (rest : List Told) : Type 0 where
+    pub its : AnyLine (reader_at run t) (writing_at run t) t
+    pub more : ShownEach m sound its.number right.history right.calls.blocks whole_history (its.line.part.earlier ++ its.line.part.mine) its.line.part.e.kept its.line.shown.new its.line.shown.new_writer rest
+
+  pub line_on : (t : Told) (is_line : IsLine run t) → LineOn t (own_split run t (among (told run) t is_line)).rest
+  line_on t is_line =
       let c = chain_of t is_line in
       let split = own_split run t (among (told run) t is_line) in
       let chain : ChainIs c (own t.actor (before run t) ++ t ∷ split.rest) = subst (ChainIs c) split.is (c.each, c.rooms_are) in
       let l = shown_at m sound c.parts.number right.history right.calls.blocks whole_history Nothing container (own t.actor (before run t)) t split.rest [] c.parts.kept None None None none chain.0 chain.1 (nothing_known c.parts.number) in
-      record { number = c.parts.number; line = l.0 }
+      record { its = record { number = c.parts.number; line = l.0 }; more = l.2 }
+
+  pub line_here : (t : Told) → IsLine run t → AnyLine (reader_at run t) (writing_at run t) t
+  line_here t is_line = (line_on t is_line).its
 
   -- of two lines the part of the one ends where that of the other begins, or before that
   pub record TwoHere (s t : Told) : Type 0 where

@@ -38,6 +38,7 @@ module _ (m : Moment) (sound : IsSoundAt m) (n : ℕ) (history : List Event) (bl
     pub front : List Event
     pub rest : List Event
     pub split : mine ≡ front ++ rest
+    pub none_behind : made_by n rest ≡ []
     pub new : Option OneFile
     pub new_writer : Option OneWriter
     pub shows : Shows m n (record { before = earlier; events = front }) file t.statement t.outcome new
@@ -91,6 +92,7 @@ module _ (m : Moment) (sound : IsSoundAt m) (n : ℕ) (history : List Event) (bl
           front = e.mine;
           rest = e.rest;
           split = e.all;
+          none_behind = e.goes_on.0.calls;
           new = g.new;
           new_writer = g.new_writer;
           shows = subst (λ o. Shows m n (record { before = p.earlier; events = e.mine }) file t.statement o g.new) says_so g.shows;

@@ -384,7 +384,7 @@ module _ (run : Run) (m : Moment) (end : State) (fits : FitsScript run.script) (
   StoodThere moment g = Stood moment g.dropping
 
   module _ (left : end.store.tree ≡ Some run.after) where
-    last_tree : (moment_after m right.history).state.store.tree ≡ Some run.after
+    pub last_tree : (moment_after m right.history).state.store.tree ≡ Some run.after
     last_tree = ap (λ (s : State). s.store.tree) ((follows m right.history).0 ∙ right.leads.ends) ∙ left
 
     -- an item of the last moment stands there

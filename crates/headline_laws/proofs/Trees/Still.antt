@@ -309,7 +309,7 @@ module _ (run : Run) (times : Option (List ℕ)) (opened : Stored) (start : Stat
     dead : IsNotLive start d.writer
     dead row e = let none : row_of d.writer [] ≡ Some row = ap (λ rows. row_of d.writer rows) (sym led.mounted.no_writers) ∙ e in absurd (cc)
 
-    same : issued_by Last d ≡ its
+    pub same : issued_by Last d ≡ its
     same = issued_same First events d led.leads.lawful sound_first stood dead
 
     pub all_last : landed_by Last d ≡ entries_in its

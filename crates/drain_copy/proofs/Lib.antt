@@ -1,0 +1,4 @@
+pub mod CopyLemmas
+pub mod DriveLemmas
+pub mod OwedLemmas
+pub mod PartLemmas

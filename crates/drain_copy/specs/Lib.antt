@@ -1,0 +1,10 @@
+pub mod Asking
+pub mod Telling
+pub mod Planning
+pub mod Copying
+pub mod Draining
+pub mod Stages
+pub mod Standing
+pub mod Bounds
+pub mod Points
+pub mod Machine

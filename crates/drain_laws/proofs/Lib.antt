@@ -1,0 +1,13 @@
+mod BesideLemmas
+mod CopyLemmas
+mod DrainLemmas
+mod DueLemmas
+mod HeldLemmas
+mod IdLemmas
+mod MarkedLemmas
+mod MarksLemmas
+mod MildLemmas
+mod PlanLemmas
+mod ReadLemmas
+mod SafeLemmas
+mod StrictLemmas

@@ -1,0 +1,8 @@
+-- What the file of a reader's line consists of: the first writes of each writer, as the lines tell them.
+pub mod Above
+pub mod Accounts
+pub mod Answered
+pub mod Counted
+pub mod Issues
+pub mod Unwritten
+pub mod Written
