@@ -283,7 +283,7 @@ class Run:
                 writes = [*writes, Write(int(s.words[0]), data, sum(len(w.data) for w in writes), s.fields[2], writer)]
             if s.kind in ("synced", "closed"):
                 least = most = s.fields
-            if s.verb in USES_WRITER and s.kind in BROKE:
+            if s.verb in USES_WRITER and not (refused or s.kind in ("wrote", "synced", "closed", "gone")):
                 most = len(writes)
         return writes, least, most
 

@@ -36,16 +36,15 @@ def the_first_page_shows_the_lines_of_the_first_example(trial):
 def a_file_of_ones_own_goes_in_and_comes_out_as_the_first_page_shows(trial):
     """The page's commands, with the program and the folder of this check in the place of those that it names."""
     blocks = re.findall(r"^```\n(.*?)^```", (trial.top / "README.md").read_text(), re.M | re.S)
-    commands = [block for block in blocks if "od -An" in block]
+    commands = [block for block in blocks if "plfs_copy" in block]
     true("README.md shows no file of one's own", len(commands) == 1)
     (trial.folder / "data").write_bytes(trial.random.randbytes(1_200_000))
-    text = commands[0].replace("./plfs", f"'{trial.program}'").replace("/tmp/store", f"'{trial.root}'")
+    copying = f"bash -c 'exec -a plfs_copy \"$0\" \"$@\"' '{trial.program}'"
+    text = commands[0].replace("./plfs_copy", copying).replace("/tmp/store", f"'{trial.root}'")
     how = {"stdout": subprocess.PIPE, "stderr": subprocess.PIPE, "text": True, "timeout": 20, "cwd": trial.folder}
     ended = subprocess.run(["bash", "-c", "set -e -o pipefail\n" + text], **how)
-    pieces = enumerate((500_000, 500_000, 200_000))
-    said = (f"2 open {(number + 1) * 2**32 + 1}\n3 wrote {number * 500_000} {length} STAMP\n4 closed 1\n" for number, length in pieces)
-    wanted = (0, "".join(said), "")
-    same("what the commands say", (ended.returncode, masked(ended.stdout), ended.stderr), wanted)
+    wanted = (0, f"put 1200000 {2**32 + 1}\n", "")
+    same("what the commands say", (ended.returncode, ended.stdout, ended.stderr), wanted)
 
 
 @check

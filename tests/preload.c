@@ -4,6 +4,7 @@
  * A rule is a line of words with one space between them:
  *
  *     log FILE                          adds a line to FILE for each call
+ *     clock NANOSECONDS                 the system's clock stands still at so many since 1970
  *     fail ERROR CALL WHEN PATTERN      the call isn't made, and ends with this error, as EIO
  *     feign ANSWER CALL WHEN PATTERN    the call isn't made, and ends with this number, as if it were
  *     short BYTES CALL WHEN PATTERN     a read or write is asked for so many bytes at the most
@@ -95,6 +96,7 @@ static char text[TEXT];
 static struct rule rules[RULES];
 static size_t count;
 static int log_file = -1;
+static long clock_stands = -1;
 static bool counts_memory;
 static pthread_mutex_t turn = PTHREAD_MUTEX_INITIALIZER;
 
@@ -164,6 +166,10 @@ static void read_rule(char *line) {
             stop("the log can't be opened", rest);
         }
         syscall(SYS_close, opened);
+        return;
+    }
+    if (!strcmp(first, "clock")) {
+        clock_stands = number(rest, NULL);
         return;
     }
     if (count == RULES) {
@@ -432,6 +438,16 @@ int flock(int file, int operation) {
 
 ssize_t getdents64(int file, void *into, size_t length) {
     ON_FILE(LIST, file, "-", syscall(SYS_getdents64, file, into, length));
+}
+
+/* The clock. */
+
+int clock_gettime(clockid_t which, struct timespec *now) {
+    if (clock_stands < 0 || which != CLOCK_REALTIME) {
+        return (int)syscall(SYS_clock_gettime, which, now);
+    }
+    *now = (struct timespec){clock_stands / 1000000000, clock_stands % 1000000000};
+    return 0;
 }
 
 /* Names. */

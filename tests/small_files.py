@@ -75,6 +75,13 @@ def as_read_by_hand(trial, name):
         seen.close()
 
 
+def is_damaged(trial, file, damage, help):
+    """Each command of small files tells this damage of the container p, and what helps against it."""
+    for words in (("unpack", "p", file), ("names", "p"), ("pack", "p", "0")):
+        ended = trial.ends(7, "b 6869\n", words=words, lines=f"0 {damage}\n")
+        same(f"standard error of {words}", ended.err, f"plfs: {trial.root}/p: {damage}: {help}\n")
+
+
 @check
 def small_files_that_are_packed_are_written_out_and_named(trial):
     packs(trial, "p", 0, "a 6869\nb -\n", "packed 2 end 36\n")
@@ -86,9 +93,7 @@ def small_files_that_are_packed_are_written_out_and_named(trial):
 @check
 def a_container_whose_first_byte_is_of_no_small_file_is_damage_of_the_view(trial):
     trial.ends(0, "actor a\na open p\na write 0 text:A\na close\n")
-    for words in (("unpack", "p", "z"), ("names", "p"), ("pack", "p", "0")):
-        ended = trial.ends(7, "a 6869\n", words=words, lines="0 damaged view 0\n")
-        same(f"standard error of {words}", ended.err, f"plfs: {trial.root}/p: damaged view 0: {UNLESS_MORE}\n")
+    is_damaged(trial, "z", "damaged view 0", UNLESS_MORE)
     # The scan of one region tells nothing of another.
     packs(trial, "p", 1, "a 6869\n", f"packed 1 end {REGION + 19}\n")
     same("the whole is as bad as before", as_read_by_hand(trial, "p"), 0)
@@ -517,18 +522,13 @@ def damage_of_a_container_is_told_by_the_commands_of_small_files(trial):
     kept(trial)
     index = next((trial.root / "p").glob("hostdir.*/index.*"))
     index.write_bytes(bytes(40))
-    for words in (("pack", "p", "0"), ("unpack", "p", "kept"), ("names", "p")):
-        what = f"damaged {index.relative_to(trial.root / 'p')} 0"
-        ended = trial.ends(7, "a 68\n", words=words, lines=f"0 {what}\n")
-        same(f"standard error of {words}", ended.err, f"plfs: {trial.root}/p: {what}: restore it from a copy\n")
+    is_damaged(trial, "kept", f"damaged {index.relative_to(trial.root / 'p')} 0", "restore it from a copy")
 
 
 @check
 def what_helps_against_damage_of_the_view_is_told_at_its_place(trial):
     trial.ends(0, "actor a\na open p\na write 0 hex:01000000000000000200000000000000616869\na write 19 text:A\na close\n")
-    for words in (("unpack", "p", "a"), ("names", "p"), ("pack", "p", "0")):
-        ended = trial.ends(7, "b 68\n", words=words, lines="0 damaged view 19\n")
-        same(f"standard error of {words}", ended.err, f"plfs: {trial.root}/p: damaged view 19: {UNLESS_MORE}\n")
+    is_damaged(trial, "a", "damaged view 19", UNLESS_MORE)
 
 
 # the manual's limit for `run` and `pack`

@@ -1,13 +1,10 @@
-mod BesideLemmas
-mod CopyLemmas
-mod DrainLemmas
-mod DueLemmas
-mod HeldLemmas
-mod IdLemmas
-mod MarkedLemmas
-mod MarksLemmas
-mod MildLemmas
-mod PlanLemmas
-mod ReadLemmas
-mod SafeLemmas
-mod StrictLemmas
+mod AllowedLemmas
+mod Copying
+mod Courses
+mod Driving
+pub mod Facts
+mod FaultLemmas
+mod FineLemmas
+mod LooksLemmas
+mod Planning
+mod Reading

@@ -1,2 +1,9 @@
+pub mod Allowed
 pub mod Driving
 pub mod Drained
+pub mod Faults
+pub mod Gathered
+pub mod Keeping
+pub mod Reading
+pub mod Resting
+pub mod Showing

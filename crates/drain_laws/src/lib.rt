@@ -5,4 +5,9 @@
 
 mod laws;
 
-pub use laws::{a_drain_that_ends_well_has_copied, a_driven_drain_keeps_its_target};
+pub use laws::{
+    a_drain_copies_what_is_kept, a_drain_is_always_allowed, a_drain_reads_behind_its_target,
+    a_drain_that_ends_well_has_copied, a_drain_without_news_copies_nothing,
+    a_drained_target_keeps_it, a_drained_target_shows_the_source, a_driven_drain_keeps_its_target,
+    a_fault_of_a_drain_is_a_stores,
+};

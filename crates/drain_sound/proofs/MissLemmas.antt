@@ -24,7 +24,7 @@ use Rattle.mount_sound.specs.Entries.{logged}
 use Rattle.mount_sound.specs.Landed.{whole}
 use Rattle.mount_sound.specs.Ledger.{AreWritesOf, Written, content, entries_in}
 use Rattle.mount_sound.specs.Owed.{IsLawful}
-use Rattle.mount_sound.specs.There.{entries_there, landed_entries}
+use Rattle.mount_sound.specs.There.{entries_there, landed_entries, landed_in}
 use Rattle.mount_sound.proofs.Facts.{entries_take, length-content, logged_take, take_less, told_landed, writes_take}
 use Rattle.gathering.specs.Gathering.{Gathered, IsPrefixOf}
 use Rattle.gathering.specs.Moments.{Dropping, Grows, HadTrunc, IsSoundAt, Moment, Stood, file_in_room, file_told, landed, moment_after}
@@ -42,8 +42,7 @@ landed_gathered start end room cut truncs d count view its stood least =
     let p : IsPrefixOf start end g = prefix_of start end cut g view.admissible among_cut in
     found_any (λ (x : Gathered). (x.dropping ≡ d) × (count ≤ x.count)) cut g among_cut (is, omega (arith, least, p.least, ap (λ x. landed start x) is))
 
-module _ (source : Moment) (s : IsSoundAt source) (number : ℕ) (name : Name) (tree : Tree) (t : IsTarget source number name tree) (n : ℕ) (room : Room) (at : slice_get tree.rooms n ≡ Some room) (named : room.name ≡ name)
-    (serial : ℕ) (times : Option (List ℕ)) (opened : Stored) (start : State) (m : IsMounted serial times opened start) (told : opened.tree ≡ Some tree) where
+module _ (source : Moment) (s : IsSoundAt source) (number : ℕ) (name : Name) (tree : Tree) (t : IsTarget source number name tree) (n : ℕ) (room : Room) (at : slice_get tree.rooms n ≡ Some room) (named : room.name ≡ name) where
   -- ---- what was copied has landed there
 
   module _ (host writer count : ℕ) (c : HasCopied source number room host writer count) where
@@ -108,42 +107,46 @@ module _ (source : Moment) (s : IsSoundAt source) (number : ℕ) (name : Name) (
     landed_there : sound.count ≡ length (landed_entries room host writer)
     landed_there = sym first_length ∙ ap length (sym told_first ∙ sym (ap (λ b. entries_there b (log_bytes room host writer)) file))
 
+    pub copied_landed : count ≤ landed_in room host writer
+    copied_landed = omega (arith, among_front, landed_there)
+
+  module _ (serial : ℕ) (times : Option (List ℕ)) (opened : Stored) (start : State) (m : IsMounted serial times opened start) (told : opened.tree ≡ Some tree) where
     -- as the mount begins
-    landed_then : count ≤ landed (mounted_there t.sound start) (dropping_in n host writer)
-    landed_then =
+    pub landed_then : (host writer count : ℕ) → HasCopied source number room host writer count → count ≤ landed (mounted_there t.sound start) (dropping_in n host writer)
+    landed_then host writer count c =
         let i = items source s number name tree t n room at named serial times opened start m told in
         let r = begins_sound source s number name tree t n room at named serial times opened start m told in
         let same : landed_entries i.now host writer ≡ landed_entries room host writer =
         ap (λ f. entries_there (bytes_of f) (bytes_of (file_at i.now (log_path host writer)))) (i.files (Index host writer))
         ∙ ap (λ f. entries_there (bytes_of (file_at room (index_path host writer))) (bytes_of f)) (i.files (Log host writer)) in
         let number_is : landed (mounted_there t.sound start) (dropping_in n host writer) ≡ length (landed_entries room host writer) = ap length (landed_at (mounted_there t.sound start) r (dropping_in n host writer) i.now i.there ∙ same) in
-        omega (arith, among_front, landed_there, number_is)
+        omega (arith, copied_landed host writer count c, number_is)
 
-  -- ---- the reader
+    -- ---- the reader
 
-  module _ (before gathering : List Event) (lawful : IsLawful start before) (goes_on : IsLawful (moment_after (mounted_there t.sound start) before).state gathering) where
-    sound_then : IsSoundAt (moment_after (mounted_there t.sound start) before)
-    sound_then = sound_after (mounted_there t.sound start) before lawful (begins_sound source s number name tree t n room at named serial times opened start m told)
+    module _ (before gathering : List Event) (lawful : IsLawful start before) (goes_on : IsLawful (moment_after (mounted_there t.sound start) before).state gathering) where
+      sound_then : IsSoundAt (moment_after (mounted_there t.sound start) before)
+      sound_then = sound_after (mounted_there t.sound start) before lawful (begins_sound source s number name tree t n room at named serial times opened start m told)
 
-    grows : Grows (mounted_there t.sound start) (moment_after (mounted_there t.sound start) before)
-    grows = grows_after (mounted_there t.sound start) before lawful (begins_sound source s number name tree t n room at named serial times opened start m told)
+      grows : Grows (mounted_there t.sound start) (moment_after (mounted_there t.sound start) before)
+      grows = grows_after (mounted_there t.sound start) before lawful (begins_sound source s number name tree t n room at named serial times opened start m told)
 
-    grows_on : Grows (moment_after (mounted_there t.sound start) before) (moment_after (moment_after (mounted_there t.sound start) before) gathering)
-    grows_on = grows_after (moment_after (mounted_there t.sound start) before) gathering goes_on sound_then
+      grows_on : Grows (moment_after (mounted_there t.sound start) before) (moment_after (moment_after (mounted_there t.sound start) before) gathering)
+      grows_on = grows_after (moment_after (mounted_there t.sound start) before) gathering goes_on sound_then
 
-    pub misses_nothing : (cut : List Gathered) (truncs : List Truncate) → HasView (moment_after (mounted_there t.sound start) before) (moment_after (moment_after (mounted_there t.sound start) before) gathering) n cut truncs → MissesNothing source number n room cut truncs
-    misses_nothing cut truncs view = record {
-      entries = λ host writer count c.
-          landed_gathered (moment_after (mounted_there t.sound start) before) (moment_after (moment_after (mounted_there t.sound start) before) gathering) n cut truncs (dropping_in n host writer) count view refl
-          (stood_grows (mounted_there t.sound start) (moment_after (mounted_there t.sound start) before) (dropping_in n host writer) grows (stood_then source s number name tree t n room at named serial times opened start m told host writer c.bytes c.has))
-          (omega (arith, landed_then host writer count c, grows.landed (dropping_in n host writer) c.has.is_item));
-      truncates = λ x inside h.
-          let i = items source s number name tree t n room at named serial times opened start m told in
-          let r = begins_sound source s number name tree t n room at named serial times opened start m told in
-          let stood : HadTrunc (mounted_there t.sound start) n x.stamp x.size = record {
-            is_item = h.is_item;
-            bytes = inside;
-            there = ap (λ o. file_told o n (path_of (Trunc x.stamp x.size))) r.shape.told ∙ ap (λ o. file_in_room o (path_of (Trunc x.stamp x.size))) i.there ∙ i.files (Trunc x.stamp x.size) ∙ h.there;
-          } in
-          view.all_truncs.all x (grows_on.stands n (Trunc x.stamp x.size) tt (grows.stands n (Trunc x.stamp x.size) tt stood));
-    }
+      pub misses_nothing : (cut : List Gathered) (truncs : List Truncate) → HasView (moment_after (mounted_there t.sound start) before) (moment_after (moment_after (mounted_there t.sound start) before) gathering) n cut truncs → MissesNothing source number n room cut truncs
+      misses_nothing cut truncs view = record {
+        entries = λ host writer count c.
+            landed_gathered (moment_after (mounted_there t.sound start) before) (moment_after (moment_after (mounted_there t.sound start) before) gathering) n cut truncs (dropping_in n host writer) count view refl
+            (stood_grows (mounted_there t.sound start) (moment_after (mounted_there t.sound start) before) (dropping_in n host writer) grows (stood_then source s number name tree t n room at named serial times opened start m told host writer c.bytes c.has))
+            (omega (arith, landed_then host writer count c, grows.landed (dropping_in n host writer) c.has.is_item));
+        truncates = λ x inside h.
+            let i = items source s number name tree t n room at named serial times opened start m told in
+            let r = begins_sound source s number name tree t n room at named serial times opened start m told in
+            let stood : HadTrunc (mounted_there t.sound start) n x.stamp x.size = record {
+              is_item = h.is_item;
+              bytes = inside;
+              there = ap (λ o. file_told o n (path_of (Trunc x.stamp x.size))) r.shape.told ∙ ap (λ o. file_in_room o (path_of (Trunc x.stamp x.size))) i.there ∙ i.files (Trunc x.stamp x.size) ∙ h.there;
+            } in
+            view.all_truncs.all x (grows_on.stands n (Trunc x.stamp x.size) tt (grows.stands n (Trunc x.stamp x.size) tt stood));
+      }

@@ -1,5 +1,5 @@
 -- A reader of a target sees the plain file of a cut of the source.
-use Rattle.std.proofs.Common.{◌≡◌, ℕ, ◌≤◌, ◌<◌, ◌^◌, List, [], ◌∷◌, ◌++◌, length, map, take, Option, Some, None, refl, ap, sym, ◌∙◌, subst, arith}
+use Rattle.std.proofs.Common.{◌≡◌, ℕ, ◌≤◌, ◌<◌, ◌^◌, List, [], ◌∷◌, ◌++◌, drop, length, map, take, Option, Some, None, refl, ap, sym, ◌∙◌, inl, subst, arith}
 use Rattle.std.specs.Prelude.{MatchOption, Ok, slice_get}
 use Rattle.std.specs.List.{AllByRecursion}
 use Rattle.std.proofs.lemmas.List.{take-append-le}
@@ -22,13 +22,14 @@ use Rattle.mount_model.specs.Paths.{Name, index_path}
 use Rattle.mount_model.specs.State.{State}
 use Rattle.mount_sound.specs.Dropping.{IsDropping, IsWriter, log_bytes}
 use Rattle.mount_sound.specs.Items.{HasItem}
+use Rattle.mount_sound.specs.Ledger.{entries_in}
 use Rattle.mount_sound.specs.Owed.{IsLawful}
-use Rattle.mount_sound.proofs.Facts.{is_index, mounted_sound, one_tree}
+use Rattle.mount_sound.proofs.Facts.{entries_take, is_index, mounted_sound, one_tree}
 use Rattle.gathering.specs.Gathering.{Gathered, IsAdmissible, IsPrefixOf}
 use Rattle.gathering.specs.Moments.{HadTrunc, IsSoundAt, Moment, Stood, file_in_room, file_told, issued_by, landed, moment_after}
 use Rattle.gathering.specs.Opening.{HasView}
 use Rattle.gathering.specs.View.{WritersRise, change_of, cut_off, writes_in}
-use Rattle.gathering.proofs.Facts.{grows_after, in_a_room, in_tree, sound_after, stood_grows}
+use Rattle.gathering.proofs.Facts.{grows_after, in_a_room, in_tree, landed_whole, sound_after, stood_grows}
 use Rattle.drain_sound.specs.Fronts.{IsTarget, dropping_in}
 use Rattle.drain_sound.specs.Views.{IsOfSource, StaysQuiet, cut_there, mounted_there}
 use Rattle.drain_sound.proofs.MarkLemmas.{item_apart}
@@ -91,6 +92,14 @@ module _ (source : Moment) (s : IsSoundAt source) (number : ℕ) (name : Name) (
       let file : file_at room (path_of (Trunc stamp size)) ≡ Some h.bytes = sym (items.files (Trunc stamp size)) ∙ ap (λ x. file_at x (path_of (Trunc stamp size))) (sym same) ∙ r.2 in
       (t.drained n room at named).truncates stamp size h.bytes (record { is_item = h.is_item; there = file })
 
+  -- an index dropping that stands then is of a writer of the source
+  pub stood_source : (host writer : ℕ) → Stood (mounted_there t.sound start) (dropping_in n host writer) → Stood source (dropping_in number host writer)
+  stood_source host writer h =
+      let r = in_a_room (slice_get begins_sound.shape.tree.rooms n) (index_path host writer) h.bytes (in_tree (mounted_there t.sound start) begins_sound n (index_path host writer) h.bytes h.there) in
+      let same : r.0 ≡ items.now = some_room r.0 items.now (slice_get begins_sound.shape.tree.rooms n) r.1 items.there in
+      let file : file_at room (index_path host writer) ≡ Some h.bytes = sym (items.files (Index host writer)) ∙ ap (λ x. file_at x (index_path host writer)) (sym same) ∙ r.2 in
+      (t.drained n room at named).hosts host writer (inl (h.bytes, record { is_item = h.is_item; there = file }))
+
   module _ (events : List Event) (lawful : IsLawful start events) (quiet : StaysQuiet (mounted_there t.sound start) (moment_after (mounted_there t.sound start) events) n) where
     abbrev end : Moment
     end = moment_after (mounted_there t.sound start) events
@@ -124,6 +133,21 @@ module _ (source : Moment) (s : IsSoundAt source) (number : ℕ) (name : Name) (
         let more = t.first n room at named g.dropping.writer in
         ap (λ ws. take g.count ws) (issued_now g of)
         ∙ sym (ap (λ ws. take g.count ws) more.1 ∙ take-append-le g.count (t.sound.issued n g.dropping.writer) more.0 (omega (arith, p.were_issued, ap length (issued_now g of))))
+
+    -- what was read of the writer there is what the source has of it, no less than what had landed at some moment
+    pub prefix_there : (first lower : Moment) (g : Gathered) → g.dropping.room ≡ n → Stood source (dropping_in number g.dropping.host g.dropping.writer) → landed lower (dropping_in number g.dropping.host g.dropping.writer) ≤ g.count → IsPrefixOf first end g
+        → IsPrefixOf lower source (record g { dropping = dropping_in number g.dropping.host g.dropping.writer })
+    prefix_there first lower g of stood least p =
+        let most : g.count ≤ landed source (dropping_in number g.dropping.host g.dropping.writer) =
+        counted g.dropping.host g.dropping.writer g.count (subst (λ k. Stood end (dropping_in k g.dropping.host g.dropping.writer)) of p.stands) (omega (arith, p.were_issued, ap length (issued_now g of))) in
+        record {
+          least = least;
+          most = most;
+          were_issued = omega (arith, most, landed_whole source s (dropping_in number g.dropping.host g.dropping.writer) stood.is_item);
+          stands = stood;
+          entries = p.entries
+              ∙ ap (drop g.covered) (sym (entries_take g.count (issued_by end g.dropping)) ∙ ap entries_in (same_writes first g of p) ∙ entries_take g.count (source.issued number g.dropping.writer));
+        }
 
     -- ---- the cut
 

@@ -2,6 +2,10 @@
 #![tactic(auto)]
 
 #[cfg(test)]
+mod drains;
+#[cfg(test)]
 mod reading;
+#[cfg(test)]
+mod stores;
 #[cfg(test)]
 mod world;

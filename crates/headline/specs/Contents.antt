@@ -9,18 +9,20 @@ use Rattle.plain_file.specs.File.{plain, plain_size}
 use Rattle.plain_file.specs.Runs.{ArePiecesOf}
 use Rattle.container_layout.specs.Items.{IsItem}
 use Rattle.script_lang.specs.declared.line.Outcome.TheVariants.{Map as Mapped, Reader}
-use Rattle.headline.specs.Run.{IsAmong, IsLine, Run, Says, Told, before, so_far}
+use Rattle.headline.specs.Run.{IsAmong, IsLine, Run, Says, Told}
 use Rattle.headline.specs.Trees.{Has}
 use Rattle.headline.specs.Names.{Story}
-use Rattle.headline.specs.Views.{IsBelow, IsWriter, Seen, changes_of, counted, item_of, writes_of}
+use Rattle.headline.specs.Views.{IsBelow, IsCut, Seen, changes_of, counted, item_of, writes_of}
 use Rattle.headline.specs.Files.{Answers, entry_of, reader_at}
 
--- Each count of the cut is of a writer of the container, and of its first writes as the lines tell them, or as the tree before has them. With the truncates of the
+-- The cut is one that the line may see: each count is of a writer of the container, no less than what is sure to have landed of it before the line, and no more than
+-- what may have by its end. It is of the first writes of the writer, as the lines tell them, or as the tree before has them. With the truncates of the
 -- line they make one plain file, of the size that the line tells. Of that file are all answers of the reader, up to its next line, and its maps. Each further
 -- truncate that stands in the tree after is newer than all that is in the file.
 pub record ShowsContents (run : Run) (story : Story) (t : Told) (size : ℕ) (cut : List WriterCount) (truncs : List Trunc) : Type 0 where
   pub seen : List Seen
-  pub known : All (λ (s : Seen). (1 ≤ s.count) × (s.count ≤ length s.writer.writes) × IsWriter run story (story.of t) (before run t) (so_far run t) s.writer) seen
+  pub may_see : IsCut run story t seen
+  pub first : All (λ (s : Seen). s.count ≤ length s.writer.writes) seen
   pub cut_is : cut ≡ map counted seen
   pub size_is : size ≡ plain_size (changes_of seen truncs)
   pub answers : (s : Told) → IsLine run s → reader_at run s ≡ Some t → Answers (plain (changes_of seen truncs)) s.statement s.outcome

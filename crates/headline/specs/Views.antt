@@ -7,6 +7,7 @@ use Rattle.plfs_types.specs.declared.entries.WriterCount.{WriterCount}
 use Rattle.plain_file.specs.declared.changes.Change.{Change}
 use Rattle.plain_file.specs.declared.changes.Change.TheVariants.{Truncate, Write as Written}
 use Rattle.plain_file.specs.File.{stored_bytes}
+use Rattle.container_layout.specs.Items.{IsItem}
 use Rattle.container_layout.specs.declared.items.Item.{Item}
 use Rattle.container_layout.specs.declared.items.Item.TheVariants.{Index, Trunc as TruncItem}
 use Rattle.script_lang.specs.declared.line.Outcome.TheVariants.{Opened, Truncated}
@@ -19,7 +20,7 @@ use Rattle.headline.specs.Names.{BrokeOff, Story}
 -- The writer is one of container n: the tree had its index before, or a line opened it. What has landed of it is what some lines make sure, and no more
 -- than others allow.
 pub data IsWriter (run : Run) (story : Story) (n : ℕ) (sure maybe : List Told) (w : Writer) : Type 0 where
-  stood : Has run.before n (Index w.host w.id) → w ≡ old_writer run.before n w.host w.id → IsWriter run story n sure maybe w
+  stood : IsItem (Index w.host w.id) → Has run.before n (Index w.host w.id) → w ≡ old_writer run.before n w.host w.id → IsWriter run story n sure maybe w
   opened : (o : Told) → IsLine run o → o.outcome ≡ Opened w.id → story.of o ≡ n → w ≡ new_writer run o.actor w.id (told run) sure maybe → IsWriter run story n sure maybe w
 
 -- how many of a writer's writes are in a cut

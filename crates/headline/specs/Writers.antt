@@ -5,7 +5,7 @@ use Rattle.plain_file.specs.declared.changes.Change.TheVariants.{Write as Writte
 use Rattle.plain_file.specs.File.{stored_bytes}
 use Rattle.store_api.specs.declared.tree.Tree.{Tree}
 use Rattle.script_lang.specs.declared.line.Outcome.{Outcome}
-use Rattle.script_lang.specs.declared.line.Outcome.TheVariants.{Closed, Fault, Opened, Refused, Stopped, Synced, Wrote}
+use Rattle.script_lang.specs.declared.line.Outcome.TheVariants.{Closed, Gone, Opened, Refused, Synced, Wrote}
 use Rattle.script_lang.specs.declared.line.Why.TheVariants.{StampsSpent, TooFar}
 use Rattle.script_lang.specs.declared.script.ActorDecl.{ActorDecl}
 use Rattle.script_lang.specs.declared.script.Statement.{Statement}
@@ -55,21 +55,21 @@ one_more id at bytes stamp a = record {
   most = a.most;
 }
 
--- after the line of a statement of its actor
+-- After the line of a statement of its actor. A write of no bytes makes no call, nor does an actor that was stopped. After any other end, as a fault or a stop,
+-- more may have landed.
 abbrev pub after_write : ℕ → ℕ → ℕ → List ℕ → Account → Outcome → Account
 after_write id capacity at bytes a (Wrote place len (Some stamp)) = one_more id at bytes stamp (made_room capacity a)
+after_write id capacity at bytes a (Wrote place len None) = a
 after_write id capacity at bytes a (Refused TooFar) = made_room capacity a
 after_write id capacity at bytes a (Refused StampsSpent) = made_room capacity a
-after_write id capacity at bytes a Fault = any_landed a
-after_write id capacity at bytes a Stopped = any_landed a
-after_write id capacity at bytes a other = a
+after_write id capacity at bytes a Gone = a
+after_write id capacity at bytes a other = any_landed a
 
 abbrev pub after_sync : Account → Outcome → Account
 after_sync a (Synced count) = all_landed count a
 after_sync a (Closed count) = all_landed count a
-after_sync a Fault = any_landed a
-after_sync a Stopped = any_landed a
-after_sync a other = a
+after_sync a Gone = a
+after_sync a other = any_landed a
 
 abbrev pub after_line : ℕ → ℕ → Account → Statement → Outcome → Account
 after_line id capacity a (Write at content) outcome = after_write id capacity at (bytes_of content) a outcome

@@ -2,7 +2,11 @@
 pub mod Above
 pub mod Accounts
 pub mod Answered
+pub mod Bounds
 pub mod Counted
+pub mod Cuts
+pub mod Entering
 pub mod Issues
 pub mod Unwritten
+pub mod WriterLine
 pub mod Written

@@ -1,5 +1,6 @@
 pub mod Facts
 mod Contents
+mod Landed
 mod OrderlyLines
 mod Statements
 mod Story

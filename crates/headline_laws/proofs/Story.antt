@@ -5,5 +5,7 @@ pub mod Entered
 pub mod Lines
 pub mod Named
 pub mod Opened
+pub mod Ordered
 pub mod Parts
+pub mod Refused
 pub mod Shown

@@ -1,3 +1,4 @@
+mod Breaking
 pub mod Broken
 pub mod Freely
 pub mod Looked

@@ -1,7 +1,7 @@
 -- Scans of one region after the other, which a caller makes by itself.
-use Rattle.std.specs.Prelude.{◌≡◌, ℕ, ◌+◌, ◌<◌, List, [], ◌∷◌, ◌++◌, length, Option, Some, None, Result, Ok, Err}
+use Rattle.std.specs.Prelude.{◌≡◌, ◌⊎◌, ℕ, ◌+◌, ◌<◌, ◌≤◌, List, [], ◌∷◌, ◌++◌, length, Option, Some, None, Result, Ok, Err}
 use Rattle.mount_model.specs.State.{State}
-use Rattle.lone_flow.specs.Driving.{Makes}
+use Rattle.lone_flow.specs.Driving.{BeginsToMake, Makes}
 use Rattle.index_reader.specs.declared.opened.OpenReader.{OpenReader}
 use Rattle.unit_format.specs.declared.finding.Region.{Region}
 use Rattle.unit_format.specs.declared.units.TheConstants.{REGIONS}
@@ -30,3 +30,14 @@ ScansAll reader start (Err why) end = ScansUpTo reader start why end
 abbrev pub AddsScan : OpenReader → ℕ → List Region → List Region → State → Option ScanStuck → State → Type 0
 AddsScan reader region old new start None end = (r : Region) × (new ≡ old ++ r ∷ []) × Makes (scan_program reader region) start (Ok r) end
 AddsScan reader region old new start (Some why) end = (new ≡ old) × Makes (scan_program reader region) start (Err why) end
+
+-- ---- broken off, since memory was wanting
+
+-- in the scan of one region more, or behind it
+abbrev pub BeginsToAddScan : OpenReader → ℕ → State → State → Type 0
+BeginsToAddScan reader region start end = BeginsToMake (scan_program reader region) start end ⊎ ((r : Region) × Makes (scan_program reader region) start (Ok r) end)
+
+-- The first regions were scanned. The scan of the next one was broken off, or was not begun, or there is none.
+pub data BeginsToScan (reader : OpenReader) (start end : State) : Type 0 where
+  to_scan : (regions : List Region) (last : State) → length regions < REGIONS → ScansFrom reader 0 start regions last → BeginsToMake (scan_program reader (length regions)) last end → BeginsToScan reader start end
+  behind : (regions : List Region) → length regions ≤ REGIONS → ScansFrom reader 0 start regions end → BeginsToScan reader start end

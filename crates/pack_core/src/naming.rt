@@ -1,9 +1,10 @@
 //! The names of all small files.
-ghost use Rattle.std.specs.Prelude.{◌≡◌, ◌++◌, IfOk, OnOk};
+ghost use Rattle.std.specs.Prelude.{◌≡◌, ◌++◌, IfOk, OnErr, OnOk};
 ghost use Rattle.store_api.specs.Names.{in_byte_order};
 ghost use Rattle.mount_sound.specs.Sound.{IsFine};
 ghost use Rattle.pack_core.specs.Looking.{HasLooked};
-ghost use Rattle.pack_core.specs.Naming.{Names, NamesIn, names_in, names_of};
+ghost use Rattle.pack_core.specs.Naming.{BeginsToName, Names, NamesIn, names_in, names_of};
+ghost use Rattle.pack_core.specs.Scans.{BeginsToScan};
 
 use crate::scanning::scan_all;
 use crate::unpacking::open_reader;
@@ -69,6 +70,7 @@ fn names_in_file<S: Store + Drop, C: Clock + Drop>(
 ) -> Result<Result<NameList, ScanStuck>, NoMemory>
     requires { IsFine mount.old }
     ensures names { IfOk result (λ told. NamesIn reader.now mount.old told mount.new) }
+    ensures broken_off { OnErr result (BeginsToScan reader.now mount.old mount.new) }
     ensures looks { HasLooked mount.old mount.new }
 {
     match scan_all(alloc, mount, reader)? {
@@ -85,7 +87,7 @@ fn names_in_file<S: Store + Drop, C: Clock + Drop>(
 /// answers the names of all units in byte order, each once.
 ///
 /// It ends with the first trouble. Where the container isn't there, that is the refusal of the opening. It only looks, also
-/// where it lacks memory.
+/// where it lacks memory: the calls are then a front of those, of which the last one may have been refused memory.
 pub fn names<S: Store + Drop, C: Clock + Drop>(
     alloc: Global,
     mount: &mut Mount<S, C>,
@@ -93,6 +95,7 @@ pub fn names<S: Store + Drop, C: Clock + Drop>(
 ) -> Result<Result<NameList, ScanStuck>, NoMemory>
     requires { IsFine mount.old }
     ensures names { IfOk result (λ told. Names name mount.old told mount.new) }
+    ensures broken_off { OnErr result (BeginsToName name mount.old mount.new) }
     ensures looks { HasLooked mount.old mount.new }
 {
     match open_reader(alloc, mount, name)? {

@@ -5,7 +5,7 @@ ghost use Rattle.lone_flow.specs.Driving.{BeginsToMake, Makes};
 ghost use Rattle.unit_format.specs.declared.units.TheConstants.{REGIONS};
 ghost use Rattle.pack_files.specs.Scanning.{scan_program};
 ghost use Rattle.pack_core.specs.Looking.{HasLooked};
-ghost use Rattle.pack_core.specs.Scans.{AddsScan, ScansAll};
+ghost use Rattle.pack_core.specs.Scans.{AddsScan, BeginsToAddScan, BeginsToScan, ScansAll};
 
 use crate::driving::drive_freely;
 use edge_io::Clock;
@@ -36,7 +36,7 @@ pub fn scan<S: Store + Drop, C: Clock + Drop>(
     drive_freely(mount, machine)
 }
 
-/// Adds what a scan of this region tells, or says what ends it.
+/// Adds what a scan of this region tells, or says what ends it. After `NoMemory` the calls are a front of those of the scan.
 fn add_scan<S: Store + Drop, C: Clock + Drop>(
     alloc: Global,
     mount: &mut Mount<S, C>,
@@ -47,6 +47,7 @@ fn add_scan<S: Store + Drop, C: Clock + Drop>(
     requires known { region < REGIONS }
     requires fine { IsFine mount.old }
     ensures adds { IfOk result (λ stuck. AddsScan reader.now region regions.old regions.new mount.old stuck mount.new) }
+    ensures broken_off { OnErr result (BeginsToAddScan reader.now region mount.old mount.new) }
     ensures looks { HasLooked mount.old mount.new }
     ensures fine { IsFine mount.new }
 {
@@ -59,7 +60,7 @@ fn add_scan<S: Store + Drop, C: Clock + Drop>(
     }
 }
 
-/// Scans all regions of the reader's file, up to the first trouble.
+/// Scans all regions of the reader's file, up to the first trouble. After `NoMemory` the calls are a front of those.
 #[tactic(auto, using(crate::proofs::Looked::looked_none, crate::proofs::Looked::looked_both))]
 pub(crate) fn scan_all<S: Store + Drop, C: Clock + Drop>(
     alloc: Global,
@@ -68,6 +69,7 @@ pub(crate) fn scan_all<S: Store + Drop, C: Clock + Drop>(
 ) -> Result<Result<RegionList, ScanStuck>, NoMemory>
     requires { IsFine mount.old }
     ensures scans { IfOk result (λ told. ScansAll reader.now mount.old told mount.new) }
+    ensures broken_off { OnErr result (BeginsToScan reader.now mount.old mount.new) }
     ensures looks { HasLooked mount.old mount.new }
     ensures fine { IsFine mount.new }
 {

@@ -4,7 +4,7 @@ ghost use Rattle.mount_sound.specs.Sound.{IsFine};
 ghost use Rattle.lone_flow.specs.Driving.{BeginsToMake, Makes};
 ghost use Rattle.opening_flow.specs.Opening.{opening_program};
 ghost use Rattle.pack_core.specs.Looking.{HasLooked};
-ghost use Rattle.pack_core.specs.Unpacking.{ReadsFound, ReadsIn, ReadsUnit, Unpacks};
+ghost use Rattle.pack_core.specs.Unpacking.{BeginsToReadFound, BeginsToReadIn, BeginsToUnpack, ReadsFound, ReadsIn, ReadsUnit, Unpacks, unit_program};
 
 use crate::driving::drive_freely;
 use crate::scanning::scan_all;
@@ -34,8 +34,8 @@ pub fn open_reader<S: Store + Drop, C: Clock + Drop>(
     drive_freely(mount, Opening::new(alloc, name, 1))
 }
 
-/// Reads the content of a unit.
-#[tactic(auto, using(crate::proofs::Looked::looked_none))]
+/// Reads the content of a unit. After `NoMemory` the calls are a front of those.
+#[tactic(auto, using(crate::proofs::Looked::looked_none, crate::proofs::Broken::begins_none))]
 fn read_unit<S: Store + Drop, C: Clock + Drop>(
     alloc: Global,
     mount: &mut Mount<S, C>,
@@ -44,6 +44,7 @@ fn read_unit<S: Store + Drop, C: Clock + Drop>(
 ) -> Result<Result<Bytes, Stuck>, NoMemory>
     requires { IsFine mount.old }
     ensures reads { IfOk result (λ read. ReadsUnit reader.now unit.now mount.old read mount.new) }
+    ensures broken_off { OnErr result (BeginsToMake (unit_program reader.now unit.now) mount.old mount.new) }
     ensures looks { HasLooked mount.old mount.new }
 {
     let machine = Reading::new(alloc, reader, unit.at, unit.len.min(MAX_CONTENT))?;
@@ -60,6 +61,7 @@ fn read_found<S: Store + Drop, C: Clock + Drop>(
 ) -> Result<Result<Option<Bytes>, ScanStuck>, NoMemory>
     requires { IsFine mount.old }
     ensures reads { IfOk result (λ told. ReadsFound reader.now found mount.old told mount.new) }
+    ensures broken_off { OnErr result (BeginsToReadFound reader.now found mount.old mount.new) }
     ensures looks { HasLooked mount.old mount.new }
 {
     let Some(unit) = found else {
@@ -80,6 +82,7 @@ fn read_file<S: Store + Drop, C: Clock + Drop>(
 ) -> Result<Result<Option<Bytes>, ScanStuck>, NoMemory>
     requires { IsFine mount.old }
     ensures reads { IfOk result (λ told. ReadsIn reader.now file.now mount.old told mount.new) }
+    ensures broken_off { OnErr result (BeginsToReadIn reader.now file.now mount.old mount.new) }
     ensures looks { HasLooked mount.old mount.new }
 {
     match scan_all(alloc, mount, reader)? {
@@ -96,7 +99,7 @@ fn read_file<S: Store + Drop, C: Clock + Drop>(
 /// order, and reads the content of the unit that counts. It answers None where no unit has the name.
 ///
 /// It ends with the first trouble. Where the container isn't there, that is the refusal of the opening. It only looks, also
-/// where it lacks memory.
+/// where it lacks memory: the calls are then a front of those, of which the last one may have been refused memory.
 pub fn unpack<S: Store + Drop, C: Clock + Drop>(
     alloc: Global,
     mount: &mut Mount<S, C>,
@@ -105,6 +108,7 @@ pub fn unpack<S: Store + Drop, C: Clock + Drop>(
 ) -> Result<Result<Option<Bytes>, ScanStuck>, NoMemory>
     requires { IsFine mount.old }
     ensures unpacks { IfOk result (λ told. Unpacks name file.now mount.old told mount.new) }
+    ensures broken_off { OnErr result (BeginsToUnpack name file.now mount.old mount.new) }
     ensures looks { HasLooked mount.old mount.new }
 {
     match open_reader(alloc, mount, name)? {

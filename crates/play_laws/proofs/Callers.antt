@@ -3,4 +3,5 @@ pub mod Carrying
 pub mod Coming
 pub mod Earlier
 pub mod Finding
+pub mod Letting
 pub mod Standing

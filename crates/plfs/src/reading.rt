@@ -1,8 +1,9 @@
 //! Which commands read the input, and its reading, which comes before any folder is touched.
 ghost use Rattle.std.specs.Prelude.{◌≡◌, ◌+◌, [], true, false, take, option_map, IfOk, IfSome};
-ghost use Rattle.plfs.specs.Streams.{reads_the_input, writes_a_file};
+ghost use Rattle.plfs.specs.Streams.{copies_the_input, reads_the_input, writes_a_file};
 
 use command_line::Command;
+use copy_program::CopyCommand;
 use plfs_types::MAX_SCRIPT;
 use std::alloc::Global;
 use std::io::{self, Read};
@@ -26,6 +27,13 @@ fn reads_the_input(command: &Command) -> bool
         | Command::Rename { .. }
         | Command::Ls => false,
     }
+}
+
+/// Whether the command of `plfs_copy` copies standard input.
+pub fn copies_the_input(command: &CopyCommand) -> bool
+    ensures { result ≡ copies_the_input command.now }
+{
+    matches!(command, CopyCommand::Put { .. })
 }
 
 /// Whether the command writes the bytes of a file, and no lines.

@@ -1,5 +1,5 @@
 -- What becomes of small files of a container that are read.
-use Rattle.std.specs.Prelude.{ℕ, ◌≡◌, List, [], ◌∷◌, ◌++◌, Option, Some, None, Result, Ok, Err, true, false, codes}
+use Rattle.std.specs.Prelude.{ℕ, ◌≡◌, ◌⊎◌, List, [], ◌∷◌, ◌++◌, Option, Some, None, Result, Ok, Err, true, false, codes}
 use Rattle.plfs_types.specs.Counts.{HasRisen}
 use Rattle.plfs_types.specs.Names.{IsLogicalName}
 use Rattle.edge_io.specs.Sink.{Taking}
@@ -15,8 +15,8 @@ use Rattle.mount_sound.specs.Sound.{IsSoundFor}
 use Rattle.pack_files.specs.declared.scan.ScanStuck.{ScanStuck}
 use Rattle.pack_files.specs.declared.scan.ScanStuck.TheVariants as scan
 use Rattle.pack_core.specs.Looking.{HasLooked}
-use Rattle.pack_core.specs.Naming.{Names}
-use Rattle.pack_core.specs.Unpacking.{Unpacks}
+use Rattle.pack_core.specs.Naming.{BeginsToName, Names}
+use Rattle.pack_core.specs.Unpacking.{BeginsToUnpack, Unpacks}
 use Rattle.unpack_laws.specs.Seen.{Sees}
 use Rattle.unpack_laws.specs.Told.{AreNames, IsContent}
 use Rattle.outcomes.specs.Outcomes.{stuck_outcome}
@@ -73,9 +73,18 @@ told_status (Err outcome) = status_of (line_zero outcome ∷ [])
 abbrev pub Does : Type 0 → Type 1
 Does R = State → Result R ScanStuck → State → Type 0
 
+-- what it has done from one state to another where it was broken off
+abbrev pub Begins : Type 1
+Begins = State → State → Type 0
+
 -- what of a file, by its pieces and its bytes, is told between two states
 abbrev pub Claims : Type 0 → Type 1
 Claims R = List Piece → List ℕ → State → State → Result R ScanStuck → Type 0
+
+-- It did so to the end, or was broken off, and made no calls but greetings and looks.
+pub record HasBegunToRead {R : Type 0} (Reads : Does R) (Broken : Begins) (start end : State) : Type 0 where
+  pub looked : HasLooked start end
+  pub begun : ((result : Result R ScanStuck) × Reads start result end) ⊎ Broken start end
 
 -- A mount was made of the store as it was. On it caller 0 by itself read so and was told this, by greetings and looks alone, which led to what is
 -- left of the store. Where that told a sound tree, the caller saw one file of the container, and this is told of it.
@@ -102,22 +111,22 @@ pub record IsToldAs {R : Type 0} (name : Name) (Reads : Does R) (Holds : Claims 
   pub undamaged : IsLogicalName name → TellsUnitsOf e.stored name → is_broken_by is_damage told ≡ false
 
 -- What becomes of it: the text is printed, or a front of it where the sink broke. Where memory was refused there is none.
-pub data ReadCourse {R : Type 0} (name : Name) (Reads : Does R) (Holds : Claims R) (tells : Result R ScanStuck → Told) (e : Ends) (status : ℕ) : Type 0 where
-  printed : (told : Told) → IsToldAs name Reads Holds tells told e → IsPrinted (told_text told) e.taking e.taking_after → status ≡ told_status told → ReadCourse name Reads Holds tells e status
-  cut_off : (told : Told) → IsToldAs name Reads Holds tells told e → IsCutOff (told_text told) e.taking e.taking_after → status ≡ 6 → ReadCourse name Reads Holds tells e status
-  exhausted : IsStoreLeft HasLooked e → e.taking_after ≡ e.taking → status ≡ 3 → ReadCourse name Reads Holds tells e status
+pub data ReadCourse {R : Type 0} (name : Name) (Reads : Does R) (Broken : Begins) (Holds : Claims R) (tells : Result R ScanStuck → Told) (e : Ends) (status : ℕ) : Type 0 where
+  printed : (told : Told) → IsToldAs name Reads Holds tells told e → IsPrinted (told_text told) e.taking e.taking_after → status ≡ told_status told → ReadCourse name Reads Broken Holds tells e status
+  cut_off : (told : Told) → IsToldAs name Reads Holds tells told e → IsCutOff (told_text told) e.taking e.taking_after → status ≡ 6 → ReadCourse name Reads Broken Holds tells e status
+  exhausted : IsStoreLeft (HasBegunToRead Reads Broken) e → e.taking_after ≡ e.taking → status ≡ 3 → ReadCourse name Reads Broken Holds tells e status
 
 -- of one small file: its content, or that there is none
 abbrev pub UnpackCourse : List ℕ → List ℕ → Ends → ℕ → Type 0
-UnpackCourse name file = ReadCourse name (Unpacks name file) (λ pieces bytes from end result. IsContent pieces bytes file from end result) told_of_file
+UnpackCourse name file = ReadCourse name (Unpacks name file) (BeginsToUnpack name file) (λ pieces bytes from end result. IsContent pieces bytes file from end result) told_of_file
 
 -- of the names of all
 abbrev pub NamesCourse : List ℕ → Ends → ℕ → Type 0
-NamesCourse name = ReadCourse name (Names name) AreNames told_of_names
+NamesCourse name = ReadCourse name (Names name) (BeginsToName name) AreNames told_of_names
 
 -- ---- on a mount
 
--- so it was read and told, by greetings and looks alone; or memory was refused
-pub data ReadsOn {R : Type 0} (Reads : Does R) (tells : Result R ScanStuck → Told) (start : State) (taking : Taking) (end : State) (taking_after : Taking) (status : ℕ) : Type 0 where
-  ended_so : (result : Result R ScanStuck) → Reads start result end → HasLooked start end → IsReported (told_text (tells result)) (told_status (tells result)) taking taking_after status → ReadsOn Reads tells start taking end taking_after status
-  starved : HasLooked start end → taking_after ≡ taking → status ≡ 3 → ReadsOn Reads tells start taking end taking_after status
+-- so it was read and told, by greetings and looks alone; or memory was refused in it
+pub data ReadsOn {R : Type 0} (Reads : Does R) (Broken : Begins) (tells : Result R ScanStuck → Told) (start : State) (taking : Taking) (end : State) (taking_after : Taking) (status : ℕ) : Type 0 where
+  ended_so : (result : Result R ScanStuck) → Reads start result end → HasLooked start end → IsReported (told_text (tells result)) (told_status (tells result)) taking taking_after status → ReadsOn Reads Broken tells start taking end taking_after status
+  broke_off : Broken start end → HasLooked start end → taking_after ≡ taking → status ≡ 3 → ReadsOn Reads Broken tells start taking end taking_after status

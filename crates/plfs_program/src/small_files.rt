@@ -2,8 +2,8 @@
 ghost use Rattle.std.specs.Prelude.{◌≡◌, ◌++◌, ◌∷◌, IfOk, Ok, OnOk, codes};
 ghost use Rattle.std.specs.List.{flat_map};
 ghost use Rattle.mount_sound.specs.Sound.{IsFine};
-ghost use Rattle.pack_core.specs.Naming.{Names};
-ghost use Rattle.pack_core.specs.Unpacking.{Unpacks};
+ghost use Rattle.pack_core.specs.Naming.{BeginsToName, Names};
+ghost use Rattle.pack_core.specs.Unpacking.{BeginsToUnpack, Unpacks};
 ghost use Rattle.report_text.specs.Items.{list_text};
 ghost use Rattle.plfs_program.specs.Migrating.{IsReported};
 ghost use Rattle.plfs_program.specs.SmallFiles.{ReadsOn, names_line as line_of, outcome_of, told_of_file, told_of_names, told_status as status_of, told_text as text_of};
@@ -143,7 +143,7 @@ pub(crate) fn unpack_mounted<S: Store + Drop, C: Clock + Drop, O: Sink>(
     out: &mut O,
 ) -> u8
     requires { IsFine mount.old }
-    ensures { ReadsOn (Unpacks name file.now) told_of_file mount.old (O.taking out.old) mount.new (O.taking out.new) result }
+    ensures { ReadsOn (Unpacks name file.now) (BeginsToUnpack name file.now) told_of_file mount.old (O.taking out.old) mount.new (O.taking out.new) result }
 {
     let Ok(told) = unpack(alloc, mount, name, file) else {
         return 3;
@@ -159,7 +159,7 @@ pub(crate) fn names_mounted<S: Store + Drop, C: Clock + Drop, O: Sink>(
     out: &mut O,
 ) -> u8
     requires { IsFine mount.old }
-    ensures { ReadsOn (Names name) told_of_names mount.old (O.taking out.old) mount.new (O.taking out.new) result }
+    ensures { ReadsOn (Names name) (BeginsToName name) told_of_names mount.old (O.taking out.old) mount.new (O.taking out.new) result }
 {
     let Ok(told) = names(alloc, mount, name) else {
         return 3;

@@ -1,34 +1,31 @@
 -- The units that a scan tells stand one behind the other.
-use Rattle.std.proofs.Common.{◌≡◌, ℕ, zero, suc, ◌+◌, ◌-◌, ◌*◌, ◌<◌, ◌≤◌, ◌^◌, min, max, nat_le, nat_lt, nat_eq, ◌==◌, ◌&&◌, Bool, true, false, if◌then◌else◌, List, [], ◌∷◌, ◌++◌, length, map, Option, Some, None, Result, Ok, Err, refl, sym, ap, ◌∙◌, subst, arith}
+use Rattle.std.proofs.Common.{◌≡◌, ℕ, zero, suc, ◌+◌, ◌-◌, ◌*◌, ◌<◌, ◌≤◌, ◌^◌, min, ◌==◌, Bool, true, false, if◌then◌else◌, List, [], ◌∷◌, ◌++◌, Option, Some, None, Result, Ok, Err, refl, subst, arith}
 use Rattle.std.specs.List.{All, AllByRecursion}
 use Rattle.std.proofs.lemmas.Bool.Decides.{nat_tests}
 use Rattle.std.proofs.lemmas.List.Elements.{All-cons, All-nil}
 use Rattle.plain_file.specs.declared.pieces.Piece.{Piece}
 use Rattle.mount_model.specs.State.{State}
-use Rattle.mount_model.specs.declared.call.Call.{Call}
 use Rattle.mount_model.specs.declared.call.Call.TheVariants.{Greet}
 use Rattle.mount_model.specs.declared.reply.Reply.{Reply}
 use Rattle.mount_model.specs.History.{Event}
 use Rattle.flow.specs.Running.{Runs}
 use Rattle.flow.specs.declared.stuck.Stuck.{Stuck as Trouble}
-use Rattle.flow.proofs.Facts.{RunsInTwo, runs_in_two}
-use Rattle.story.specs.Program.{Program, done, ask, followed_by}
+use Rattle.flow.proofs.Facts.{runs_in_two}
+use Rattle.story.specs.Program.{done, ask, followed_by}
 use Rattle.lone_flow.specs.Driving.{Makes}
 use Rattle.read_plan.specs.Plan.{plan_of}
 use Rattle.index_reader.specs.declared.opened.OpenReader.{OpenReader}
 use Rattle.index_reader.specs.Reading.{read_program}
-use Rattle.unit_format.specs.declared.units.TheConstants.{MAX_CONTENT, REGION_SIZE}
+use Rattle.unit_format.specs.declared.units.TheConstants.{REGION_SIZE}
 use Rattle.unit_format.specs.declared.scanner.Placed.{Placed}
 use Rattle.unit_format.specs.declared.scanner.Part.{Part}
 use Rattle.unit_format.specs.declared.scanner.Part.TheVariants.{Count, Size, Name, Content, Over, Bad}
-use Rattle.unit_format.specs.declared.scanner.Scanned.{Scanned}
 use Rattle.unit_format.specs.declared.scanner.Scanner.{Scanner}
 use Rattle.unit_format.specs.declared.finding.Unit.{Unit as Found}
 use Rattle.unit_format.specs.declared.finding.Region.{Region}
 use Rattle.unit_format.specs.Alike.{StandApart}
 use Rattle.unit_format.specs.Names.{name_of}
-use Rattle.unit_format.specs.Scanning.{begins_at, expects, is_settled, after_count, after_size, after_file, after_name, number_of, sizes_fit, judged, judged_as, kept, less_more, fed, eaten, ends_region, finished}
-use Rattle.pack_files.specs.declared.scan.ScanStuck.{ScanStuck}
+use Rattle.unit_format.specs.Scanning.{begins_at, expects, is_settled, after_count, after_size, after_file, after_name, number_of, sizes_fit, judged, judged_as, kept, less_more, fed, eaten, ends_region}
 use Rattle.pack_files.specs.declared.scan.ScanStuck.TheVariants.{Stuck}
 use Rattle.pack_files.specs.Scanning.{unit_of, units_of, Scans, told, told_as, scans, scan_program, further, chunk_size, read_then, region_end}
 

@@ -1,12 +1,11 @@
 -- What a caller by itself does on a mount that was made of a store comes to one thing, where nothing fails.
-use Rattle.std.proofs.Common.{◌≡◌, ◌≢◌, ℕ, ◌-◌, ◌<◌, ◌≤◌, ◌^◌, List, Option, Some, None, sym, ap, ◌∙◌, subst, arith}
+use Rattle.std.proofs.Common.{◌≡◌, ℕ, ◌-◌, ◌<◌, ◌≤◌, ◌^◌, List, Option, Some, sym, ap, ◌∙◌, subst, arith}
 use Rattle.store_api.specs.Acts.{Stored}
 use Rattle.script_lang.specs.declared.line.Outcome.{Outcome}
 use Rattle.mount_model.specs.State.{State}
 use Rattle.mount_model.specs.Mounting.{IsMounted}
 use Rattle.mount_model.specs.Failing.{FailsToMount}
 use Rattle.mount_model.specs.declared.trouble.MountTrouble.{MountTrouble}
-use Rattle.mount_model.specs.declared.trouble.MountTrouble.TheVariants as trouble
 use Rattle.step_laws.specs.Alike.{IsTold}
 use Rattle.step_laws.proofs.Facts.{fails_one, fails_rise, mounts_or_fails, mounts_one, mounted_faults, mounted_tells}
 use Rattle.plfs_program.specs.Mounting.{unmounted_of}

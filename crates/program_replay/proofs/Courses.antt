@@ -1,5 +1,5 @@
 -- Two runs with the same words that begin alike print the same.
-use Rattle.std.proofs.Common.{◌≡◌, ◌≢◌, ℕ, ◌+◌, ◌^◌, inl, inr, List, Option, Some, None, refl, sym, ap, ◌∙◌, subst, arith}
+use Rattle.std.proofs.Common.{◌≡◌, ◌≢◌, ℕ, ◌+◌, ◌^◌, inl, inr, List, Option, Some, None, sym, ap, ◌∙◌, subst}
 use Rattle.edge_io.specs.Source.{Given}
 use Rattle.script_lang.specs.declared.script.Script.{Script}
 use Rattle.script_lang.specs.Faults.{Fault}
@@ -167,8 +167,8 @@ module _ (one_script : OneScript) (one_fault : OneFault) (never : NeverBoth) (on
   does_twice input (command.Cat name) status other told told_too fed fed_too x y = cat_twice given after another later e f alike quiet quiet_too name status other fed fed_too x y
   does_twice input (command.Migrate name) status other told told_too fed fed_too x y = migrate_twice given after another later e f alike quiet quiet_too name status other fed fed_too x y
   does_twice input (command.Pack name region) status other told told_too fed fed_too x y = packs_twice input name region status other told told_too fed fed_too x y
-  does_twice input (command.Unpack name file) status other told told_too fed fed_too x y = read_twice given after another later e f alike quiet quiet_too _ _ _ _ (unpack_one_way isolated name file) status other fed fed_too x y
-  does_twice input (command.Names name) status other told told_too fed fed_too x y = read_twice given after another later e f alike quiet quiet_too _ _ _ _ (names_one_way name) status other fed fed_too x y
+  does_twice input (command.Unpack name file) status other told told_too fed fed_too x y = read_twice given after another later e f alike quiet quiet_too _ _ _ _ _ (unpack_one_way isolated name file) status other fed fed_too x y
+  does_twice input (command.Names name) status other told told_too fed fed_too x y = read_twice given after another later e f alike quiet quiet_too _ _ _ _ _ (names_one_way name) status other fed fed_too x y
   does_twice input (command.Gen writers) status other told told_too fed fed_too x y = plans_twice (command.Gen writers) status other fed fed_too x y
   does_twice input (command.Stat name) status other told told_too fed fed_too x y = plans_twice (command.Stat name) status other fed fed_too x y
   does_twice input (command.Map name) status other told told_too fed fed_too x y = plans_twice (command.Map name) status other fed fed_too x y

@@ -1,12 +1,9 @@
 -- Two runs of one command that begin alike print the same.
-use Rattle.std.proofs.Common.{◌≡◌, ◌≢◌, ℕ, ◌<◌, ◌≤◌, ◌⊎◌, inl, inr, List, [], ◌∷◌, Option, Some, None, Result, Ok, Err, sym, ap, ◌∙◌, subst, arith}
-use Rattle.plfs_types.specs.Counts.{HasRisen}
+use Rattle.std.proofs.Common.{◌≡◌, ◌≢◌, ℕ, ◌<◌, ◌≤◌, inl, List, Option, Some, Result, Err, sym, ap, ◌∙◌, subst, arith}
 use Rattle.edge_io.specs.Source.{Given}
 use Rattle.store_api.specs.Acts.{Stored}
 use Rattle.script_lang.specs.declared.line.Outcome.{Outcome}
-use Rattle.flow.specs.declared.stuck.Stuck.{Stuck}
 use Rattle.mount_model.specs.Paths.{Name}
-use Rattle.migrate_core.specs.declared.migrated.Migrated.{Migrated}
 use Rattle.migrate_core.specs.Migrating.{migrate_program}
 use Rattle.lone_flow.specs.Driving.{Makes}
 use Rattle.pack_files.specs.declared.scan.ScanStuck.{ScanStuck}
@@ -19,7 +16,7 @@ use Rattle.plfs_program.specs.Migrating as m
 use Rattle.plfs_program.specs.Output.{IsPrinted}
 use Rattle.plfs_program.specs.Packing.{IsEndOf, PackCourse, PackEnd, end_of, packed_status, packed_text}
 use Rattle.plfs_program.specs.Packing as packing
-use Rattle.plfs_program.specs.SmallFiles.{Does, Claims, Told, ReadCourse, IsToldAs, IsToldOf, told_text, told_status}
+use Rattle.plfs_program.specs.SmallFiles.{Begins, Does, Claims, Told, ReadCourse, IsToldAs, IsToldOf, told_text, told_status}
 use Rattle.plfs_program.specs.SmallFiles as s
 use Rattle.program_replay.specs.Twice.{BeginAlike, PrintAlike}
 use Rattle.program_replay.proofs.OneWay.{Doing, GoesOneWay, makes_one_way}
@@ -77,12 +74,12 @@ module _ (given after another later_given : Given) (e f : Ends) (alike : BeginAl
 
   -- ---- small files
 
-  module _ {R : Type 0} (name : Name) (Did : Does R) (Holds : Claims R) (tells : Result R ScanStuck → Told) where
+  module _ {R : Type 0} (name : Name) (Did : Does R) (Broken : Begins) (Holds : Claims R) (tells : Result R ScanStuck → Told) where
     read_on : (ends : Ends) (told : Told) (left : Stored) → IsToldOf Did Holds tells ends.times ends.stored left told → CameTo Did tells Err ends.times ends.stored left told
     read_on ends told left (s.unmounted why outcome failed is says) = broke why outcome failed is says
     read_on ends told left (s.mounted result on says) = came on.start on.end result on.mounted on.reads on.left says
 
-    pub read_twice : GoesOneWay Did → (status other : ℕ) → status ≢ 3 → other ≢ 3 → ReadCourse name Did Holds tells e status → ReadCourse name Did Holds tells f other → PrintAlike e f status other
+    pub read_twice : GoesOneWay Did → (status other : ℕ) → status ≢ 3 → other ≢ 3 → ReadCourse name Did Broken Holds tells e status → ReadCourse name Did Broken Holds tells f other → PrintAlike e f status other
     read_twice goes status other fed fed_too (s.printed told a text is) (s.printed too b text_too is_too) =
         lone_twice Did tells Err told_text told_status goes told too a.after b.after status other a.left b.left (read_on e told a.after a.came) (read_on f too b.after b.came) text text_too is is_too
     read_twice goes status other fed fed_too (s.cut_off told a part is) b = absurd (not_cut given after e (told_text told) quiet part)

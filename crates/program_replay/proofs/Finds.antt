@@ -1,13 +1,12 @@
 -- The reading of one small file goes one way.
-use Rattle.std.proofs.Common.{◌≡◌, ℕ, ◌+◌, ◌<◌, List, [], ◌∷◌, length, Option, Some, None, Result, Ok, Err, refl, sym, ap, ◌∙◌, subst, arith}
-use Rattle.std.specs.List.{All, Contains}
+use Rattle.std.proofs.Common.{◌≡◌, ℕ, ◌+◌, List, [], ◌∷◌, length, Option, Some, None, Result, Ok, Err, refl, ap, ◌∙◌, subst, arith}
+use Rattle.std.specs.List.{All}
 use Rattle.std.proofs.lemmas.List.Elements.{All-cons, All-nil}
 use Rattle.mount_model.specs.State.{State}
 use Rattle.mount_model.specs.Paths.{Name}
 use Rattle.flow.specs.declared.stuck.Stuck.{Stuck as Trouble}
 use Rattle.lone_flow.specs.Driving.{Makes}
 use Rattle.index_reader.specs.declared.opened.OpenReader.{OpenReader}
-use Rattle.index_reader.specs.Reading.{read_program}
 use Rattle.opening_flow.specs.Opening.{opening_program}
 use Rattle.unit_format.specs.declared.finding.Region.{Region}
 use Rattle.unit_format.specs.declared.finding.Unit.{Unit as Found}

@@ -1,5 +1,5 @@
 -- The scans of small files, and the naming of all, go one way.
-use Rattle.std.proofs.Common.{◌≡◌, ℕ, zero, suc, ◌+◌, ◌<◌, List, [], ◌∷◌, length, Result, Ok, Err, refl, sym, ap, ◌∙◌, subst, arith}
+use Rattle.std.proofs.Common.{◌≡◌, ℕ, zero, suc, ◌+◌, ◌<◌, List, [], ◌∷◌, length, Result, Ok, Err, refl, ap, subst, arith}
 use Rattle.mount_model.specs.State.{State}
 use Rattle.mount_model.specs.Paths.{Name}
 use Rattle.store_api.specs.Names.{in_byte_order}
@@ -12,7 +12,7 @@ use Rattle.unit_format.specs.declared.units.TheConstants.{REGIONS}
 use Rattle.pack_files.specs.declared.scan.ScanStuck.{ScanStuck}
 use Rattle.pack_files.specs.declared.scan.ScanStuck.TheVariants.{Stuck}
 use Rattle.pack_files.specs.Scanning.{scan_program}
-use Rattle.pack_core.specs.Scans.{ScansFrom, ScansUpTo, ScansAll}
+use Rattle.pack_core.specs.Scans.{ScansFrom, ScansAll}
 use Rattle.pack_core.specs.Naming.{Names, NamesIn, names_in, opens, opens_stuck}
 use Rattle.program_replay.proofs.OneWay.{Doing, GoesOneWay, Gives, Then, makes_one_way, gives_one_way, then_one_way, as_one_way}
 

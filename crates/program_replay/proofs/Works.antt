@@ -1,6 +1,6 @@
 -- The statements of one actor by itself go one way, where nothing fails.
-use Rattle.std.proofs.Common.{◌≡◌, ℕ, ◌-◌, ◌<◌, ◌^◌, ◌==◌, if◌then◌else◌, List, [], ◌∷◌, ◌++◌, Option, Some, Result, refl, sym, ap, ◌∙◌, subst, append_assoc, arith}
-use Rattle.std.specs.Prelude.{map, set, slice_get}
+use Rattle.std.proofs.Common.{◌≡◌, ℕ, ◌-◌, ◌<◌, ◌^◌, ◌==◌, if◌then◌else◌, List, [], ◌∷◌, ◌++◌, Some, Result, refl, sym, ap, ◌∙◌, subst}
+use Rattle.std.specs.Prelude.{map}
 use Rattle.std.specs.List.{All}
 use Rattle.std.proofs.lemmas.List.{append-nil}
 use Rattle.std.proofs.lemmas.List.Elements.{All-head, All-tail}
@@ -9,12 +9,10 @@ use Rattle.mount_model.specs.declared.call.Ask.{Ask}
 use Rattle.mount_model.specs.declared.reply.Reply.{Reply}
 use Rattle.mount_model.specs.State.{State}
 use Rattle.mount_model.specs.History.{Event, state_after}
-use Rattle.mount_sound.specs.Owed.{IsLawful}
-use Rattle.mount_core.specs.Memory.{HadMemory}
 use Rattle.story.specs.Process.{ends, pauses, tells, asks, shares}
 use Rattle.story.specs.Turns.{Finishes}
 use Rattle.story.specs.Performers.{Performer, performer, paused}
-use Rattle.story.specs.InTurns.{Moves, ToEnd, ToItsEnd, AllToEnd, PhaseInTurns, InTurns}
+use Rattle.story.specs.InTurns.{Moves, ToEnd, ToItsEnd, AllToEnd, InTurns}
 use Rattle.index_reader.specs.declared.sharing.Share.{Share}
 use Rattle.script_lang.specs.declared.line.Line.{Line}
 use Rattle.script_lang.specs.declared.script.Numbered.{Numbered}

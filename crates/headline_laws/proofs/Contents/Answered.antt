@@ -1,5 +1,5 @@
 -- A reader's line shows one plain file, of which are all answers of the reader and its maps.
-use Rattle.std.proofs.Common.{◌≡◌, ◌≢◌, ◌⊎◌, ◌≤◌, ◌<◌, ◌+◌, inl, inr, ℕ, List, [], ◌∷◌, ◌++◌, map, Option, Some, None, refl, sym, ap, ◌∙◌, subst, arith}
+use Rattle.std.proofs.Common.{◌≡◌, ◌≢◌, ◌⊎◌, ◌≤◌, ◌<◌, ◌+◌, inl, inr, ℕ, false, List, [], ◌∷◌, ◌++◌, length, map, Option, Some, None, refl, sym, ap, ◌∙◌, subst, arith}
 use Rattle.std.specs.List.{All}
 use Rattle.std.proofs.lemmas.List.Elements.{All-from_recursion}
 use Rattle.plfs_types.specs.declared.entries.Entry.{Entry}
@@ -10,7 +10,7 @@ use Rattle.plain_file.specs.declared.changes.Change.TheVariants.{Truncate}
 use Rattle.plain_file.specs.declared.pieces.Piece.{Piece}
 use Rattle.plain_file.specs.File.{plain, plain_size}
 use Rattle.plain_file.specs.Runs.{ArePieces, ArePiecesOf}
-use Rattle.plain_file.specs.Shows.{entries_of, truncs_of}
+use Rattle.plain_file.specs.Shows.{truncs_of}
 use Rattle.plain_file.proofs.Facts.{Among}
 use Rattle.container_layout.specs.Items.{IsItem}
 use Rattle.container_layout.specs.Paths.{path_of}
@@ -22,38 +22,40 @@ use Rattle.mount_sound.specs.Ledger.{entries_in}
 use Rattle.mount_sound.specs.Owed.{IsLawful}
 use Rattle.mount_sound.specs.Sound.{IsSoundTree}
 use Rattle.gathering.specs.Moments.{HadTrunc, IsSoundAt, Moment, file_told, moment_after}
+use Rattle.gathering.specs.Opening.{HasView}
 use Rattle.gathering.specs.View.{WritersRise, change_of, changes_in, cut_off, writes_in}
-use Rattle.gathering.proofs.Facts.{among, legal_first, legal_rest, moment-append, sound_after}
+use Rattle.gathering.proofs.Facts.{All-weaker, among, legal_first, legal_rest, moment-append, sound_after}
 use Rattle.gathering.proofs.OpenReaders.Viewing.{entries_of-changes, truncs_of-changes}
 use Rattle.script_lang.specs.Ranges.{FitsScript}
-use Rattle.script_lang.specs.declared.line.Outcome.{Outcome}
 use Rattle.script_lang.specs.declared.line.Outcome.TheVariants as line
 use Rattle.script_lang.specs.declared.script.Statement.{Statement}
 use Rattle.script_lang.specs.declared.script.Statement.TheVariants.{Map}
 use Rattle.actor_core.specs.declared.kept.Kept.{Kept}
 use Rattle.actor_core.specs.Endings.{Ending}
 use Rattle.run_core.specs.Play.{IsRight}
-use Rattle.play_laws.specs.OneFile.{ArePiecesSeen, OneFile}
+use Rattle.play_laws.specs.OneFile.{ArePiecesSeen, OneFile, printed_cut}
 use Rattle.play_laws.specs.OneWriter.{OneWriter}
-use Rattle.play_laws.specs.Opening.{Stretch}
+use Rattle.play_laws.specs.Showing.{TellsOneFile}
 use Rattle.play_laws.proofs.Facts.{Next}
-use Rattle.headline.specs.Run.{IsAmong, IsLine, Run, Says, Told, before, own, phased, told}
+use Rattle.headline.specs.Run.{IsAmong, IsLine, Run, Says, Told, before, own, phased, so_far, told}
 use Rattle.headline.specs.Trees.{Has}
-use Rattle.headline.specs.Views.{IsBelow, changes_of, item_of, writes_of}
+use Rattle.headline.specs.Views.{IdsRise, IsBelow, IsCut, IsWriter, Seen, changes_of, count_of, item_of, writes_of}
 use Rattle.headline.specs.Files.{Answers, entry_of, reader_after, reader_at, reader_next}
 use Rattle.headline.specs.Changes.{writing_at}
 use Rattle.headline.specs.Contents.{HasContents, ShowsContents}
 use Rattle.headline_laws.proofs.OrderlyLines.Answering.{AllBehind, MapsSo, SaysOf, Shown, apart_before, later, not_next, own_rise, reader_actor, rise_behind, step_of}
-use Rattle.headline_laws.proofs.OrderlyLines.Places.{Rise, among_later, beside_rise, own_split}
+use Rattle.headline_laws.proofs.OrderlyLines.Places.{Rise, Split, among_later, beside_rise, own_split}
 use Rattle.headline_laws.proofs.Statements.Did.{IsOfKindOr}
 use Rattle.headline_laws.proofs.Statements.Does.{Ended, did, was_gone}
 use Rattle.headline_laws.proofs.Story.Attributed.{head_of, tail_of}
-use Rattle.headline_laws.proofs.Story.Lines.{container, line_here, line_on, whole_history}
+use Rattle.headline_laws.proofs.Story.Lines.{AnyLine, LineOn, container, line_here, line_on, whole_history}
 use Rattle.headline_laws.proofs.Story.Shown.{ShownEach}
-use Rattle.headline_laws.proofs.Trees.Reading.{last_tree, reader_line}
+use Rattle.headline_laws.proofs.Trees.Reading.{ReaderLine, ids_rise, last_tree, reader_line}
 use Rattle.headline_laws.proofs.Trees.Still.{file_of}
 use Rattle.headline_laws.proofs.Contents.Above.{later_above}
-use Rattle.headline_laws.proofs.Contents.Counted.{Begin, HasSeen, all_seen, homes, sound_begin}
+use Rattle.headline_laws.proofs.Contents.Counted.{Begin, HasSeen, IsSeen, all_seen, homes, sound_begin}
+use Rattle.headline_laws.proofs.Contents.Cuts.{counts_between}
+use Rattle.headline_laws.proofs.Landed.Counting.{counted_in, seen_counted, seen_rise}
 
 -- ---- the lines behind a reader's
 
@@ -105,7 +107,7 @@ was_map kept s e text says (did lives d) = map_of s text (subst (IsOfKindOr s) s
 -- ---- the file
 
 module _ (run : Run) (times : Option (List ℕ)) (mount : Stored) (start end : State) (fits : FitsScript run.script) (mounted : IsMounted 0 times mount start) (tells : mount.tree ≡ Some run.before) (sound : IsSoundTree run.before)
-    (right : IsRight run.script start run.lines end) (left : end.store.tree ≡ Some run.after) where
+    (right : IsRight run.script start run.lines end) (left : end.store.tree ≡ Some run.after) (free : run.in_order ≡ false) where
   abbrev First : Moment
   First = Begin run times mount start end fits mounted tells sound right left
 
@@ -115,65 +117,117 @@ module _ (run : Run) (times : Option (List ℕ)) (mount : Stored) (start end : S
   abbrev homes_of : Told → ℕ
   homes_of t = container run First end fits sound_first right t
 
-  contents_shown : (t : Told) (size : ℕ) (cut : List WriterCount) (truncs : List Trunc) → Says run t (line.Reader size cut truncs) → ShowsContents run (homes run times mount start end fits mounted tells sound right left) t size cut truncs
-  contents_shown t size cut truncs says =
-      let split = own_split run t (among (told run) t says.is_line) in
-      let on = line_on run First end fits sound_first right t says.is_line in
-      let l = on.its in
-      let z = reader_line run First end fits sound_first right (reader_at run t) (writing_at run t) t l size cut truncs says.says in
-      let file : OneFile = z.so.file in
-      let h : HasSeen run times mount start end fits mounted tells sound right left t file.moment file.cut =
-      all_seen run times mount start end fits mounted tells sound right left t file.moment (l.line.part.earlier ++ z.upto) z.rest z.split z.moment _ file.cut (subst (λ k. WritersRise k file.cut) (sym z.in_room) z.so.sees.view.rise) z.so.sees.view.admissible in
-      let changes : changes_of h.seen truncs ≡ changes_in file.moment file.cut file.truncs = ap (λ ws. ws ++ map (λ u. Truncate u) truncs) h.writes ∙ ap (λ ts. map change_of (writes_in file.moment file.cut) ++ map cut_off ts) z.so.tells.truncates in
-      let rise : Rise 0 (own t.actor (before run t) ++ t ∷ split.rest) = subst (Rise 0) split.is (own_rise t.actor 0 (told run) (beside_rise 0 (phased 0 run.script.phases) run.lines)) in
-      let behind : AllBehind t.place split.rest = rise_behind t.place (t.place + 1) split.rest (omega arith) (rise_rest 0 (own t.actor (before run t)) t split.rest rise) in
-      let shown : Shown l.line.shown.new split.rest = steps First sound_first l.number right.history right.calls.blocks (whole_history run First end fits sound_first right) (l.line.part.earlier ++ l.line.part.mine) l.line.part.e.kept l.line.shown.new l.line.shown.new_writer split.rest on.more in
-      let upto : List Event = l.line.part.earlier ++ z.upto in
-      let then_lawful : IsLawful file.moment.state z.rest = subst (λ (x : Moment). IsLawful x.state z.rest) (sym z.moment) (legal_rest First upto z.rest (subst (IsLawful start) z.split right.leads.lawful)) in
-      let then_sound : IsSoundAt file.moment = subst IsSoundAt (sym z.moment) (sound_after First upto (legal_first First upto z.rest (subst (IsLawful start) z.split right.leads.lawful)) sound_first) in
-      let ends : moment_after First right.history ≡ moment_after file.moment z.rest = ap (moment_after First) z.split ∙ moment-append First upto z.rest ∙ ap (λ (x : Moment). moment_after x z.rest) (sym z.moment) in
-      let above_all : (u : Trunc) → IsItem (item_of u) → Has run.after (homes_of t) (item_of u) → IsAmong u truncs ⊎ (All (IsBelow u.stamp) (writes_of h.seen) × All (λ (v : Trunc). v.stamp < u.stamp) truncs) = λ u is_item has.
-      (let last : HadTrunc (moment_after First right.history) (homes_of t) u.stamp u.size = record {
+  -- what was listed behind these events, and what stands in the end
+  above_all : (t : Told) (file : OneFile) (upto rest : List Event) (begun : Moment) → right.history ≡ upto ++ rest → file.moment ≡ moment_after First upto → homes_of t ≡ file.room → HasView begun file.moment file.room file.cut file.truncs → (u : Trunc) → IsItem (item_of u) → Has run.after (homes_of t) (item_of u)
+      → IsAmong u file.truncs ⊎ (All (IsBelow u.stamp) (map change_of (writes_in file.moment file.cut)) × All (λ (v : Trunc). v.stamp < u.stamp) file.truncs)
+  above_all t file upto rest begun is moment room view u is_item has = later_above begun file.moment rest file.room file.cut file.truncs u lawful_then sound_then view (subst (λ x. HadTrunc x file.room u.stamp u.size) ends (subst (λ k. HadTrunc (moment_after First right.history) k u.stamp u.size) room last))
+    where
+      lawful_all : IsLawful start (upto ++ rest)
+      lawful_all = subst (IsLawful start) is right.leads.lawful
+
+      lawful_then : IsLawful file.moment.state rest
+      lawful_then = subst (λ (x : Moment). IsLawful x.state rest) (sym moment) (legal_rest First upto rest lawful_all)
+
+      sound_then : IsSoundAt file.moment
+      sound_then = subst IsSoundAt (sym moment) (sound_after First upto (legal_first First upto rest lawful_all) sound_first)
+
+      ends : moment_after First right.history ≡ moment_after file.moment rest
+      ends = ap (moment_after First) is ∙ moment-append First upto rest ∙ ap (λ (x : Moment). moment_after x rest) (sym moment)
+
+      last : HadTrunc (moment_after First right.history) (homes_of t) u.stamp u.size
+      last = record {
         is_item = is_item;
         bytes = has.0;
         there = ap (λ o. file_told o (homes_of t) (path_of (item_of u))) (last_tree run First end fits sound_first right left) ∙ sym (file_of run.after (homes_of t) (item_of u)) ∙ has.1;
-      } in
-      let had : HadTrunc (moment_after file.moment z.rest) file.room u.stamp u.size = subst (λ x. HadTrunc x file.room u.stamp u.size) ends (subst (λ k. HadTrunc (moment_after First right.history) k u.stamp u.size) z.in_room last) in
-      subst (λ ts. IsAmong u ts ⊎ (All (IsBelow u.stamp) (writes_of h.seen) × All (λ (v : Trunc). v.stamp < u.stamp) ts)) (sym z.so.tells.truncates)
-      (subst (λ ws. IsAmong u file.truncs ⊎ (All (IsBelow u.stamp) ws × All (λ (v : Trunc). v.stamp < u.stamp) file.truncs)) (sym h.writes)
-      (later_above _ file.moment z.rest file.room file.cut file.truncs u then_lawful then_sound z.so.sees.view had))) in
-      let says_of : (s : Told) → IsLine run s → reader_at run s ≡ Some t → SaysOf file s = λ s is_line reader.
-      (let other = own_split run s (among (told run) s is_line) in
-      let both : own t.actor (before run t) ++ t ∷ split.rest ≡ own s.actor (before run s) ++ s ∷ other.rest = sym split.is ∙ ap (λ n. own n (told run)) (reader_actor run s t reader) ∙ other.is in
-      let b = stands_behind t size cut truncs says.says 0 (own t.actor (before run t)) split.rest (own s.actor (before run s)) s other.rest None rise both (λ is. no_reader t is) reader in
-      later t file split.rest l.line.shown.new (Some t) behind shown (λ of_it f e. same_file file f (sym z.so.has ∙ e)) b.pre s other.rest b.is b.after) in
-      record {
-        seen = h.seen;
-        known = All-from_recursion _ h.seen h.known;
-        cut_is = z.so.tells.counts ∙ h.counts;
-        size_is = z.so.tells.size_is ∙ ap (λ c. plain_size c) (sym changes);
-        answers = λ s is_line reader. subst (λ c. Answers (plain c) s.statement s.outcome) (sym changes) (says_of s is_line reader).0;
-        later = λ u is_item has. above_all u is_item has;
-        maps = λ s text is_line reader mapped. of_map (changes_of h.seen truncs) s text mapped is_line file (subst (λ c. (pieces : List Piece) → ArePiecesSeen file pieces → ArePiecesOf c pieces) (sym changes) (pieces_of file)) (says_of s is_line reader).2;
       }
+
+  -- a map of the file
+  of_map : (changes : List Change) (s : Told) (text : List Entry) → s.outcome ≡ line.Map text → IsLine run s → (file : OneFile) → ((pieces : List Piece) → ArePiecesSeen file pieces → ArePiecesOf changes pieces) → MapsSo file s.statement s.outcome → (pieces : List Piece) × ArePiecesOf changes pieces × (text ≡ map entry_of pieces)
+  of_map changes s text mapped is_line file are so = from (subst (λ o. MapsSo file Map o) mapped (subst (λ x. MapsSo file x s.outcome) (asked (line_here run First end fits sound_first right s is_line)) so))
     where
-      no_reader : (t : Told) → None ≡ Some t → ⊥
-      no_reader t is = cc
+      asked : AnyLine run First end fits sound_first right (reader_at run s) (writing_at run s) s → s.statement ≡ Map
+      asked l = was_map l.line.kept s.statement l.line.part.e text (sym l.line.says ∙ mapped) l.line.part.ended
 
-      same_file : (f g : OneFile) → Some f ≡ Some g → f ≡ g
-      same_file f g is = cc
+      from : MapsSo file Map (line.Map text) → (pieces : List Piece) × ArePiecesOf changes pieces × (text ≡ map entry_of pieces)
+      from shows = (shows.0, are shows.0 shows.1, shows.2)
 
-      pieces_of : (file : OneFile) (pieces : List Piece) → ArePiecesSeen file pieces → ArePiecesOf (changes_in file.moment file.cut file.truncs) pieces
-      pieces_of file pieces are =
-          subst (λ es. ArePieces es (truncs_of (changes_in file.moment file.cut file.truncs)) pieces) (sym (entries_of-changes (writes_in file.moment file.cut) file.truncs))
-          (subst (λ ts. ArePieces (entries_in (writes_in file.moment file.cut)) ts pieces) (sym (truncs_of-changes (writes_in file.moment file.cut) file.truncs)) are)
+  pieces_of : (file : OneFile) (pieces : List Piece) → ArePiecesSeen file pieces → ArePiecesOf (changes_in file.moment file.cut file.truncs) pieces
+  pieces_of file pieces are =
+      subst (λ es. ArePieces es (truncs_of (changes_in file.moment file.cut file.truncs)) pieces) (sym (entries_of-changes (writes_in file.moment file.cut) file.truncs))
+      (subst (λ ts. ArePieces (entries_in (writes_in file.moment file.cut)) ts pieces) (sym (truncs_of-changes (writes_in file.moment file.cut) file.truncs)) are)
 
-      of_map : (c : List Change) (s : Told) (text : List Entry) → s.outcome ≡ line.Map text → IsLine run s → (file : OneFile) → ((pieces : List Piece) → ArePiecesSeen file pieces → ArePiecesOf c pieces) → MapsSo file s.statement s.outcome → (pieces : List Piece) × ArePiecesOf c pieces × (text ≡ map entry_of pieces)
-      of_map c s text mapped is_line file are so =
-          let l = line_here run First end fits sound_first right s is_line in
-          let asked : s.statement ≡ Map = was_map l.line.kept s.statement l.line.part.e text (sym l.line.says ∙ mapped) l.line.part.ended in
-          let shows = subst (λ o. MapsSo file Map o) mapped (subst (λ x. MapsSo file x s.outcome) asked so) in
-          (shows.0, are shows.0 shows.1, shows.2)
+  -- its counts, each between what is sure and what may be
+  cut_of : (t : Told) (size : ℕ) (cut : List WriterCount) (truncs : List Trunc) → Says run t (line.Reader size cut truncs) → (file : OneFile) → cut ≡ printed_cut file.cut → WritersRise file.room file.cut → (h : HasSeen run times mount start end fits mounted tells sound right left t file.moment file.cut)
+      → IsCut run (homes run times mount start end fits mounted tells sound right left) t h.seen
+  cut_of t size cut truncs says file counts rise h = record {
+    known = All-from_recursion Known_so h.seen (All-weaker (IsSeen run times mount start end fits mounted tells sound right left t) Known_so h.seen (λ s known. (known.0, known.2)) h.known);
+    rise = subst IdsRise (ap (λ c. map (λ (x : WriterCount). x.writer) c) h.counts ∙ seen_rise h.seen) (ids_rise file.room file.cut rise);
+    between = λ w is. (let b = counts_between run times mount start end fits mounted tells sound right left free t size cut truncs says w is in let same : count_of w.id h.seen ≡ counted_in w.id cut = seen_counted w.id h.seen ∙ ap (counted_in w.id) (sym (counts ∙ h.counts)) in (omega (arith, b.0, same), omega (arith, b.1, same)));
+  }
+    where
+      Known_so : Seen → Type 0
+      Known_so s = (1 ≤ s.count) × IsWriter run (homes run times mount start end fits mounted tells sound right left) (homes_of t) (before run t) (so_far run t) s.writer
+
+  -- a line that tells of this file, which its actor has from then on
+  of_file : (t : Told) (size : ℕ) (cut : List WriterCount) (truncs : List Trunc) (file : OneFile) (new : Option OneFile) (rest : List Told) → t.outcome ≡ line.Reader size cut truncs → new ≡ Some file → TellsOneFile size cut truncs file → (h : HasSeen run times mount start end fits mounted tells sound right left t file.moment file.cut) → Shown new rest
+      → own t.actor (told run) ≡ own t.actor (before run t) ++ t ∷ rest → IsCut run (homes run times mount start end fits mounted tells sound right left) t h.seen
+      → ((u : Trunc) → IsItem (item_of u) → Has run.after (homes_of t) (item_of u) → IsAmong u file.truncs ⊎ (All (IsBelow u.stamp) (map change_of (writes_in file.moment file.cut)) × All (λ (v : Trunc). v.stamp < u.stamp) file.truncs))
+      → ShowsContents run (homes run times mount start end fits mounted tells sound right left) t size cut truncs
+  of_file t size cut truncs file new rest says has so h more split may_see above = record {
+    seen = h.seen;
+    may_see = may_see;
+    first = All-from_recursion (λ (s : Seen). s.count ≤ length s.writer.writes) h.seen (All-weaker (IsSeen run times mount start end fits mounted tells sound right left t) (λ (s : Seen). s.count ≤ length s.writer.writes) h.seen (λ s known. known.1) h.known);
+    cut_is = so.counts ∙ h.counts;
+    size_is = so.size_is ∙ ap (λ c. plain_size c) (sym changes);
+    answers = λ s is_line reader. subst (λ c. Answers (plain c) s.statement s.outcome) (sym changes) (says_of s is_line reader).0;
+    maps = λ s text is_line reader mapped. of_map (changes_of h.seen truncs) s text mapped is_line file (subst (λ c. (pieces : List Piece) → ArePiecesSeen file pieces → ArePiecesOf c pieces) (sym changes) (pieces_of file)) (says_of s is_line reader).2;
+    later = λ u is_item there. subst (λ ts. IsAmong u ts ⊎ (All (IsBelow u.stamp) (writes_of h.seen) × All (λ (v : Trunc). v.stamp < u.stamp) ts)) (sym so.truncates)
+        (subst (λ ws. IsAmong u file.truncs ⊎ (All (IsBelow u.stamp) ws × All (λ (v : Trunc). v.stamp < u.stamp) file.truncs)) (sym h.writes) (above u is_item there));
+  }
+    where
+      changes : changes_of h.seen truncs ≡ changes_in file.moment file.cut file.truncs
+      changes = ap (λ ws. ws ++ map (λ u. Truncate u) truncs) h.writes ∙ ap (λ ts. map change_of (writes_in file.moment file.cut) ++ map cut_off ts) so.truncates
+
+      rise : Rise 0 (own t.actor (before run t) ++ t ∷ rest)
+      rise = subst (Rise 0) split (own_rise t.actor 0 (told run) (beside_rise 0 (phased 0 run.script.phases) run.lines))
+
+      behind : AllBehind t.place rest
+      behind = rise_behind t.place (t.place + 1) rest (omega arith) (rise_rest 0 (own t.actor (before run t)) t rest rise)
+
+      no_reader : None ≡ Some t → ⊥
+      no_reader is = cc
+
+      same_file : (f : OneFile) → new ≡ Some f → file ≡ f
+      same_file f is = let same : Some file ≡ Some f = sym has ∙ is in cc
+
+      by_place : (s : Told) (post : List Told) → StandsBehind t s rest post → SaysOf file s
+      by_place s post b = later t file rest new (Some t) behind more (λ of_it f e. same_file f e) b.pre s post b.is b.after
+
+      by_split : (s : Told) → reader_at run s ≡ Some t → Split run s (told run) → SaysOf file s
+      by_split s reader other = by_place s other.rest (stands_behind t size cut truncs says 0 (own t.actor (before run t)) rest (own s.actor (before run s)) s other.rest None rise (sym split ∙ ap (λ n. own n (told run)) (reader_actor run s t reader) ∙ other.is) no_reader reader)
+
+      says_of : (s : Told) → IsLine run s → reader_at run s ≡ Some t → SaysOf file s
+      says_of s is_line reader = by_split s reader (own_split run s (among (told run) s is_line))
+
+  -- that it does
+  of_line : (t : Told) (size : ℕ) (cut : List WriterCount) (truncs : List Trunc) (says : Says run t (line.Reader size cut truncs)) (l : AnyLine run First end fits sound_first right (reader_at run t) (writing_at run t) t) (rest : List Told) → Shown l.line.shown.new rest → own t.actor (told run) ≡ own t.actor (before run t) ++ t ∷ rest
+      → ReaderLine run First end fits sound_first right l size cut truncs → ShowsContents run (homes run times mount start end fits mounted tells sound right left) t size cut truncs
+  of_line t size cut truncs says l rest more split z =
+      of_file t size cut truncs z.so.file l.line.shown.new rest says.says z.so.has z.so.tells seen_so more split (cut_of t size cut truncs says z.so.file z.so.tells.counts z.so.sees.view.rise seen_so)
+      (above_all t z.so.file (l.line.part.earlier ++ z.upto) z.rest _ z.split z.moment z.in_room z.so.sees.view)
+    where
+      seen_so : HasSeen run times mount start end fits mounted tells sound right left t z.so.file.moment z.so.file.cut
+      seen_so = all_seen run times mount start end fits mounted tells sound right left t z.so.file.moment (l.line.part.earlier ++ z.upto) z.rest z.split z.moment _ z.so.file.cut (subst (λ k. WritersRise k z.so.file.cut) (sym z.in_room) z.so.sees.view.rise) z.so.sees.view.admissible
+
+  contents_shown : (t : Told) (size : ℕ) (cut : List WriterCount) (truncs : List Trunc) → Says run t (line.Reader size cut truncs) → ShowsContents run (homes run times mount start end fits mounted tells sound right left) t size cut truncs
+  contents_shown t size cut truncs says = from (line_on run First end fits sound_first right t says.is_line)
+    where
+      from : LineOn run First end fits sound_first right t (own_split run t (among (told run) t says.is_line)).rest → ShowsContents run (homes run times mount start end fits mounted tells sound right left) t size cut truncs
+      from on =
+          of_line t size cut truncs says on.its (own_split run t (among (told run) t says.is_line)).rest
+          (steps First sound_first on.its.number right.history right.calls.blocks (whole_history run First end fits sound_first right) (on.its.line.part.earlier ++ on.its.line.part.mine) on.its.line.part.e.kept on.its.line.shown.new on.its.line.shown.new_writer (own_split run t (among (told run) t says.is_line)).rest on.more)
+          (own_split run t (among (told run) t says.is_line)).is
+          (reader_line run First end fits sound_first right (reader_at run t) (writing_at run t) t on.its size cut truncs says.says)
 
   -- the law of this file
   pub contents : HasContents run (homes run times mount start end fits mounted tells sound right left)

@@ -1,13 +1,10 @@
 -- A reader's line counts of each writer the first writes that the lines tell, or that the tree before has.
-use Rattle.std.proofs.Common.{◌≡◌, ◌≤◌, ◌<◌, ◌^◌, ◌⊎◌, inl, inr, ℕ, zero, suc, Bool, true, false, nat_eq, List, [], ◌∷◌, ◌++◌, length, map, take, Option, Some, None, refl, sym, ap, ◌∙◌, subst, arith, append_assoc, length-append, if◌then◌else◌}
+use Rattle.std.proofs.Common.{◌≡◌, ◌≤◌, ◌<◌, ◌^◌, inl, inr, ℕ, zero, suc, Bool, true, false, nat_eq, List, [], ◌∷◌, ◌++◌, length, map, take, Option, Some, None, refl, sym, ap, ◌∙◌, subst, arith, append_assoc, length-append, if◌then◌else◌}
 use Rattle.std.specs.Prelude.{MatchOption, slice_get}
 use Rattle.std.specs.List.{AllByRecursion}
 use Rattle.std.proofs.lemmas.Bool.{cases_lt}
 use Rattle.std.proofs.lemmas.Bool.Decides.{nat_tests}
 use Rattle.std.proofs.lemmas.List.{append-nil, length-map, map-append, take-append-le}
-use Rattle.plfs_types.specs.declared.entries.Trunc.{Trunc}
-use Rattle.plfs_types.specs.declared.entries.WriterCount.{WriterCount}
-use Rattle.plain_file.specs.declared.changes.Change.{Change}
 use Rattle.container_layout.specs.declared.items.Item.TheVariants.{Index}
 use Rattle.container_layout.specs.Paths.{path_of}
 use Rattle.store_api.specs.Acts.{Stored}
@@ -24,14 +21,14 @@ use Rattle.mount_sound.specs.Items.{HasItem}
 use Rattle.mount_sound.specs.Ledger.{Written}
 use Rattle.mount_sound.specs.Sound.{IsSoundTree}
 use Rattle.mount_sound.proofs.Facts.{mounted_sound}
-use Rattle.gathering.specs.Gathering.{Gathered, IsAdmissible, IsPrefixOf}
+use Rattle.gathering.specs.Gathering.{Gathered, IsAdmissible}
 use Rattle.gathering.specs.Moments.{Dropping, IsSoundAt, Moment, file_in_room, issued_by, moment_after}
 use Rattle.gathering.specs.View.{WritersRise, change_of, writes_in}
 use Rattle.script_lang.specs.Ranges.{FitsScript}
 use Rattle.script_lang.specs.declared.line.Outcome.TheVariants as line
 use Rattle.run_core.specs.Play.{IsRight}
-use Rattle.play_laws.specs.OneFile.{OneFile, printed_cut}
-use Rattle.headline.specs.Run.{IsLine, Run, Says, Told, before, so_far, told}
+use Rattle.play_laws.specs.OneFile.{printed_cut}
+use Rattle.headline.specs.Run.{Run, Says, Told, before, so_far, told}
 use Rattle.headline.specs.Trees.{Has}
 use Rattle.headline.specs.Writers.{Writer, new_writer, old_writer}
 use Rattle.headline.specs.Names.{Story}
@@ -122,7 +119,7 @@ module _ (run : Run) (times : Option (List ℕ)) (mount : Stored) (start end : S
       let before_so = told_before run times mount start right.history end led d i.is_in i.bytes i.there i.has in
       let still = issued_still run times mount start right.history end led d i.is_in i.bytes i.there i.has in
       let has : Has run.before n (Index i.host id) = (i.bytes, file_of run.before n (Index i.host id) ∙ ap (λ o. file_in_room o (path_of (Index i.host id))) i.there ∙ i.has.there) in
-      record { writer = old_writer run.before n i.host id; its_id = refl; is_writer = stood has refl; writes = before_so.writes ∙ ap (map change_of) (sym still) }
+      record { writer = old_writer run.before n i.host id; its_id = refl; is_writer = stood i.has.is_item has refl; writes = before_so.writes ∙ ap (map change_of) (sym still) }
 
   -- ---- a writer that a line opened
 

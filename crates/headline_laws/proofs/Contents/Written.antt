@@ -1,14 +1,11 @@
 -- A write of the history that was answered is one of the writer that its actor has, in the container in which a line opened it.
 use Rattle.std.proofs.Common.{◌≡◌, ◌⊎◌, inl, inr, ℕ, Bool, true, false, nat_eq, List, [], ◌∷◌, ◌++◌, Option, Some, None, refl, sym, ap, ◌∙◌, subst, arith, append_assoc, if◌then◌else◌}
-use Rattle.std.specs.Prelude.{⊤}
 use Rattle.std.proofs.lemmas.Bool.Decides.{nat_tests}
 use Rattle.turn_object.specs.Callers.{made_by}
-use Rattle.mount_model.specs.declared.call.Ask.{Ask}
 use Rattle.mount_model.specs.declared.call.Call.{Call}
-use Rattle.mount_model.specs.declared.call.Call.TheVariants.{Exit, Write}
+use Rattle.mount_model.specs.declared.call.Call.TheVariants.{Exit}
 use Rattle.mount_model.specs.declared.reply.Reply.{Reply}
 use Rattle.mount_model.specs.declared.reply.Reply.TheVariants as reply
-use Rattle.mount_model.specs.declared.row.Row.{Row}
 use Rattle.mount_model.specs.History.{Event, state_after}
 use Rattle.mount_model.specs.State.{State}
 use Rattle.mount_model.specs.Step.{IsStep}
@@ -18,13 +15,12 @@ use Rattle.mount_sound.specs.Owed.{IsLawful}
 use Rattle.writer_flow.specs.declared.handle.WriterHandle.{WriterHandle}
 use Rattle.writer_laws.specs.Counting.{StaysIn, StaysInAt}
 use Rattle.writer_laws.proofs.Facts.{goes}
-use Rattle.gathering.specs.Moments.{Dropping, IsSoundAt, Moment, moment_after}
+use Rattle.gathering.specs.Moments.{IsSoundAt, Moment, moment_after}
 use Rattle.gathering.proofs.Facts.{follows, legal_first, legal_rest, moment-append}
 use Rattle.script_lang.specs.Ranges.{FitsScript}
 use Rattle.script_lang.specs.declared.script.Data.{Data}
 use Rattle.script_lang.specs.declared.script.Statement.{Statement}
 use Rattle.script_lang.specs.declared.script.Statement.TheVariants as say
-use Rattle.outcomes.specs.Data.{bytes_of}
 use Rattle.actor_core.specs.declared.kept.Kept.{Kept}
 use Rattle.actor_core.specs.Endings.{Ending}
 use Rattle.actor_core.specs.Statements.{work_of}

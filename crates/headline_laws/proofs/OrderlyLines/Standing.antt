@@ -90,7 +90,7 @@ is_stopped line.Stopped = true
 is_stopped other = false
 
 -- either the line tells of a stop, which was armed, and the actor is stopped, or it tells of none, and the actor goes on
-stopped_or : (stop : Option Stop) (o : Outcome) (gone : Bool) → StopsSo stop false o gone → ((o ≡ line.Stopped) × (stop ≢ None) × (gone ≡ true)) ⊎ ((is_stopped o ≡ false) × (gone ≡ false))
+pub stopped_or : (stop : Option Stop) (o : Outcome) (gone : Bool) → StopsSo stop false o gone → ((o ≡ line.Stopped) × (stop ≢ None) × (gone ≡ true)) ⊎ ((is_stopped o ≡ false) × (gone ≡ false))
 stopped_or stop line.Stopped gone stops = inl (refl, stops.0, stops.1)
 stopped_or stop line.Gone gone stops = absurd stops
 stopped_or stop o gone stops = inr (refl, stops)
@@ -105,7 +105,7 @@ armed_next : (o : Outcome) (armed : Option Stop) → ArmsSo None o armed → arm
 armed_next line.Armed armed arms some = refl
 armed_next o armed arms some = absurd (some arms)
 
-stand_next : (kept : Kept) (w : Writing) (r : Option Told) (last : Option Outcome) (t : Told) (e : Ending) → t.outcome ≡ e.outcome → is_stopped e.outcome ≡ false → Did kept.armed false None kept.writer kept.reader t.statement e → Stands kept w r last
+pub stand_next : (kept : Kept) (w : Writing) (r : Option Told) (last : Option Outcome) (t : Told) (e : Ending) → t.outcome ≡ e.outcome → is_stopped e.outcome ≡ false → Did kept.armed false None kept.writer kept.reader t.statement e → Stands kept w r last
     → Stands e.kept (writing_next w t.statement t.outcome) (reader_next r t t.outcome) (Some t.outcome)
 stand_next kept w r last t e is goes d stands =
     subst (λ o. Stands e.kept (writing_next w t.statement o) (reader_next r t o) (Some o)) (sym is) (record {

@@ -1,5 +1,5 @@
 -- The numbers of syncs and closes, by the law that they count the lines of writes.
-use Rattle.std.proofs.Common.{◌≡◌, ◌⊎◌, ◌+◌, ◌-◌, ◌==◌, inl, inr, ℕ, Bool, true, false, nat_eq, nat_le, List, [], ◌∷◌, ◌++◌, length, filter, Some, refl, sym, ap, ◌∙◌, subst, arith, if◌then◌else◌, slice_get}
+use Rattle.std.proofs.Common.{◌≡◌, ◌⊎◌, ◌+◌, ◌-◌, ◌==◌, inl, inr, ℕ, Bool, true, false, nat_eq, nat_le, List, [], ◌∷◌, ◌++◌, length, filter, Some, None, refl, sym, ap, ◌∙◌, subst, arith, if◌then◌else◌, slice_get}
 use Rattle.std.specs.List.{AllByRecursion}
 use Rattle.std.proofs.lemmas.Bool.Decides.{nat_tests}
 use Rattle.script_lang.specs.declared.line.Line.{Line}
@@ -51,19 +51,17 @@ line_same id cap a (Write at content) (line.Opened other) is = absurd is
 line_same id cap a (Write at content) (line.Wrote place len (Some stamp)) is = absurd is
 line_same id cap a (Write at content) (line.Refused TooFar) is = room_same cap a
 line_same id cap a (Write at content) (line.Refused StampsSpent) is = room_same cap a
-line_same id cap a (Write at content) line.Fault is = record { latest = refl; writes = refl }
-line_same id cap a (Write at content) line.Stopped is = record { latest = refl; writes = refl }
-line_same id cap a (Write at content) o is = itself a
+line_same id cap a (Write at content) (line.Wrote place len None) is = itself a
+line_same id cap a (Write at content) line.Gone is = itself a
+line_same id cap a (Write at content) o is = record { latest = refl; writes = refl }
 line_same id cap a Sync (line.Synced count) is = record { latest = refl; writes = refl }
 line_same id cap a Sync (line.Closed count) is = record { latest = refl; writes = refl }
-line_same id cap a Sync line.Fault is = record { latest = refl; writes = refl }
-line_same id cap a Sync line.Stopped is = record { latest = refl; writes = refl }
-line_same id cap a Sync o is = itself a
+line_same id cap a Sync line.Gone is = itself a
+line_same id cap a Sync o is = record { latest = refl; writes = refl }
 line_same id cap a Close (line.Synced count) is = record { latest = refl; writes = refl }
 line_same id cap a Close (line.Closed count) is = record { latest = refl; writes = refl }
-line_same id cap a Close line.Fault is = record { latest = refl; writes = refl }
-line_same id cap a Close line.Stopped is = record { latest = refl; writes = refl }
-line_same id cap a Close o is = itself a
+line_same id cap a Close line.Gone is = itself a
+line_same id cap a Close o is = record { latest = refl; writes = refl }
 line_same id cap a s o is = itself a
 
 pub told_same : (id cap : ℕ) (a : Account) (s : Statement) (o : Outcome) → IsOther o → Same (told_of id cap a s o) a

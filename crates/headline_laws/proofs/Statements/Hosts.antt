@@ -1,4 +1,4 @@
--- An actor keeps its host.
+-- An actor keeps its host, and the capacity of its buffers.
 use Rattle.std.proofs.Common.{◌≡◌, inl, inr, ℕ, List, [], Option, Some, None, refl, subst, length}
 use Rattle.std.specs.Prelude.{⊤, Result, Ok, Err, ◌==◌}
 use Rattle.mount_model.specs.History.{Event}
@@ -44,8 +44,11 @@ use Rattle.actor_core.specs.Writers.{closes, opens, syncs, writes, writes_bytes}
 use Rattle.headline_laws.proofs.Statements.Ends.{EndsAs, any_result, carried_ends, either}
 use Rattle.headline_laws.proofs.Story.Parts.{Comes}
 
+abbrev pub declared_of : Kept → ℕ × ℕ
+declared_of kept = (kept.host, kept.cap)
+
 abbrev pub SameHost : Kept → Ending → Type 0
-SameHost kept e = e.kept.host ≡ kept.host
+SameHost kept e = declared_of e.kept ≡ declared_of kept
 
 -- of a program with one end behind it
 module _ (kept : Kept) (stop : Option Stop) where
@@ -141,7 +144,7 @@ module _ (kept : Kept) (stop : Option Stop) where
 greeted_host : (kept : Kept) (s : Statement) → EndsAs (SameHost kept) (greeted_work kept s)
 greeted_host kept s = either (SameHost kept) kept.gone (finishes (gone kept)) (does (disarmed kept) kept.armed s) (λ is. refl) (λ lives. does_host (disarmed kept) kept.armed s)
 
--- each statement leaves its actor its host
+-- each statement leaves its actor both
 pub statement_host : (kept : Kept) (s : Statement) → EndsAs (SameHost kept) (work_of kept s)
 statement_host kept s = either (SameHost kept) kept.greeted (greeted_work kept s) _ (λ is. greeted_host kept s) (λ first reply. greeted_host (greeted kept) s)
 

@@ -22,7 +22,7 @@ use Rattle.run_core.specs.Cast.{statements_in}
 use Rattle.run_core.specs.Course.{course_of}
 use Rattle.run_core.specs.Play.{IsRight}
 use Rattle.run_core.specs.Written.{whose}
-use Rattle.headline.specs.Writers.{host_of}
+use Rattle.headline.specs.Writers.{cap_of, host_of}
 use Rattle.headline.specs.Run.{IsLine, Phased, Run, Told, before, own, phased, surely_before, told}
 use Rattle.plain_file.proofs.Facts.{Among}
 use Rattle.gathering.proofs.Facts.{among}
@@ -74,10 +74,12 @@ module _ (run : Run) (start end : State) (fits : FitsScript run.script) (right :
     pub number : ℕ
     pub kept : Kept
     pub host : kept.host ≡ host_of (slice_get run.script.actors actor)
+    pub cap : kept.cap ≡ cap_of (slice_get run.script.actors actor)
     pub is_role : (role : Role Ask Reply State) → slice_get right.calls.roles actor ≡ Some role → role.number ≡ number
-    -- it has no reader and no writer yet
+    -- it has no reader and no writer yet, and no stop is armed
     pub no_reader : kept.reader ≡ None
     pub no_writer : kept.writer ≡ None
+    pub no_stop : kept.armed ≡ None
     pub parts : ToldParts number right.history right.calls.blocks [] kept (own actor (told run))
 
   -- there is a line for each statement
@@ -102,9 +104,11 @@ module _ (run : Run) (start end : State) (fits : FitsScript run.script) (right :
         number = p.role.number;
         kept = kept;
         host = sym (ap host_of here);
+        cap = sym (ap cap_of here);
         is_role = λ role there. ap (λ (r : Role Ask Reply State). r.number) (same_Some role p.role (sym there ∙ p.there));
         no_reader = refl;
         no_writer = refl;
+        no_stop = refl;
         parts = own_parts p.role.number right.history blocks actor 0 [] ss run.lines kept as_many (subst (λ ns. HaveParts p.role.number right.history blocks [] kept (own_phased p.role.number right.history blocks actor ss) (told_at actor ns run.lines)) (sym (actors_whose 0 phases)) have);
       }
 

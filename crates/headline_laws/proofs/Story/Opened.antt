@@ -31,10 +31,10 @@ not_broken : (stop : Option Stop) → is_due stop ≡ false → due_bytes stop �
 not_broken None later = refl
 not_broken (Some stop) later = ap (λ b. if b then Some stop.bytes else None) later
 
-unbroken_ask : (call : Call) (stop : Option Stop) → is_due stop ≡ false → stoppable stop call ≡ unbroken call
+pub unbroken_ask : (call : Call) (stop : Option Stop) → is_due stop ≡ false → stoppable stop call ≡ unbroken call
 unbroken_ask call stop later = ap (λ (b : Option ℕ). record { call = call; stop = b }) (not_broken stop later)
 
-one_more : {R : Type 0} (n : ℕ) (call : Call) (k : Reply → Program Call Reply R) (before : List Event) (event : Event) (mine : List Event) (result : R) → made_by n before ≡ [] → event.caller ≡ n → event.ask ≡ unbroken call → Runs n (k event.reply) mine result
+pub one_more : {R : Type 0} (n : ℕ) (call : Call) (k : Reply → Program Call Reply R) (before : List Event) (event : Event) (mine : List Event) (result : R) → made_by n before ≡ [] → event.caller ≡ n → event.ask ≡ unbroken call → Runs n (k event.reply) mine result
     → Runs n (ask call k) (before ++ event ∷ mine) result
 one_more {R} n call k before event mine result none own asked runs =
     subst (λ (z : List Event). AreCallsOf (asking (ask call k)) z result) (sym (entries_both n before (event ∷ mine) ∙ ap (λ z. z ++ made_by n (event ∷ mine)) none)) (after_own n (unbroken call) (λ reply. asking (k reply)) event mine result own asked runs)
@@ -72,7 +72,7 @@ carried_came {R} n (ask call k) stop next halted mine spent e m =
 -- ---- an opening
 
 -- in these events the caller opened the writer of this id by a container's name, with its host and capacity
-pub record OpenRun (n : ℕ) (kept : Kept) (name : List ℕ) (id : ℕ) (mine : List Event) : Type 0 where
+pub record OpenRun (n : ℕ) (kept : Kept) (name : List ℕ) (id : ℕ) (mine : List Event) (e : Ending) : Type 0 where
   pub pre : List Event
   pub first : List Event
   pub rest : List Event
@@ -80,37 +80,40 @@ pub record OpenRun (n : ℕ) (kept : Kept) (name : List ℕ) (id : ℕ) (mine : 
   pub all : mine ≡ pre ++ (first ++ rest)
   pub runs : Runs n (open_program name kept.host kept.cap) first (Ok handle)
   pub is : handle.writer ≡ id
+  -- behind it no more is called, and the actor keeps the handle
+  pub over : rest ≡ []
+  pub keeps : e.kept.writer ≡ Some handle
 
 module _ (n : ℕ) (name : List ℕ) (id : ℕ) (spent : List (List Event)) (e : Ending) (says : e.outcome ≡ line.Opened id) where
   ends_not : (other : Ending) → (other.outcome ≡ line.Opened id → ⊥) → (mine : List Event) → Comes n (finishes other) mine spent e → ⊥
   ends_not other clash mine comes = clash (ap (λ (x : Ending). x.outcome) comes.2 ∙ says)
 
-  result_came : (kept : Kept) (mine first rest : List Event) (result : Result WriterHandle Stuck) → mine ≡ first ++ rest → Runs n (open_program name kept.host kept.cap) first result → Comes n (finishes (opened kept result)) rest spent e → OpenRun n kept name id mine
+  result_came : (kept : Kept) (mine first rest : List Event) (result : Result WriterHandle Stuck) → mine ≡ first ++ rest → Runs n (open_program name kept.host kept.cap) first result → Comes n (finishes (opened kept result)) rest spent e → OpenRun n kept name id mine e
   result_came kept mine first rest (Ok handle) all runs comes =
       let is : line.Opened handle.writer ≡ line.Opened id = ap (λ (x : Ending). x.outcome) comes.2 ∙ says in
-      record { pre = []; first = first; rest = rest; handle = handle; all = all; runs = runs; is = cc }
+      record { pre = []; first = first; rest = rest; handle = handle; all = all; runs = runs; is = cc; over = comes.0; keeps = sym (ap (λ (x : Ending). x.kept.writer) comes.2) }
   result_came kept mine first rest (Err stuck.Fault) all runs comes = absurd (ends_not (opened kept (Err stuck.Fault)) (λ is. cc) rest comes)
   result_came kept mine first rest (Err (stuck.Damaged folder file place)) all runs comes = absurd (ends_not (opened kept (Err (stuck.Damaged folder file place))) (λ is. cc) rest comes)
   result_came kept mine first rest (Err (stuck.Refused why)) all runs comes = absurd (ends_not (opened kept (Err (stuck.Refused why))) (λ is. cc) rest comes)
 
-  opens_came : (kept : Kept) (stop : Option Stop) (writer : Option WriterHandle) (mine : List Event) → Comes n (opens kept stop name writer) mine spent e → OpenRun n kept name id mine
+  opens_came : (kept : Kept) (stop : Option Stop) (writer : Option WriterHandle) (mine : List Event) → Comes n (opens kept stop name writer) mine spent e → OpenRun n kept name id mine e
   opens_came kept stop (Some handle) mine comes = absurd (ends_not _ (λ is. cc) mine comes)
   opens_came kept stop None mine comes =
-      elim (carried_came n (open_program name kept.host kept.cap) stop (λ left result. finishes (opened kept result)) (finishes (stopped kept)) mine spent e comes) as (λ _. OpenRun n kept name id mine) [
+      elim (carried_came n (open_program name kept.host kept.cap) stop (λ left result. finishes (opened kept result)) (finishes (stopped kept)) mine spent e comes) as (λ _. OpenRun n kept name id mine e) [
         | inl r ↦ result_came kept mine r.first r.rest r.result r.all r.runs r.on
         | inr (rest, halted) ↦ absurd (ends_not (stopped kept) (λ is. cc) rest halted)
       ]
 
-  greeted_came : (kept : Kept) (mine : List Event) → Comes n (greeted_work kept (Open name)) mine spent e → OpenRun n kept name id mine
+  greeted_came : (kept : Kept) (mine : List Event) → Comes n (greeted_work kept (Open name)) mine spent e → OpenRun n kept name id mine e
   greeted_came kept mine comes =
-      elim kept.gone as (λ b. Comes n (if b then finishes (gone kept) else does (disarmed kept) kept.armed (Open name)) mine spent e → OpenRun n kept name id mine) [
+      elim kept.gone as (λ b. Comes n (if b then finishes (gone kept) else does (disarmed kept) kept.armed (Open name)) mine spent e → OpenRun n kept name id mine e) [
         | true ↦ λ c. absurd (ends_not (gone kept) (λ is. cc) mine c)
-        | false ↦ λ c. (let r = opens_came (disarmed kept) kept.armed kept.writer mine c in record { pre = r.pre; first = r.first; rest = r.rest; handle = r.handle; all = r.all; runs = r.runs; is = r.is })
+        | false ↦ λ c. (let r = opens_came (disarmed kept) kept.armed kept.writer mine c in record { pre = r.pre; first = r.first; rest = r.rest; handle = r.handle; all = r.all; runs = r.runs; is = r.is; over = r.over; keeps = r.keeps })
       ] comes
 
-  pub opening_came : (kept : Kept) (mine : List Event) → Comes n (work_of kept (Open name)) mine spent e → OpenRun n kept name id mine
+  pub opening_came : (kept : Kept) (mine : List Event) → Comes n (work_of kept (Open name)) mine spent e → OpenRun n kept name id mine e
   opening_came kept mine comes =
-      elim kept.greeted as (λ b. Comes n (if b then greeted_work kept (Open name) else asks (unbroken Greet) (λ reply. greeted_work (greeted kept) (Open name))) mine spent e → OpenRun n kept name id mine) [
+      elim kept.greeted as (λ b. Comes n (if b then greeted_work kept (Open name) else asks (unbroken Greet) (λ reply. greeted_work (greeted kept) (Open name))) mine spent e → OpenRun n kept name id mine e) [
         | true ↦ λ c. greeted_came kept mine c
         | false ↦ λ m.
             let r = greeted_came (greeted kept) m.after m.goes_on in
@@ -122,5 +125,7 @@ module _ (n : ℕ) (name : List ℕ) (id : ℕ) (spent : List (List Event)) (e :
               all = m.all ∙ ap (λ z. m.before ++ m.call ∷ z) r.all ∙ sym (append_assoc m.before (m.call ∷ r.pre) (r.first ++ r.rest));
               runs = r.runs;
               is = r.is;
+              over = r.over;
+              keeps = r.keeps;
             }
       ] comes

@@ -68,7 +68,7 @@ module _ (m : Moment) (sound : IsSoundAt m) (n : ℕ) (history : List Event) (bl
   same_end : (a b : Ending) (more : List Ending) → a ∷ [] ≡ b ∷ more → b ≡ a
   same_end a b more is = cc
 
-  here_next : (earlier mine later : List Event) → history ≡ earlier ++ (mine ++ later) → Next m earlier (mine ++ later)
+  pub here_next : (earlier mine later : List Event) → history ≡ earlier ++ (mine ++ later) → Next m earlier (mine ++ later)
   here_next earlier mine later split = next_rest m [] earlier (mine ++ later) (next_is m [] history (earlier ++ (mine ++ later)) split whole)
 
   pub shown_each : (done : List Event) (kept : Kept) (file : Option OneFile) (writer : Option OneWriter) (ts : List Told) → AllFit ts → HasSo kept file writer done → ToldParts n history blocks done kept ts → ShownEach done kept file writer ts

@@ -1,13 +1,12 @@
 -- What a reader's line has of the tree before.
-use Rattle.std.proofs.Common.{◌≡◌, ◌≤◌, ◌+◌, inl, inr, ℕ, false, List, [], ◌∷◌, ◌++◌, length, get_or, Some, refl, sym, ap, ◌∙◌, subst, arith, append_assoc}
+use Rattle.std.proofs.Common.{◌≡◌, ◌≤◌, inl, inr, ℕ, List, [], ◌∷◌, ◌++◌, length, get_or, Some, refl, sym, ap, ◌∙◌, subst, arith, append_assoc}
 use Rattle.std.proofs.lemmas.List.{length-map}
 use Rattle.std.specs.Prelude.{Option, slice_get}
 use Rattle.std.specs.List.{Any}
 use Rattle.plfs_types.specs.declared.entries.Trunc.{Trunc}
 use Rattle.plfs_types.specs.declared.entries.WriterCount.{WriterCount}
-use Rattle.plfs_types.specs.declared.names.Path.{Path}
 use Rattle.container_layout.specs.declared.items.Item.{Item}
-use Rattle.container_layout.specs.declared.items.Item.TheVariants.{Index, Trunc as TruncItem}
+use Rattle.container_layout.specs.declared.items.Item.TheVariants.{Index}
 use Rattle.container_layout.specs.Items.{IsItem}
 use Rattle.container_layout.specs.Paths.{path_of}
 use Rattle.container_layout.proofs.Facts.{elsewhere}
@@ -20,7 +19,6 @@ use Rattle.mount_model.specs.Mounting.{IsMounted}
 use Rattle.mount_model.specs.Paths.{marks_folder}
 use Rattle.mount_model.specs.State.{State}
 use Rattle.mount_sound.specs.Items.{HasItem}
-use Rattle.mount_sound.specs.Ledger.{Written, entries_in}
 use Rattle.mount_sound.specs.Sound.{IsSoundTree}
 use Rattle.mount_sound.proofs.Facts.{mounted_sound}
 use Rattle.gathering.specs.Gathering.{Gathered, IsAdmissible}
@@ -39,8 +37,8 @@ use Rattle.headline.specs.Changes.{writing_at}
 use Rattle.headline.specs.Readers.{HasOld}
 use Rattle.headline_laws.proofs.OrderlyLines.Answering.{printed_there}
 use Rattle.headline_laws.proofs.Story.Lines.{container, line_here}
-use Rattle.headline_laws.proofs.Trees.Reading.{ReaderLine, grows_to, lawful_to, reader_line}
-use Rattle.headline_laws.proofs.Trees.Still.{Led, Tells, all_last, file_of, mounting_keeps, stood, told_before, written}
+use Rattle.headline_laws.proofs.Trees.Reading.{grows_to, lawful_to, reader_line}
+use Rattle.headline_laws.proofs.Trees.Still.{Led, all_last, file_of, mounting_keeps, told_before, written}
 
 module _ (run : Run) (times : Option (List ℕ)) (opened : Stored) (start end : State) (fits : FitsScript run.script) (mounted : IsMounted 0 times opened start) (told : opened.tree ≡ Some run.before) (sound : IsSoundTree run.before)
     (right : IsRight run.script start run.lines end) where
@@ -51,19 +49,19 @@ module _ (run : Run) (times : Option (List ℕ)) (opened : Stored) (start end : 
   sound_begin = mounted_sound 0 times opened start run.before mounted told sound
 
   -- a room of the tree before has the file
-  record IsThere (n : ℕ) (item : Item) : Type 0 where
+  pub record IsThere (n : ℕ) (item : Item) : Type 0 where
     pub bytes : List ℕ
     pub room : Room
     pub there : slice_get run.before.rooms n ≡ Some room
     pub has : file_at room (path_of item) ≡ Some bytes
 
-  is_there : (n : ℕ) (item : Item) → Has run.before n item → IsThere n item
+  pub is_there : (n : ℕ) (item : Item) → Has run.before n item → IsThere n item
   is_there n item (bytes, is) =
       let r = in_a_room (slice_get run.before.rooms n) (path_of item) bytes (sym (file_of run.before n item) ∙ is) in
       record { bytes = bytes; room = r.0; there = r.1; has = r.2 }
 
   -- the mount began with it
-  begins_with : (n : ℕ) (item : Item) → IsItem item → ((path_of item).folder ≡ marks_folder → ⊥) → Has run.before n item → HadItem Begin n item
+  pub begins_with : (n : ℕ) (item : Item) → IsItem item → ((path_of item).folder ≡ marks_folder → ⊥) → Has run.before n item → HadItem Begin n item
   begins_with n item is_item apart has =
       let f = is_there n item has in
       let m = mounting_keeps times opened start run.before n (path_of item) f.bytes mounted told apart (f.room, f.there, f.has) in
@@ -92,7 +90,7 @@ module _ (run : Run) (times : Option (List ℕ)) (opened : Stored) (start end : 
 
   module _ (d : Dropping) (room : Room) (bytes : List ℕ) (there : slice_get run.before.rooms d.room ≡ Some room) (has : HasItem room (Index d.host d.writer) bytes) where
     -- as many have landed at each moment as were issued before the mount
-    landed_then : (es rest : List Event) → right.history ≡ es ++ rest → landed (moment_after Begin es) d ≡ length (sound.issued d.room d.writer)
+    pub landed_then : (es rest : List Event) → right.history ≡ es ++ rest → landed (moment_after Begin es) d ≡ length (sound.issued d.room d.writer)
     unfolding led_to
     landed_then es rest is =
         let s = sound_after Begin es (lawful_to run Begin end fits sound_begin right es rest is) sound_begin in
@@ -100,7 +98,7 @@ module _ (run : Run) (times : Option (List ℕ)) (opened : Stored) (start end : 
         ap length (all_last (run_to s.shape.tree) times opened start es (state_after start es) (led_to es rest is s.shape.tree tells) d room bytes there has) ∙ length-entries (sound.issued d.room d.writer)
 
     -- which the tree before tells
-    told_landed : length (landed_writes run.before d.room d.host d.writer) ≡ length (sound.issued d.room d.writer)
+    pub told_landed : length (landed_writes run.before d.room d.host d.writer) ≡ length (sound.issued d.room d.writer)
     unfolding led_to
     told_landed =
         let tells : (state_after start []).store.tree ≡ Some sound_begin.shape.tree = sound_begin.shape.told in

@@ -1,5 +1,5 @@
 -- What a reader's line shows of that which was told before.
-use Rattle.std.proofs.Common.{◌≡◌, ◌≤◌, ◌<◌, ◌⊎◌, inl, inr, ℕ, Bool, true, false, nat_eq, List, [], ◌∷◌, ◌++◌, length, map, Option, Some, None, refl, sym, ap, ◌∙◌, subst, arith, append_assoc, length-append, if◌then◌else◌}
+use Rattle.std.proofs.Common.{◌≡◌, ◌≤◌, ◌<◌, ◌+◌, ◌⊎◌, inl, inr, ℕ, Bool, true, false, nat_eq, List, [], ◌∷◌, ◌++◌, length, map, Option, Some, None, refl, sym, ap, ◌∙◌, subst, arith, append_assoc, length-append, if◌then◌else◌}
 use Rattle.std.specs.List.{All, AllByRecursion, Any}
 use Rattle.std.proofs.lemmas.Bool.Decides.{nat_tests}
 use Rattle.std.proofs.lemmas.List.{append-nil}
@@ -193,7 +193,7 @@ later_ids id (g ∷ cut) all = by_count (nat_eq g.count 0) (later_ids id cut all
     by_count true rest = rest
     by_count false rest = (all.0, rest)
 
-ids_rise : (room : ℕ) (cut : List Gathered) → WritersRise room cut → IdsRise (map (λ (c : WriterCount). c.writer) (printed_cut cut))
+pub ids_rise : (room : ℕ) (cut : List Gathered) → WritersRise room cut → IdsRise (map (λ (c : WriterCount). c.writer) (printed_cut cut))
 ids_rise room [] rise = tt
 ids_rise room (g ∷ cut) rise = by_count (nat_eq g.count 0) (ids_rise room cut rise.2)
   where
@@ -247,6 +247,7 @@ module _ (run : Run) (m : Moment) (end : State) (fits : FitsScript run.script) (
     pub moment : so.file.moment ≡ moment_after m (l.line.part.earlier ++ upto)
     pub begun : List Event
     pub upto_is : upto ≡ so.earlier ++ begun
+    pub within : length (l.line.part.earlier ++ upto) ≤ length l.line.part.earlier + length l.line.part.mine
 
   pub reader_line : (r : Option Told) (w : Writing) (t : Told) (l : ItsLine r w t) (size : ℕ) (cut : List WriterCount) (truncs : List Trunc) → t.outcome ≡ line.Reader size cut truncs → ReaderLine l size cut truncs
   reader_line r w t l size cut truncs says =
@@ -266,6 +267,7 @@ module _ (run : Run) (m : Moment) (end : State) (fits : FitsScript run.script) (
         moment = z.sees.until;
         begun = z.first ∷ z.sees.more;
         upto_is = refl;
+        within = (let long = length-append p.earlier till in let all = ap length h.split ∙ length-append h.front h.rest in let its = ap length front ∙ length-append till (z.sees.listing ∷ z.sees.later) in omega (arith, long, all, its));
       }
 
   -- what was so in a part that ended before the line's began

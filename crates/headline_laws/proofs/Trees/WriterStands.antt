@@ -103,7 +103,7 @@ open_of : (s : Statement) (id : ℕ) → IsOfKindOr s (line.Opened id) → (name
 open_of (Open name) id kind = (name, refl)
 open_of s id kind = absurd kind
 
-was_open : (kept : Kept) (s : Statement) (e : Ending) (id : ℕ) → e.outcome ≡ line.Opened id → Ended kept s e → (name : List ℕ) × (s ≡ Open name)
+pub was_open : (kept : Kept) (s : Statement) (e : Ending) (id : ℕ) → e.outcome ≡ line.Opened id → Ended kept s e → (name : List ℕ) × (s ≡ Open name)
 was_open kept s e id says (was_gone is out now) = absurd (let clash : line.Gone ≡ line.Opened id = sym out ∙ says in cc)
 was_open kept s e id says (did lives d) = open_of s id (subst (IsOfKindOr s) says d.kind)
 
@@ -111,7 +111,7 @@ part_host : (n : ℕ) (history : List Event) (blocks : List (List Event)) (ts : 
 unfolding part_at
 part_host n history blocks [] t rest done kept parts = refl
 part_host n history blocks (s ∷ ts) t rest done kept (p, says, from, more) =
-    part_host n history blocks ts t rest _ p.e.kept more ∙ comes_so n (SameHost kept) (work_of kept s.statement) p.mine p.spent p.e (statement_host kept s.statement) p.comes
+    part_host n history blocks ts t rest _ p.e.kept more ∙ ap (λ (x : ℕ × ℕ). x.0) (comes_so n (SameHost kept) (work_of kept s.statement) p.mine p.spent p.e (statement_host kept s.statement) p.comes)
 
 -- it stands in the container that it entered, under its actor's host
 pub record LineStands (run : Run) (m : Moment) (history : List Event) (t : Told) (id : ℕ) : Type 0 where

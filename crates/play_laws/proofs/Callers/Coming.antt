@@ -287,7 +287,7 @@ with_others n as_line next work part workers lines left Good Better c better e =
 
 -- ---- calls that are on no writer
 
-not_on : (call : Call) (writer : ℕ) → IsOnNoWriter call → IsOn writer call → ⊥
+pub not_on : (call : Call) (writer : ℕ) → IsOnNoWriter call → IsOn writer call → ⊥
 not_on (Floor id) writer none on = absurd none
 not_on (MakeHostdir id) writer none on = absurd none
 not_on (MakeIndex id) writer none on = absurd none
@@ -327,7 +327,7 @@ lets_none n writer events none = none_own n (λ (e : Event). LeavesAlone writer 
 pub lets_one : (n writer : ℕ) (event : Event) → LeavesAlone writer event.ask → LetsBe n writer (event ∷ [])
 lets_one n writer event leaves = All-cons (λ (e : Event). e.caller ≡ n → LeavesAlone writer e.ask) event [] (λ own. leaves) (All-nil (λ (e : Event). e.caller ≡ n → LeavesAlone writer e.ask))
 
-over_gone : (n : ℕ) (good : Ending → Type 0) (work : Work) (mine : List Event) (spent : List (List Event)) (ending : Ending) → IsOver good work → ComesTo n work mine spent ending → ending.kept.gone ≡ true
+pub over_gone : (n : ℕ) (good : Ending → Type 0) (work : Work) (mine : List Event) (spent : List (List Event)) (ending : Ending) → IsOver good work → ComesTo n work mine spent ending → ending.kept.gone ≡ true
 over_gone n good ends mine spent ending over comes = absurd over
 over_gone n good (pauses work) mine spent ending over comes = absurd over
 over_gone n good (tells end work) mine spent ending over comes = ap (λ (e : Ending). e.kept.gone) (sym comes.2) ∙ over.0

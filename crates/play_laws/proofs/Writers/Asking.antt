@@ -8,6 +8,7 @@ use Rattle.story.specs.Process.{asks}
 use Rattle.mount_model.specs.Paths.{Name}
 use Rattle.mount_model.specs.declared.call.Call.{Call}
 use Rattle.mount_model.specs.declared.call.Call.TheVariants.{Greet, MakeContainer, Mark, Move, Write}
+use Rattle.mount_model.proofs.Facts.{IsOnNoWriter}
 use Rattle.mount_model.specs.declared.reply.Reply.{Reply}
 use Rattle.mount_model.specs.declared.reply.Reply.TheVariants as reply
 use Rattle.script_lang.specs.declared.script.Data.{Data}
@@ -31,7 +32,7 @@ use Rattle.actor_core.specs.Stopping.{carried}
 use Rattle.actor_core.specs.Work.{Work, finishes}
 use Rattle.actor_core.specs.Writers.{closes, opens, syncs, writes as writes_statement, writes_bytes}
 use Rattle.play_laws.proofs.Callers.Coming.{GoesSo, IsQuiet, carried_goes, goes_weaker}
-use Rattle.play_laws.proofs.Writers.Spared.{GoesQuietly, LeavesWriter, closes_spare, flattens_spare, lists_spare, looks_spare, maps_spare, opens_spare, reads_spare, recovers_spare, refreshes_spare, verifies_spare}
+use Rattle.play_laws.proofs.Writers.Spared.{GoesQuietly, LeavesWriter, SparesWriter, closes_spare, flattens_spare, lists_spare, looks_spare, maps_spare, opens_spare, quietly, reads_spare, recovers_spare, refreshes_spare, renames_spare, truncates_spare, verifies_spare}
 use Rattle.play_laws.proofs.Writers.Sparing.{rename_asks, truncate_asks}
 
 -- it is the write that the statement says, by the writer that the actor keeps
@@ -237,4 +238,68 @@ pub statement_asks : (kept : Kept) (s : Statement) → MayAsks kept s (work_of k
 statement_asks kept s = elim kept.greeted as (λ b. MayAsks kept s (if b then greeted_work kept s else asks (unbroken Greet) (λ reply. greeted_work (greeted kept) s))) [
   | true ↦ greeted_goes kept kept refl s
   | false ↦ (tt, λ r. greeted_goes kept (greeted kept) refl s)
+]
+
+-- ---- statements on no writer
+
+abbrev pub HasWriter : Option WriterHandle → Type 0
+HasWriter None = ⊥
+HasWriter (Some handle) = ⊤
+
+-- it is none of a writer, or refused since its actor has one
+abbrev pub IsSparing : Option WriterHandle → Statement → Type 0
+IsSparing writer (say.Open name) = HasWriter writer
+IsSparing writer (say.Write at content) = ⊥
+IsSparing writer say.Sync = ⊥
+IsSparing writer say.Close = ⊥
+IsSparing writer s = ⊤
+
+-- its actor keeps this writer
+abbrev pub KeepsIts : Option WriterHandle → Ending → Type 0
+KeepsIts writer e = e.kept.writer ≡ writer
+
+module _ (left : Kept) (alive : left.gone ≡ false) (stop : Option Stop) where
+  abbrev OnNone : Work → Type 0
+  OnNone work = GoesSo IsOnNoWriter (KeepsIts left.writer) work
+
+  spares_any : (work : Work) → SparesWriter left work → OnNone work
+  spares_any work spares = goes_weaker IsOnNoWriter IsOnNoWriter (LeavesWriter left.writer) (KeepsIts left.writer) (λ call none. none) (λ e leaves. leaves.0) work spares
+
+  quiet_any : (work : Work) → GoesQuietly left work → OnNone work
+  quiet_any work goes = spares_any work (quietly left work goes)
+
+  opens_any : (name : Name) (writer : Option WriterHandle) → IsSparing writer (say.Open name) → OnNone (opens left stop name writer)
+  opens_any name None is = absurd is
+  opens_any name (Some handle) is = refl
+
+  does_spare : (s : Statement) → IsSparing left.writer s → OnNone (does left stop s)
+  does_spare (say.Open name) is = opens_any name left.writer is
+  does_spare (say.Write at content) is = absurd is
+  does_spare say.Sync is = absurd is
+  does_spare say.Close is = absurd is
+  does_spare (say.Ropen name workers) is = quiet_any (does left stop (say.Ropen name workers)) (opens_spare left alive stop name workers left.reader)
+  does_spare (say.Read at len) is = quiet_any (does left stop (say.Read at len)) (reads_spare left alive stop at len left.reader)
+  does_spare (say.Verify at content) is = quiet_any (does left stop (say.Verify at content)) (verifies_spare left alive stop at content left.reader)
+  does_spare say.Map is = quiet_any (does left stop say.Map) (maps_spare left alive left.reader)
+  does_spare say.Refresh is = quiet_any (does left stop say.Refresh) (refreshes_spare left alive stop left.reader)
+  does_spare say.Rclose is = quiet_any (does left stop say.Rclose) (closes_spare left alive left.reader)
+  does_spare (say.Stat name) is = quiet_any (does left stop (say.Stat name)) (looks_spare left alive stop name)
+  does_spare (say.Flatten name) is = quiet_any (does left stop (say.Flatten name)) (flattens_spare left alive stop name)
+  does_spare (say.Recover name) is = quiet_any (does left stop (say.Recover name)) (recovers_spare left alive stop name)
+  does_spare (say.Trunc name size) is = spares_any (does left stop (say.Trunc name size)) (truncates_spare left alive stop name size)
+  does_spare (say.Rename name to) is = spares_any (does left stop (say.Rename name to)) (renames_spare left alive stop name to)
+  does_spare say.Ls is = quiet_any (does left stop say.Ls) (lists_spare left alive stop)
+  does_spare (say.Stop call bytes) is = refl
+
+greeted_spares : (left : Kept) (s : Statement) → IsSparing left.writer s → GoesSo IsOnNoWriter (KeepsIts left.writer) (greeted_work left s)
+greeted_spares left s is = elim left.gone as (λ b. left.gone ≡ b → GoesSo IsOnNoWriter (KeepsIts left.writer) (if b then finishes (gone left) else does (disarmed left) left.armed s)) [
+  | true ↦ λ was. refl
+  | false ↦ λ alive. does_spare (disarmed left) alive left.armed s is
+] refl
+
+-- None of its calls is on a writer, and its actor keeps the one that it has.
+pub statement_spares : (kept : Kept) (s : Statement) → IsSparing kept.writer s → GoesSo IsOnNoWriter (KeepsIts kept.writer) (work_of kept s)
+statement_spares kept s is = elim kept.greeted as (λ b. GoesSo IsOnNoWriter (KeepsIts kept.writer) (if b then greeted_work kept s else asks (unbroken Greet) (λ reply. greeted_work (greeted kept) s))) [
+  | true ↦ greeted_spares kept s is
+  | false ↦ (tt, λ r. greeted_spares (greeted kept) s is)
 ]

@@ -27,6 +27,7 @@ use Rattle.plfs_program.specs.SoundTrees.{TellsSoundTree}
 use Rattle.plfs_program.specs.Ways.{Way, HasBegun, HasLines, IsBrokenOff, by_turns, on_threads}
 use Rattle.plfs_program.specs.Migrating.{HasBegunIt}
 use Rattle.plfs_program.specs.Packing.{HasBegunToPack}
+use Rattle.plfs_program.specs.SmallFiles.{Begins, Does, HasBegunToRead}
 use Rattle.plfs_program.proofs.Courses.Plain.{counted_on, orderly_on, plain_on, still_on, story_on}
 
 -- a mount was made, and its calls led to what is left
@@ -105,6 +106,9 @@ migration_leads name start end (inr m) = record { events = m.events; leads = rec
 -- so are greetings and looks
 pub looked_leads : (start end : State) → HasLooked start end → GoesOn start end
 looked_leads start end l = record { events = l.events; leads = record { lawful = l.made.lawful; ends = l.made.ends } }
+
+pub reading_leads : {R : Type 0} (Reads : Does R) (Broken : Begins) (start end : State) → HasBegunToRead Reads Broken start end → GoesOn start end
+reading_leads Reads Broken start end r = looked_leads start end r.looked
 
 -- so are the calls of a packing, to its end or not
 called_leads : (start end : State) → HasCalled start end → GoesOn start end

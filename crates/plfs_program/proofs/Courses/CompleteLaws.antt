@@ -27,7 +27,7 @@ use Rattle.plfs_program.specs.Output.{IsCutOff}
 use Rattle.plfs_program.specs.Packing.{PackCourse, PackEnd, PackInputCourse, packed_status, packed_text, printed as told_of_packing, cut_off as told_in_part, exhausted as broken_packing, faulty as faulty_input, packed as packed_input, starved as unpacked}
 use Rattle.plfs_program.specs.Playing.{IsPlayedAs, PlayCourse, printed, cut_off, exhausted}
 use Rattle.plfs_program.specs.Showing.{Shows, all_lines, is_reader, shows_of}
-use Rattle.plfs_program.specs.SmallFiles.{Claims, Does, ReadCourse, Told, told_status, told_text, printed as read_whole, cut_off as read_part, exhausted as unread_so}
+use Rattle.plfs_program.specs.SmallFiles.{Begins, Claims, Does, ReadCourse, Told, told_status, told_text, printed as read_whole, cut_off as read_part, exhausted as unread_so}
 use Rattle.plfs_program.specs.SoundTrees.{TellsSoundTree}
 use Rattle.plfs_program.specs.UnitTrees.{AskForUnits, TellsUnitsOf}
 use Rattle.plfs_program.specs.Ways.{Way, by_turns}
@@ -136,10 +136,10 @@ module _ (given after : Given) (e : Ends) (quiet : HadNoTrouble given after e) (
   migrate_done name status (told_part said m part is) = absurd (written (said_text said) e.taking refl refl part)
   migrate_done name status (untold left same is) = inr (inr is)
 
-  small_done : {R : Type 0} (name : Name) (Reads : Does R) (Holds : Claims R) (tells : Result R ScanStuck → Told) (status : ℕ) → IsLogicalName name → TellsUnitsOf e.stored name → ReadCourse name Reads Holds tells e status → IsDone status
-  small_done name Reads Holds tells status logical units (read_whole told t all is) = told_done told status (t.undamaged logical units) (λ bad. quiet.store t.after t.left (t.cause bad)) is
-  small_done name Reads Holds tells status logical units (read_part told t part is) = absurd (written (told_text told) e.taking refl refl part)
-  small_done name Reads Holds tells status logical units (unread_so left same is) = inr (inr is)
+  small_done : {R : Type 0} (name : Name) (Reads : Does R) (Broken : Begins) (Holds : Claims R) (tells : Result R ScanStuck → Told) (status : ℕ) → IsLogicalName name → TellsUnitsOf e.stored name → ReadCourse name Reads Broken Holds tells e status → IsDone status
+  small_done name Reads Broken Holds tells status logical units (read_whole told t all is) = told_done told status (t.undamaged logical units) (λ bad. quiet.store t.after t.left (t.cause bad)) is
+  small_done name Reads Broken Holds tells status logical units (read_part told t part is) = absurd (written (told_text told) e.taking refl refl part)
+  small_done name Reads Broken Holds tells status logical units (unread_so left same is) = inr (inr is)
 
   pack_done : (name : List ℕ) (region : ℕ) (files : List NamedFile) (status : ℕ) → IsLogicalName name → TellsUnitsOf e.stored name → PackCourse name region files e status → IsDone status
   pack_done name region files status logical units (told_of_packing ended p all is) = packed_done ended status (p.undamaged logical units) (λ bad. quiet.store p.after p.left (p.cause bad)) is
@@ -161,6 +161,6 @@ module _ (given after : Given) (e : Ends) (quiet : HadNoTrouble given after e) (
   course_done Serves words status units asked (packs_unread name region command risen untouched none is) = absurd (quiet.source risen)
   course_done Serves words status units asked (packs name region bytes command input course) =
       pack_input_done name region bytes status command.1 (units (Pack name region) name command refl) (λ fault. asked.packable name region bytes fault command input) course
-  course_done Serves words status units asked (unpacks name file command same u) = small_done _ _ _ _ status command.1 (units (Unpack name file) name command refl) u
-  course_done Serves words status units asked (names_all name command same n) = small_done _ _ _ _ status command.1 (units (Names name) name command refl) n
+  course_done Serves words status units asked (unpacks name file command same u) = small_done _ _ _ _ _ status command.1 (units (Unpack name file) name command refl) u
+  course_done Serves words status units asked (names_all name command same n) = small_done _ _ _ _ _ status command.1 (units (Names name) name command refl) n
   course_done Serves words status units asked (hungry untouched none is) = inr (inr is)

@@ -13,7 +13,6 @@ use Rattle.script_lang.specs.declared.line.Outcome.{Outcome}
 use Rattle.script_lang.specs.declared.script.Script.{Script}
 use Rattle.mount_model.specs.Paths.{Name}
 use Rattle.mount_model.specs.State.{State}
-use Rattle.pack_core.specs.Looking.{HasLooked}
 use Rattle.pack_files.specs.declared.scan.ScanStuck.{ScanStuck}
 use Rattle.pack_input.specs.declared.files.NamedFile.{NamedFile}
 use Rattle.pack_puts.specs.declared.packing.Packed.TheVariants.{All, Full}
@@ -30,13 +29,13 @@ use Rattle.plfs_program.specs.Outcomes.{has_line, is_damage, is_fault, is_refusa
 use Rattle.plfs_program.specs.Packing.{HasBegunToPack, IsEndOf, IsPackedAs, PackCourse, PackEnd, PackInputCourse, packed_status, printed as told_of_packing, cut_off as told_in_part, exhausted as broken_packing, faulty as faulty_input, packed as packed_input, starved as unpacked, unmounted as no_packing, mounted as packing}
 use Rattle.plfs_program.specs.Playing.{IsPlayedAs, IsStoreLeft, PlayCourse, printed, cut_off, exhausted}
 use Rattle.plfs_program.specs.Showing.{Shows, all_lines, behind_opening, is_reader, shows_of}
-use Rattle.plfs_program.specs.SmallFiles.{Claims, Does, IsToldAs, IsToldOf, ReadCourse, Told, told_status, printed as read_whole, cut_off as read_part, exhausted as unread_so, unmounted as none_mounted, mounted as on_its_mount}
+use Rattle.plfs_program.specs.SmallFiles.{Begins, Claims, Does, HasBegunToRead, IsToldAs, IsToldOf, ReadCourse, Told, told_status, printed as read_whole, cut_off as read_part, exhausted as unread_so, unmounted as none_mounted, mounted as on_its_mount}
 use Rattle.plfs_program.specs.SoundTrees.{TellsSoundTree, LeavesSoundTree}
 use Rattle.plfs_program.specs.UnitTrees.{AskForUnits, TellsUnitsOf}
 use Rattle.plfs_program.specs.Ways.{Way, HasBegun, by_turns}
 use Rattle.plfs_program.specs.declared.showing.Shown.{Shown}
 use Rattle.plfs_program.specs.declared.showing.Shown.TheVariants as shown
-use Rattle.plfs_program.proofs.Courses.Calls.{FailingLeavesSound, all_leave_sound, begun_leads, looked_leads, migration_leads, packing_leads, play_runs, went_runs}
+use Rattle.plfs_program.proofs.Courses.Calls.{FailingLeavesSound, all_leave_sound, begun_leads, looked_leads, migration_leads, packing_leads, play_runs, reading_leads, went_runs}
 
 -- ---- a sound tree is left
 
@@ -96,10 +95,10 @@ module _ (failing : FailingLeavesSound) where
   told_leaves : {R : Type 0} (name : Name) (Reads : Does R) (Holds : Claims R) (tells : Result R ScanStuck → Told) (t : Told) (e : Ends) → IsToldAs name Reads Holds tells t e → TellsSoundTree e.stored → LeavesSoundTree e.stored_after
   told_leaves name Reads Holds tells t e a told = lawful_so e a.after a.left (read_leaves Reads Holds tells e.times e.stored a.after t a.came) told
 
-  small_leaves : {R : Type 0} (name : Name) (Reads : Does R) (Holds : Claims R) (tells : Result R ScanStuck → Told) (e : Ends) (status : ℕ) → ReadCourse name Reads Holds tells e status → TellsSoundTree e.stored → LeavesSoundTree e.stored_after
-  small_leaves name Reads Holds tells e status (read_whole t a all is) told = told_leaves name Reads Holds tells t e a told
-  small_leaves name Reads Holds tells e status (read_part t a part is) told = told_leaves name Reads Holds tells t e a told
-  small_leaves name Reads Holds tells e status (unread_so left same is) told = left_so HasLooked looked_leads e left.after left.left left.lawful told
+  small_leaves : {R : Type 0} (name : Name) (Reads : Does R) (Broken : Begins) (Holds : Claims R) (tells : Result R ScanStuck → Told) (e : Ends) (status : ℕ) → ReadCourse name Reads Broken Holds tells e status → TellsSoundTree e.stored → LeavesSoundTree e.stored_after
+  small_leaves name Reads Broken Holds tells e status (read_whole t a all is) told = told_leaves name Reads Holds tells t e a told
+  small_leaves name Reads Broken Holds tells e status (read_part t a part is) told = told_leaves name Reads Holds tells t e a told
+  small_leaves name Reads Broken Holds tells e status (unread_so left same is) told = left_so (HasBegunToRead Reads Broken) (reading_leads Reads Broken) e left.after left.left left.lawful told
 
   end_leaves : (name : List ℕ) (region : ℕ) (files : List NamedFile) (times : Option (List ℕ)) (before after : Stored) (ended : PackEnd) → IsEndOf times before after name region files ended → Leaves GoesOn times before after
   end_leaves name region files times before after ended (no_packing trouble outcome failed told is) = broke_off trouble failed
@@ -132,8 +131,8 @@ module _ (failing : FailingLeavesSound) where
   course_leaves Serves words given after e status (migrates name command same m) told = migrate_leaves name e status m told
   course_leaves Serves words given after e status (packs_unread name region command risen untouched none is) told = untouched_leaves e untouched told
   course_leaves Serves words given after e status (packs name region bytes command input course) told = pack_input_leaves name region bytes e status course told
-  course_leaves Serves words given after e status (unpacks name file command same u) told = small_leaves _ _ _ _ e status u told
-  course_leaves Serves words given after e status (names_all name command same n) told = small_leaves _ _ _ _ e status n told
+  course_leaves Serves words given after e status (unpacks name file command same u) told = small_leaves _ _ _ _ _ e status u told
+  course_leaves Serves words given after e status (names_all name command same n) told = small_leaves _ _ _ _ _ e status n told
   course_leaves Serves words given after e status (hungry untouched none is) told = untouched_leaves e untouched told
 
 -- ---- no status tells of damage
@@ -205,10 +204,10 @@ told_undamaged : (t : Told) (status : ℕ) → is_broken_by is_damage t ≡ fals
 told_undamaged (Ok text) status none is = apart status 0 is refl
 told_undamaged (Err outcome) status none is = zero_undamaged outcome status none is
 
-small_undamaged : {R : Type 0} (name : Name) (Reads : Does R) (Holds : Claims R) (tells : Result R ScanStuck → Told) (e : Ends) (status : ℕ) → IsLogicalName name → TellsUnitsOf e.stored name → ReadCourse name Reads Holds tells e status → status ≢ 7
-small_undamaged name Reads Holds tells e status logical units (read_whole t a all is) = told_undamaged t status (a.undamaged logical units) is
-small_undamaged name Reads Holds tells e status logical units (read_part t a part is) = apart status 6 is refl
-small_undamaged name Reads Holds tells e status logical units (unread_so left same is) = apart status 3 is refl
+small_undamaged : {R : Type 0} (name : Name) (Reads : Does R) (Broken : Begins) (Holds : Claims R) (tells : Result R ScanStuck → Told) (e : Ends) (status : ℕ) → IsLogicalName name → TellsUnitsOf e.stored name → ReadCourse name Reads Broken Holds tells e status → status ≢ 7
+small_undamaged name Reads Broken Holds tells e status logical units (read_whole t a all is) = told_undamaged t status (a.undamaged logical units) is
+small_undamaged name Reads Broken Holds tells e status logical units (read_part t a part is) = apart status 6 is refl
+small_undamaged name Reads Broken Holds tells e status logical units (unread_so left same is) = apart status 3 is refl
 
 packed_undamaged : (ended : PackEnd) (status : ℕ) → is_broken_by is_damage ended ≡ false → status ≡ packed_status ended → status ≢ 7
 packed_undamaged (Ok (All end)) status none is = apart status 0 is refl
@@ -239,8 +238,8 @@ course_undamaged Serves words given after e status (cats name command same cat) 
 course_undamaged Serves words given after e status (migrates name command same m) told units = migrate_undamaged name e status m told
 course_undamaged Serves words given after e status (packs_unread name region command risen untouched none is) told units = apart status 5 is refl
 course_undamaged Serves words given after e status (packs name region bytes command input course) told units = pack_input_undamaged name region bytes e status command.1 (units (Pack name region) name command refl) course
-course_undamaged Serves words given after e status (unpacks name file command same u) told units = small_undamaged _ _ _ _ e status command.1 (units (Unpack name file) name command refl) u
-course_undamaged Serves words given after e status (names_all name command same n) told units = small_undamaged _ _ _ _ e status command.1 (units (Names name) name command refl) n
+course_undamaged Serves words given after e status (unpacks name file command same u) told units = small_undamaged _ _ _ _ _ e status command.1 (units (Unpack name file) name command refl) u
+course_undamaged Serves words given after e status (names_all name command same n) told units = small_undamaged _ _ _ _ _ e status command.1 (units (Names name) name command refl) n
 course_undamaged Serves words given after e status (hungry untouched none is) told units = apart status 3 is refl
 
 -- ---- with threads

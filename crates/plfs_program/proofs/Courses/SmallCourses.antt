@@ -12,21 +12,21 @@ use Rattle.mount_sound.proofs.Facts.{mounted_sound}
 use Rattle.gathering.specs.Moments.{Moment, IsSoundAt}
 use Rattle.pack_files.specs.declared.scan.ScanStuck.{ScanStuck}
 use Rattle.pack_core.specs.Looking.{HasLooked}
-use Rattle.pack_core.specs.Naming.{Names}
-use Rattle.pack_core.specs.Unpacking.{Unpacks}
+use Rattle.pack_core.specs.Naming.{BeginsToName, Names}
+use Rattle.pack_core.specs.Unpacking.{BeginsToUnpack, Unpacks}
 use Rattle.unpack_laws.specs.Seen.{Sees}
 use Rattle.unpack_laws.specs.Told.{AreNames, IsContent}
 use Rattle.script_lang.specs.declared.line.Line.{Line}
 use Rattle.script_lang.specs.declared.line.Outcome.{Outcome}
 use Rattle.report_text.specs.Text.{text_of}
-use Rattle.plfs_program.specs.Calling.{broke_off, ran}
+use Rattle.plfs_program.specs.Calling.{broke_off as unmounted_left, ran}
 use Rattle.plfs_program.specs.Ends.{Ends}
 use Rattle.plfs_program.specs.Migrating.{IsReported}
 use Rattle.plfs_program.specs.Mounting.{unmounted_of}
 use Rattle.plfs_program.specs.Outcomes.{status_of}
 use Rattle.plfs_program.specs.Output.{IsPrinted, IsCutOff}
 use Rattle.plfs_program.specs.Playing.{IsStoreLeft}
-use Rattle.plfs_program.specs.SmallFiles.{Does, IsToldAs, NamesCourse, ReadCourse, ReadsOn, Claims, Told, UnpackCourse, cut_off, ended_so, exhausted, mounted, printed, starved, told_of_file, told_of_names, told_status, told_text, unmounted}
+use Rattle.plfs_program.specs.SmallFiles.{Begins, Does, HasBegunToRead, IsToldAs, NamesCourse, ReadCourse, ReadsOn, Claims, Told, UnpackCourse, broke_off, cut_off, ended_so, exhausted, mounted, printed, told_of_file, told_of_names, told_status, told_text, unmounted}
 use Rattle.plfs_program.proofs.Courses.Calls.{was_run}
 use Rattle.plfs_program.proofs.Courses.CatCourses.{SaidUnmounted}
 use Rattle.plfs_program.proofs.Courses.MigrateCourses.{unmounted_caused, unmounted_whole}
@@ -34,14 +34,15 @@ use Rattle.plfs_program.proofs.Courses.UnitCourses.{MountsUnits, TellsTroubles, 
 
 -- ---- on a mount
 
-was_left : (e : Ends) (start end : State) (after : Stored) → e.stored_after ≡ Some after → IsMounted 0 e.times e.stored start → after ≡ end.store → HasLooked start end → IsStoreLeft HasLooked e
-was_left e start end after is made left looked = record { after = after; left = is; lawful = ran (was_run HasLooked e.times e.stored after start end made looked left) }
+was_left : {R : Type 0} (Reads : Does R) (Broken : Begins) (e : Ends) (start end : State) (after : Stored) → e.stored_after ≡ Some after → IsMounted 0 e.times e.stored start → after ≡ end.store → HasBegunToRead Reads Broken start end
+    → IsStoreLeft (HasBegunToRead Reads Broken) e
+was_left Reads Broken e start end after is made left begun = record { after = after; left = is; lawful = ran (was_run (HasBegunToRead Reads Broken) e.times e.stored after start end made begun left) }
 
 -- what the law says of what a caller by itself reads so
 abbrev SeesLaw : {R : Type 0} → Does R → Claims R → Type 0
 SeesLaw {R} Reads Holds = (start : Moment) (result : Result R ScanStuck) (end : State) → IsSoundAt start → Reads start.state result end → Sees start result (λ pieces bytes from. Holds pieces bytes from end result)
 
-module _ {R : Type 0} (name : Name) (Reads : Does R) (Holds : Claims R) (tells : Result R ScanStuck → Told) (law : SeesLaw Reads Holds) (t : TellsTroubles tells) (mounts : MountsUnits) (troubles : Troubles name Reads) (e : Ends) (status : ℕ) where
+module _ {R : Type 0} (name : Name) (Reads : Does R) (Broken : Begins) (Holds : Claims R) (tells : Result R ScanStuck → Told) (law : SeesLaw Reads Holds) (t : TellsTroubles tells) (mounts : MountsUnits) (troubles : Troubles name Reads) (e : Ends) (status : ℕ) where
   told_as : (start end : State) (after : Stored) (result : Result R ScanStuck) → e.stored_after ≡ Some after → IsMounted 0 e.times e.stored start → after ≡ end.store → Reads start result end → HasLooked start end
       → IsToldAs name Reads Holds tells (tells result) e
   told_as start end after result is made left reads looked = record {
@@ -62,18 +63,19 @@ module _ {R : Type 0} (name : Name) (Reads : Does R) (Holds : Claims R) (tells :
     undamaged = run_undamaged name Reads tells t troubles e start end after result mounts made reads;
   }
 
-  said_so : (told : Told) → IsToldAs name Reads Holds tells told e → IsStoreLeft HasLooked e → IsReported (told_text told) (told_status told) e.taking e.taking_after status → ReadCourse name Reads Holds tells e status
+  said_so : (told : Told) → IsToldAs name Reads Holds tells told e → IsStoreLeft (HasBegunToRead Reads Broken) e → IsReported (told_text told) (told_status told) e.taking e.taking_after status → ReadCourse name Reads Broken Holds tells e status
   said_so told a left (inl (is, all)) = printed told a all is
   said_so told a left (inr (inl (is, part))) = cut_off told a part is
   said_so told a left (inr (inr (is, untold))) = exhausted left untold is
 
-  read_so : (start end : State) (after : Stored) → e.stored_after ≡ Some after → IsMounted 0 e.times e.stored start → after ≡ end.store → ReadsOn Reads tells start e.taking end e.taking_after status → ReadCourse name Reads Holds tells e status
-  read_so start end after is made left (ended_so result reads looked said) = said_so (tells result) (told_as start end after result is made left reads looked) (was_left e start end after is made left looked) said
-  read_so start end after is made left (starved looked same told) = exhausted (was_left e start end after is made left looked) same told
+  read_so : (start end : State) (after : Stored) → e.stored_after ≡ Some after → IsMounted 0 e.times e.stored start → after ≡ end.store → ReadsOn Reads Broken tells start e.taking end e.taking_after status → ReadCourse name Reads Broken Holds tells e status
+  read_so start end after is made left (ended_so result reads looked said) =
+      said_so (tells result) (told_as start end after result is made left reads looked) (was_left Reads Broken e start end after is made left (record { looked = looked; begun = inl (result, reads) })) said
+  read_so start end after is made left (broke_off broken looked same told) = exhausted (was_left Reads Broken e start end after is made left (record { looked = looked; begun = inr broken })) same told
 
 -- ---- without a mount
 
-module _ {R : Type 0} (name : Name) (Reads : Does R) (Holds : Claims R) (tells : Result R ScanStuck → Told) (e : Ends) (status : ℕ) where
+module _ {R : Type 0} (name : Name) (Reads : Does R) (Broken : Begins) (Holds : Claims R) (tells : Result R ScanStuck → Told) (e : Ends) (status : ℕ) where
   unmounted_as : (why : MountTrouble) (outcome : Outcome) (after : Stored) → e.stored_after ≡ Some after → FailsToMount e.stored why after → (why ≡ trouble.Fault → HasRisen e.stored.faults after.faults) → unmounted_of why ≡ Some outcome → IsToldAs name Reads Holds tells (Err outcome) e
   unmounted_as why outcome after is failed cause told = record {
     after = after;
@@ -83,15 +85,15 @@ module _ {R : Type 0} (name : Name) (Reads : Does R) (Holds : Claims R) (tells :
     undamaged = λ logical u. unmounted_whole e why outcome after failed told (u.tree, u.told, u.sound);
   }
 
-  not_read_so : (why : MountTrouble) (after : Stored) → e.stored_after ≡ Some after → FailsToMount e.stored why after → (why ≡ trouble.Fault → HasRisen e.stored.faults after.faults) → SaidUnmounted why e.taking e.taking_after status → ReadCourse name Reads Holds tells e status
+  not_read_so : (why : MountTrouble) (after : Stored) → e.stored_after ≡ Some after → FailsToMount e.stored why after → (why ≡ trouble.Fault → HasRisen e.stored.faults after.faults) → SaidUnmounted why e.taking e.taking_after status → ReadCourse name Reads Broken Holds tells e status
   not_read_so why after is failed cause (inl (lines, (outcome, told, only), said)) =
       let Says : List Line → Type 0 = λ z. ((status ≡ status_of z) × IsPrinted (text_of z) e.taking e.taking_after) ⊎ ((status ≡ 6) × IsCutOff (text_of z) e.taking e.taking_after) in
       let t : IsToldAs name Reads Holds tells (Err outcome) e = unmounted_as why outcome after is failed cause told in
-      elim (subst Says only said) as (λ _. ReadCourse name Reads Holds tells e status) [
+      elim (subst Says only said) as (λ _. ReadCourse name Reads Broken Holds tells e status) [
         | inl all ↦ printed (Err outcome) t all.1 all.0
         | inr part ↦ cut_off (Err outcome) t part.1 part.0
       ]
-  not_read_so why after is failed cause (inr (told, same)) = exhausted (record { after = after; left = is; lawful = broke_off why failed }) same told
+  not_read_so why after is failed cause (inr (told, same)) = exhausted (record { after = after; left = is; lawful = unmounted_left why failed }) same told
 
 -- ---- the two commands
 
@@ -107,17 +109,17 @@ abbrev ShowsFile : Name → Claims (Option (List ℕ))
 ShowsFile file = λ pieces bytes from end result. IsContent pieces bytes file from end result
 
 pub unpack_so : UnpackLaw → MountsUnits → (name file : List ℕ) → Troubles name (Unpacks name file) → (e : Ends) (status : ℕ) (start end : State) (after : Stored) → e.stored_after ≡ Some after → IsMounted 0 e.times e.stored start → after ≡ end.store
-    → ReadsOn (Unpacks name file) told_of_file start e.taking end e.taking_after status → UnpackCourse name file e status
-unpack_so law mounts name file troubles e status = read_so name (Unpacks name file) (ShowsFile file) told_of_file (law name file) file_tells mounts troubles e status
+    → ReadsOn (Unpacks name file) (BeginsToUnpack name file) told_of_file start e.taking end e.taking_after status → UnpackCourse name file e status
+unpack_so law mounts name file troubles e status = read_so name (Unpacks name file) (BeginsToUnpack name file) (ShowsFile file) told_of_file (law name file) file_tells mounts troubles e status
 
 pub not_unpack_so : (name file : List ℕ) (e : Ends) (status : ℕ) (why : MountTrouble) (after : Stored) → e.stored_after ≡ Some after → FailsToMount e.stored why after → (why ≡ trouble.Fault → HasRisen e.stored.faults after.faults)
     → SaidUnmounted why e.taking e.taking_after status → UnpackCourse name file e status
-not_unpack_so name file e status = not_read_so name (Unpacks name file) (ShowsFile file) told_of_file e status
+not_unpack_so name file e status = not_read_so name (Unpacks name file) (BeginsToUnpack name file) (ShowsFile file) told_of_file e status
 
 pub names_so : NamesLaw → MountsUnits → (name : List ℕ) → Troubles name (Names name) → (e : Ends) (status : ℕ) (start end : State) (after : Stored) → e.stored_after ≡ Some after → IsMounted 0 e.times e.stored start → after ≡ end.store
-    → ReadsOn (Names name) told_of_names start e.taking end e.taking_after status → NamesCourse name e status
-names_so law mounts name troubles e status = read_so name (Names name) AreNames told_of_names (law name) names_tell mounts troubles e status
+    → ReadsOn (Names name) (BeginsToName name) told_of_names start e.taking end e.taking_after status → NamesCourse name e status
+names_so law mounts name troubles e status = read_so name (Names name) (BeginsToName name) AreNames told_of_names (law name) names_tell mounts troubles e status
 
 pub not_names_so : (name : List ℕ) (e : Ends) (status : ℕ) (why : MountTrouble) (after : Stored) → e.stored_after ≡ Some after → FailsToMount e.stored why after → (why ≡ trouble.Fault → HasRisen e.stored.faults after.faults)
     → SaidUnmounted why e.taking e.taking_after status → NamesCourse name e status
-not_names_so name e status = not_read_so name (Names name) AreNames told_of_names e status
+not_names_so name e status = not_read_so name (Names name) (BeginsToName name) AreNames told_of_names e status

@@ -2,6 +2,8 @@ use Rattle.std.proofs.Common.{◌≡◌, ◌+◌, List, Option, None, length, sy
 use Rattle.unit_format.specs.declared.finding.Region.{Region}
 use Rattle.pack_files.specs.declared.scan.ScanStuck.{ScanStuck}
 use Rattle.pack_core.specs.Scans.{AddsScan, ScansFrom}
+use Rattle.mount_core.proofs.Memory.{on_err}
+use Rattle.pack_core.proofs.Breaking.{scan_broken}
 use Rattle.pack_core.proofs.Looked.{looked_both}
 use Rattle.pack_core.proofs.Scanned.{one_longer, scans_more}
 use Rattle.pack_core.proofs.scanning.scan_all.Goals as goal
@@ -18,3 +20,8 @@ loop-region-preserved g c =
       looks = looked_both c.args.mount.now c.loop-region.mount c.add_scan.new.mount c.loop-region.invariant.looks c.add_scan.ensures.looks;
       fine = c.add_scan.ensures.fine;
     }
+
+pub returns-in_err-why-clause-broken_off : goal.returns-in_err-why-clause-broken_off
+returns-in_err-why-clause-broken_off g c =
+    on_err c.from_residual.result _ (
+    scan_broken c.args.reader.now c.args.mount.now c.loop-region.mount c.add_scan.new.mount c.loop-region.regions c.loop-region.region c.loop-region.invariant.count (omega arith) c.loop-region.invariant.scans c.in_err-why.ensures.broken_off)

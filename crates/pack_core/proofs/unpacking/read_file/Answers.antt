@@ -1,5 +1,7 @@
 use Rattle.std.proofs.Common.{Ok, Err, refl}
-use Rattle.pack_core.specs.Unpacking.{scans_stuck}
+use Rattle.mount_core.proofs.Memory.{on_err}
+use Rattle.pack_core.specs.Unpacking.{scans_stuck, to_scan}
+use Rattle.pack_core.proofs.Breaking.{found_broken}
 use Rattle.pack_core.proofs.Looked.{looked_both}
 use Rattle.pack_core.proofs.Told.{found_told, scans_value}
 use Rattle.pack_core.proofs.unpacking.read_file.Goals as goal
@@ -15,3 +17,11 @@ returns-in-Err-clause-reads g c =
 
 pub returns-in-Ok-clause-looks : goal.returns-in-Ok-clause-looks
 returns-in-Ok-clause-looks g c = looked_both c.args.mount.now c.scan_all.new.mount c.read_found.new.mount c.in_ok-regions.ensures.looks c.read_found.ensures.looks
+
+pub returns-in_err-regions-clause-broken_off : goal.returns-in_err-regions-clause-broken_off
+returns-in_err-regions-clause-broken_off g c = on_err c.from_residual.result _ (to_scan c.in_err-regions.ensures.broken_off)
+
+pub returns-in-Ok-clause-broken_off : goal.returns-in-Ok-clause-broken_off
+returns-in-Ok-clause-broken_off g c =
+    found_broken c.args.reader.now c.args.file.now c.args.mount.now c.scan_all.new.mount c.read_found.new.mount c.in-Ok.regions c.find-found.result c.read_found.result
+    (scans_value c.args.reader.now c.args.mount.now c.in_ok-regions.field-0 (Ok c.in-Ok.regions) c.scan_all.new.mount c.in-Ok.is c.in_ok-regions.ensures.scans) c.find-found.ensures c.read_found.ensures.broken_off

@@ -3,6 +3,7 @@ use Rattle.flow.specs.Standing.{ready}
 use Rattle.read_plan.specs.Plan.{plan_of}
 use Rattle.index_reader.specs.Reading.{read_program}
 use Rattle.unit_format.specs.declared.units.TheConstants.{MAX_CONTENT}
+use Rattle.pack_core.proofs.Broken.{begins_so}
 use Rattle.pack_core.proofs.Freely.{asks_so, makes_so}
 use Rattle.pack_core.proofs.Looked.{looked_so}
 use Rattle.pack_core.proofs.Looks.{read_free, read_looks}
@@ -25,3 +26,10 @@ returns-clause-looks g c =
     (c.in_ok-machine.ensures.standing ∙ ap (λ (n : ℕ). ready (read_program c.args.reader.now.room c.args.reader.now.hosts (plan_of c.args.reader.now.pieces c.args.reader.now.size c.args.unit.now.at n))) c.min.ensures)
     (read_looks c.args.reader.now.room c.args.reader.now.hosts (plan_of c.args.reader.now.pieces c.args.reader.now.size c.args.unit.now.at (min c.args.unit.now.len MAX_CONTENT)))
     c.drive_freely.ensures.drives c.drive_freely.ensures.broken_off
+
+pub returns-clause-broken_off : goal.returns-clause-broken_off
+returns-clause-broken_off g c =
+    begins_so c.drive_freely.result _ (read_program c.args.reader.now.room c.args.reader.now.hosts (plan_of c.args.reader.now.pieces c.args.reader.now.size c.args.unit.now.at (min c.args.unit.now.len MAX_CONTENT)))
+    c.args.mount.now c.drive_freely.new.mount
+    (c.in_ok-machine.ensures.standing ∙ ap (λ (n : ℕ). ready (read_program c.args.reader.now.room c.args.reader.now.hosts (plan_of c.args.reader.now.pieces c.args.reader.now.size c.args.unit.now.at n))) c.min.ensures)
+    c.drive_freely.ensures.broken_off

@@ -1,0 +1,83 @@
+-- From a copying on a mount to the run that made it.
+use Rattle.std.proofs.Common.{◌≡◌, ℕ, ◌⊎◌, inl, inr, Bool, List, Some, Result, Err, refl, sym, subst}
+use Rattle.edge_io.specs.Source.{Given}
+use Rattle.store_api.specs.Acts.{Stored}
+use Rattle.mount_model.specs.State.{State}
+use Rattle.mount_model.specs.Failing.{FailsToMount}
+use Rattle.mount_model.specs.Mounting.{IsMounted}
+use Rattle.mount_model.specs.declared.trouble.MountTrouble.{MountTrouble}
+use Rattle.flow.specs.declared.stuck.Stuck.{Stuck}
+use Rattle.copy_core.specs.declared.copying.Copied.{Copied}
+use Rattle.copy_core.specs.Copying.{Copies}
+use Rattle.copy_core.proofs.Facts.{begun_copying_called, copied_called}
+use Rattle.script_lang.specs.declared.line.Line.{Line}
+use Rattle.script_lang.specs.declared.line.Outcome.{Outcome}
+use Rattle.report_text.specs.Text.{text_of}
+use Rattle.run_core.specs.Leading.{GoesOn}
+use Rattle.pack_puts.specs.Calling.{HasCalled}
+use Rattle.plfs_program.specs.Calling.{broke_off as unmounted_left, ran}
+use Rattle.plfs_program.specs.Ends.{Ends}
+use Rattle.plfs_program.specs.Migrating.{IsReported}
+use Rattle.plfs_program.specs.Mounting.{unmounted_of}
+use Rattle.plfs_program.specs.Outcomes.{status_of}
+use Rattle.plfs_program.specs.Output.{IsPrinted, IsCutOff}
+use Rattle.plfs_program.specs.Playing.{IsStoreLeft}
+use Rattle.plfs_program.specs.SoundTrees.{LeavesSoundTree, TellsSoundTree}
+use Rattle.plfs_program.proofs.Facts.{FailingLeavesSound, SaidUnmounted, all_leave_sound, was_run}
+use Rattle.copy_program.specs.Putting.{HasBegunToPut, IsEndOf, IsPutAs, PutCourse, PutEnd, PutsOn, broke_off, cut_off, end_of, ended_so, exhausted, mounted, printed, put_status, put_text, unmounted}
+
+module _ (name : List ℕ) (host : ℕ) (over : Bool) (given given_after : Given) (e : Ends) (status : ℕ) where
+  -- ---- on a mount
+
+  was_left : (start end : State) (after : Stored) → e.stored_after ≡ Some after → IsMounted 0 e.times e.stored start → after ≡ end.store → HasBegunToPut name host over given given_after start end → IsStoreLeft (HasBegunToPut name host over given given_after) e
+  was_left start end after is made left begun = record { after = after; left = is; lawful = ran (was_run (HasBegunToPut name host over given given_after) e.times e.stored after start end made begun left) }
+
+  put_as : (start end : State) (after : Stored) (result : Result Copied Stuck) → e.stored_after ≡ Some after → IsMounted 0 e.times e.stored start → after ≡ end.store → Copies name host over start given result end given_after → IsPutAs name host over given given_after (end_of result) e
+  put_as start end after result is made left copies = record { after = after; left = is; came = mounted result (record { start = start; end = end; mounted = made; copies = copies; left = sym left }) refl }
+
+  -- what was said became of it
+  said_so : (ended : PutEnd) → IsPutAs name host over given given_after ended e → IsStoreLeft (HasBegunToPut name host over given given_after) e → IsReported (put_text ended) (put_status ended) e.taking e.taking_after status → PutCourse name host over given given_after e status
+  said_so ended p left (inl (told, all)) = printed ended p all told
+  said_so ended p left (inr (inl (told, part))) = cut_off ended p part told
+  said_so ended p left (inr (inr (told, untold))) = exhausted left untold told
+
+  pub put_so : (start end : State) (after : Stored) → e.stored_after ≡ Some after → IsMounted 0 e.times e.stored start → after ≡ end.store → PutsOn name host over start given e.taking end given_after e.taking_after status → PutCourse name host over given given_after e status
+  put_so start end after is made left (ended_so result copies said) = said_so (end_of result) (put_as start end after result is made left copies) (was_left start end after is made left (inl (result, copies))) said
+  put_so start end after is made left (broke_off begun same told) = exhausted (was_left start end after is made left (inr begun)) same told
+
+  -- ---- without a mount
+
+  unmounted_as : (why : MountTrouble) (outcome : Outcome) (after : Stored) → e.stored_after ≡ Some after → FailsToMount e.stored why after → unmounted_of why ≡ Some outcome → given_after ≡ given → IsPutAs name host over given given_after (Err outcome) e
+  unmounted_as why outcome after is failed told same = record { after = after; left = is; came = unmounted why outcome failed told same refl }
+
+  pub not_put_so : (why : MountTrouble) (after : Stored) → e.stored_after ≡ Some after → FailsToMount e.stored why after → given_after ≡ given → SaidUnmounted why e.taking e.taking_after status → PutCourse name host over given given_after e status
+  not_put_so why after is failed same (inl (lines, (outcome, told, only), said)) =
+      let Says : List Line → Type 0 = λ z. ((status ≡ status_of z) × IsPrinted (text_of z) e.taking e.taking_after) ⊎ ((status ≡ 6) × IsCutOff (text_of z) e.taking e.taking_after) in
+      let p : IsPutAs name host over given given_after (Err outcome) e = unmounted_as why outcome after is failed told same in
+      elim (subst Says only said) as (λ _. PutCourse name host over given given_after e status) [
+        | inl all ↦ printed (Err outcome) p all.1 all.0
+        | inr part ↦ cut_off (Err outcome) p part.1 part.0
+      ]
+  not_put_so why after is failed same (inr (told, untold)) = exhausted (record { after = after; left = is; lawful = unmounted_left why failed }) untold told
+
+  -- ---- a sound tree is left
+
+  called_leads : (start end : State) → HasCalled start end → GoesOn start end
+  called_leads start end c = record { events = c.events; leads = record { lawful = c.made.lawful; ends = c.made.ends } }
+
+  begun_leads : (start end : State) → HasBegunToPut name host over given given_after start end → GoesOn start end
+  begun_leads start end (inl (result, copies)) = called_leads start end (copied_called name host over start given result end given_after copies)
+  begun_leads start end (inr begun) = called_leads start end (begun_copying_called name host over start given end given_after begun)
+
+  left_so : FailingLeavesSound → IsStoreLeft (HasBegunToPut name host over given given_after) e → TellsSoundTree e.stored → LeavesSoundTree e.stored_after
+  left_so failing left told = (left.after, left.left, all_leave_sound (HasBegunToPut name host over given given_after) begun_leads e.times e.stored left.after failing left.lawful told)
+
+  -- the calls that what was said tells of
+  came_left : (after : Stored) (ended : PutEnd) → e.stored_after ≡ Some after → IsEndOf e.times e.stored after name host over given given_after ended → IsStoreLeft (HasBegunToPut name host over given given_after) e
+  came_left after ended is (unmounted why outcome failed told same ended_as) = record { after = after; left = is; lawful = unmounted_left why failed }
+  came_left after ended is (mounted result on ended_as) = was_left on.start on.end after is on.mounted (sym on.left) (inl (result, on.copies))
+
+  pub put_leaves : FailingLeavesSound → PutCourse name host over given given_after e status → TellsSoundTree e.stored → LeavesSoundTree e.stored_after
+  put_leaves failing (printed ended p all is) told = left_so failing (came_left p.after ended p.left p.came) told
+  put_leaves failing (cut_off ended p part is) told = left_so failing (came_left p.after ended p.left p.came) told
+  put_leaves failing (exhausted left same is) told = left_so failing left told

@@ -1,0 +1,10 @@
+pub mod Coming
+pub mod Course
+pub mod Drain
+pub mod Got
+pub mod Keeping
+pub mod Kept
+pub mod Law
+pub mod Left
+pub mod News
+pub mod Viewing

@@ -1,0 +1,4 @@
+pub mod Happened
+pub mod Passing
+pub mod Safe
+pub mod Traced

@@ -1,0 +1,23 @@
+-- Why a statement of a reader was refused.
+use Rattle.std.specs.Prelude.{◌≡◌, ◌≢◌, ◌⊎◌, ⊤, ℕ, List, None}
+use Rattle.script_lang.specs.declared.line.Outcome.TheVariants.{Refused}
+use Rattle.script_lang.specs.declared.line.Why.{Why}
+use Rattle.script_lang.specs.declared.line.Why.TheVariants.{AlreadyOpen, NoFile, NotOpen}
+use Rattle.script_lang.specs.declared.script.Statement.{Statement}
+use Rattle.script_lang.specs.declared.script.Statement.TheVariants.{Map, Rclose, Read, Refresh, Ropen, Verify}
+use Rattle.headline.specs.Run.{Run, Says, Told}
+use Rattle.headline.specs.Files.{reader_at}
+
+-- it is of the reader that its actor has
+abbrev pub UsesReader : Statement → Type 0
+UsesReader (Read at len) = ⊤
+UsesReader (Verify at content) = ⊤
+UsesReader Map = ⊤
+UsesReader Refresh = ⊤
+UsesReader Rclose = ⊤
+UsesReader other = ⊥
+
+-- A statement that uses a reader is refused only as `not-open`, and its actor has none. `ropen` is refused only where there is no file, or its actor has a reader.
+pub record HasRefusals (run : Run) : Type 0 where
+  pub uses : (t : Told) (why : Why) → Says run t (Refused why) → UsesReader t.statement → (why ≡ NotOpen) × (reader_at run t ≡ None)
+  pub opens : (t : Told) (name : List ℕ) (workers : ℕ) (why : Why) → Says run t (Refused why) → t.statement ≡ Ropen name workers → (why ≡ NoFile) ⊎ ((why ≡ AlreadyOpen) × (reader_at run t ≢ None))

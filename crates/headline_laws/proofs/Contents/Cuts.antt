@@ -1,0 +1,60 @@
+-- A reader's line counts of each writer of its container no less than what is sure to have landed, and no more than what may have.
+use Rattle.std.proofs.Common.{◌≡◌, ◌≤◌, ℕ, false, Option, List, [], ◌++◌, length, Some, refl, sym, ap, ◌∙◌, subst, arith, append_assoc, length-append}
+use Rattle.std.specs.Prelude.{get_or}
+use Rattle.plfs_types.specs.declared.entries.Trunc.{Trunc}
+use Rattle.plfs_types.specs.declared.entries.WriterCount.{WriterCount}
+use Rattle.container_layout.specs.declared.items.Item.TheVariants.{Index}
+use Rattle.container_layout.specs.Items.{IsItem}
+use Rattle.container_layout.proofs.Facts.{elsewhere}
+use Rattle.store_api.specs.Acts.{Stored}
+use Rattle.mount_model.specs.Mounting.{IsMounted}
+use Rattle.mount_model.specs.State.{State}
+use Rattle.mount_sound.specs.Items.{HasItem}
+use Rattle.mount_sound.specs.Sound.{IsSoundTree}
+use Rattle.gathering.specs.Moments.{Dropping, Stood}
+use Rattle.script_lang.specs.Ranges.{FitsScript}
+use Rattle.script_lang.specs.declared.line.Outcome.TheVariants as line
+use Rattle.run_core.specs.Play.{IsRight}
+use Rattle.headline.specs.Run.{Run, Says, Told, before, so_far}
+use Rattle.headline.specs.Trees.{Has, landed_writes}
+use Rattle.headline.specs.Files.{reader_at}
+use Rattle.headline.specs.Changes.{writing_at}
+use Rattle.headline.specs.Writers.{Writer}
+use Rattle.headline.specs.Views.{IsWriter, opened, stood}
+use Rattle.headline_laws.proofs.Contents.Bounds.{BoundedLine, First, bounded_line, opened_between, sound_first, stands_last}
+use Rattle.headline_laws.proofs.Contents.Counted.{homes}
+use Rattle.headline_laws.proofs.Landed.Counting.{counted_in}
+use Rattle.headline_laws.proofs.Story.Lines.{line_here}
+use Rattle.headline_laws.proofs.Trees.Old.{begins_with, is_there, landed_then, told_landed}
+
+module _ (run : Run) (times : Option (List ℕ)) (mount : Stored) (start end : State) (fits : FitsScript run.script) (mounted : IsMounted 0 times mount start) (tells : mount.tree ≡ Some run.before) (sound : IsSoundTree run.before)
+    (right : IsRight run.script start run.lines end) (left : end.store.tree ≡ Some run.after) where
+  abbrev Homes : Told → ℕ
+  Homes = (homes run times mount start end fits mounted tells sound right left).of
+
+  module _ (free : run.in_order ≡ false) (t : Told) (size : ℕ) (cut : List WriterCount) (truncs : List Trunc) (says : Says run t (line.Reader size cut truncs)) where
+    -- of a writer of the tree before just the writes that had landed
+    old_between : (w : Writer) (host id : ℕ) → IsItem (Index host id) → Has run.before (Homes t) (Index host id) → w.least ≡ length (landed_writes run.before (Homes t) host id) → w.most ≡ length (landed_writes run.before (Homes t) host id) → (w.least ≤ counted_in id cut) × (counted_in id cut ≤ w.most)
+    old_between w host id is_item has least most =
+        let d : Dropping = record { room = Homes t; host = host; writer = id } in
+        let f = is_there run times mount start end fits mounted tells sound right (Homes t) (Index host id) has in
+        let item : HasItem f.room (Index host id) f.bytes = record { is_item = is_item; there = f.has } in
+        let had : Stood (First run times mount start end fits mounted tells sound right left) d = begins_with run times mount start end fits mounted tells sound right (Homes t) (Index host id) is_item (λ e. elsewhere (ap (λ (name : List ℕ). get_or name 0 0) e) refl) has in
+        let last = stands_last run times mount start end fits mounted tells sound right left [] right.history d refl had in
+        let l = line_here run (First run times mount start end fits mounted tells sound right left) end fits (sound_first run times mount start end fits mounted tells sound right left) right t says.is_line in
+        let b : BoundedLine run times mount start end fits mounted tells sound right left t size cut truncs d l.line.part.earlier l.line.part.mine = bounded_line run times mount start end fits mounted tells sound right left t size cut truncs (reader_at run t) (writing_at run t) l says.says d last refl in
+        let behind : right.history ≡ (l.line.part.earlier ++ l.line.part.mine) ++ l.line.part.later = l.line.part.split ∙ sym (append_assoc l.line.part.earlier l.line.part.mine l.line.part.later) in
+        let low = b.low l.line.part.earlier (l.line.part.mine ++ l.line.part.later) l.line.part.split (omega arith) in
+        let long = length-append l.line.part.earlier l.line.part.mine in
+        let high = b.high (l.line.part.earlier ++ l.line.part.mine) l.line.part.later behind (omega (arith, long)) in
+        let one = landed_then run times mount start end fits mounted tells sound right d f.room f.bytes f.there item l.line.part.earlier (l.line.part.mine ++ l.line.part.later) l.line.part.split in
+        let other = landed_then run times mount start end fits mounted tells sound right d f.room f.bytes f.there item (l.line.part.earlier ++ l.line.part.mine) l.line.part.later behind in
+        let all = told_landed run times mount start end fits mounted tells sound right d f.room f.bytes f.there item in
+        (omega (arith, low, one, all, least), omega (arith, high, other, all, most))
+
+    -- the law of this file
+    pub counts_between : (w : Writer) → IsWriter run (homes run times mount start end fits mounted tells sound right left) (Homes t) (before run t) (so_far run t) w → (w.least ≤ counted_in w.id cut) × (counted_in w.id cut ≤ w.most)
+    counts_between w (stood is_item has is) = old_between w w.host w.id is_item has (ap (λ (x : Writer). x.least) is) (ap (λ (x : Writer). x.most) is)
+    counts_between w (opened o is_line says_so home is) =
+        let b = opened_between run times mount start end fits mounted tells sound right left t size cut truncs o w.id (record { is_line = is_line; says = says_so }) home free says in
+        (subst (λ k. k ≤ counted_in w.id cut) (sym (ap (λ (x : Writer). x.least) is)) b.0, subst (λ k. counted_in w.id cut ≤ k) (sym (ap (λ (x : Writer). x.most) is)) b.1)

@@ -1,0 +1,20 @@
+-- How much of a writer has landed, by the lines of its actor: each machine keeps to it, and each line.
+pub mod Beginning
+pub mod Between
+pub mod Bounded
+pub mod Carried
+pub mod Closes
+pub mod Counting
+pub mod Cuts
+pub mod Folded
+pub mod Lasting
+pub mod Leaving
+pub mod Machines
+pub mod Numbers
+pub mod Openings
+pub mod Reaching
+pub mod Settled
+pub mod Sparing
+pub mod StopsWithin
+pub mod Syncs
+pub mod Writes

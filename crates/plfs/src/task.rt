@@ -1,0 +1,112 @@
+//! A command, and its run over the folders, the standard streams and the system's clock.
+use crate::reading::{copies_the_input, writes_a_file};
+use crate::said::{Said, Saying};
+use command_line::Command;
+use copy_program::{CopyCommand, copy};
+use edge_io::{NoGate, StdSink, StdSource, SystemClock};
+use plfs_program::{Ended, plfs};
+use plfs_types::Word;
+use spread_store::Backing;
+use std::cell::RefCell;
+use std::io::{self, Read};
+use std::sync::Wait;
+use std::thread::Threads;
+use store_folder::FolderStore;
+
+/// The folders that a command is run over. All runs are over this one type, so that the program is compiled once.
+pub type Folders = Backing<FolderStore<HostRuntime>>;
+
+/// A command.
+#[derive(Clone, Copy)]
+pub enum Task<'a> {
+    /// Of `plfs`: its words, which are of this kind, and the input that was read for it.
+    Plfs {
+        words: &'a [Word],
+        command: Command,
+        input: &'a [u8],
+    },
+    /// Of `plfs_copy`: its words, which are of this kind. It reads its input as it goes.
+    Copy {
+        words: &'a [Word],
+        command: CopyCommand,
+    },
+}
+
+/// What a run leaves: the store, the status, what was written to standard output, and why the reading of standard input failed last.
+#[derive(Drop)]
+pub struct Ran {
+    pub ended: Ended<Folders>,
+    pub said: Said,
+    pub unread: Option<io::Error>,
+}
+
+/// A reader, beside which stands why it failed last.
+#[derive(Drop)]
+struct Hearing<'a, R> {
+    reader: R,
+    error: &'a RefCell<Option<io::Error>>,
+}
+
+impl<'a, R: Read> Read for Hearing<'a, R> {
+    fn read(&mut self, buf: &mut [u8]) -> io::Result<usize> {
+        let end = self.reader.read(buf);
+        if let Err(error) = &end {
+            if let Ok(mut last) = self.error.try_borrow_mut() {
+                *last = Some(*error);
+            }
+        }
+        end
+    }
+}
+
+// Whether what the command writes has lines.
+fn has_lines(task: &Task<'_>) -> bool {
+    match task {
+        Task::Plfs { command, .. } => !writes_a_file(command),
+        Task::Copy { command, .. } => copies_the_input(command),
+    }
+}
+
+/// Runs the command over the store, its input, standard output and the system's clock.
+pub fn run<H: Threads + Wait + Sync>(
+    handle: &H,
+    rt: &HostRuntime,
+    task: &Task<'_>,
+    store: Folders,
+) -> Ran {
+    let said = RefCell::new(Said::new(rt.alloc(), has_lines(task)));
+    let error = RefCell::new(None);
+    let mut sink = StdSink::new(Saying {
+        writer: io::writer(rt),
+        said: &said,
+    });
+    let clock = SystemClock::new(*rt);
+    let ended = match task {
+        Task::Plfs { words, input, .. } => {
+            let mut source = StdSource::new(*input);
+            plfs(
+                handle,
+                rt.alloc(),
+                words,
+                &mut source,
+                &mut sink,
+                store,
+                clock,
+                &NoGate,
+            )
+        }
+        Task::Copy { words, .. } => {
+            let mut source = StdSource::new(Hearing {
+                reader: rt.stdin(),
+                error: &error,
+            });
+            copy(rt.alloc(), words, &mut source, &mut sink, store, clock)
+        }
+    };
+    drop(sink);
+    Ran {
+        ended,
+        said: said.into_inner(),
+        unread: error.into_inner(),
+    }
+}

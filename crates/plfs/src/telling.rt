@@ -1,0 +1,248 @@
+//! What is said of how a run ended: the usage line, the line of folders that can't be had, and one line on standard error.
+use crate::called::Program;
+use crate::folders::{Stores, failed};
+use crate::lock::{Denial, Denied};
+use crate::said::Said;
+use crate::spelled::Spelled;
+use crate::standard::{INPUT, OUTPUT, Standard};
+use crate::task::Ran;
+use plfs_program::{Ended, USAGE};
+use plfs_types::Word;
+use spread_store::SpreadTrouble;
+use std::io::{self, ErrorKind, Write};
+use std::process::ExitCode;
+use std::str;
+use store_folder::{FolderStore, Place};
+
+/// What helps where something is damaged.
+const CURE: &str = "restore it from a copy";
+
+/// What helps where a place of a file breaks a rule of small files. It may hold other bytes rightly.
+const CURE_OF_VIEW: &str = "restore it from a copy, unless more than small files was written to it";
+
+// Says on standard error why the run ended so, where its status is one of 3 to 7: of this folder, and its store.
+fn tell(
+    rt: &HostRuntime,
+    status: u8,
+    root: &str,
+    store: Option<&FolderStore<HostRuntime>>,
+    said: &Said,
+    unread: Option<io::Error>,
+    standard: &Standard,
+) {
+    match status {
+        3 => say_starved(rt),
+        4 => tell_fault(rt, root, store),
+        5 => tell_stream(rt, "input: read", standard.has(INPUT), unread),
+        6 => tell_stream(rt, "output: write", standard.has(OUTPUT), said.error),
+        7 => tell_damage(rt, root, store, said),
+        _ => {}
+    }
+}
+
+/// Says why a run ended so: of the one folder, or of that of several where it did.
+#[inline(never)]
+pub fn tell_ran(
+    rt: &HostRuntime,
+    root: &Word,
+    folders: &[&str],
+    ran: Ran,
+    standard: &Standard,
+) -> ExitCode {
+    let Ran {
+        ended,
+        said,
+        unread,
+    } = ran;
+    let Ended { store, status } = ended;
+    let Some(store) = store else {
+        tell(rt, status, root.as_str(), None, &said, unread, standard);
+        return ExitCode::from(status);
+    };
+    match store.apart() {
+        Ok(store) => tell(
+            rt,
+            status,
+            root.as_str(),
+            Some(&store),
+            &said,
+            unread,
+            standard,
+        ),
+        Err(spread) => {
+            let last = spread.last();
+            let stores = spread.close();
+            let place = if status == 4 {
+                failed(&stores, last)
+            } else {
+                last
+            };
+            let store = stores.as_slice().get(place);
+            match folders.get(place) {
+                Some(folder) if status == 4 || !is_of_script(&said) => {
+                    tell(rt, status, folder, store, &said, unread, standard);
+                }
+                _ => tell(rt, status, root.as_str(), None, &said, unread, standard),
+            }
+        }
+    }
+    ExitCode::from(status)
+}
+
+// Whether what is damaged was told at a line of a script. Else the last step was made where it is.
+fn is_of_script(said: &Said) -> bool {
+    match said.damage().split_once(' ') {
+        Some((line, _)) => line != "0",
+        None => false,
+    }
+}
+
+// Says where the store failed, and why.
+fn tell_fault(rt: &HostRuntime, root: &str, store: Option<&FolderStore<HostRuntime>>) {
+    let cause = match store {
+        Some(store) => store.cause(),
+        None => None,
+    };
+    let root = Spelled(root);
+    let _ = match cause {
+        Some(cause) => eprintln!(rt; "plfs: {root}{cause}"),
+        None => eprintln!(rt; "plfs: {root}: the store failed"),
+    };
+}
+
+/// Prints the line of several folders that can't be opened as one, and says why they can't.
+#[inline(never)]
+pub fn tell_unopened(
+    rt: &HostRuntime,
+    root: &Word,
+    folders: &[&str],
+    stores: &Stores,
+    trouble: SpreadTrouble,
+    standard: &Standard,
+) -> ExitCode {
+    match trouble {
+        SpreadTrouble::NoMemory => starved(rt),
+        SpreadTrouble::Fault => match println!(rt; "0 fault") {
+            Ok(()) => {
+                let place = failed(stores, 0);
+                let store = stores.as_slice().get(place);
+                match folders.get(place) {
+                    Some(folder) => tell_fault(rt, folder, store),
+                    None => tell_fault(rt, root.as_str(), store),
+                }
+                ExitCode::from(4)
+            }
+            Err(error) => unprinted(rt, error, standard),
+        },
+        SpreadTrouble::Doubled { name } => {
+            let root = Spelled(root.as_str());
+            let name = str::from_utf8(name.bytes()).unwrap_or("");
+            match println!(rt; "0 damaged {name} 0") {
+                Ok(()) => {
+                    let _ = eprintln!(rt; "plfs: {root}: {name} stands in two of these folders");
+                    ExitCode::from(7)
+                }
+                Err(error) => unprinted(rt, error, standard),
+            }
+        }
+    }
+}
+
+/// Prints the line of folders of which one can't be had, and says why it can't.
+#[inline(never)]
+pub fn tell_denied(
+    rt: &HostRuntime,
+    folders: &[&str],
+    denied: Denied,
+    standard: &Standard,
+) -> ExitCode {
+    if let Denial::NoMemory = denied.why {
+        return starved(rt);
+    }
+    if let Err(error) = println!(rt; "0 fault") {
+        return unprinted(rt, error, standard);
+    }
+    let folder = Spelled(folders.get(denied.place).copied().unwrap_or(""));
+    let why = denied.why;
+    let _ = eprintln!(rt; "plfs: {folder}: {why}");
+    ExitCode::from(4)
+}
+
+/// Says why there is no input.
+#[inline(never)]
+pub fn unread(rt: &HostRuntime, error: io::Error, standard: &Standard) -> ExitCode {
+    if error.kind() == ErrorKind::OutOfMemory {
+        return starved(rt);
+    }
+    tell_stream(rt, "input: read", standard.has(INPUT), Some(error));
+    ExitCode::from(5)
+}
+
+fn unprinted(rt: &HostRuntime, error: io::Error, standard: &Standard) -> ExitCode {
+    tell_stream(rt, "output: write", standard.has(OUTPUT), Some(error));
+    ExitCode::from(6)
+}
+
+// Says why a standard stream failed. One that was closed at the start is named so, whatever the system said of the
+// folder in its place.
+fn tell_stream(rt: &HostRuntime, stream: &str, is_closed: bool, error: Option<io::Error>) {
+    let _ = match error {
+        _ if is_closed => eprintln!(rt; "plfs: standard {stream}: it is closed"),
+        Some(error) => eprintln!(rt; "plfs: standard {stream}: {error}"),
+        None => eprintln!(rt; "plfs: standard {stream}: nothing was taken"),
+    };
+}
+
+// Says what is damaged, and at which line of the script that showed. Where it was found by a command's one statement, or while a file
+// was written out, the store's last step was made there; a summary tells no place.
+fn tell_damage(
+    rt: &HostRuntime,
+    root: &str,
+    store: Option<&FolderStore<HostRuntime>>,
+    said: &Said,
+) {
+    let place = match store {
+        Some(store) => store.place(),
+        None => Place::root(),
+    };
+    let room = Place::of_room(place.room);
+    let root = Spelled(root);
+    let _ = match said.damage().split_once(' ') {
+        Some(("0", what)) => {
+            let cure = cure(what);
+            eprintln!(rt; "plfs: {root}{room}: {what}: {cure}")
+        }
+        Some((line, what)) => eprintln!(rt; "plfs: {root}: line {line}: {what}: {CURE}"),
+        None if said.has_lines => eprintln!(rt; "plfs: {root}: damaged: {CURE}"),
+        None => eprintln!(rt; "plfs: {root}{place}: damaged: {CURE}"),
+    };
+}
+
+// What helps where this is damaged.
+fn cure(what: &str) -> &'static str {
+    if what.starts_with("damaged view ") {
+        CURE_OF_VIEW
+    } else {
+        CURE
+    }
+}
+
+/// Prints the usage line of the program.
+pub fn usage(rt: &HostRuntime, program: Program) -> ExitCode {
+    let line = match program {
+        Program::Plfs => USAGE,
+        Program::Copy => copy_program::USAGE,
+    };
+    let _ = io::writer(rt).write_all(line);
+    ExitCode::from(2)
+}
+
+/// Says that memory was refused.
+pub fn starved(rt: &HostRuntime) -> ExitCode {
+    say_starved(rt);
+    ExitCode::from(3)
+}
+
+fn say_starved(rt: &HostRuntime) {
+    let _ = eprintln!(rt; "plfs: memory was refused");
+}
