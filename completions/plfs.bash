@@ -19,7 +19,7 @@ _plfs() {
         fi
         ;;
     2)
-        mapfile -t COMPREPLY < <(compgen -W 'run play gen cat stat map flatten trunc rename recover ls migrate pack unpack names' -- "$word")
+        mapfile -t COMPREPLY < <(compgen -W 'run play gen cat stat map flatten trunc rename recover ls migrate pack unpack names drain' -- "$word")
         ;;
     esac
 }

@@ -16,4 +16,4 @@ complete -c plfs -f
 complete -c plfs -n '__plfs_is_word 1' -a '(__plfs_folders)'
 complete -c plfs -n '__plfs_is_word 1' -l help -d 'how to call the program, and its statuses'
 complete -c plfs -n '__plfs_is_word 1' -l version -d 'the version'
-complete -c plfs -n '__plfs_is_word 2' -a 'run play gen cat stat map flatten trunc rename recover ls migrate pack unpack names'
+complete -c plfs -n '__plfs_is_word 2' -a 'run play gen cat stat map flatten trunc rename recover ls migrate pack unpack names drain'

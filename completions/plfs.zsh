@@ -11,7 +11,7 @@ _plfs() {
         fi
         ;;
     3)
-        compadd -- run play gen cat stat map flatten trunc rename recover ls migrate pack unpack names
+        compadd -- run play gen cat stat map flatten trunc rename recover ls migrate pack unpack names drain
         ;;
     esac
 }

@@ -329,6 +329,7 @@ def told_commands(top):
     helped = re.search(r"^usage:.*?\n\n", script, re.M | re.S)[0]
     course = (top / "crates/plfs_program/specs/Course.antt").read_text()
     usage = re.search(r'usage: plfs ROOT ([^"\\]*)', course)[1]
+    usage += re.search(r'b"(\|[^"\\]*)', (top / "crates/plfs/src/telling.rt").read_text())[1]
     table = readme.split("\n## Commands\n")[1].split("\n## ")[0]
     spoken = re.sub(r"\b(ROOT|SCRIPT|NAME|SIZE|OLD|NEW|N|plfs|usage|br)\b|--\w+", " ", helped)
     told = {

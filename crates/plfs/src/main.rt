@@ -1,5 +1,6 @@
 //! The program `plfs`, which serves `plfs_copy` under that name too: the command of its words, over real folders, the standard
-//! streams and the system's clock. It owns no rule of what lies there; all of them stand in the libraries `plfs_program` and `copy_program`.
+//! streams and the system's clock. It owns no rule of what lies there; all of them stand in `plfs_program`, `copy_program`
+//! and `drain_program`.
 //! It owns the order in which a run takes things up: its words, its input, and only then the folders, which it locks. A run of
 //! `plfs_copy` reads its input behind that. Where a run ends with a status from 3 to 7, it says why on standard error, in one line.
 #![tactic(auto)]
@@ -25,6 +26,7 @@ use crate::task::{Task, run};
 use crate::telling::{starved, tell_denied, tell_ran, tell_unopened, unread, usage};
 use command_line::Command;
 use copy_program::CopyCommand;
+use drain_program::DrainCommand;
 use plfs_types::Word;
 use spread_store::{Backing, Spread};
 use std::io;
@@ -84,7 +86,7 @@ fn obey<H: Threads + Wait + Sync>(
         return starved(&rt);
     };
     let Some(command) = command else {
-        return usage(&rt, Program::Plfs);
+        return obey_drain(handle, rt, root, folders, words, standard);
     };
     let input = match read_input(rt.alloc(), rt.reader(), &command) {
         Ok(input) => input,
@@ -96,6 +98,41 @@ fn obey<H: Threads + Wait + Sync>(
         input: &input,
     };
     serve(handle, rt, root, folders, &task, standard)
+}
+
+// Drains a file to a second folder, where the words ask for that. Its folder is locked before those that are drained.
+#[inline(never)]
+fn obey_drain<H: Threads + Wait + Sync>(
+    handle: &H,
+    rt: HostRuntime,
+    root: &Word,
+    folders: &[&str],
+    words: &[Word],
+    standard: &Standard,
+) -> ExitCode
+    requires few { length folders.now ≤ MOST_FOLDERS }
+{
+    let Some(folder) = words.get(2) else {
+        return usage(&rt, Program::Plfs);
+    };
+    if DrainCommand::read(words).is_none() {
+        return usage(&rt, Program::Plfs);
+    }
+    let targets = [folder.as_str()];
+    let locks = match lock_folders(&rt, &targets) {
+        Ok(locks) => locks,
+        Err(denied) => return tell_denied(&rt, &targets, denied, standard),
+    };
+    let code = serve(
+        handle,
+        rt,
+        root,
+        folders,
+        &Task::Drain { words, folder },
+        standard,
+    );
+    drop(locks);
+    code
 }
 
 // Does what the words of `plfs_copy` ask for. Without standard input nothing is put.
@@ -157,7 +194,7 @@ fn serve_one<H: Threads + Wait + Sync>(
         return starved(&rt);
     };
     let ran = run(handle, &rt, task, Backing::One(store));
-    tell_ran(&rt, root, folders, ran, standard)
+    tell_ran(&rt, root, folders, task, ran, standard)
 }
 
 // Runs the command over several folders as one store.
@@ -178,7 +215,7 @@ fn serve_several<H: Threads + Wait + Sync>(
     match Spread::open(rt.alloc(), stores) {
         Ok(spread) => {
             let ran = run(handle, &rt, task, Backing::Several(spread));
-            tell_ran(&rt, root, folders, ran, standard)
+            tell_ran(&rt, root, folders, task, ran, standard)
         }
         Err((stores, trouble)) => tell_unopened(&rt, root, folders, &stores, trouble, standard),
     }

@@ -3,7 +3,8 @@ use crate::reading::{copies_the_input, writes_a_file};
 use crate::said::{Said, Saying};
 use command_line::Command;
 use copy_program::{CopyCommand, copy};
-use edge_io::{NoGate, StdSink, StdSource, SystemClock};
+use drain_program::{DrainEnded, drain};
+use edge_io::{NoGate, Sink, StdSink, StdSource, SystemClock};
 use plfs_program::{Ended, plfs};
 use plfs_types::Word;
 use spread_store::Backing;
@@ -11,7 +12,7 @@ use std::cell::RefCell;
 use std::io::{self, Read};
 use std::sync::Wait;
 use std::thread::Threads;
-use store_folder::FolderStore;
+use store_folder::{Cause, FolderStore};
 
 /// The folders that a command is run over. All runs are over this one type, so that the program is compiled once.
 pub type Folders = Backing<FolderStore<HostRuntime>>;
@@ -30,6 +31,11 @@ pub enum Task<'a> {
         words: &'a [Word],
         command: CopyCommand,
     },
+    /// Of `plfs`: a drain's words, and the folder of its target, which is locked.
+    Drain {
+        words: &'a [Word],
+        folder: &'a Word,
+    },
 }
 
 /// What a run leaves: the store, the status, what was written to standard output, and why the reading of standard input failed last.
@@ -38,6 +44,8 @@ pub struct Ran {
     pub ended: Ended<Folders>,
     pub said: Said,
     pub unread: Option<io::Error>,
+    /// Why the target of a drain failed.
+    pub target: Option<Cause>,
 }
 
 /// A reader, beside which stands why it failed last.
@@ -64,7 +72,41 @@ fn has_lines(task: &Task<'_>) -> bool {
     match task {
         Task::Plfs { command, .. } => !writes_a_file(command),
         Task::Copy { command, .. } => copies_the_input(command),
+        Task::Drain { .. } => true,
     }
+}
+
+// Drains from the store to this folder: what is left of the store, the status, and why the target failed.
+#[inline(never)]
+fn drain_to<O: Sink>(
+    rt: &HostRuntime,
+    words: &[Word],
+    folder: &Word,
+    sink: &mut O,
+    store: Folders,
+) -> (Ended<Folders>, Option<Cause>) {
+    let Ok(target) = FolderStore::open(*rt, rt.alloc(), folder) else {
+        let ended = Ended {
+            store: Some(store),
+            status: 3,
+        };
+        return (ended, None);
+    };
+    let DrainEnded {
+        store,
+        target,
+        status,
+    } = drain(
+        rt.alloc(),
+        words,
+        sink,
+        store,
+        target,
+        SystemClock::new(*rt),
+    );
+    let cause = target.cause();
+    drop(target);
+    (Ended { store, status }, cause)
 }
 
 /// Runs the command over the store, its input, standard output and the system's clock.
@@ -80,7 +122,7 @@ pub fn run<H: Threads + Wait + Sync>(
         writer: io::writer(rt),
         said: &said,
     });
-    let clock = SystemClock::new(*rt);
+    let mut target = None;
     let ended = match task {
         Task::Plfs { words, input, .. } => {
             let mut source = StdSource::new(*input);
@@ -91,7 +133,7 @@ pub fn run<H: Threads + Wait + Sync>(
                 &mut source,
                 &mut sink,
                 store,
-                clock,
+                SystemClock::new(*rt),
                 &NoGate,
             )
         }
@@ -100,7 +142,19 @@ pub fn run<H: Threads + Wait + Sync>(
                 reader: rt.stdin(),
                 error: &error,
             });
-            copy(rt.alloc(), words, &mut source, &mut sink, store, clock)
+            copy(
+                rt.alloc(),
+                words,
+                &mut source,
+                &mut sink,
+                store,
+                SystemClock::new(*rt),
+            )
+        }
+        Task::Drain { words, folder } => {
+            let (ended, left) = drain_to(rt, words, folder, &mut sink, store);
+            target = left;
+            ended
         }
     };
     drop(sink);
@@ -108,5 +162,6 @@ pub fn run<H: Threads + Wait + Sync>(
         ended,
         said: said.into_inner(),
         unread: error.into_inner(),
+        target,
     }
 }

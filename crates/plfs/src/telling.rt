@@ -5,14 +5,14 @@ use crate::lock::{Denial, Denied};
 use crate::said::Said;
 use crate::spelled::Spelled;
 use crate::standard::{INPUT, OUTPUT, Standard};
-use crate::task::Ran;
+use crate::task::{Ran, Task};
 use plfs_program::{Ended, USAGE};
 use plfs_types::Word;
 use spread_store::SpreadTrouble;
 use std::io::{self, ErrorKind, Write};
 use std::process::ExitCode;
 use std::str;
-use store_folder::{FolderStore, Place};
+use store_folder::{Cause, FolderStore, Place};
 
 /// What helps where something is damaged.
 const CURE: &str = "restore it from a copy";
@@ -46,6 +46,7 @@ pub fn tell_ran(
     rt: &HostRuntime,
     root: &Word,
     folders: &[&str],
+    task: &Task<'_>,
     ran: Ran,
     standard: &Standard,
 ) -> ExitCode {
@@ -53,8 +54,12 @@ pub fn tell_ran(
         ended,
         said,
         unread,
+        target,
     } = ran;
     let Ended { store, status } = ended;
+    if is_told(rt, task, target, status, &said) {
+        return ExitCode::from(status);
+    }
     let Some(store) = store else {
         tell(rt, status, root.as_str(), None, &said, unread, standard);
         return ExitCode::from(status);
@@ -94,6 +99,35 @@ fn is_of_script(said: &Said) -> bool {
     match said.damage().split_once(' ') {
         Some((line, _)) => line != "0",
         None => false,
+    }
+}
+
+// Says of a drain why its target failed, and which item is damaged: whether something was said.
+fn is_told(
+    rt: &HostRuntime,
+    task: &Task<'_>,
+    cause: Option<Cause>,
+    status: u8,
+    said: &Said,
+) -> bool {
+    let Task::Drain { folder, .. } = task else {
+        return false;
+    };
+    let folder = Spelled(folder.as_str());
+    match (status, cause) {
+        (4, Some(cause)) => {
+            let _ = eprintln!(rt; "plfs: {folder}{cause}");
+            true
+        }
+        (7, _) => {
+            let what = match said.damage().split_once(' ') {
+                Some((_, what)) => what,
+                None => "damaged",
+            };
+            let _ = eprintln!(rt; "plfs: {folder}, or where it is drained from: {what}: {CURE}");
+            true
+        }
+        _ => false,
     }
 }
 
@@ -230,7 +264,10 @@ fn cure(what: &str) -> &'static str {
 /// Prints the usage line of the program.
 pub fn usage(rt: &HostRuntime, program: Program) -> ExitCode {
     let line = match program {
-        Program::Plfs => USAGE,
+        Program::Plfs => {
+            let _ = io::writer(rt).write_all(USAGE.strip_suffix(b"\n").unwrap_or(USAGE));
+            b"|drain NAME FOLDER\n"
+        }
         Program::Copy => copy_program::USAGE,
     };
     let _ = io::writer(rt).write_all(line);

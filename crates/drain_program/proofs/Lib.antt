@@ -1,0 +1,5 @@
+mod CourseLemmas
+mod RunLemmas
+mod StepLemmas
+mod TargetLemmas
+mod WordLemmas

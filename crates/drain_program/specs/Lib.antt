@@ -1,0 +1,6 @@
+pub mod Course
+pub mod Driven
+pub mod Reporting
+pub mod Stepping
+pub mod Targets
+pub mod Words
