@@ -143,30 +143,9 @@ def behind_kills_of_a_drain_at_random_moments_the_next_one_copies_the_rest(trial
     true("no drain was killed", killed)
 
 
-@check
-def behind_a_kill_before_any_change_the_next_drain_copies_the_rest(trial):
-    trial.ends(0, OVERLAP)
-    kept, target = trial.folder / "kept", target_of(trial)
-    shutil.copytree(trial.root, kept)
-    words = ("drain", "f", str(target))
-    _, calls = trial.watched("", UNSYNCED, words=words)
-    changes = list(numbered(it for it in calls if it.path.startswith(str(trial.folder)) and it.kind in CHANGING))
-    true(f"it made {len(changes)} changes", len(changes) > 20)
-    for call, kind, number in changes:
-        for folder in (trial.root, target):
-            shutil.rmtree(folder)
-        shutil.copytree(kept, trial.root)
-        target.mkdir()
-        ended, _ = trial.watched("", f"kill 9 {kind} {number} {trial.folder}*", UNSYNCED, words=words)
-        what = f"killed before {kind} {number} of {call.path.removeprefix(str(trial.folder))}"
-        same(f"{what}: the status", ended.status, -signal.SIGKILL)
-        drains(trial, target, None, **trial.watch([UNSYNCED], "after"))
-        same(f"{what}: the droppings", droppings(target), droppings(kept))
-        same(f"{what}: the file", trial.ends(0, "", target, words=("cat", "f")).out, "ABBA")
-
-
-@check
-def each_failed_call_of_a_drain_is_told_as_a_fault_with_its_folder_and_the_next_one_copies_the_rest(trial):
+def calls_of_a_drain(trial):
+    """Where the source as it was is kept, the target, the drain's words, and each of its calls in either folder: both are as before the
+    drain when a call is handed out."""
     trial.ends(0, OVERLAP)
     kept, target = trial.folder / "kept", target_of(trial)
     shutil.copytree(trial.root, kept)
@@ -179,8 +158,28 @@ def each_failed_call_of_a_drain_is_told_as_a_fault_with_its_folder_and_the_next_
             shutil.rmtree(folder)
         shutil.copytree(kept, trial.root)
         target.mkdir()
+        yield kept, target, words, call, kind, number, f"{kind} {number} of {call.path.removeprefix(str(trial.folder))}"
+
+
+@check
+def behind_a_kill_before_any_change_the_next_drain_copies_the_rest(trial):
+    changes = 0
+    for kept, target, words, call, kind, number, what in calls_of_a_drain(trial):
+        if call.kind not in CHANGING:
+            continue
+        changes += 1
+        ended, _ = trial.watched("", f"kill 9 {kind} {number} {trial.folder}*", UNSYNCED, words=words)
+        same(f"killed before {what}: the status", ended.status, -signal.SIGKILL)
+        drains(trial, target, None, **trial.watch([UNSYNCED], "after"))
+        same(f"killed before {what}: the droppings", droppings(target), droppings(kept))
+        same(f"killed before {what}: the file", trial.ends(0, "", target, words=("cat", "f")).out, "ABBA")
+    true(f"it made {changes} changes", changes > 20)
+
+
+@check
+def each_failed_call_of_a_drain_is_told_as_a_fault_with_its_folder_and_the_next_one_copies_the_rest(trial):
+    for kept, target, words, call, kind, number, what in calls_of_a_drain(trial):
         ended, _ = trial.watched("", f"fail EIO {kind} {number} {trial.folder}*", UNSYNCED, words=words)
-        what = f"{kind} {number} of {call.path.removeprefix(str(trial.folder))}"
         same(f"{what}: the end", (ended.status, ended.out), (4, "0 fault\n"))
         folder = target if call.path.startswith(str(target)) else trial.root
         true(f"{what}: {ended.err!r}", ended.err.startswith(f"plfs: {folder}") and is_reason(ended.err))
