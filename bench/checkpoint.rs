@@ -5,15 +5,14 @@
 //! checkpoint open FOLDER              its index droppings read and merged by a heap, in order of logical offsets
 //! checkpoint flat FOLDER              the pieces of its newest flattened index, read into a list
 //! checkpoint refresh FOLDER K R       a reader that R times takes in K entries of a new writer, over blocks that it has
-//! checkpoint pack FOLDER              the small files of standard input, each a name and digits, put into a new container as units
 //!
 //! FOLDER is what `plfs` takes as ROOT, and the container in it is `f`. Each prints the seconds that it took, `open` and `flat` the
-//! pieces, `refresh` the entries that came and the seconds of the refreshes alone, and `pack` where the last unit ends.
+//! pieces, and `refresh` the entries that came and the seconds of the refreshes alone.
 //! It runs on Unix.
 
 use std::collections::{BinaryHeap, HashMap};
 use std::fs::{self, File, OpenOptions};
-use std::io::{self, Error, ErrorKind, Read, Result};
+use std::io::{self, Error, ErrorKind, Result};
 use std::os::unix::fs::FileExt;
 use std::path::{Path, PathBuf};
 use std::time::Instant;
@@ -410,37 +409,6 @@ fn refresh(root: &Path, count: u64, times: u64) -> Result<String> {
     Ok(format!(" {came} {spent:.6}"))
 }
 
-/// The bytes that pairs of digits say, or none for a dash.
-fn decoded(digits: &[u8]) -> Result<Vec<u8>> {
-    if digits == b"-" {
-        return Ok(Vec::new());
-    }
-    let half = |digit: u8| (digit as char).to_digit(16).map(|half| half as u8).ok_or_else(|| wrong("a digit"));
-    digits.chunks(2).map(|pair| Ok(half(pair[0])? << 4 | half(*pair.get(1).ok_or_else(|| wrong("a byte"))?)?)).collect()
-}
-
-/// Puts the small files of standard input one behind the other, each by one write, and closes the writer.
-fn pack(root: &Path) -> Result<String> {
-    let mut input = Vec::new();
-    io::stdin().read_to_end(&mut input)?;
-    let container = new_container(root)?;
-    let mut writer = Writer::open(&container, 0)?;
-    let mut at = 0;
-    for (number, line) in input.split(|byte| *byte == b'\n').filter(|line| !line.is_empty()).enumerate() {
-        let space = line.iter().position(|byte| *byte == b' ').ok_or_else(|| wrong("a line"))?;
-        let (name, content) = (&line[..space], decoded(&line[space + 1..])?);
-        let mut unit = Vec::with_capacity(16 + name.len() + content.len());
-        unit.extend_from_slice(&(name.len() as u64).to_le_bytes());
-        unit.extend_from_slice(&(content.len() as u64).to_le_bytes());
-        unit.extend_from_slice(name);
-        unit.extend_from_slice(&content);
-        writer.write(at, &unit, number as u64 + 1)?;
-        at += unit.len() as u64;
-    }
-    writer.close(&container)?;
-    Ok(format!(" {at}"))
-}
-
 fn run(words: &[String]) -> Result<String> {
     let words: Vec<&str> = words.iter().map(String::as_str).collect();
     let number = |word: &str| word.parse::<u64>().map_err(|_| Error::new(ErrorKind::InvalidInput, "a number"));
@@ -450,9 +418,8 @@ fn run(words: &[String]) -> Result<String> {
         ["open", root] => opened(&Path::new(root).join("f")).map(|(entries, _)| format!(" {}", entries.len())),
         ["flat", root] => flattened(&Path::new(root).join("f")).map(|pieces| format!(" {}", pieces.len())),
         ["refresh", root, count, times] => refresh(Path::new(root), number(count)?, number(times)?),
-        ["pack", root] => pack(Path::new(root)),
         _ => {
-            let usage = "usage: checkpoint write FOLDER N | make FOLDER W E | open FOLDER | flat FOLDER | refresh FOLDER K R | pack FOLDER";
+            let usage = "usage: checkpoint write FOLDER N | make FOLDER W E | open FOLDER | flat FOLDER | refresh FOLDER K R";
             Err(Error::new(ErrorKind::InvalidInput, usage))
         }
     }

@@ -1,6 +1,11 @@
-# Completion for bash of the command plfs: `source completions/plfs.bash`.
+# Completion for bash of the commands plfs, plfs_copy and plfs_check: `source completions/plfs.bash`.
 _plfs() {
-    local word=${COMP_WORDS[COMP_CWORD]} place=$COMP_CWORD i
+    local word=${COMP_WORDS[COMP_CWORD]} place=$COMP_CWORD i verbs
+    case ${COMP_WORDS[0]##*/} in
+    plfs_copy) verbs='put get' ;;
+    plfs_check) verbs='' ;;
+    *) verbs='run play gen cat stat map flatten trunc rename recover ls migrate pack unpack names drain' ;;
+    esac
     # A colon parts the folders of ROOT, and is a word of its own here.
     for ((i = 1; i <= COMP_CWORD; i++)); do
         if [[ ${COMP_WORDS[i]} == *: ]]; then
@@ -19,8 +24,8 @@ _plfs() {
         fi
         ;;
     2)
-        mapfile -t COMPREPLY < <(compgen -W 'run play gen cat stat map flatten trunc rename recover ls migrate pack unpack names drain' -- "$word")
+        mapfile -t COMPREPLY < <(compgen -W "$verbs" -- "$word")
         ;;
     esac
 }
-complete -F _plfs plfs
+complete -F _plfs plfs plfs_copy plfs_check

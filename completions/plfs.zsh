@@ -1,4 +1,4 @@
-# Completion for zsh of the command plfs: `source completions/plfs.zsh` behind `compinit`.
+# Completion for zsh of the commands plfs, plfs_copy and plfs_check: `source completions/plfs.zsh` behind `compinit`.
 _plfs() {
     case $CURRENT in
     2)
@@ -11,8 +11,12 @@ _plfs() {
         fi
         ;;
     3)
-        compadd -- run play gen cat stat map flatten trunc rename recover ls migrate pack unpack names drain
+        case ${words[1]:t} in
+        plfs_copy) compadd -- put get ;;
+        plfs_check) ;;
+        *) compadd -- run play gen cat stat map flatten trunc rename recover ls migrate pack unpack names drain ;;
+        esac
         ;;
     esac
 }
-compdef _plfs plfs
+compdef _plfs plfs plfs_copy plfs_check

@@ -15,7 +15,7 @@ from pathlib import Path
 
 TOP = Path(__file__).resolve().parent.parent
 PAGE = ("headline", "Headline", "Headline")
-MOST = {"definitions": 185, "lines": 765, "crates": 7}  # No more than now: it is to come down to 180 and 750 again.
+MOST = {"definitions": 180, "lines": 750, "crates": 7}
 
 BEGINS = re.compile(r"(?:abbrev|unfoldable|record|data)(?: pub)? (\w+)|pub (?:abbrev|unfoldable|record|data) (\w+)")
 USES = re.compile(r"^(?:pub )?use Rattle\.(\w+)\.specs\.([\w.]+)\.\{([^}]*)\}", re.M)

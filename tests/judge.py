@@ -541,8 +541,15 @@ class Judge:
                     return True
         return False
 
-    def closed_before(self, t, writer):
-        return any(s.kind == "closed" and self.run.surely_before(s, t) and self.run.writer_at(s) == writer for s in self.run.told)
+    def opens_in(self, o, n, host, writer):
+        """Whether the line opened this writer in the container, or may have done it before it broke."""
+        made = (o.kind, o.fields) == ("open", writer) or o.kind in BROKE
+        return o.verb == "open" and self.of(o) == n and self.run.actors[o.actor].host == host and made
+
+    def is_alive(self, t, host, writer):
+        run = self.run
+        closed = any(s.kind == "closed" and run.surely_before(s, t) and run.writer_at(s) == writer for s in run.told)
+        return not closed and any(self.opens_in(o, self.of(t), host, writer) and not run.surely_before(t, o) for o in run.told)
 
     def recovered(self, t):
         run, n, (buried, alive, hold) = self.run, self.of(t), t.fields
@@ -558,9 +565,7 @@ class Judge:
             need(any(len(landed_writes(last, host, writer)) == count for host in hosts), "another number of its entries is left")
             need(count == 0 or any(w.id == writer for w in writers), "one that wrote, and no line opened it")
         for writer in alive:
-            own = [o for o in run.told if o.verb == "open" and self.of(o) == n and not run.surely_before(t, o)]
-            need(any((o.kind, o.fields) == ("open", writer) or o.kind in BROKE for o in own), "one is alive that no line opened")
-            need(not self.closed_before(t, writer), "one is alive that was closed")
+            need(any(self.is_alive(t, actor.host, writer) for actor in run.actors), "one is alive that no line opened, or that was closed")
         if hold:
             need(not buried and not alive and self.may_be_held(t), "a hold beside writers, or of nobody")
             return
@@ -575,13 +580,7 @@ class Judge:
     def is_open_in(self, t, host, writer):
         run, n = self.run, self.of(t)
         taken = any(s.kind == "recovered" and run.surely_before(s, t) and writer in dict(s.fields[0]) for s in run.told)
-        if open_host(host, writer) in self.before(n).files and not taken:
-            return True
-        for o in run.told:
-            if o.verb == "open" and self.of(o) == n and not run.surely_before(t, o) and run.actors[o.actor].host == host:
-                if o.kind in BROKE or (o.kind, o.fields) == ("open", writer) and not self.closed_before(t, writer):
-                    return True
-        return False
+        return open_host(host, writer) in self.before(n).files and not taken or self.is_alive(t, host, writer)
 
     def may_be_held(self, t):
         run, n = self.run, self.of(t)
@@ -659,8 +658,7 @@ class Judge:
 
     def indices(self, n):
         for host, writer in indices_in(self.after(n)):
-            own = [o for o in self.run.told if o.verb == "open" and self.of(o) == n]
-            opened = any((o.kind, o.fields) == ("open", writer) or o.kind in BROKE for o in own)
+            opened = any(self.opens_in(o, n, host, writer) for o in self.run.told)
             need(index(host, writer) in self.before(n).files or opened, f"an index of writer {writer}, whom nobody opened")
 
     # ---- the page

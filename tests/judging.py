@@ -73,6 +73,8 @@ WRONG = {
     "busy by another": (r"13 refused busy 0 (\d+)", "13 refused busy 1 7", "refused"),
     "no reader": ("24 read .*", "24 refused not-open", "refused"),
     "a reader already": ("23 reader .*", "23 refused already-open", "refused"),
+    "a writer already": (r"7 open \d+", "7 refused already-open", "refused"),
+    "a truncate already": ("18 truncated .*", "18 refused already-open", "refused"),
     "no stamp left": ("4 wrote .*", "4 refused stamps-spent", "refused"),
     "too far within the limit": ("8 wrote .*", "8 refused too-far", "refused"),
     "a stop that none armed": ("24 read .*", "24 stopped", "stopped"),
@@ -190,6 +192,21 @@ def the_judge_refuses_a_tree_that_lost_something(trial):
         lost = [room._replace(files={at: data for at, data in room.files.items() if not re.fullmatch(path, "/".join(at))}) for room in after]
         found = judge.judged(PLANTED, lines, before, lost, "play")
         true(f"the judge finds {found} in a tree without {path}", any(re.match(rf"{what}\b", one) for one in found))
+
+
+@check
+def the_judge_refuses_a_tree_with_another_content(trial):
+    """A writer's log that lost its bytes, one whose last write is gone from its index, and an index under another host."""
+    lines, before, after = accepted(trial, PLANTED, "play", trial.root)
+    changes = {
+        "left": [("hostdir.0/log.", lambda at, data: (at, b"")), ("hostdir.0/index.", lambda at, data: (at, data[:-40]))],
+        "indices": [("hostdir.0/index.", lambda at, data: ((at[0], at[1].replace("index.0", "index.32")), data))],
+    }
+    for what, wrong in changes.items():
+        for path, change in wrong:
+            other = [room._replace(files=dict(change(at, data) if "/".join(at).startswith(path) else (at, data) for at, data in room.files.items())) for room in after]
+            found = judge.judged(PLANTED, lines, before, other, "play")
+            true(f"the judge finds {found} in a tree with another {path}", any(re.match(rf"{what}\b", one) for one in found))
 
 
 @check

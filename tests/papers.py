@@ -119,7 +119,7 @@ def completion_for_other_shells_offers_the_same(trial):
     if shutil.which("zsh"):
         calls = [f"CURRENT={number} PREFIX={word} _plfs" for number, word in ((2, "--h"), (2, "/tmp:sto"), (3, "r"), (4, ""))]
         script = "\n".join([ZSH, f"source '{trial.top}/completions/plfs.zsh'", *calls])
-        same("what zsh offers", asked(["zsh", "-f", "-c", script]), ["_plfs plfs", "--help", "-/ sto", *[it for it in known if it[0] == "r"]])
+        same("what zsh offers", asked(["zsh", "-f", "-c", script]), ["_plfs plfs plfs_copy plfs_check", "--help", "-/ sto", *[it for it in known if it[0] == "r"]])
     if shutil.which("fish"):
         for words, wanted in (("sto", ["store/"]), ("/tmp:sto", ["/tmp:store/"]), ("--", ["--help", "--version"]), ("/tmp ", sorted(known)), ("/tmp play ", [])):
             script = f"source '{trial.top}/completions/plfs.fish'; complete -C 'plfs {words}'"

@@ -310,15 +310,23 @@ def each_small_file_is_one_write_and_all_are_synced_before_they_are_told(trial):
 
 
 @check
-def a_file_is_written_out_with_each_byte_of_its_container_read_once(trial):
-    files = [(f"f{number:04d}", b"0123456789" * (number % 7)) for number in range(3000)]
+def of_ten_thousand_files_one_is_written_out_with_each_byte_of_its_container_read_once(trial):
+    files = [(f"f{number:04d}", b"0123456789" * (number % 7)) for number in range(9800)]
     packs(trial, "p", 0, files, None)
     packs(trial, "p", 1, files[:200], None)
-    for words, more in ((("names", "p"), 0), (("unpack", "p", "f1233"), 10)):
+    logs = {str(path): path.stat().st_size for path in (trial.root / "p").glob("hostdir.0/log.*")}
+    same("the logs", len(logs), 2)
+    for words, content in ((("names", "p"), []), (("unpack", "p", "f1233"), [10])):
         _, calls = trial.watched("", words=words)
-        read = [(int(it.more[0]), it.end) for it in calls if it.kind == "read" and "/log." in it.path]
-        whole = sum(path.stat().st_size for path in (trial.root / "p").glob("hostdir.0/log.*"))
-        same(f"the bytes that {words} reads", sum(length for _, length in read), whole + more)
+        read = [(it.path, int(it.more[0]), it.end) for it in calls if it.kind == "read" and "/log." in it.path]
+        scan, after = read[: len(read) - len(content)], read[len(read) - len(content) :]
+        same(f"the bytes that {words} reads behind the scan", [length for _, _, length in after], content)
+        # Within a log one read begins where the one before it ended, up to the log's end.
+        ends = dict.fromkeys(logs, 0)
+        for path, begin, length in scan:
+            same(f"where a read of {words} begins", begin, ends[path])
+            ends[path] = begin + length
+        same(f"where the reads of {words} end", ends, logs)
 
 
 # What is there before each of the packings that are broken: files of one that was told as packed.

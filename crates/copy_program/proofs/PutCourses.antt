@@ -1,15 +1,21 @@
 -- From a copying on a mount to the run that made it.
-use Rattle.std.proofs.Common.{◌≡◌, ℕ, ◌⊎◌, inl, inr, Bool, List, Some, Result, Err, refl, sym, subst}
+use Rattle.std.proofs.Common.{◌≡◌, ℕ, ◌⊎◌, inl, inr, Bool, true, List, Option, Some, Result, Ok, Err, IfOk, refl, sym, subst}
 use Rattle.edge_io.specs.Source.{Given}
 use Rattle.store_api.specs.Acts.{Stored}
 use Rattle.mount_model.specs.State.{State}
+use Rattle.mount_model.specs.Paths.{Name}
 use Rattle.mount_model.specs.Failing.{FailsToMount}
 use Rattle.mount_model.specs.Mounting.{IsMounted}
 use Rattle.mount_model.specs.declared.trouble.MountTrouble.{MountTrouble}
 use Rattle.flow.specs.declared.stuck.Stuck.{Stuck}
 use Rattle.copy_core.specs.declared.copying.Copied.{Copied}
+use Rattle.copy_core.specs.Blocks.{joined}
 use Rattle.copy_core.specs.Copying.{Copies}
 use Rattle.copy_core.proofs.Facts.{begun_copying_called, copied_called}
+use Rattle.mount_sound.proofs.Facts.{mounted_sound}
+use Rattle.gathering.specs.Moments.{IsSoundAt, Moment}
+use Rattle.copying_laws.specs.Copied.{HasCopied, IsKeptCopy}
+use Rattle.copying_laws.specs.Seen.{LaterReadersSee}
 use Rattle.script_lang.specs.declared.line.Line.{Line}
 use Rattle.script_lang.specs.declared.line.Outcome.{Outcome}
 use Rattle.report_text.specs.Text.{text_of}
@@ -24,7 +30,32 @@ use Rattle.plfs_program.specs.Output.{IsPrinted, IsCutOff}
 use Rattle.plfs_program.specs.Playing.{IsStoreLeft}
 use Rattle.plfs_program.specs.SoundTrees.{LeavesSoundTree, TellsSoundTree}
 use Rattle.plfs_program.proofs.Facts.{FailingLeavesSound, SaidUnmounted, all_leave_sound, was_run}
+use Rattle.copy_program.specs.Seen.{IsSeen}
 use Rattle.copy_program.specs.Putting.{HasBegunToPut, IsEndOf, IsPutAs, PutCourse, PutEnd, PutsOn, broke_off, cut_off, end_of, ended_so, exhausted, mounted, printed, put_status, put_text, unmounted}
+
+-- ---- what later readers see
+
+-- what the laws of a copied source say
+pub record CopyLaws : Type 0 where
+  pub kept : (name : Name) (host : ℕ) (over : Bool) (start : Moment) (old : Given) (copied : Copied) (end : State) (new : Given) → IsSoundAt start → Copies name host over start.state old (Ok copied) end new → IsKeptCopy name start old copied end new
+  pub seen : (name : Name) (blocks : List (List ℕ)) (id : ℕ) (start : Moment) (end : State) → IsSoundAt start → (c : HasCopied name blocks id start end) → LaterReadersSee start c (joined blocks)
+  pub whole : (name : Name) (start : Moment) (old : Given) (copied : Copied) (end : State) (new : Given) (bytes : List ℕ) → (k : IsKeptCopy name start old copied end new) → copied.is_whole ≡ true → old.left ≡ Some bytes → joined k.blocks ≡ bytes
+
+seen_so : CopyLaws → (times : Option (List ℕ)) (before : Stored) (name : List ℕ) (host : ℕ) (over : Bool) (start : State) (given : Given) (result : Result Copied Stuck) (end : State) (given_after : Given) → IsMounted 0 times before start → Copies name host over start given result end given_after → TellsSoundTree before
+    → IfOk result (λ copied. IsSeen name start given copied end given_after)
+seen_so laws times before name host over start given (Err why) end given_after made copies told = tt
+seen_so laws times before name host over start given (Ok copied) end given_after made copies (tree, is, of) =
+    let m : Moment = record { state = start; issued = of.issued } in
+    let sound : IsSoundAt m = mounted_sound 0 times before start tree made is of in
+    let kept : IsKeptCopy name m given copied end given_after = laws.kept name host over m given copied end given_after sound copies in
+    record {
+      moment = m;
+      here = refl;
+      sound = sound;
+      kept = kept;
+      seen = laws.seen name kept.blocks copied.writer m end sound kept.copy;
+      whole = λ bytes whole all. laws.whole name m given copied end given_after bytes kept whole all;
+    }
 
 module _ (name : List ℕ) (host : ℕ) (over : Bool) (given given_after : Given) (e : Ends) (status : ℕ) where
   -- ---- on a mount
@@ -32,8 +63,8 @@ module _ (name : List ℕ) (host : ℕ) (over : Bool) (given given_after : Given
   was_left : (start end : State) (after : Stored) → e.stored_after ≡ Some after → IsMounted 0 e.times e.stored start → after ≡ end.store → HasBegunToPut name host over given given_after start end → IsStoreLeft (HasBegunToPut name host over given given_after) e
   was_left start end after is made left begun = record { after = after; left = is; lawful = ran (was_run (HasBegunToPut name host over given given_after) e.times e.stored after start end made begun left) }
 
-  put_as : (start end : State) (after : Stored) (result : Result Copied Stuck) → e.stored_after ≡ Some after → IsMounted 0 e.times e.stored start → after ≡ end.store → Copies name host over start given result end given_after → IsPutAs name host over given given_after (end_of result) e
-  put_as start end after result is made left copies = record { after = after; left = is; came = mounted result (record { start = start; end = end; mounted = made; copies = copies; left = sym left }) refl }
+  put_as : CopyLaws → (start end : State) (after : Stored) (result : Result Copied Stuck) → e.stored_after ≡ Some after → IsMounted 0 e.times e.stored start → after ≡ end.store → Copies name host over start given result end given_after → IsPutAs name host over given given_after (end_of result) e
+  put_as laws start end after result is made left copies = record { after = after; left = is; came = mounted result (record { start = start; end = end; mounted = made; copies = copies; left = sym left; seen = seen_so laws e.times e.stored name host over start given result end given_after made copies }) refl }
 
   -- what was said became of it
   said_so : (ended : PutEnd) → IsPutAs name host over given given_after ended e → IsStoreLeft (HasBegunToPut name host over given given_after) e → IsReported (put_text ended) (put_status ended) e.taking e.taking_after status → PutCourse name host over given given_after e status
@@ -41,9 +72,9 @@ module _ (name : List ℕ) (host : ℕ) (over : Bool) (given given_after : Given
   said_so ended p left (inr (inl (told, part))) = cut_off ended p part told
   said_so ended p left (inr (inr (told, untold))) = exhausted left untold told
 
-  pub put_so : (start end : State) (after : Stored) → e.stored_after ≡ Some after → IsMounted 0 e.times e.stored start → after ≡ end.store → PutsOn name host over start given e.taking end given_after e.taking_after status → PutCourse name host over given given_after e status
-  put_so start end after is made left (ended_so result copies said) = said_so (end_of result) (put_as start end after result is made left copies) (was_left start end after is made left (inl (result, copies))) said
-  put_so start end after is made left (broke_off begun same told) = exhausted (was_left start end after is made left (inr begun)) same told
+  pub put_so : CopyLaws → (start end : State) (after : Stored) → e.stored_after ≡ Some after → IsMounted 0 e.times e.stored start → after ≡ end.store → PutsOn name host over start given e.taking end given_after e.taking_after status → PutCourse name host over given given_after e status
+  put_so laws start end after is made left (ended_so result copies said) = said_so (end_of result) (put_as laws start end after result is made left copies) (was_left start end after is made left (inl (result, copies))) said
+  put_so laws start end after is made left (broke_off begun same told) = exhausted (was_left start end after is made left (inr begun)) same told
 
   -- ---- without a mount
 

@@ -1,3 +1,4 @@
 pub mod Course
 pub mod Putting
+pub mod Seen
 pub mod Words

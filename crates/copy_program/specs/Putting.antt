@@ -1,5 +1,5 @@
 -- What becomes of a source that is put into a file.
-use Rattle.std.specs.Prelude.{◌≡◌, ◌⊎◌, ℕ, Bool, if◌then◌else◌, List, [], ◌∷◌, ◌++◌, Option, Some, Result, Ok, Err, codes}
+use Rattle.std.specs.Prelude.{◌≡◌, ◌⊎◌, ℕ, Bool, if◌then◌else◌, List, [], ◌∷◌, ◌++◌, Option, Some, Result, Ok, Err, IfOk, codes}
 use Rattle.std.specs.Fmt.{decimal}
 use Rattle.edge_io.specs.Sink.{Taking}
 use Rattle.edge_io.specs.Source.{Given}
@@ -20,6 +20,8 @@ use Rattle.plfs_program.specs.Mounting.{unmounted_of}
 use Rattle.plfs_program.specs.Outcomes.{status_of}
 use Rattle.plfs_program.specs.Output.{IsPrinted, IsCutOff}
 use Rattle.plfs_program.specs.Playing.{IsStoreLeft}
+use Rattle.plfs_program.specs.SoundTrees.{TellsSoundTree}
+use Rattle.copy_program.specs.Seen.{IsSeen}
 
 -- ---- what is said
 
@@ -46,13 +48,15 @@ put_status (Err outcome) = status_of (line_zero outcome ∷ [])
 
 -- ---- what was done
 
--- A mount was made of the store as it was. On it caller 0 by itself copied the source into the file, which ended so and led to what is left of the store.
+-- A mount was made of the store as it was. On it caller 0 by itself copied the source into the file, which ended so and led to what is left of the store. Where
+-- that ended well, and the store told a sound tree, each later reader sees just what was put.
 pub record IsPutOn (times : Option (List ℕ)) (before : Stored) (name : List ℕ) (host : ℕ) (over : Bool) (given : Given) (result : Result Copied Stuck) (after : Stored) (given_after : Given) : Type 0 where
   pub start : State
   pub end : State
   pub mounted : IsMounted 0 times before start
   pub copies : Copies name host over start given result end given_after
   pub left : end.store ≡ after
+  pub seen : TellsSoundTree before → IfOk result (λ copied. IsSeen name start given copied end given_after)
 
 -- The mounting broke off, of which that is said, and nothing was read. Or the source was copied, and that is said of how it ended.
 pub data IsEndOf (times : Option (List ℕ)) (before after : Stored) (name : List ℕ) (host : ℕ) (over : Bool) (given given_after : Given) (ended : PutEnd) : Type 0 where

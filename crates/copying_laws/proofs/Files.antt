@@ -1,22 +1,20 @@
 -- The file that writes make which one writer placed one behind the other.
-use Rattle.std.proofs.Common.{◌≡◌, ℕ, ◌+◌, ◌<◌, ◌≤◌, true, false, List, [], ◌∷◌, ◌++◌, length, drop, map, refl, sym, ap, ◌∙◌, arith, append_assoc, length-append}
-use Rattle.std.specs.Prelude.{if◌then◌else◌, ◌==◌}
+use Rattle.std.proofs.Common.{◌≡◌, ℕ, ◌+◌, ◌≤◌, false, List, [], ◌∷◌, ◌++◌, length, drop, map, refl, sym, ap, ◌∙◌, arith, append_assoc, length-append}
+use Rattle.std.specs.Prelude.{◌==◌}
 use Rattle.std.specs.List.{AllByRecursion}
-use Rattle.std.specs.Ordering.{is_lt, nat_cmp}
-use Rattle.std.specs.declared.cmp.Ordering.TheVariants.{Less}
-use Rattle.std.specs.Cmp.{nat_cmp_is}
 use Rattle.std.proofs.lemmas.Grind.{common_steps}
 use Rattle.std.proofs.lemmas.List.{append-nil}
 use Rattle.plfs_types.specs.declared.entries.Entry.{Entry}
 use Rattle.plain_file.specs.declared.changes.Change.{Change}
 use Rattle.plain_file.specs.declared.changes.Change.TheVariants.{Write}
 use Rattle.plain_file.specs.File.{applied, file_after, plain, sized}
-use Rattle.plain_file.specs.Order.{change_cmp, insert_change, newest_first}
+use Rattle.plain_file.specs.Order.{newest_first}
 use Rattle.mount_sound.specs.Entries.{AreEntriesOf}
 use Rattle.mount_sound.specs.Ledger.{AreFull, Written, entries_in}
 use Rattle.gathering.specs.View.{change_of}
 use Rattle.copy_core.specs.Blocks.{joined}
 use Rattle.copying_laws.specs.Copied.{ArePlaced}
+use Rattle.copying_laws.proofs.Newest.{IsBefore, all_sorted, insert_last}
 
 -- ---- changes behind each other
 
@@ -25,7 +23,7 @@ abbrev pub file_over : List ℕ → List Change → List ℕ
 file_over file [] = file
 file_over file (c ∷ older) = applied (file_over file older) c
 
-over_none : (changes : List Change) → file_over [] changes ≡ file_after changes
+pub over_none : (changes : List Change) → file_over [] changes ≡ file_after changes
 over_none [] = refl
 over_none (c ∷ older) = ap (λ file. applied file c) (over_none older)
 
@@ -33,37 +31,17 @@ over_last : (file : List ℕ) (changes : List Change) (c : Change) → file_over
 over_last file [] c = refl
 over_last file (d ∷ changes) c = ap (λ f. applied f d) (over_last file changes c)
 
+-- the files of two lists of changes, one behind the other
+pub over_both : (newer older : List Change) → file_after (newer ++ older) ≡ file_over (file_after older) newer
+over_both [] older = refl
+over_both (c ∷ newer) older = ap (λ file. applied file c) (over_both newer older)
+
 -- ---- the oldest change stands last
 
-abbrev IsOlder : Change → Change → Type 0
-IsOlder c d = is_lt (change_cmp c d) ≡ true
-
-insert_last : (c : Change) (changes : List Change) → AllByRecursion (IsOlder c) changes → insert_change c changes ≡ changes ++ c ∷ []
-insert_last c [] all = refl
-insert_last c (d ∷ changes) all = rw all.0 (ap (λ (rest : List Change). d ∷ rest) (insert_last c changes all.1))
-
-all_inserted : (P : Change → Type 0) (c : Change) (changes : List Change) → P c → AllByRecursion P changes → AllByRecursion P (insert_change c changes)
-all_inserted P c [] one all = (one, tt)
-all_inserted P c (d ∷ changes) one all = elim (is_lt (change_cmp c d)) as (λ b. AllByRecursion P (if b then d ∷ insert_change c changes else c ∷ d ∷ changes)) [
-  | true ↦ (all.0, all_inserted P c changes one all.1)
-  | false ↦ (one, all)
-]
-
-all_sorted : (P : Change → Type 0) (changes : List Change) → AllByRecursion P changes → AllByRecursion P (newest_first changes)
-all_sorted P [] all = tt
-all_sorted P (c ∷ changes) all = all_inserted P c (newest_first changes) all.0 (all_sorted P changes all.1)
-
--- a lower stamp is older
-less_is : (a b : ℕ) → a < b → nat_cmp a b ≡ Less
-less_is a b less = sym (nat_cmp_is a b Less less)
-
-older : (e d : Entry) (bytes other : List ℕ) → e.stamp < d.stamp → IsOlder (Write e bytes) (Write d other)
-older e d bytes other less = rw (less_is e.stamp d.stamp less) refl
-
-later_newer : (writer last offset : ℕ) (e : Entry) (bytes : List ℕ) (writes : List Written) → e.stamp ≤ last → AreEntriesOf writer last offset (entries_in writes) → AllByRecursion (IsOlder (Write e bytes)) (map change_of writes)
+later_newer : (writer last offset : ℕ) (e : Entry) (bytes : List ℕ) (writes : List Written) → e.stamp ≤ last → AreEntriesOf writer last offset (entries_in writes) → AllByRecursion (IsBefore (Write e bytes)) (map change_of writes)
 later_newer writer last offset e bytes [] low are = tt
 later_newer writer last offset e bytes (w ∷ writes) low are =
-    (older e w.entry bytes w.bytes (omega (arith, low, are.0.later)), later_newer writer w.entry.stamp (offset + w.entry.len) e bytes writes (omega (arith, low, are.0.later)) are.1)
+    (omega (arith, low, are.0.later), later_newer writer w.entry.stamp (offset + w.entry.len) e bytes writes (omega (arith, low, are.0.later)) are.1)
 
 -- ---- a write behind the last byte
 
@@ -83,7 +61,7 @@ blocks_behind writer last offset at (b ∷ blocks) [] file are full placed long 
 blocks_behind writer last offset at (b ∷ blocks) (w ∷ writes) file are full (here, same, others) long =
     let c : Change = change_of w in
     let rest : List Change = newest_first (map change_of writes) in
-    let newer : AllByRecursion (IsOlder c) rest = all_sorted (IsOlder c) (map change_of writes) (later_newer writer w.entry.stamp (offset + w.entry.len) w.entry w.bytes writes (omega arith) are.1) in
+    let newer : AllByRecursion (IsBefore c) rest = all_sorted (IsBefore c) (map change_of writes) (later_newer writer w.entry.stamp (offset + w.entry.len) w.entry w.bytes writes (omega arith) are.1) in
     let next : applied file c ≡ file ++ b = behind_last file w.entry w.bytes (here ∙ sym long) full.0 are.0.some ∙ ap (λ bytes. file ++ bytes) same in
     let longer : length (file ++ b) ≡ at + length b = length-append file b ∙ ap (λ n. n + length b) long in
     ap (file_over file) (insert_last c rest newer)

@@ -1,3 +1,10 @@
+mod Asked
+mod Cleared
 mod Copying
+mod Emptied
 mod Files
+mod Newest
+mod Opened
 mod Readers
+mod Spared
+mod Views

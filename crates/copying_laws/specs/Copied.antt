@@ -12,6 +12,7 @@ use Rattle.packing_laws.specs.Lasting.{KeepsWrites}
 use Rattle.copy_core.specs.declared.copying.Copied.{Copied}
 use Rattle.copy_core.specs.Blocks.{AreBlocks, joined}
 use Rattle.copy_core.specs.Writing.{EndsAs}
+use Rattle.copying_laws.specs.Shown.{ShowsOnly}
 
 -- Each of the writes is one of the blocks, in their order, one behind the other from this place on.
 abbrev pub ArePlaced : ℕ → List (List ℕ) → List Written → Type 0
@@ -21,7 +22,7 @@ ArePlaced at (block ∷ blocks) [] = ⊥
 ArePlaced at (block ∷ blocks) (w ∷ writes) = (w.entry.at ≡ at) × (w.bytes ≡ block) × ArePlaced (at + length block) blocks writes
 
 -- A writer with this id, of the container that had this name as it was opened, wrote these blocks from the file's first byte on. No loss of power takes one of
--- its writes.
+-- its writes, and no other write shows there.
 pub record HasCopied (name : Name) (blocks : List (List ℕ)) (id : ℕ) (start : Moment) (end : State) : Type 0 where
   pub opening : List Event
   pub lawful : IsLawful start.state opening
@@ -34,6 +35,7 @@ pub record HasCopied (name : Name) (blocks : List (List ℕ)) (id : ℕ) (start 
   pub writes : List Written
   pub placed : ArePlaced 0 blocks writes
   pub keeps : KeepsWrites (moment_after (moment_after start opening) events) writer writes
+  pub shows_only : ShowsOnly (moment_after (moment_after start opening) events) writer writes
 
 -- the moment behind all of it
 abbrev pub copied_by : {name : Name} {blocks : List (List ℕ)} {id : ℕ} {end : State} (start : Moment) → HasCopied name blocks id start end → Moment

@@ -1,2 +1,4 @@
 pub mod Alone
 pub mod Copied
+pub mod Seen
+pub mod Shown

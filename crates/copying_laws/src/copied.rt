@@ -1,5 +1,6 @@
 //! The laws of a source that was copied.
-ghost use Rattle.std.specs.Prelude.{◌≡◌, ℕ, Bool, List, [], ◌∷◌, length, Ok};
+ghost use Rattle.std.specs.Prelude.{◌≡◌, ℕ, Bool, true, Some, List, [], ◌∷◌, length, Ok};
+ghost use Rattle.std.specs.List.{AllByRecursion};
 ghost use Rattle.edge_io.specs.Source.{Given};
 ghost use Rattle.mount_model.specs.History.{Event};
 ghost use Rattle.mount_model.specs.Paths.{Name};
@@ -14,12 +15,16 @@ ghost use Rattle.copy_core.specs.declared.copying.Copied.{Copied};
 ghost use Rattle.copy_core.specs.Blocks.{joined};
 ghost use Rattle.copy_core.specs.Copying.{Copies};
 ghost use Rattle.copying_laws.specs.Alone.{HasAlone};
+ghost use Rattle.pack_core.specs.Looking.{GreetsOrLooks};
 ghost use Rattle.copying_laws.specs.Copied.{HasCopied, IsKeptCopy, copied_by};
+ghost use Rattle.copying_laws.specs.Seen.{LaterReadersSee};
+ghost use Rattle.copying_laws.specs.Shown.{IsStill};
 
 use mount_losses::what_is_kept_stays_kept;
 
 /// A law: where a copying told that it ended well, one writer wrote the bytes that were taken from the source, block by block in their order
-/// from the file's first byte on. It counted them, and no loss of power takes one of these writes.
+/// from the file's first byte on. It counted them, and no loss of power takes one of these writes. No other write shows in the container:
+/// it was new, or a truncate to nothing hides all that others had landed there.
 pub fn a_copied_source_is_kept()
     ensures { (name : Name) (host : ℕ) (over : Bool) (start : Moment) (old : Given) (copied : Copied) (end : State) (new : Given) → IsSoundAt start
         → Copies name host over start.state old (Ok copied) end new → IsKeptCopy name start old copied end new }
@@ -46,3 +51,18 @@ pub fn a_reader_of_the_copy_alone_sees_the_source()
 {
     what_is_kept_stays_kept();
 }
+
+/// A law: each reader of that container that opens later sees just the bytes that were taken from the source, where nothing has landed
+/// there since and its truncates are the same. So it is in the same mount and in every later one, after stops and losses of power too.
+/// Where the source ended, these are all bytes that it had.
+pub fn later_readers_see_a_copied_source()
+    ensures seen { (name : Name) (blocks : List (List ℕ)) (id : ℕ) (start : Moment) (end : State) → IsSoundAt start → (c : HasCopied name blocks id start end) → LaterReadersSee start c (joined blocks) }
+    ensures whole { (name : Name) (start : Moment) (old : Given) (copied : Copied) (end : State) (new : Given) (bytes : List ℕ) → (k : IsKeptCopy name start old copied end new) → copied.is_whole ≡ true → old.left ≡ Some bytes → joined k.blocks ≡ bytes }
+{
+    what_is_kept_stays_kept();
+}
+
+/// A law: looks leave each container still. So a reader that opens while others only look sees a copy.
+pub fn looks_leave_a_container_still()
+    ensures { (m : Moment) (events : List Event) (room : ℕ) → IsSoundAt m → IsLawful m.state events → AllByRecursion (λ (e : Event). GreetsOrLooks e.ask.call) events → IsStill m (moment_after m events) room }
+{}

@@ -1,4 +1,7 @@
+pub mod Answered
 pub mod Copy
+pub mod Doing
+pub mod Failing
 pub mod Marks
 pub mod Mild
 pub mod OneStep

@@ -7,4 +7,7 @@ pub mod Kept
 pub mod Law
 pub mod Left
 pub mod News
+pub mod Sought
+pub mod Stopped
+pub mod Taken
 pub mod Viewing

@@ -2,6 +2,8 @@ pub mod Aims
 pub mod Due
 pub mod Dues
 pub mod Ids
+pub mod Known
 pub mod Plan
 pub mod Settled
 pub mod Syncs
+pub mod Unrefused

@@ -1,5 +1,6 @@
 pub mod Allowed
 pub mod Driving
+pub mod Ending
 pub mod Drained
 pub mod Faults
 pub mod Gathered

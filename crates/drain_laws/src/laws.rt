@@ -1,5 +1,5 @@
 //! The laws of a drain's machine.
-ghost use Rattle.std.specs.Prelude.{◌≡◌, ◌⊎◌, ℕ, List, Ok, Some};
+ghost use Rattle.std.specs.Prelude.{◌≡◌, ◌⊎◌, ℕ, List, Ok, Err, Some};
 ghost use Rattle.std.specs.List.{AllByRecursion};
 ghost use Rattle.plfs_types.specs.Counts.{HasRisen};
 ghost use Rattle.store_api.specs.declared.tree.Tree.{Tree};
@@ -9,6 +9,8 @@ ghost use Rattle.mount_model.specs.State.{State};
 ghost use Rattle.mount_sound.specs.Sound.{IsFine};
 ghost use Rattle.gathering.specs.Moments.{Moment, IsSoundAt};
 ghost use Rattle.drain_copy.specs.declared.outcome.Drained.{Drained};
+ghost use Rattle.drain_copy.specs.declared.outcome.DrainStuck.{DrainStuck};
+ghost use Rattle.drain_copy.specs.declared.outcome.DrainStuck.TheVariants.{Taken, TargetDamaged};
 ghost use Rattle.drain_copy.specs.Asking.{ends};
 ghost use Rattle.drain_copy.specs.Draining.{drain_program};
 ghost use Rattle.drain_copy.specs.Planning.{nothing_drained};
@@ -17,6 +19,7 @@ ghost use Rattle.drain_sound.specs.Draining.{Happening, HoldsTarget, IsDraining,
 ghost use Rattle.drain_laws.specs.Allowed.{MayDrain};
 ghost use Rattle.drain_laws.specs.Drained.{HasDrained};
 ghost use Rattle.drain_laws.specs.Driving.{AreMade, Drives, FindsRoom};
+ghost use Rattle.drain_laws.specs.Ending.{HasAllSettled, HasOpenhosts, IsTaken, WhyEnded};
 ghost use Rattle.drain_laws.specs.Faults.{EndsInFault, WasServed};
 ghost use Rattle.drain_laws.specs.Gathered.{HasGathered, began_at, events_in, listed_at};
 ghost use Rattle.drain_laws.specs.Keeping.{IsKeptBySource, IsLeftOf};
@@ -48,6 +51,32 @@ pub fn a_driven_drain_keeps_its_target()
 {
     a_drain_keeps_its_target();
 }
+
+/// A law: why a drain over a target ends before it is through. A store failed, or no container of the source had the name. Or a writer
+/// that was settled at the target went on, or the target's container lacks the folder of those that have it open. So neither side
+/// shows damage beyond that folder, whatever others call meanwhile, and no other call is refused.
+pub fn a_drain_ends_for_a_reason()
+    ensures { (caller number : ℕ) (name : Name) (source : Moment) (store : Stored) (happened : List Happening) (why : DrainStuck) → IsSoundAt source → HoldsTarget source number name store → AreMade source store happened → FindsRoom caller number happened
+        → Drives caller (drain_program name) happened (ends (Err why)) → WhyEnded caller number name source store happened why }
+{}
+
+/// A law: a target whose container has the folder of those that have it open shows a drain no damage, and has it after the drain too,
+/// wherever that ends.
+pub fn a_target_shows_no_damage()
+    ensures none { (caller number : ℕ) (name : Name) (source : Moment) (store : Stored) (happened : List Happening) (folder file : Name) (place : ℕ) → IsSoundAt source → HoldsTarget source number name store → HasOpenhosts name store → AreMade source store happened → FindsRoom caller number happened
+        → Drives caller (drain_program name) happened (ends (Err (TargetDamaged folder file place))) → ⊥ }
+    ensures lasts { (caller number : ℕ) (name : Name) (source : Moment) (store : Stored) (happened : List Happening) (left : DrainsOn) → IsSoundAt source → HoldsTarget source number name store → HasOpenhosts name store → AreMade source store happened → FindsRoom caller number happened
+        → Drives caller (drain_program name) happened left → HasOpenhosts name (target_after store happened) }
+{}
+
+/// A law: a drain is taken only by a writer that has a metadata dropping at the target, with just so many entries there, and more at
+/// the source. A drain that ends well had all at the target of each writer that was settled there.
+pub fn a_drain_is_taken_by_one_that_went_on()
+    ensures taken { (caller number : ℕ) (name : Name) (source : Moment) (store : Stored) (happened : List Happening) (writer there here : ℕ) → IsSoundAt source → HoldsTarget source number name store → AreMade source store happened → FindsRoom caller number happened
+        → Drives caller (drain_program name) happened (ends (Err (Taken writer there here))) → IsTaken caller number name source store happened writer there here }
+    ensures none { (caller number : ℕ) (name : Name) (source : Moment) (store : Stored) (happened : List Happening) (drained : Drained) → IsSoundAt source → HoldsTarget source number name store → AreMade source store happened → FindsRoom caller number happened
+        → Drives caller (drain_program name) happened (ends (Ok drained)) → HasAllSettled source number name store }
+{}
 
 /// A law: where the drain ends well, the target's container has all entries that had landed at the source as it began, with their
 /// bytes, and all truncates that stood there then.

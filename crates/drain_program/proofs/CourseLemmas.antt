@@ -1,6 +1,7 @@
 -- What a course says of the stores that are left.
-use Rattle.std.proofs.Common.{◌≡◌, ℕ, suc, ◌≤◌, ◌⊎◌, inl, inr, List, [], ◌∷◌, Some, Result, Ok, Err, refl, sym, ap, ◌∙◌, subst, arith}
+use Rattle.std.proofs.Common.{◌≡◌, ℕ, suc, ◌≤◌, ◌⊎◌, inl, inr, List, [], ◌∷◌, ◌++◌, Some, Result, Ok, Err, refl, sym, ap, ◌∙◌, subst, append_assoc, arith}
 use Rattle.plfs_types.specs.Counts.{HasRisen}
+use Rattle.store_api.specs.declared.tree.Tree.{Tree}
 use Rattle.store_api.specs.Acts.{Stored}
 use Rattle.mount_model.specs.Failing.{FailsToMount}
 use Rattle.mount_model.specs.History.{Event, state_after}
@@ -9,7 +10,9 @@ use Rattle.mount_model.specs.State.{State}
 use Rattle.mount_model.specs.declared.trouble.MountTrouble.{MountTrouble}
 use Rattle.mount_model.specs.declared.trouble.MountTrouble.TheVariants as trouble
 use Rattle.mount_sound.specs.Owed.{IsLawful}
+use Rattle.mount_sound.proofs.Facts.{mounted_sound}
 use Rattle.gathering.specs.Moments.{Moment, next_moment}
+use Rattle.gathering.proofs.Facts.{legal_first}
 use Rattle.flow.specs.declared.stuck.Stuck.{Stuck}
 use Rattle.flow.specs.declared.stuck.Stuck.TheVariants as stuck
 use Rattle.outcomes.specs.Outcomes.{stuck_outcome, why_of}
@@ -28,11 +31,14 @@ use Rattle.drain_copy.specs.declared.outcome.DrainStuck.TheVariants.{Source, Tak
 use Rattle.drain_copy.specs.Asking.{ends}
 use Rattle.drain_copy.specs.Telling.{DrainsOn}
 use Rattle.drain_sound.specs.Draining.{Happening, at_source, at_target, source_after}
+use Rattle.drain_sound.specs.Views.{mounted_there}
 use Rattle.drain_laws.specs.Driving.{AreMade}
+use Rattle.drain_laws.specs.Gathered.{began_at, events_in, listed_at}
+use Rattle.drain_laws.specs.Keeping.{IsLeftOf}
 use Rattle.drain_program.specs.Course.{DrainCourse, DrainRun, IsDrainEnd, IsDrainLeft, IsDrainOver, IsDrainedAs, begun, broke_off, cut_off, drains, exhausted, mounted, printed, unmounted, usage}
 use Rattle.drain_program.specs.Driven.{IsDriven, moment_of}
 use Rattle.drain_program.specs.Reporting.{DrainReport, drain_status, had, report_of, went_on, wrote}
-use Rattle.drain_program.specs.Targets.{HasCopiedAll, HasSource, HasTarget}
+use Rattle.drain_program.specs.Targets.{HasCopiedAll, HasSource, HasTarget, ShowsAll}
 use Rattle.drain_program.specs.Words.{IsDrainCommand}
 use Rattle.drain_program.proofs.TargetLemmas.{nothing_issued}
 use Rattle.drain_program.proofs.WordLemmas.{one_name}
@@ -48,6 +54,12 @@ calls_lawful : (m : Moment) (store : Stored) (happened : List Happening) → Are
 calls_lawful m store [] made = tt
 calls_lawful m store (at_source e ∷ rest) made = (made.0.0, made.0.1, calls_lawful (next_moment m e) store rest made.1)
 calls_lawful m store (at_target a ∷ rest) made = calls_lawful m a.after rest made.1
+
+-- they are those that stand in it
+calls_are : (happened : List Happening) → source_calls happened ≡ events_in happened
+calls_are [] = refl
+calls_are (at_source e ∷ rest) = ap (λ es. e ∷ es) (calls_are rest)
+calls_are (at_target a ∷ rest) = calls_are rest
 
 calls_end : (m : Moment) (happened : List Happening) → state_after m.state (source_calls happened) ≡ (source_after m happened).state
 calls_end m [] = refl
@@ -80,7 +92,7 @@ unmounted_status trouble.Spent outcome told well = let same : Refused MountsSpen
 unmounted_status trouble.Fault outcome told well = let same : Fault ≡ outcome = cc in never (drain_status (had outcome)) 4 (omega arith) (ap (λ o. drain_status (had o)) (sym same)) well
 unmounted_status trouble.NoMemory outcome told well = absurd (cc)
 
-apart : (n a b : ℕ) → suc a ≤ b → n ≡ a → n ≡ b → ⊥
+pub apart : (n a b : ℕ) → suc a ≤ b → n ≡ a → n ≡ b → ⊥
 apart n a b less is other = omega (arith, less, is, other)
 
 -- status 4 is that of a fault alone
@@ -162,6 +174,43 @@ module _ (name : Name) (e : Ends) (target target_end : Stored) (status : ℕ) wh
   run_copies (cut_off report d part is) zero number from has = absurd (omega (arith, is, zero))
   run_copies (exhausted left same is) zero number from has = absurd (omega (arith, is, zero))
 
+  -- ---- what readers of the target see
+
+  pub run_shows : DrainRun name e target target_end status → status ≡ 0 → (number : ℕ) → HasSource number name e.stored → HasTarget number name e.stored target → (tree : Tree) → IsLeftOf target_end tree → ShowsAll number name e.stored tree
+  run_shows (printed report d all is) zero number from has tree left_of = by_end report d.after d.came (sym is ∙ zero)
+    where
+      by_outcome : (after : Stored) (outcome : Result Drained DrainStuck) → IsDrainOver name e.times e.stored target (ends outcome) after target_end → drain_status (report_of outcome) ≡ 0 → ShowsAll number name e.stored tree
+      by_outcome after (Ok drained) over well =
+          let start : Moment = mounted_there from.sound over.start in
+          let (g, shows) = (over.lawful number from has).shows drained refl tree left_of in
+          let lawful : IsLawful start.state (events_in over.happened) = subst (IsLawful start.state) (calls_are over.happened) (calls_lawful start target over.happened (over.driven.made from.sound.issued)) in
+          record {
+            first = began_at start g;
+            last = listed_at start g;
+            moments = record {
+              start = start;
+              sound = mounted_sound 0 e.times e.stored over.start from.tree over.mounted from.told from.sound;
+              times = e.times;
+              mounted = over.mounted;
+              before = g.before;
+              between = g.first ∷ g.between;
+              lawful = legal_first start (g.before ++ (g.first ∷ g.between)) (g.listing ∷ g.later) (subst (IsLawful start.state) (g.split ∙ sym (append_assoc g.before (g.first ∷ g.between) (g.listing ∷ g.later))) lawful);
+              begins = refl;
+              ends = refl;
+            };
+            shows = shows;
+          }
+      by_outcome after (Err (Source why)) over well = absurd (stuck_status why well)
+      by_outcome after (Err TargetFault) over well = absurd (never (drain_status (had Fault)) 4 (omega arith) refl well)
+      by_outcome after (Err (TargetDamaged folder file place)) over well = absurd (never (drain_status (had (Damaged folder file place))) 7 (omega arith) refl well)
+      by_outcome after (Err (Taken writer there here)) over well = absurd (never (drain_status (went_on writer there here)) 1 (omega arith) refl well)
+
+      by_end : (report : DrainReport) (after : Stored) → IsDrainEnd name e.times e.stored target after target_end report → drain_status report ≡ 0 → ShowsAll number name e.stored tree
+      by_end report after (unmounted why outcome failed told same is_so) well = absurd (unmounted_status why outcome told (subst (λ r. drain_status r ≡ 0) is_so well))
+      by_end report after (mounted outcome over had_memory is_so) well = by_outcome after outcome over (subst (λ r. drain_status r ≡ 0) is_so well)
+  run_shows (cut_off report d part is) zero number from has tree left_of = absurd (apart status 0 6 (omega arith) zero is)
+  run_shows (exhausted left same is) zero number from has tree left_of = absurd (apart status 0 3 (omega arith) zero is)
+
 -- ---- by its words
 
 module _ (words : List (List ℕ)) (e : Ends) (target target_end : Stored) (status : ℕ) where
@@ -179,3 +228,8 @@ module _ (words : List (List ℕ)) (e : Ends) (target target_end : Stored) (stat
   course_copies (usage none same kept said is) number name command from has zero = absurd (none name command)
   course_copies (drains other is run) number name command from has zero =
       run_copies name e target target_end status (subst (λ n. DrainRun n e target target_end status) (one_name words other name is command) run) zero number from has
+
+  pub course_shows : DrainCourse words e target target_end status → (number : ℕ) (name : Name) → IsDrainCommand words name → HasSource number name e.stored → HasTarget number name e.stored target → status ≡ 0 → (tree : Tree) → IsLeftOf target_end tree → ShowsAll number name e.stored tree
+  course_shows (usage none same kept said is) number name command from has zero tree left_of = absurd (none name command)
+  course_shows (drains other is run) number name command from has zero tree left_of =
+      run_shows name e target target_end status (subst (λ n. DrainRun n e target target_end status) (one_name words other name is command) run) zero number from has tree left_of

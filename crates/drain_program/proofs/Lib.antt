@@ -1,4 +1,8 @@
+mod AbsentLemmas
+mod CompleteLemmas
 mod CourseLemmas
+mod MarkLemmas
+mod OverLemmas
 mod RunLemmas
 mod StepLemmas
 mod TargetLemmas

@@ -30,7 +30,8 @@ use Rattle.drain_program.specs.Course.{DrainRun, DrainsOver, IsDrainLeft, IsDrai
 use Rattle.drain_program.specs.Driven.{DrainsTo, moment_of}
 use Rattle.drain_program.specs.Reporting.{DrainReport, drain_status, drain_text, had, report_of}
 use Rattle.drain_program.proofs.StepLemmas.{all_had}
-use Rattle.drain_program.proofs.TargetLemmas.{DrainLaws, drain_over, nothing_issued}
+use Rattle.drain_program.proofs.OverLemmas.{drain_over}
+use Rattle.drain_program.proofs.TargetLemmas.{DrainLaws, nothing_issued}
 
 -- ---- faults
 

@@ -40,7 +40,7 @@ use Rattle.drain_copy.specs.declared.outcome.Drained.{Drained}
 use Rattle.drain_copy.specs.declared.outcome.DrainStuck.{DrainStuck}
 use Rattle.drain_copy.specs.Asking.{Told, acts, at_target as on_target, calls, ends, look_reply}
 use Rattle.drain_copy.specs.Draining.{drain_program, finds_source, gathers, if_held, reads_target}
-use Rattle.drain_copy.specs.Planning.{nothing_held}
+use Rattle.drain_copy.specs.Planning.{nothing_drained, nothing_held}
 use Rattle.drain_copy.specs.Telling.{DrainsOn, Outcome, folder_alone, found_room, on_good, sought, told_well}
 use Rattle.drain_read.specs.declared.held.Held.{Held}
 use Rattle.drain_read.specs.Holding.{held_program}
@@ -52,9 +52,15 @@ use Rattle.drain_sound.specs.Fronts.{IsTarget}
 use Rattle.drain_sound.specs.Views.{mounted_there}
 use Rattle.drain_laws.specs.Drained.{HasDrained}
 use Rattle.drain_laws.specs.Driving.{AreMade, Drives, FindsRoom, IsReplied, IsTold}
+use Rattle.drain_laws.specs.Ending.{HasAllSettled, HasOpenhosts, WhyEnded}
 use Rattle.drain_laws.specs.Faults.{EndsInFault, WasServed}
+use Rattle.drain_laws.specs.Gathered.{HasGathered, began_at, events_in, listed_at}
+use Rattle.drain_laws.specs.Keeping.{IsKeptBySource, IsLeftOf}
+use Rattle.drain_laws.specs.Reading.{AllReadBehind, HasNoBareLog}
+use Rattle.drain_laws.specs.Resting.{CopiesNothing, HasAll}
+use Rattle.drain_laws.specs.Showing.{ShowsSource}
 use Rattle.drain_laws.proofs.Facts.{CallsOnly, gathers_only}
-use Rattle.drain_program.specs.Course.{IsDrainOver}
+use Rattle.drain_program.specs.From.{IsDrainFrom, IsKeptThroughout}
 use Rattle.drain_program.specs.Driven.{IsDriven, IsOwn}
 use Rattle.drain_program.specs.Targets.{HasCopiedAll, HasSource, HasTarget, HoldsThroughout, first as first_drain, later as drained_before}
 
@@ -83,6 +89,11 @@ abbrev pub FaultsAreStores : Type 0
 FaultsAreStores = (caller : ℕ) (name : Name) (source : Moment) (store : Stored) (happened : List Happening) (outcome : Outcome) → AreMade source store happened → AllByRecursion (WasServed caller) happened → Drives caller (drain_program name) happened (ends outcome) → EndsInFault outcome
     → HasRisen source.state.store.faults (source_after source happened).state.store.faults ⊎ HasRisen store.faults (target_after store happened).faults
 
+-- what holds of a drain that is driven over a target, wherever it ends
+abbrev pub Driven : (ℕ → Name → Moment → Stored → List Happening → DrainsOn → Type 0) → Type 0
+Driven So = (number : ℕ) (name : Name) (source : Moment) (store : Stored) (happened : List Happening) (left : DrainsOn) → IsSoundAt source → HoldsTarget source number name store → AreMade source store happened → FindsRoom 0 number happened
+    → Drives 0 (drain_program name) happened left → So number name source store happened left
+
 pub record DrainLaws : Type 0 where
   pub fresh : FirstIsTarget
   pub loss : LossKeepsTarget
@@ -90,6 +101,16 @@ pub record DrainLaws : Type 0 where
   pub keeps : DrivenKeepsTarget
   pub copies : EndsWellCopied
   pub faults : FaultsAreStores
+  pub behind : Driven (λ number name source store happened left. HasNoBareLog name store → AllReadBehind 0 name store happened)
+  pub bare : Driven (λ number name source store happened left. HasNoBareLog name store → HasNoBareLog name (target_after store happened))
+  pub kept : Driven (λ number name source store happened left. IsKeptBySource source number name store → IsKeptBySource (source_after source happened) number name (target_after store happened))
+  pub lost : Driven (λ number name source store happened left. (drained : Drained) → left ≡ ends (Ok drained) → (tree : Tree) → IsLeftOf (target_after store happened) tree → HasDrained source (source_after source happened) number name tree)
+  pub shows : Driven (λ number name source store happened left. (drained : Drained) → left ≡ ends (Ok drained) → (tree : Tree) → IsLeftOf (target_after store happened) tree → (g : HasGathered 0 number (events_in happened)) × ShowsSource (began_at source g) (listed_at source g) number name tree)
+  pub rests : Driven (λ number name source store happened left. HasAll (source_after source happened) number name store → CopiesNothing 0 happened)
+  pub none : Driven (λ number name source store happened left. (drained : Drained) → left ≡ ends (Ok drained) → HasAll (source_after source happened) number name store → drained ≡ nothing_drained)
+  pub reasons : Driven (λ number name source store happened left. (why : DrainStuck) → left ≡ ends (Err why) → WhyEnded 0 number name source store happened why)
+  pub settled : Driven (λ number name source store happened left. (drained : Drained) → left ≡ ends (Ok drained) → HasAllSettled source number name store)
+  pub opens : Driven (λ number name source store happened left. HasOpenhosts name store → HasOpenhosts name (target_after store happened))
 
 -- nothing was issued, whatever the state
 pub nothing_issued : Ledger
@@ -189,7 +210,7 @@ only_good next (Err why) goes = tt
 finds_source_first : (name : Name) (held : Held) → FindsFirst name (finds_source name held)
 finds_source_first name held = (refl, λ reply. only_good (gathers name held) (found_room reply) (λ room. gathers_only FindsNone (λ n sight. tt) (λ n host writer is_log. tt) name held room))
 
-drain_finds_first : (name : Name) → FindsFirst name (drain_program name)
+pub drain_finds_first : (name : Name) → FindsFirst name (drain_program name)
 drain_finds_first name = λ told. first_on name (reads_target name) (told_well (folder_alone []) sought told) by_found
   where
     by_held : (out : Result Held Stuck) → FindsFirst name (if_held name out)
@@ -201,10 +222,10 @@ drain_finds_first name = λ told. first_on name (reads_target name) (told_well (
     by_found (Some room) = first_target name (held_program room) (if_held name) by_held
 
 -- of a name that one room of the source has
-abbrev OneRoom : Name → ℕ → State → Type 0
+abbrev pub OneRoom : Name → ℕ → State → Type 0
 OneRoom name number state = (caller room : ℕ) (after : State) → IsStep state caller (unbroken (Find name)) (RoomReply room) after → room ≡ number
 
-finds_first : (name : Name) (number : ℕ) (m : Moment) (store : Stored) (p left : DrainsOn) (happened : List Happening) → OneRoom name number m.state → AllByRecursion IsOwn happened → AreMade m store happened → Drives 0 p happened left → FindsFirst name p → FindsRoom 0 number happened
+pub finds_first : (name : Name) (number : ℕ) (m : Moment) (store : Stored) (p left : DrainsOn) (happened : List Happening) → OneRoom name number m.state → AllByRecursion IsOwn happened → AreMade m store happened → Drives 0 p happened left → FindsFirst name p → FindsRoom 0 number happened
 finds_first name number m store p left [] one own made drives first = tt
 finds_first name number m store p left (at_target a ∷ rest) one own made (next, is, drives) first = finds_first name number m a.after next left rest one own.1 made.1 drives (told_first p next a is first)
   where
@@ -236,11 +257,24 @@ number_found table (Ok answer) room e = absurd (cc)
 number_found table (Err Fault) room e = absurd (cc)
 number_found table (Err NoMemory) room e = absurd (cc)
 
-name_found : (old : State) (caller : ℕ) (name : Name) (room : ℕ) (new : State) (tree : Tree) → Answers old caller (Find name) (RoomReply room) new → old.store.tree ≡ Some tree → IsRoomOf tree name room
+pub name_found : (old : State) (caller : ℕ) (name : Name) (room : ℕ) (new : State) (tree : Tree) → Answers old caller (Find name) (RoomReply room) new → old.store.tree ≡ Some tree → IsRoomOf tree name room
 name_found old caller name room new tree finds has =
     let m = finds.makes in
     let t = acts_told (find_room name) old.store new.store tree m.told has m.made in
     (look_answered (find_room name) tree (FindTells tree name) (find_tells tree name) (Number room) t.0 (subst (λ o. Tells (find_room name) tree o t.0) (number_found old.table m.told room m.answered) t.2)).1
+
+-- each room has its name still
+pub name_kept : (times : Option (List ℕ)) (source : Stored) (start : State) → IsMounted 0 times source start → (tree now : Tree) → source.tree ≡ Some tree → start.store.tree ≡ Some now → (n : ℕ) (room : Room) → slice_get tree.rooms n ≡ Some room → (r : Room) × (slice_get now.rooms n ≡ Some r) × (r.name ≡ room.name)
+name_kept times source start mounted tree now told now_is n room there =
+    let d = mounted.draws in
+    let a = acts_told marks_step source d.roomed tree d.tells.told told d.tells.made in
+    let b = acts_told (list_step start.marks) d.roomed d.listed a.0 (Ok (Names d.names)) a.1 d.lists in
+    let put = acts_told (mark_step start.marks start.mount) d.listed start.store b.0 (Ok Made) b.1 d.marked in
+    let last : now ≡ put.0 = one_tree now put.0 start.store.tree now_is put.1 in
+    let x = keeps_rooms marks_step tree d.tells.told a.0 a.2 n room there in
+    let y = keeps_rooms (list_step start.marks) a.0 (Ok (Names d.names)) b.0 b.2 n x.0 x.1 in
+    let z = keeps_rooms (mark_step start.marks start.mount) b.0 (Ok Made) put.0 put.2 n y.0 y.1 in
+    (z.0, ap (λ (t : Tree). slice_get t.rooms n) last ∙ z.1, z.2.name (λ none. none) ∙ y.2.name (λ none. none) ∙ x.2.name (λ none. none))
 
 -- ---- over a mount
 
@@ -259,24 +293,11 @@ module _ (laws : DrainLaws) (name : Name) (logical : IsLogicalName name) (times 
   held_first number from (drained_before m s same holds) =
       held_by (begun number from) number holds.tree holds.told (laws.lasts m number name holds.tree from.tree from.room 0 times source start s (same ∙ from.told) from.at.there from.sound mounted from.told holds.target)
 
-  -- each room has its name still
-  name_kept : (tree now : Tree) → source.tree ≡ Some tree → start.store.tree ≡ Some now → (n : ℕ) (room : Room) → slice_get tree.rooms n ≡ Some room → (r : Room) × (slice_get now.rooms n ≡ Some r) × (r.name ≡ room.name)
-  name_kept tree now told now_is n room there =
-      let d = mounted.draws in
-      let a = acts_told marks_step source d.roomed tree d.tells.told told d.tells.made in
-      let b = acts_told (list_step start.marks) d.roomed d.listed a.0 (Ok (Names d.names)) a.1 d.lists in
-      let put = acts_told (mark_step start.marks start.mount) d.listed start.store b.0 (Ok Made) b.1 d.marked in
-      let last : now ≡ put.0 = one_tree now put.0 start.store.tree now_is put.1 in
-      let x = keeps_rooms marks_step tree d.tells.told a.0 a.2 n room there in
-      let y = keeps_rooms (list_step start.marks) a.0 (Ok (Names d.names)) b.0 b.2 n x.0 x.1 in
-      let z = keeps_rooms (mark_step start.marks start.mount) b.0 (Ok Made) put.0 put.2 n y.0 y.1 in
-      (z.0, ap (λ (t : Tree). slice_get t.rooms n) last ∙ z.1, z.2.name (λ none. none) ∙ y.2.name (λ none. none) ∙ x.2.name (λ none. none))
-
   one_room : (number : ℕ) (from : HasSource number name source) → OneRoom name number start
   one_room number from caller room after step =
       let s : IsSoundAt (begun number from) = begun_sound number from in
       let is : IsRoomOf s.shape.tree name room = name_found start caller name room after s.shape.tree (answers_as start caller (unbroken (Find name)) (Find name) (RoomReply room) (RoomReply room) after refl refl refl step) s.shape.told in
-      let kept = name_kept from.tree s.shape.tree from.told s.shape.told number from.room from.at.there in
+      let kept = name_kept times source start mounted from.tree s.shape.tree from.told s.shape.told number from.room from.at.there in
       s.shape.shaped.rooms_differ room number is.room kept.0 is.has_room kept.1 (is.named ∙ sym (kept.2 ∙ from.at.named))
 
   module _ (happened : List Happening) (left : DrainsOn) (end : State) (target_end : Stored) (driven : IsDriven name start target happened left end target_end) where
@@ -292,6 +313,26 @@ module _ (laws : DrainLaws) (name : Name) (logical : IsLogicalName name) (times 
         let finds : FindsRoom 0 number (front ++ rest) = subst (FindsRoom 0 number) split (finds_at number from) in
         let drives = front_drives 0 (drain_program name) left front rest (subst (λ hs. Drives 0 (drain_program name) hs left) split driven.drives) in
         laws.keeps 0 number name (begun number from) target front drives.0 (begun_sound number from) (held_first number from has) (front_made (begun number from) target front rest made) (front_finds 0 number front rest finds) drives.1
+
+    -- ---- what the laws say of it
+
+    kept_throughout : (number : ℕ) (from : HasSource number name source) → HasTarget number name source target → IsKeptBySource (begun number from) number name target → IsKeptThroughout number name (begun number from) target happened
+    kept_throughout number from has kept front rest split =
+        let made : AreMade (begun number from) target (front ++ rest) = subst (AreMade (begun number from) target) split (made_at number from) in
+        let finds : FindsRoom 0 number (front ++ rest) = subst (FindsRoom 0 number) split (finds_at number from) in
+        let drives = front_drives 0 (drain_program name) left front rest (subst (λ hs. Drives 0 (drain_program name) hs left) split driven.drives) in
+        laws.kept number name (begun number from) target front drives.0 (begun_sound number from) (held_first number from has) (front_made (begun number from) target front rest made) (front_finds 0 number front rest finds) drives.1 kept
+
+    pub drain_from : (number : ℕ) (from : HasSource number name source) → HasTarget number name source target → IsDrainFrom number name (begun number from) target happened left target_end
+    drain_from number from has = subst (IsDrainFrom number name (begun number from) target happened left) driven.ends_target (record {
+      behind = λ none. (laws.behind number name (begun number from) target happened left (begun_sound number from) (held_first number from has) (made_at number from) (finds_at number from) driven.drives none, laws.bare number name (begun number from) target happened left (begun_sound number from) (held_first number from has) (made_at number from) (finds_at number from) driven.drives none);
+      keeps = kept_throughout number from has;
+      shows = laws.shows number name (begun number from) target happened left (begun_sound number from) (held_first number from has) (made_at number from) (finds_at number from) driven.drives;
+      rests = λ all. (laws.rests number name (begun number from) target happened left (begun_sound number from) (held_first number from has) (made_at number from) (finds_at number from) driven.drives all, λ drained is. laws.none number name (begun number from) target happened left (begun_sound number from) (held_first number from has) (made_at number from) (finds_at number from) driven.drives drained is all);
+      reason = laws.reasons number name (begun number from) target happened left (begun_sound number from) (held_first number from has) (made_at number from) (finds_at number from) driven.drives;
+      settled = laws.settled number name (begun number from) target happened left (begun_sound number from) (held_first number from has) (made_at number from) (finds_at number from) driven.drives;
+      opens = laws.opens number name (begun number from) target happened left (begun_sound number from) (held_first number from has) (made_at number from) (finds_at number from) driven.drives;
+    })
 
     module _ (source_end : Stored) (ends_so : end.store ≡ source_end) where
       pub stays_target : (number : ℕ) → HasSource number name source → HasTarget number name source target → HasTarget number name source_end target_end
@@ -313,18 +354,5 @@ module _ (laws : DrainLaws) (name : Name) (logical : IsLogicalName name) (times 
             mounted = mounted;
             tree = c.0;
             told = ap (λ (s : Stored). s.tree) (sym driven.ends_target) ∙ c.1;
-            drained = c.2;
+            drained = λ tree left_of. laws.lost number name (begun number from) target happened left (begun_sound number from) (held_first number from has) (made_at number from) (finds_at number from) driven.drives drained is tree (subst (λ k. IsLeftOf k tree) (sym driven.ends_target) left_of);
           }
-
-      abbrev pub drain_over : IsDrainOver name times source target left source_end target_end
-      drain_over = record {
-        start = start;
-        end = end;
-        mounted = mounted;
-        happened = happened;
-        driven = driven;
-        ends_so = ends_so;
-        holds = holds_throughout;
-        stays = stays_target;
-        copies = copied_all;
-      }

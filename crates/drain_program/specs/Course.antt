@@ -24,8 +24,9 @@ use Rattle.drain_sound.specs.Draining.{Happening}
 use Rattle.drain_sound.specs.Views.{mounted_there}
 use Rattle.drain_laws.specs.Faults.{WasServed}
 use Rattle.drain_program.specs.Driven.{BeginsToDrain, DrainsTo, WereServedBeforeLast, IsDriven}
+use Rattle.drain_program.specs.From.{IsDrainFrom, IsDrainOfNone}
 use Rattle.drain_program.specs.Reporting.{DrainReport, drain_status, drain_text, had, report_of}
-use Rattle.drain_program.specs.Targets.{HasCopiedAll, HasSource, HasTarget, HoldsThroughout}
+use Rattle.drain_program.specs.Targets.{HasCopiedAll, HasSource, HasTarget, HoldsThroughout, LacksContainer}
 use Rattle.drain_program.specs.Words.{IsDrainCommand}
 
 -- A mount was made of the source as it was. Over it, and the target, a drain of this container was driven by caller 0, and that program of it is left. Where
@@ -40,6 +41,8 @@ pub record IsDrainOver (name : Name) (times : Option (List ℕ)) (source target 
   pub holds : (number : ℕ) (from : HasSource number name source) → HasTarget number name source target → HoldsThroughout number name (mounted_there from.sound start) target happened
   pub stays : (number : ℕ) → HasSource number name source → HasTarget number name source target → HasTarget number name source_end target_end
   pub copies : (drained : Drained) → left ≡ ends (Ok drained) → (number : ℕ) → HasSource number name source → HasTarget number name source target → HasCopiedAll number name source target_end
+  pub lawful : (number : ℕ) (from : HasSource number name source) → HasTarget number name source target → IsDrainFrom number name (mounted_there from.sound start) target happened left target_end
+  pub lacking : (none : LacksContainer name source) → LacksContainer name target → IsDrainOfNone name (mounted_there none.sound start) target happened left target_end
 
 -- The mounting broke off, of which that is said, and no step was made at the target. Or it was drained, and that is said of how it ended.
 pub data IsDrainEnd (name : Name) (times : Option (List ℕ)) (source target source_end target_end : Stored) (report : DrainReport) : Type 0 where

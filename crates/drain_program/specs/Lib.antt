@@ -1,5 +1,7 @@
+pub mod Complete
 pub mod Course
 pub mod Driven
+pub mod From
 pub mod Reporting
 pub mod Stepping
 pub mod Targets

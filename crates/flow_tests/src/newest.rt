@@ -1,6 +1,6 @@
 //! A reader's machines over sets of writes, against the newest write asked byte by byte.
-ghost use Rattle.std.specs.Prelude.{IfOk, IfSome};
-ghost use Rattle.flow.specs.Standing.{IsFresh};
+ghost use Rattle.std.specs.Prelude.{IfOk, IfSome, OnOk};
+ghost use Rattle.flow.specs.Standing.{IsFresh, IsOver, rest_of};
 ghost use Rattle.index_reader.specs.Covered as covered;
 ghost use Rattle.index_reader.specs.Hosts as hosted;
 ghost use Rattle.index_reader.specs.Listing as listed;
@@ -40,16 +40,30 @@ const THIRD: Dropping = Dropping {
     packed: false,
 };
 
-// What the machine comes to.
-fn ended<F: Flow + Drop>(alloc: Global, set: &Set, mut flow: F) -> Result<F::Out, NoMemory>
-    requires { IsFresh (F.standing flow) }
+// Takes the machine through its calls.
+fn drive<F: Flow>(alloc: Global, set: &Set, flow: &mut F) -> Result<(), NoMemory>
+    requires { IsFresh (F.standing flow.old) }
+    ensures { OnOk result (IsOver (rest_of (F.standing flow.new))) }
 {
     while let Some(call) = flow.next()? {
         let reply = reply_to(alloc, set, &call);
         drop(call);
         flow.take(reply)?;
     }
-    Ok(flow.out())
+    Ok(())
+}
+
+// What the machine comes to.
+fn ended<F: Flow + Drop>(alloc: Global, set: &Set, mut flow: F) -> Result<F::Out, NoMemory>
+    requires { IsFresh (F.standing flow) }
+{
+    match drive(alloc, set, &mut flow) {
+        Ok(()) => Ok(flow.out()),
+        Err(why) => {
+            drop(flow);
+            Err(why)
+        }
+    }
 }
 
 fn listing(alloc: Global) -> Option<Listing>
@@ -153,12 +167,13 @@ fn brought_on(alloc: Global, set: &Set, reader: OpenReader) -> Result<RefreshOut
     ensures covers { IfOk result (λ out. covered.AreByWriter out.parts.covers) }
 {
     let mut flow = Refresh::new(alloc, reader.into_parts());
-    while let Some(call) = flow.next()? {
-        let reply = reply_to(alloc, set, &call);
-        drop(call);
-        flow.take(reply)?;
+    match drive(alloc, set, &mut flow) {
+        Ok(()) => Ok(flow.out()),
+        Err(why) => {
+            drop(flow);
+            Err(why)
+        }
     }
-    Ok(flow.out())
 }
 
 // A reader of what was there first, once it was refreshed.

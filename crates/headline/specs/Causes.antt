@@ -1,11 +1,11 @@
 -- Why a statement was refused, stopped or not made at all.
-use Rattle.std.specs.Prelude.{◌≡◌, ◌≢◌, ⊤, ℕ, ◌+◌, ◌<◌, Bool, true, false, List, [], ◌∷◌, Option, Some, None, slice_get}
+use Rattle.std.specs.Prelude.{◌≡◌, ◌≢◌, ⊤, ℕ, ◌+◌, ◌<◌, Bool, true, false, not, is_some, List, [], ◌∷◌, Option, Some, None}
 use Rattle.std.specs.List.{Any}
 use Rattle.plfs_types.specs.declared.entries.WriterCount.{WriterCount}
 use Rattle.plfs_types.specs.declared.limits.TheConstants.{MAX_SIZE, MAX_STAMP}
 use Rattle.container_layout.specs.declared.items.Item.TheVariants.{OpenHost}
 use Rattle.script_lang.specs.declared.line.Outcome.{Outcome}
-use Rattle.script_lang.specs.declared.line.Outcome.TheVariants.{Closed, Gone, Opened, Recovered, Refused, Stopped}
+use Rattle.script_lang.specs.declared.line.Outcome.TheVariants.{Gone, Opened, Recovered, Refused, Stopped}
 use Rattle.script_lang.specs.declared.line.Why.{Why}
 use Rattle.script_lang.specs.declared.line.Why.TheVariants.{AlreadyOpen, Busy, Exists, Held, IdsSpent, MountsSpent, NoFile, NotOpen, StampsSpent, TooFar}
 use Rattle.script_lang.specs.declared.script.Statement.{Statement}
@@ -13,24 +13,19 @@ use Rattle.script_lang.specs.declared.script.Statement.TheVariants.{Close, Map, 
 use Rattle.outcomes.specs.Data.{length_of}
 use Rattle.headline.specs.Run.{IsAmong, IsLine, Run, Told, before, own, surely_before}
 use Rattle.headline.specs.Trees.{Has}
-use Rattle.headline.specs.Writers.{account, host_of}
-use Rattle.headline.specs.Names.{BrokeOff, FindsNone, MayStand, Name, Named, Story, name_of}
+use Rattle.headline.specs.Writers.{account}
+use Rattle.headline.specs.Names.{IsFree, MayStand, Name, Named, Story, name_of}
 use Rattle.headline.specs.Files.{reader_at}
-use Rattle.headline.specs.Changes.{Holds, IsStampIn, IsTruncStamp, MayBeHeld, Writing, last_stamp_of, writer, writer_at, writing_at}
+use Rattle.headline.specs.Changes.{Holds, IsAlive, IsStampIn, IsTruncStamp, MayBeHeld, Writing, last_stamp_of, none, writer, writer_at, writing_at}
 
 -- ---- of writers
 
--- A writer of this host had the container open: its entry stood in the tree before, and no recovery took it out that ended before; or a line opened it
--- that began by then, and no close of it ended before; or one that broke off.
+-- A writer of this host had the container open: its entry stood in the tree before, and no recovery took it out that ended before; or it is alive.
 pub data IsOpenIn (run : Run) (story : Story) (t : Told) (host id : ℕ) : Type 0 where
   stood : Has run.before (story.of t) (OpenHost host id)
       → ((s : Told) (buried : List WriterCount) (alive : List ℕ) (hold : Bool) → IsLine run s → surely_before run s t ≡ true → s.outcome ≡ Recovered buried alive hold → Any (λ (b : WriterCount). b.writer ≡ id) buried → ⊥)
       → IsOpenIn run story t host id
-  opened : (o : Told) → IsLine run o → surely_before run t o ≡ false → story.of o ≡ story.of t → o.outcome ≡ Opened id → host_of (slice_get run.script.actors o.actor) ≡ host
-      → ((s : Told) (count : ℕ) → IsLine run s → surely_before run s t ≡ true → s.outcome ≡ Closed count → writer_at run s ≡ Some id → ⊥)
-      → IsOpenIn run story t host id
-  broken : (o : Told) (name : Name) → IsLine run o → surely_before run t o ≡ false → story.of o ≡ story.of t → o.statement ≡ Open name → BrokeOff o.outcome
-      → host_of (slice_get run.script.actors o.actor) ≡ host → IsOpenIn run story t host id
+  alive : IsAlive run story t host id → IsOpenIn run story t host id
 
 -- a recovery is refused only while another statement holds the container
 abbrev pub IsHeldFrom : Run → Story → Told → Statement → Type 0
@@ -52,42 +47,25 @@ pub data AreStampsSpent (run : Run) (story : Story) (t : Told) : Type 0 where
 
 -- ---- of what the actor has
 
--- the actor has no writer, or one that may be closed
-abbrev pub MayLack : Writing → Type 0
-MayLack (writer id) = ⊥
-MayLack other = ⊤
+-- whether the actor may have a writer, or may have none; of one that may be closed, both are so
+abbrev pub MayHave : Bool → Writing → Type 0
+MayHave true none = ⊥
+MayHave false (writer id) = ⊥
+MayHave has other = ⊤
 
--- it has no reader, and no writer or perhaps none
-abbrev pub Lacks : Run → Told → Statement → Type 0
-Lacks run t (Read at len) = reader_at run t ≡ None
-Lacks run t (Verify at content) = reader_at run t ≡ None
-Lacks run t Map = reader_at run t ≡ None
-Lacks run t Refresh = reader_at run t ≡ None
-Lacks run t Rclose = reader_at run t ≡ None
-Lacks run t (Write at content) = MayLack (writing_at run t)
-Lacks run t Sync = MayLack (writing_at run t)
-Lacks run t Close = MayLack (writing_at run t)
-Lacks run t other = ⊥
-
--- it has one, or perhaps a writer
-abbrev pub HasOne : Run → Told → Statement → Type 0
-HasOne run t (Ropen name workers) = reader_at run t ≢ None
-HasOne run t (Open name) = writer_at run t ≢ None
-HasOne run t other = ⊥
-
--- a line that shows that the actor had none of what it opens, or one of what it uses
-abbrev pub HadIt : Run → Told → Statement → Type 0
-HadIt run t (Open name) = MayLack (writing_at run t)
-HadIt run t (Ropen name workers) = reader_at run t ≡ None
-HadIt run t (Read at len) = reader_at run t ≢ None
-HadIt run t (Verify at content) = reader_at run t ≢ None
-HadIt run t Map = reader_at run t ≢ None
-HadIt run t Refresh = reader_at run t ≢ None
-HadIt run t Rclose = reader_at run t ≢ None
-HadIt run t (Write at content) = writer_at run t ≢ None
-HadIt run t Sync = writer_at run t ≢ None
-HadIt run t Close = writer_at run t ≢ None
-HadIt run t other = ⊤
+-- Whether it may be that the actor has what the statement uses, and not yet what it opens; or that it is not so.
+abbrev pub MayBeReady : Bool → Run → Told → Statement → Type 0
+MayBeReady ready run t (Open name) = MayHave (not ready) (writing_at run t)
+MayBeReady ready run t (Write at content) = MayHave ready (writing_at run t)
+MayBeReady ready run t Sync = MayHave ready (writing_at run t)
+MayBeReady ready run t Close = MayHave ready (writing_at run t)
+MayBeReady ready run t (Ropen name workers) = is_some (reader_at run t) ≡ not ready
+MayBeReady ready run t (Read at len) = is_some (reader_at run t) ≡ ready
+MayBeReady ready run t (Verify at content) = is_some (reader_at run t) ≡ ready
+MayBeReady ready run t Map = is_some (reader_at run t) ≡ ready
+MayBeReady ready run t Refresh = is_some (reader_at run t) ≡ ready
+MayBeReady ready run t Rclose = is_some (reader_at run t) ≡ ready
+MayBeReady ready run t other = ready ≡ true
 
 -- it was neither refused, nor stopped, nor left out
 abbrev pub WasMade : Outcome → Type 0
@@ -98,15 +76,16 @@ WasMade other = ⊤
 
 -- ---- the table
 
+-- Why it was refused. A statement that opens a writer or a reader has a name, and one that uses it has none.
 abbrev pub HasCause : Run → Story → Told → Why → Type 0
-HasCause run story t NoFile = (name : Name) × (name_of t.statement ≡ Some name) × FindsNone run story t name
+HasCause run story t NoFile = (name : Name) × (names : List Name) × (name_of t.statement ≡ Some name) × MayStand run story t names × IsFree name names
 HasCause run story t (Busy host id) = Holds t.statement × Named run story t × IsOpenIn run story t host id
 HasCause run story t Held = Named run story t × IsHeldFrom run story t t.statement
 HasCause run story t Exists = Named run story t × ((old : Name) × (to : Name) × (names : List Name) × (t.statement ≡ Rename old to) × MayStand run story t names × IsAmong to names)
 HasCause run story t TooFar = EndsTooFar t.statement
 HasCause run story t StampsSpent = AreStampsSpent run story t
-HasCause run story t NotOpen = Lacks run t t.statement
-HasCause run story t AlreadyOpen = HasOne run t t.statement
+HasCause run story t NotOpen = (name_of t.statement ≡ None) × MayBeReady false run t t.statement
+HasCause run story t AlreadyOpen = (name_of t.statement ≢ None) × MayBeReady false run t t.statement
 HasCause run story t IdsSpent = ⊥
 HasCause run story t MountsSpent = ⊥
 

@@ -5,22 +5,22 @@ use Rattle.plfs_types.specs.Counts.{HasRisen}
 use Rattle.plfs_types.specs.declared.entries.WriterCount.{WriterCount}
 use Rattle.plfs_types.specs.declared.limits.TheConstants.{MAX_SIZE, MAX_STAMP}
 use Rattle.plain_file.specs.declared.changes.Change.{Change}
-use Rattle.plain_file.specs.declared.changes.Change.TheVariants.{Truncate, Write as Written}
+use Rattle.container_layout.specs.Items.{IsItem}
 use Rattle.container_layout.specs.declared.items.Item.TheVariants.{Index, Log, Meta, OpenHost, Trunc as TruncItem}
 use Rattle.script_lang.specs.declared.line.Outcome.{Outcome}
 use Rattle.script_lang.specs.declared.line.Outcome.TheVariants.{Closed, Fault, Opened, Refused, Stopped, Wrote}
 use Rattle.script_lang.specs.declared.line.Why.TheVariants.{AlreadyOpen}
 use Rattle.script_lang.specs.declared.script.Data.{Data}
 use Rattle.script_lang.specs.declared.script.Statement.{Statement}
-use Rattle.script_lang.specs.declared.script.Statement.TheVariants.{Close, Open, Recover, Rename, Write, Trunc as Truncates}
+use Rattle.script_lang.specs.declared.script.Statement.TheVariants.{Close, Open, Rename, Write, Trunc as Truncates}
 use Rattle.outcomes.specs.Data.{bytes_of}
 use Rattle.headline.specs.Run.{IsAmong, IsLine, Run, Told, before, own, so_far, surely_before}
 use Rattle.headline.specs.Trees.{Has, landed_writes}
 use Rattle.headline.specs.Writers.{Writer, account, host_of}
 use Rattle.store_api.specs.declared.tree.Room.{Room}
 use Rattle.store_api.specs.Room.{has_folder}
-use Rattle.headline.specs.Names.{BrokeOff, Finds, Story, openhosts}
-use Rattle.headline.specs.Views.{IdsRise, IsBelow, IsWriter}
+use Rattle.headline.specs.Names.{BrokeOff, Named, Story, openhosts}
+use Rattle.headline.specs.Views.{IdsRise, IsWriter, stamp_of}
 
 -- ---- a writer
 
@@ -68,13 +68,19 @@ writer_at run t = id_of (writing_at run t)
 
 -- A writer is opened in the container of the name, which has its index and its log from then on; no writer had its number before.
 pub record Opens (run : Run) (story : Story) (t : Told) (id : ℕ) : Type 0 where
-  pub name : List ℕ
-  pub asked : t.statement ≡ Open name
-  pub finds : Finds run story t name
+  pub finds : Named run story t
   pub index : Has run.after (story.of t) (Index (host_of (slice_get run.script.actors t.actor)) id)
   pub log : Has run.after (story.of t) (Log (host_of (slice_get run.script.actors t.actor)) id)
   pub alone : (s : Told) → IsLine run s → s.outcome ≡ Opened id → s ≡ t
-  pub new : (n host : ℕ) → Has run.before n (Index host id) → ⊥
+  pub new : (n host : ℕ) → IsItem (Index host id) → Has run.before n (Index host id) → ⊥
+
+-- whether the line opened this writer in the container, or may have done it before it broke
+pub record OpensIn (run : Run) (story : Story) (o : Told) (n host id : ℕ) : Type 0 where
+  pub is_line : IsLine run o
+  pub of : story.of o ≡ n
+  pub by : host_of (slice_get run.script.actors o.actor) ≡ host
+  pub asked : (name : List ℕ) × (o.statement ≡ Open name)
+  pub made : (o.outcome ≡ Opened id) ⊎ BrokeOff o.outcome
 
 -- a time that the clock tells: one of these, or 0 where none is left
 pub data IsTime (times : Option (List ℕ)) (time : ℕ) : Type 0 where
@@ -97,10 +103,6 @@ pub record IsStamp (run : Run) (Stood : ℕ → Type 0) (last stamp : ℕ) : Typ
   pub is_there : Stood stood
   pub is : stamp ≡ max (min time (2 ^ 62)) (max (last + 1) (stood + 1))
   pub fits : stamp ≤ MAX_STAMP
-
-abbrev pub stamp_of : Change → ℕ
-stamp_of (Written entry bytes) = entry.stamp
-stamp_of (Truncate t) = t.stamp
 
 abbrev pub last_stamp_of : List Change → ℕ
 last_stamp_of [] = 0
@@ -126,10 +128,10 @@ pub record TruncatesFile (run : Run) (story : Story) (t : Told) (stamp : ℕ) : 
   pub name : List ℕ
   pub size : ℕ
   pub asked : t.statement ≡ Truncates name size
-  pub finds : Finds run story t name
+  pub finds : Named run story t
   pub stands : Has run.after (story.of t) (TruncItem stamp size)
   pub is : IsStamp run (IsStampIn run (story.of t)) 0 stamp
-  pub above : (w : Writer) → IsWriter run story (story.of t) (before run t) (so_far run t) w → All (IsBelow stamp) (take w.least w.writes)
+  pub above : (w : Writer) → IsWriter run story (story.of t) (before run t) (so_far run t) w → All (λ v. stamp_of v < stamp) (take w.least w.writes)
   pub below : (s o : Told) (place len other id : ℕ) → IsLine run s → surely_before run t s ≡ true → s.outcome ≡ Wrote place len (Some other) → writer_at run s ≡ Some id → IsLine run o → o.outcome ≡ Opened id → story.of o ≡ story.of t → stamp < other
   pub alone : (other : ℕ) → Has run.after (story.of t) (TruncItem stamp other) → other ≡ size
 
@@ -169,21 +171,17 @@ pub record Buries (run : Run) (story : Story) (t : Told) (b : WriterCount) : Typ
   pub known : 1 ≤ b.count → (w : Writer) × (w.id ≡ b.writer) × (w.host ≡ host) × IsWriter run story (story.of t) (before run t) (so_far run t) w
 
 -- A writer is alive: a line opened it that began by then, or one that broke off; and no line before told of its end.
-pub record IsAlive (run : Run) (story : Story) (t : Told) (id : ℕ) : Type 0 where
+pub record IsAlive (run : Run) (story : Story) (t : Told) (host id : ℕ) : Type 0 where
   pub o : Told
-  pub is_line : IsLine run o
   pub begun : surely_before run t o ≡ false
-  pub of : story.of o ≡ story.of t
-  pub opens : (name : List ℕ) × (o.statement ≡ Open name) × ((o.outcome ≡ Opened id) ⊎ BrokeOff o.outcome)
+  pub opens : OpensIn run story o (story.of t) host id
   pub unclosed : (s : Told) (count : ℕ) → IsLine run s → surely_before run s t ≡ true → s.outcome ≡ Closed count → writer_at run s ≡ Some id → ⊥
 
 pub record Recovers (run : Run) (story : Story) (t : Told) (buried : List WriterCount) (alive : List ℕ) (hold : Bool) : Type 0 where
-  pub name : List ℕ
-  pub asked : t.statement ≡ Recover name
-  pub finds : Finds run story t name
+  pub finds : Named run story t
   pub rise : IdsRise (map (λ (b : WriterCount). b.writer) buried) × IdsRise alive
   pub taken_out : All (Buries run story t) buried
-  pub left : All (IsAlive run story t) alive
+  pub left : All (λ id. (host : ℕ) × IsAlive run story t host id) alive
   pub none_left : hold ≡ false → (host id : ℕ) → Has run.before (story.of t) (OpenHost host id) → Has run.after (story.of t) (OpenHost host id) → ⊥
   pub all_named : hold ≡ false → (o : Told) (id : ℕ) → IsLine run o → o.outcome ≡ Opened id → story.of o ≡ story.of t → surely_before run o t ≡ true → (MayBeDead run t o.actor id → ⊥) → IsAmong id alive
   pub held : hold ≡ true → (buried ≡ []) × (alive ≡ []) × MayBeHeld run story t

@@ -12,7 +12,7 @@ use Rattle.script_lang.specs.declared.line.Outcome.TheVariants.{Map as Mapped, R
 use Rattle.headline.specs.Run.{IsAmong, IsLine, Run, Says, Told}
 use Rattle.headline.specs.Trees.{Has}
 use Rattle.headline.specs.Names.{Story}
-use Rattle.headline.specs.Views.{IsBelow, IsCut, Seen, changes_of, counted, item_of, writes_of}
+use Rattle.headline.specs.Views.{IsCut, Seen, changes_of, counted, item_of, stamp_of, writes_of}
 use Rattle.headline.specs.Files.{Answers, entry_of, reader_at}
 
 -- The cut is one that the line may see: each count is of a writer of the container, no less than what is sure to have landed of it before the line, and no more than
@@ -27,7 +27,7 @@ pub record ShowsContents (run : Run) (story : Story) (t : Told) (size : ℕ) (cu
   pub size_is : size ≡ plain_size (changes_of seen truncs)
   pub answers : (s : Told) → IsLine run s → reader_at run s ≡ Some t → Answers (plain (changes_of seen truncs)) s.statement s.outcome
   pub maps : (s : Told) (text : List Entry) → IsLine run s → reader_at run s ≡ Some t → s.outcome ≡ Mapped text → (pieces : List Piece) × ArePiecesOf (changes_of seen truncs) pieces × (text ≡ map entry_of pieces)
-  pub later : (u : Trunc) → IsItem (item_of u) → Has run.after (story.of t) (item_of u) → IsAmong u truncs ⊎ (All (IsBelow u.stamp) (writes_of seen) × All (λ (v : Trunc). v.stamp < u.stamp) truncs)
+  pub later : (u : Trunc) → IsItem (item_of u) → Has run.after (story.of t) (item_of u) → IsAmong u truncs ⊎ (All (λ w. stamp_of w < u.stamp) (writes_of seen) × All (λ (v : Trunc). v.stamp < u.stamp) truncs)
 
 -- So it is of each line of a reader.
 pub record HasContents (run : Run) (story : Story) : Type 0 where

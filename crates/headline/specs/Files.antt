@@ -1,5 +1,5 @@
 -- What the lines that show a file say of it.
-use Rattle.std.specs.Prelude.{◌≡◌, ⊤, ℕ, ◌+◌, ◌-◌, ◌<◌, ◌^◌, min, List, [], ◌∷◌, length, map, take, Option, Some, None, slice_get}
+use Rattle.std.specs.Prelude.{◌≡◌, ◌⊎◌, ⊤, ℕ, ◌+◌, ◌-◌, ◌<◌, ◌^◌, min, List, [], ◌∷◌, length, map, take, Option, Some, None, slice_get}
 use Rattle.plfs_types.specs.declared.entries.Entry.{Entry}
 use Rattle.plfs_types.specs.declared.entries.ShareBytes.{ShareBytes}
 use Rattle.plfs_types.specs.declared.entries.Trunc.{Trunc}
@@ -11,11 +11,11 @@ use Rattle.container_layout.specs.declared.items.Item.TheVariants.{Flat}
 use Rattle.script_lang.specs.declared.line.Outcome.{Outcome}
 use Rattle.script_lang.specs.declared.line.Outcome.TheVariants.{Differs, Map as Mapped, Read as WasRead, Reader, ReaderClosed, Same}
 use Rattle.script_lang.specs.declared.script.Statement.{Statement}
-use Rattle.script_lang.specs.declared.script.Statement.TheVariants.{Flatten, Read, Refresh, Ropen, Stat, Verify}
+use Rattle.script_lang.specs.declared.script.Statement.TheVariants.{Read, Refresh, Verify}
 use Rattle.outcomes.specs.Data.{bytes_of}
 use Rattle.headline.specs.Run.{IsLine, Run, Told, before, own}
 use Rattle.headline.specs.Trees.{Has}
-use Rattle.headline.specs.Names.{Finds, Story}
+use Rattle.headline.specs.Names.{Named, Story}
 use Rattle.headline.specs.Views.{AreTruncs, IsCut, Seen, changes_of, counted, shared, writes_of}
 
 -- the reader's last line, once this line was told
@@ -50,15 +50,11 @@ Answers file (Verify at content) Same = slice file at (length (bytes_of content)
 Answers file (Verify at content) (Differs place) = DiffersAt at (bytes_of content) (slice file at (length (bytes_of content))) place
 Answers file statement outcome = ⊤
 
--- The reader was opened by its name; or its former line told of the same container.
-pub data HasReader (run : Run) (story : Story) (t : Told) : Type 0 where
-  opened : (name : List ℕ) (workers : ℕ) → t.statement ≡ Ropen name workers → Finds run story t name → HasReader run story t
-  refreshed : (former : Told) → t.statement ≡ Refresh → reader_at run t ≡ Some former → story.of t ≡ story.of former → HasReader run story t
-
 -- A reader's line shows a cut and truncates that it may see, and the size of their one plain file. Of that file are all answers of the reader, up to its next line.
+-- The reader is opened by a name, or its former line told of the same container.
 pub record ShowsFile (run : Run) (story : Story) (t : Told) (size : ℕ) (cut : List WriterCount) (truncs : List Trunc) : Type 0 where
   pub seen : List Seen
-  pub reader : HasReader run story t
+  pub reader : Named run story t ⊎ ((former : Told) × (t.statement ≡ Refresh) × (reader_at run t ≡ Some former) × (story.of t ≡ story.of former))
   pub may_see : IsCut run story t seen
   pub cut_is : cut ≡ map counted seen
   pub truncs_are : AreTruncs run story t seen truncs
@@ -68,9 +64,7 @@ pub record ShowsFile (run : Run) (story : Story) (t : Told) (size : ℕ) (cut : 
 
 -- What is told of a file is that of one plain file, which a reader might have opened.
 pub record TellsOfFile (run : Run) (story : Story) (t : Told) (size stored : ℕ) (shares : List ShareBytes) (truncs : List Trunc) : Type 0 where
-  pub name : List ℕ
-  pub asked : t.statement ≡ Stat name
-  pub finds : Finds run story t name
+  pub finds : Named run story t
   pub seen : List Seen
   pub may_see : IsCut run story t seen
   pub truncs_are : AreTruncs run story t seen truncs
@@ -80,9 +74,7 @@ pub record TellsOfFile (run : Run) (story : Story) (t : Told) (size stored : ℕ
 
 -- A flattened index covers a cut that a reader might see, has its pieces before any truncate, and stands in the tree after.
 pub record Flattens (run : Run) (story : Story) (t : Told) (id many : ℕ) (cut : List WriterCount) : Type 0 where
-  pub name : List ℕ
-  pub asked : t.statement ≡ Flatten name
-  pub finds : Finds run story t name
+  pub finds : Named run story t
   pub seen : List Seen
   pub may_see : IsCut run story t seen
   pub cut_is : cut ≡ map counted seen

@@ -1,6 +1,6 @@
 -- What the lines of a run say: the page to read. Each field is a promise. A line is a statement of the script with its outcome. A line is before another if
 -- it surely ended before that began.
-use Rattle.std.specs.Prelude.{◌≡◌, ◌⊎◌, ◌≤◌, ℕ, Bool, List, ◌++◌, length, Option, Some, map}
+use Rattle.std.specs.Prelude.{◌≡◌, ◌⊎◌, ◌≤◌, ℕ, Bool, true, List, ◌++◌, length, Option, Some, map}
 use Rattle.std.specs.List.{All, Any}
 use Rattle.plfs_types.specs.Counts.{HasRisen}
 use Rattle.plfs_types.specs.declared.entries.ShareBytes.{ShareBytes}
@@ -13,14 +13,14 @@ use Rattle.script_lang.specs.declared.line.Why.{Why}
 use Rattle.script_lang.specs.declared.script.Statement.TheVariants.{Refresh}
 use Rattle.headline.specs.Run.{IsLine, Phased, Run, Says, Told, before, own, phased, told}
 use Rattle.headline.specs.Trees.{Has}
-use Rattle.headline.specs.Writers.{Writer, written_by}
+use Rattle.headline.specs.Writers.{Writer, account}
 use Rattle.headline.specs.Names.{AreNamed, Named, Story}
 use Rattle.headline.specs.Views.{IsWriter}
 use Rattle.headline.specs.Files.{Answers, Flattens, ShowsFile, TellsOfFile, reader_at}
-use Rattle.headline.specs.Changes.{IsNextStamp, Opens, Recovers, TruncatesFile, Writes, writer_at}
-use Rattle.headline.specs.Causes.{HadIt, HasCause, WasMade, WasStopped, last_outcome}
+use Rattle.headline.specs.Changes.{IsNextStamp, Opens, OpensIn, Recovers, TruncatesFile, Writes, writer_at}
+use Rattle.headline.specs.Causes.{HasCause, MayBeReady, WasMade, WasStopped, last_outcome}
 use Rattle.headline.specs.Kinds.{IsOfKind}
-use Rattle.headline.specs.Left.{AreTruncsLeft, HasLeft, IsIndexLeft, IsLeft, StaysOpen}
+use Rattle.headline.specs.Left.{AreTruncsLeft, HasLeft, IsLeft, StaysOpen}
 use Rattle.headline.specs.Listing.{ListsNames}
 
 -- What the lines of each actor say by themselves, whatever the others do.
@@ -31,7 +31,7 @@ pub record IsOrderly (run : Run) : Type 0 where
   -- `wrote AT LEN STAMP`: the script's bytes at the script's place
   pub wrote : (t : Told) (at len : ℕ) (stamp : Option ℕ) → Says run t (line.Wrote at len stamp) → Writes t.statement at len stamp
   -- `synced N`, `closed N`: N is the number of all writes that the lines tell of the writer
-  pub synced : (t : Told) (n id : ℕ) → Says run t (line.Synced n) ⊎ Says run t (line.Closed n) → writer_at run t ≡ Some id → n ≡ written_by run t id
+  pub synced : (t : Told) (n id : ℕ) → Says run t (line.Synced n) ⊎ Says run t (line.Closed n) → writer_at run t ≡ Some id → n ≡ length (account run t.actor id (before run t)).writes
   -- `reader SIZE ..`: all that it reads and compares, up to its next line, is of one file of that size
   pub answers : (t : Told) (size : ℕ) (cut : List WriterCount) (truncs : List Trunc) → Says run t (line.Reader size cut truncs)
       → (file : List ℕ) × (size ≡ length file) × ((s : Told) → IsLine run s → reader_at run s ≡ Some t → Answers file s.statement s.outcome)
@@ -39,7 +39,7 @@ pub record IsOrderly (run : Run) : Type 0 where
   pub refreshed : (t former : Told) (size was : ℕ) (cut counts : List WriterCount) (truncs stood : List Trunc) → t.statement ≡ Refresh → Says run t (line.Reader size cut truncs) → reader_at run t ≡ Some former
       → former.outcome ≡ line.Reader was counts stood → All (λ (b : WriterCount). Any (λ (c : WriterCount). (c.writer ≡ b.writer) × (b.count ≤ c.count)) cut) counts × ((came : List Trunc) × (truncs ≡ stood ++ came))
   -- of a statement that was made, the actor had what it uses, and had not yet what it opens
-  pub made : (t : Told) → IsLine run t → WasMade t.outcome → HadIt run t t.statement
+  pub made : (t : Told) → IsLine run t → WasMade t.outcome → MayBeReady true run t t.statement
   -- `stopped`: a stop was armed; `gone`: after one, and always then; `fault`: the store failed
   pub stopped : (t : Told) → Says run t line.Stopped → last_outcome (own t.actor (before run t)) ≡ Some line.Armed
   pub gone : (t : Told) → Says run t line.Gone → WasStopped run t
@@ -79,4 +79,4 @@ pub record Headline (run : Run) (story : Story) : Type 0 where
   pub kept : (t : Told) (n : ℕ) (w : Writer) → IsLine run t → StaysOpen run t w.id → IsWriter run story n (told run) (told run) w → Has run.after n (OpenHost w.host w.id)
   -- truncates and indices stand, and no others than those of the lines
   pub truncs : (n : ℕ) → AreTruncsLeft run story n
-  pub indices : (n host id : ℕ) → Has run.after n (Index host id) → IsIndexLeft run story n host id
+  pub indices : (n host id : ℕ) → Has run.after n (Index host id) → Has run.before n (Index host id) ⊎ ((o : Told) × OpensIn run story o n host id)

@@ -5,13 +5,12 @@ use Rattle.plfs_types.specs.declared.entries.Trunc.{Trunc}
 use Rattle.plain_file.specs.declared.changes.Change.{Change}
 use Rattle.plain_file.specs.declared.changes.Change.TheVariants.{Truncate, Write as Written}
 use Rattle.plain_file.specs.File.{stored_bytes}
-use Rattle.container_layout.specs.declared.items.Item.TheVariants.{Index, Meta, OpenHost}
+use Rattle.container_layout.specs.declared.items.Item.TheVariants.{Meta, OpenHost}
 use Rattle.script_lang.specs.declared.line.Outcome.TheVariants.{Opened, Stopped}
-use Rattle.script_lang.specs.declared.script.Statement.TheVariants.{Open}
-use Rattle.headline.specs.Run.{IsLine, Run, Told, own, told}
+use Rattle.headline.specs.Run.{Run, Told, own, told}
 use Rattle.headline.specs.Trees.{Has, landed_writes, log_in}
 use Rattle.headline.specs.Writers.{Writer}
-use Rattle.headline.specs.Names.{BrokeOff, Story}
+use Rattle.headline.specs.Names.{Story}
 use Rattle.headline.specs.Views.{Truncates, item_of}
 use Rattle.headline.specs.Changes.{last_stamp_of, none, writer, writing_after}
 
@@ -51,7 +50,3 @@ pub record StaysOpen (run : Run) (t : Told) (id : ℕ) : Type 0 where
 pub record AreTruncsLeft (run : Run) (story : Story) (n : ℕ) : Type 0 where
   pub stood : (u : Trunc) → Has run.before n (item_of u) → Has run.after n (item_of u)
   pub known : (u : Trunc) → Has run.after n (item_of u) → Has run.before n (item_of u) ⊎ ((s : Told) × Truncates run story s n u)
-
--- An index that stands after stood before, or is that of a writer that a line opened, or that one opened in vain.
-pub record IsIndexLeft (run : Run) (story : Story) (n host id : ℕ) : Type 0 where
-  pub known : Has run.before n (Index host id) ⊎ ((o : Told) × (name : List ℕ) × IsLine run o × (story.of o ≡ n) × (o.statement ≡ Open name) × ((o.outcome ≡ Opened id) ⊎ BrokeOff o.outcome))

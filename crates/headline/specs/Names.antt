@@ -74,18 +74,6 @@ pub record MayStand (run : Run) (story : Story) (t : Told) (names : List Name) :
   pub not_ended : AllByRecursion (λ (n : Naming). surely_before run n.by t ≡ false) later
   pub stand : names ≡ named first earlier
 
--- The line speaks of its container by this name.
-pub record Finds (run : Run) (story : Story) (t : Told) (name : Name) : Type 0 where
-  pub names : List Name
-  pub stand : MayStand run story t names
-  pub found : slice_get names (story.of t) ≡ Some name
-
--- no container may have had the name
-pub record FindsNone (run : Run) (story : Story) (t : Told) (name : Name) : Type 0 where
-  pub names : List Name
-  pub stand : MayStand run story t names
-  pub free : IsFree name names
-
 -- the container that a statement names
 abbrev pub name_of : Statement → Option Name
 name_of (Open name) = Some name
@@ -97,9 +85,13 @@ name_of (Trunc name size) = Some name
 name_of (Rename name to) = Some name
 name_of other = None
 
--- the line speaks of its container by the name that its statement has
-abbrev pub Named : Run → Story → Told → Type 0
-Named run story t = (name : Name) × (name_of t.statement ≡ Some name) × Finds run story t name
+-- The line speaks of its container by the name that its statement has.
+pub record Named (run : Run) (story : Story) (t : Told) : Type 0 where
+  pub name : Name
+  pub asked : name_of t.statement ≡ Some name
+  pub names : List Name
+  pub stand : MayStand run story t names
+  pub found : slice_get names (story.of t) ≡ Some name
 
 -- The namings lead from the names before to those after, and each rename that was told is one of them.
 pub record AreNamed (run : Run) (story : Story) : Type 0 where

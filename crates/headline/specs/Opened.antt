@@ -1,5 +1,6 @@
 -- What the tree after has of the writers that lines opened.
 use Rattle.std.specs.Prelude.{ℕ, slice_get}
+use Rattle.container_layout.specs.Items.{IsItem}
 use Rattle.container_layout.specs.declared.items.Item.TheVariants.{Index, Log}
 use Rattle.script_lang.specs.declared.line.Outcome.TheVariants.{Opened}
 use Rattle.headline.specs.Run.{Run, Says, Told}
@@ -8,6 +9,8 @@ use Rattle.headline.specs.Writers.{host_of}
 use Rattle.headline.specs.Names.{Story}
 
 -- `open ID`: the container that the line speaks of has the index and the log of this writer, under its actor's host. `story` says which container it is.
+-- No writer of the tree before has its number.
 pub record HasOpened (run : Run) (story : Story) : Type 0 where
   pub index : (t : Told) (id : ℕ) → Says run t (Opened id) → Has run.after (story.of t) (Index (host_of (slice_get run.script.actors t.actor)) id)
   pub log : (t : Told) (id : ℕ) → Says run t (Opened id) → Has run.after (story.of t) (Log (host_of (slice_get run.script.actors t.actor)) id)
+  pub new : (t : Told) (id n host : ℕ) → Says run t (Opened id) → IsItem (Index host id) → Has run.before n (Index host id) → ⊥

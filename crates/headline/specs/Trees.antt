@@ -1,5 +1,5 @@
 -- What a container of a tree holds. A container's number is its place in the tree, which no run changes.
-use Rattle.std.specs.Prelude.{◌≡◌, ℕ, ◌/◌, List, [], length, map, Option, Some, None, option_map, slice_get}
+use Rattle.std.specs.Prelude.{◌≡◌, ℕ, ◌/◌, List, [], length, map, Option, Some, None, option_and_then, option_map, slice_get}
 use Rattle.plfs_types.specs.declared.entries.Entry.{Entry}
 use Rattle.plfs_types.specs.declared.limits.TheConstants.{ENTRY_SIZE}
 use Rattle.plain_file.specs.declared.changes.Change.{Change}
@@ -9,17 +9,12 @@ use Rattle.index_entry.specs.Within.{within_log}
 use Rattle.container_layout.specs.declared.items.Item.{Item}
 use Rattle.container_layout.specs.declared.items.Item.TheVariants.{Index, Log}
 use Rattle.container_layout.specs.Paths.{path_of}
-use Rattle.store_api.specs.declared.tree.Room.{Room}
 use Rattle.store_api.specs.declared.tree.Tree.{Tree}
 use Rattle.store_api.specs.Room.{file_in}
 
 -- the bytes of an item's file, where the container has it
-abbrev pub item_in : Option Room → Item → Option (List ℕ)
-item_in None item = None
-item_in (Some room) item = option_map (λ file. file.bytes) (file_in room (path_of item).folder (path_of item).file)
-
 abbrev pub bytes_in : Tree → ℕ → Item → Option (List ℕ)
-bytes_in tree n item = item_in (slice_get tree.rooms n) item
+bytes_in tree n item = option_and_then (λ room. option_map (λ file. file.bytes) (file_in room (path_of item).folder (path_of item).file)) (slice_get tree.rooms n)
 
 -- container n has the item
 abbrev pub Has : Tree → ℕ → Item → Type 0

@@ -68,10 +68,9 @@ pub record Truncates (run : Run) (story : Story) (s : Told) (n : ℕ) (t : Trunc
   pub asked : s.statement ≡ TruncStatement file t.size
   pub made : (s.outcome ≡ Truncated t.stamp) ⊎ BrokeOff s.outcome
 
--- all of these writes have lower stamps
-abbrev pub IsBelow : ℕ → Change → Type 0
-IsBelow stamp (Written entry bytes) = entry.stamp < stamp
-IsBelow stamp (Truncate t) = Unit {0}
+abbrev pub stamp_of : Change → ℕ
+stamp_of (Written entry bytes) = entry.stamp
+stamp_of (Truncate t) = t.stamp
 
 -- The truncates that a line may see beside such a cut, the oldest first: those of the tree before, those told before the line and no others but those of
 -- lines that began by its end. All stand in the tree after, and each further one that stands there is newer than all that the line sees.
@@ -81,4 +80,4 @@ pub record AreTruncs (run : Run) (story : Story) (t : Told) (seen : List Seen) (
   pub made : (s : Told) (u : Trunc) → Truncates run story s (story.of t) u → s.outcome ≡ Truncated u.stamp → surely_before run s t ≡ true → IsAmong u truncs
   pub known : All (λ (u : Trunc). Has run.before (story.of t) (item_of u) ⊎ ((s : Told) × Truncates run story s (story.of t) u × (surely_before run t s ≡ false))) truncs
   pub stay : All (λ (u : Trunc). Has run.after (story.of t) (item_of u)) truncs
-  pub later : (u : Trunc) → Has run.after (story.of t) (item_of u) → IsAmong u truncs ⊎ (All (IsBelow u.stamp) (writes_of seen) × All (λ (v : Trunc). v.stamp < u.stamp) truncs)
+  pub later : (u : Trunc) → Has run.after (story.of t) (item_of u) → IsAmong u truncs ⊎ (All (λ w. stamp_of w < u.stamp) (writes_of seen) × All (λ (v : Trunc). v.stamp < u.stamp) truncs)

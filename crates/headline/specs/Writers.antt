@@ -11,7 +11,7 @@ use Rattle.script_lang.specs.declared.script.ActorDecl.{ActorDecl}
 use Rattle.script_lang.specs.declared.script.Statement.{Statement}
 use Rattle.script_lang.specs.declared.script.Statement.TheVariants.{Close, Sync, Write}
 use Rattle.outcomes.specs.Data.{bytes_of}
-use Rattle.headline.specs.Run.{Run, Told, before, own}
+use Rattle.headline.specs.Run.{Run, Told, own}
 use Rattle.headline.specs.Trees.{landed_writes}
 
 -- A writer of a container: its writes, the oldest first, and how many of them have landed at least and at most.
@@ -97,10 +97,6 @@ cap_of (Some declared) = declared.cap
 -- what these lines tell of the writer of this id of the actor at this place
 abbrev pub account : Run → ℕ → ℕ → List Told → Account
 account run actor id lines = account_of id (cap_of (slice_get run.script.actors actor)) (nothing false) (own actor lines)
-
--- how many writes the lines before this one tell of the writer
-abbrev pub written_by : Run → Told → ℕ → ℕ
-written_by run t id = length (account run t.actor id (before run t)).writes
 
 -- a writer that the tree had before
 abbrev pub old_writer : Tree → ℕ → ℕ → ℕ → Writer

@@ -6,7 +6,10 @@ pub mod Bounds
 pub mod Counted
 pub mod Cuts
 pub mod Entering
+pub mod FirstOpen
 pub mod Issues
+pub mod LineBounds
+pub mod OpenedWriter
 pub mod Unwritten
 pub mod WriterLine
 pub mod Written

@@ -1,4 +1,5 @@
 -- What each statement does, and what its actor keeps.
+pub mod Again
 pub mod Chains
 pub mod Did
 pub mod Does

@@ -1,8 +1,7 @@
 -- The word of a content: what is written is read, and what is read is so written.
-use Rattle.std.proofs.Common.{◌≡◌, ◌≢◌, ℕ, zero, suc, ◌+◌, ◌*◌, ◌/◌, ◌%◌, ◌<◌, ◌≤◌, ◌==◌, ◌&&◌, ◌||◌, nat_le, nat_eq, Bool, true, false, List, [], ◌∷◌, ◌++◌, length, get_or, Option, Some, None, Result, Ok, Err, refl, sym, ap, subst, ◌∙◌, inl, inr, arith}
-use Rattle.std.specs.Prelude.{All, ◌⊎◌}
+use Rattle.std.proofs.Common.{◌≡◌, ◌≢◌, ℕ, suc, ◌/◌, ◌%◌, ◌<◌, ◌&&◌, true, false, List, [], ◌∷◌, get_or, Some, None, Result, Ok, Err, refl, sym, ap, subst, ◌∙◌, inl, inr, arith}
 use Rattle.std.specs.List.{AllByRecursion, list_all}
-use Rattle.std.proofs.lemmas.Bool.{and_from, and_parts, cases_Bool, cases_lt, false≢true}
+use Rattle.std.proofs.lemmas.Bool.{and_from, and_parts, cases_Bool}
 use Rattle.std.proofs.lemmas.Bool.Decides.{nat_tests}
 use Rattle.std.proofs.lemmas.List.Elements.{All-from_recursion}
 use Rattle.std.proofs.lemmas.List.Sums.{AllPass-from_list_all}
@@ -11,7 +10,7 @@ use Rattle.hex.specs.Hex.{encode_with, encode_lower, decode_of, lower_digits, Is
 use Rattle.hex.proofs.HexLemmas.{decode_of-encode_lower, decode_of-ok}
 use Rattle.pack_input.specs.Input.{content_word, SaysNothing}
 use Rattle.pack_input.specs.Layout.{Lacks}
-use Rattle.pack_input.specs.Reading.{is_lower_digit, decoded, digits_of, is_dash, content_of}
+use Rattle.pack_input.specs.Reading.{is_lower_digit, decoded, is_dash, content_of}
 use Rattle.pack_input.proofs.Digits.{lower_pairs}
 
 -- ---- what is written is read

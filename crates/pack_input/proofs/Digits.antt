@@ -1,5 +1,5 @@
 -- Lower-case digits are what is printed of bytes.
-use Rattle.std.proofs.Common.{◌≡◌, ℕ, zero, suc, ◌+◌, ◌-◌, ◌*◌, ◌/◌, ◌%◌, ◌<◌, ◌≤◌, ◌&&◌, ◌||◌, nat_le, Bool, true, false, List, [], ◌∷◌, length, get_or, refl, sym, ap, ◌∙◌, inl, inr, arith}
+use Rattle.std.proofs.Common.{◌≡◌, ℕ, zero, suc, ◌+◌, ◌-◌, ◌*◌, ◌/◌, ◌%◌, ◌<◌, ◌≤◌, ◌&&◌, ◌||◌, nat_le, Bool, true, false, List, [], ◌∷◌, length, get_or, refl, ◌∙◌, inl, inr, arith}
 use Rattle.std.specs.Prelude.{◌⊎◌}
 use Rattle.std.specs.List.{list_all}
 use Rattle.std.proofs.lemmas.Bool.{and_parts}
@@ -29,7 +29,7 @@ high_digit (suc (suc (suc (suc zero)))) small = refl
 high_digit (suc (suc (suc (suc (suc zero))))) small = refl
 high_digit (suc (suc (suc (suc (suc (suc k)))))) small = absurd (omega arith)
 
-in_ranges : (a b : Bool) → (a || b) ≡ true → (a ≡ true) ⊎ (b ≡ true)
+pub in_ranges : (a b : Bool) → (a || b) ≡ true → (a ≡ true) ⊎ (b ≡ true)
 in_ranges true b is = inl refl
 in_ranges false b is = inr is
 

@@ -1,5 +1,5 @@
 -- The first kind of fault of a line's words.
-use Rattle.std.proofs.Common.{◌≡◌, ◌≢◌, ℕ, zero, suc, ◌<◌, Bool, true, false, List, [], ◌∷◌, length, Option, Some, None, Result, Ok, Err, refl, sym, ap, subst, ◌∙◌, inl, inr, arith}
+use Rattle.std.proofs.Common.{◌≡◌, ◌≢◌, ℕ, zero, suc, ◌<◌, true, false, List, [], ◌∷◌, length, Option, Some, None, Result, Ok, Err, refl, sym, ap, subst, ◌∙◌, inl, inr, arith}
 use Rattle.std.specs.Prelude.{Contains}
 use Rattle.std.specs.List.{list_any}
 use Rattle.std.proofs.lemmas.Bool.{cases_Bool, cases_lt}
@@ -13,7 +13,7 @@ use Rattle.pack_input.specs.Input.{HasKind, IsFirst, order}
 use Rattle.pack_input.specs.Reading.{content_of, with_content, judged, two_words, file_of}
 use Rattle.pack_input.specs.Words.{is_empty}
 use Rattle.pack_input.proofs.Contents.{content_found, no_content}
-use Rattle.pack_input.proofs.SaidFiles.{SaysSo, words_found}
+use Rattle.pack_input.proofs.SaidFiles.{words_found}
 use Rattle.pack_input.proofs.Layouts.{empty_word, full_words}
 
 no_spaces : (words : List (List ℕ)) → list_any is_empty words ≡ false → Contains words [] → ⊥

@@ -1,5 +1,5 @@
 -- An input: what is read is there, and what is there is read.
-use Rattle.std.proofs.Common.{◌≡◌, ℕ, suc, ◌+◌, ◌<◌, ◌≤◌, ◌^◌, nat_lt, Bool, true, false, List, [], ◌∷◌, ◌++◌, length, Result, Ok, Err, refl, sym, ap, subst, ◌∙◌, inl, inr, ◌⊎◌, arith}
+use Rattle.std.proofs.Common.{◌≡◌, ℕ, ◌+◌, ◌<◌, ◌≤◌, ◌^◌, nat_lt, true, false, List, [], ◌∷◌, ◌++◌, length, Result, Ok, Err, refl, sym, ap, subst, ◌∙◌, inl, inr, arith}
 use Rattle.std.specs.Prelude.{IfOk, IfErr}
 use Rattle.std.proofs.lemmas.Bool.{cases_lt}
 use Rattle.std.proofs.lemmas.Bool.Decides.{nat_tests}
@@ -10,7 +10,7 @@ use Rattle.pack_input.specs.declared.trouble.InputTrouble.TheVariants as trouble
 use Rattle.pack_input.specs.declared.trouble.Kind.{Kind}
 use Rattle.pack_input.specs.declared.trouble.Kind.TheVariants.{Long}
 use Rattle.pack_input.specs.Answers.{AnswersAsRead, IsAnswered, IsTrouble, AddsAsRead}
-use Rattle.pack_input.specs.Input.{AreFiles, Fault, HasFault, HasFaultyLine, IsInput, SaysFile, long, faulty}
+use Rattle.pack_input.specs.Input.{AreFiles, Fault, HasFault, HasFaultyLine, IsInput, long, faulty}
 use Rattle.pack_input.specs.Layout.{AreLines}
 use Rattle.pack_input.specs.Reading.{in_front, behind_line, file_of, files_of, input_of}
 use Rattle.pack_input.specs.Words.{lines_of, words_of}

@@ -1,6 +1,8 @@
 mod Cuts
 mod Layouts
 mod Digits
+mod FirstBytes
+mod Worths
 mod Contents
 mod SaidFiles
 mod FirstKinds

@@ -1,17 +1,16 @@
 -- The file of a line: what is read is said there, and what is said there is read.
-use Rattle.std.proofs.Common.{◌≡◌, ◌≢◌, ℕ, ◌≤◌, Bool, true, false, List, [], ◌∷◌, ◌++◌, length, Option, Some, None, Result, Ok, Err, refl, sym, ap, subst, ◌∙◌, inl, inr, arith}
-use Rattle.std.specs.Prelude.{All, IsTrue}
-use Rattle.std.specs.List.{AllByRecursion, join_with_byte, list_any}
+use Rattle.std.proofs.Common.{◌≡◌, ◌≢◌, ℕ, ◌≤◌, true, false, List, [], ◌∷◌, ◌++◌, Option, Some, None, Result, Ok, Err, refl, sym, ap, subst, ◌∙◌, inl, inr, arith}
+use Rattle.std.specs.Prelude.{IsTrue}
+use Rattle.std.specs.List.{join_with_byte, list_any}
 use Rattle.std.proofs.lemmas.Bool.{cases_Bool}
 use Rattle.std.proofs.lemmas.List.Elements.{All-from_recursion, All-weaker}
-use Rattle.hex.specs.Hex.{IsBytes}
 use Rattle.plfs_types.specs.Names.{is_name_byte, is_logical, IsLogicalName}
 use Rattle.plfs_types.proofs.NameTests.{passes_rule, rule_passes}
 use Rattle.pack_input.specs.declared.files.NamedFile.{NamedFile}
 use Rattle.pack_input.specs.declared.trouble.Kind.{Kind}
 use Rattle.pack_input.specs.declared.trouble.Kind.TheVariants.{Count, Name, Spaces}
 use Rattle.pack_input.specs.Input.{content_word, SaysFile}
-use Rattle.pack_input.specs.Layout.{Lacks, AreWords}
+use Rattle.pack_input.specs.Layout.{Lacks}
 use Rattle.pack_input.specs.Reading.{content_of, with_content, judged, two_words, file_of}
 use Rattle.pack_input.specs.Words.{is_empty, parts_of, words_of}
 use Rattle.pack_input.proofs.Cuts.{some_parts}

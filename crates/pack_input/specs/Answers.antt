@@ -1,6 +1,5 @@
 -- Answers that are what reading gives, but for want of memory.
 use Rattle.std.specs.Prelude.{◌≡◌, ◌⊎◌, ⊤, ℕ, List, [], ◌∷◌, ◌++◌, Result, Ok, Err}
-use Rattle.plfs_types.specs.declared.memory.NoMemory.{NoMemory as Wanted}
 use Rattle.pack_input.specs.declared.files.NamedFile.{NamedFile}
 use Rattle.pack_input.specs.declared.trouble.InputTrouble.{InputTrouble}
 use Rattle.pack_input.specs.declared.trouble.InputTrouble.TheVariants as trouble

@@ -1,4 +1,5 @@
 pub mod Answers
+pub mod Digits
 pub mod Input
 pub mod Laws
 pub mod Layout

@@ -1,12 +1,13 @@
 //! The file that a line says.
-ghost use Rattle.std.specs.Prelude.{◌≡◌, IfOk};
+ghost use Rattle.std.specs.Prelude.{◌≡◌, ◌*◌, ◌<◌, length, true, Ok, IfOk};
 ghost use Rattle.std.specs.List.{list_all};
-ghost use Rattle.pack_input.specs.Reading.{is_lower_digit, is_dash as is_dash_of, digits_of, content_of, judged as judged_of, file_of as file_of_words};
+ghost use Rattle.hex.specs.Hex.{decode_of};
+ghost use Rattle.pack_input.specs.Digits.{worth_of};
+ghost use Rattle.pack_input.specs.Reading.{is_lower_digit as is_lower, is_dash as is_dash_of, digits_of, content_of, judged as judged_of, file_of as file_of_words};
 ghost use Rattle.pack_input.specs.Words.{words_of};
 
 use crate::trouble::Kind;
 use crate::words::{cut, has_empty_word};
-use hex::FromHexError;
 use plfs_types::{Bytes, LogicalName, NoMemory, Sequence};
 use std::alloc::Global;
 use unit_format::name_in;
@@ -21,24 +22,54 @@ pub struct NamedFile {
 /// A list of files.
 pub type FileList = Sequence<NamedFile>;
 
-fn are_lower_digits(word: &[u8]) -> bool
-    ensures { result ≡ list_all is_lower_digit word.now }
+/// Whether the byte is one of 0-9 and a-f.
+fn is_lower_digit(byte: u8) -> bool
+    ensures { result ≡ is_lower byte }
 {
-    word.iter().all(|byte| (b'0' <= *byte && *byte <= b'9') || (b'a' <= *byte && *byte <= b'f'))
+    (b'0' <= byte && byte <= b'9') || (b'a' <= byte && byte <= b'f')
+}
+
+/// Whether all bytes are lower-case digits. It looks at each, so that it may take many at once.
+fn are_lower_digits(word: &[u8]) -> bool
+    ensures { result ≡ list_all is_lower word.now }
+{
+    let mut all = true;
+    for byte in word {
+        all = all & is_lower_digit(*byte);
+    }
+    all
+}
+
+/// What a lower-case digit is worth. It asks nothing of the byte, so that digits of any kind take the same time.
+fn worth(digit: u8) -> u8
+    ensures value { result ≡ worth_of digit }
+    ensures small { result < 16 }
+{
+    (digit % 16 + 9 * (digit / 64)) % 16
+}
+
+/// Puts the bytes that these digits say, two a byte.
+fn put_bytes(bytes: &mut [u8], digits: &[u8])
+    requires all { list_all is_lower digits.now ≡ true }
+    requires pairs { length digits.now ≡ 2 * length bytes.old }
+    ensures { decode_of digits.now ≡ Ok bytes.new }
+{
+    for place in 0..bytes.len() {
+        bytes[place] = worth(digits[2 * place]) * 16 + worth(digits[2 * place + 1]);
+    }
 }
 
 /// The bytes of an even number of lower-case digits.
+#[tactic(auto, using(crate::proofs::Worths::odd_digits))]
 fn digits(alloc: Global, word: &[u8]) -> Result<Option<Bytes>, NoMemory>
     ensures { IfOk result (λ told. told ≡ digits_of word.now) }
 {
-    if !are_lower_digits(word) {
+    if word.len() % 2 != 0 || !are_lower_digits(word) {
         return Ok(None);
     }
-    match hex::decode(alloc, word) {
-        Ok(bytes) => Ok(Some(Bytes::from_vec(bytes))),
-        Err(FromHexError::OutOfMemory) => Err(NoMemory),
-        Err(_) => Ok(None),
-    }
+    let mut bytes = vec![in alloc; 0u8; word.len() / 2]?;
+    put_bytes(bytes.as_mut_slice(), word);
+    Ok(Some(Bytes::from_vec(bytes)))
 }
 
 /// Whether the word is a dash.

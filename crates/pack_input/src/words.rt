@@ -3,12 +3,15 @@ ghost use Rattle.std.specs.Prelude.{◌≡◌, ◌<◌, ◌≤◌, ◌==◌, ◌
 ghost use Rattle.std.specs.List.{list_any};
 ghost use Rattle.pack_input.specs.Words.{parts_of, parts_behind, words_of, lines_of, is_empty};
 
+use memchr::memchr;
+
 /// The place of the first such byte.
+#[tactic(auto, using(crate::proofs::FirstBytes::first_place))]
 fn place_of_byte(bytes: &[u8], at: u8) -> Option<usize>
     ensures place { result ≡ position (λ b. b == at) bytes.now }
     ensures within { IfSome result (λ place. place < length bytes.now) }
 {
-    bytes.iter().position(|byte| *byte == at)
+    memchr(at, bytes)
 }
 
 /// What stands before the first such byte, and what stands behind it, or None where there is none.

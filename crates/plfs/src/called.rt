@@ -11,6 +11,7 @@ use std::io::ErrorKind;
 pub enum Program {
     Plfs,
     Copy,
+    Check,
 }
 
 /// The program that was called, and the words behind its name.
@@ -20,16 +21,32 @@ pub struct Called {
     pub words: Vec<Word>,
 }
 
+// Whether the path is this name, or ends in a slash and the name, as `below` is.
+fn is_called(path: &str, name: &str, below: &str) -> bool
+    ensures { IsTrue result ↔ ((path.now ≡ name.now) ⊎ ((folder : List ℕ) × (path.now ≡ folder ++ below.now))) }
+{
+    path == name || path.ends_with(below)
+}
+
 // Whether the last part of the path is the name of the program that copies.
 fn is_copy(name: &str) -> bool
     ensures { IsTrue result ↔ ((name.now ≡ codes "plfs_copy") ⊎ ((folder : List ℕ) × (name.now ≡ folder ++ codes "/plfs_copy"))) }
 {
-    name == "plfs_copy" || name.ends_with("/plfs_copy")
+    is_called(name, "plfs_copy", "/plfs_copy")
+}
+
+// Whether it is the name of the program that checks.
+fn is_check(name: &str) -> bool
+    ensures { IsTrue result ↔ ((name.now ≡ codes "plfs_check") ⊎ ((folder : List ℕ) × (name.now ≡ folder ++ codes "/plfs_check"))) }
+{
+    is_called(name, "plfs_check", "/plfs_check")
 }
 
 fn program_of(name: &str) -> Program {
     if is_copy(name) {
         Program::Copy
+    } else if is_check(name) {
+        Program::Check
     } else {
         Program::Plfs
     }

@@ -1,6 +1,6 @@
-//! The program `plfs`, which serves `plfs_copy` under that name too: the command of its words, over real folders, the standard
-//! streams and the system's clock. It owns no rule of what lies there; all of them stand in `plfs_program`, `copy_program`
-//! and `drain_program`.
+//! The program `plfs`, which serves `plfs_copy` and `plfs_check` under their names too: the command of its words, over real
+//! folders, the standard streams and the system's clock. It owns no rule of what lies there; all of them stand in
+//! `plfs_program`, `copy_program`, `check_program` and `drain_program`.
 //! It owns the order in which a run takes things up: its words, its input, and only then the folders, which it locks. A run of
 //! `plfs_copy` reads its input behind that. Where a run ends with a status from 3 to 7, it says why on standard error, in one line.
 #![tactic(auto)]
@@ -10,6 +10,7 @@ ghost use Rattle.std.specs.Prelude.{◌≤◌, length};
 mod called;
 mod folders;
 mod lock;
+mod progress;
 mod reading;
 mod said;
 mod spelled;
@@ -24,6 +25,7 @@ use crate::reading::{copies_the_input, read_input};
 use crate::standard::{INPUT, Standard};
 use crate::task::{Task, run};
 use crate::telling::{starved, tell_denied, tell_ran, tell_unopened, unread, usage};
+use check_program::CheckCommand;
 use command_line::Command;
 use copy_program::CopyCommand;
 use drain_program::DrainCommand;
@@ -67,6 +69,7 @@ fn main(rt: HostRuntime) -> ExitCode {
     match program {
         Program::Plfs => obey(&rt, rt, root, &folders, words, &standard),
         Program::Copy => obey_copy(&rt, rt, root, &folders, words, &standard),
+        Program::Check => obey_check(&rt, rt, root, &folders, words, &standard),
     }
 }
 
@@ -155,6 +158,24 @@ fn obey_copy<H: Threads + Wait + Sync>(
     }
     let task = Task::Copy { words, command };
     serve(handle, rt, root, folders, &task, standard)
+}
+
+// Does what the words of `plfs_check` ask for.
+#[inline(never)]
+fn obey_check<H: Threads + Wait + Sync>(
+    handle: &H,
+    rt: HostRuntime,
+    root: &Word,
+    folders: &[&str],
+    words: &[Word],
+    standard: &Standard,
+) -> ExitCode
+    requires few { length folders.now ≤ MOST_FOLDERS }
+{
+    if CheckCommand::read(words).is_none() {
+        return usage(&rt, Program::Check);
+    }
+    serve(handle, rt, root, folders, &Task::Check { words }, standard)
 }
 
 // Locks the folders, and runs the command over them.

@@ -1,6 +1,8 @@
 //! A command, and its run over the folders, the standard streams and the system's clock.
+use crate::progress::Progress;
 use crate::reading::{copies_the_input, writes_a_file};
 use crate::said::{Said, Saying};
+use check_program::check;
 use command_line::Command;
 use copy_program::{CopyCommand, copy};
 use drain_program::{DrainEnded, drain};
@@ -30,6 +32,10 @@ pub enum Task<'a> {
     Copy {
         words: &'a [Word],
         command: CopyCommand,
+    },
+    /// Of `plfs_check`: its words.
+    Check {
+        words: &'a [Word],
     },
     /// Of `plfs`: a drain's words, and the folder of its target, which is locked.
     Drain {
@@ -72,6 +78,7 @@ fn has_lines(task: &Task<'_>) -> bool {
     match task {
         Task::Plfs { command, .. } => !writes_a_file(command),
         Task::Copy { command, .. } => copies_the_input(command),
+        Task::Check { .. } => true,
         Task::Drain { .. } => true,
     }
 }
@@ -151,6 +158,7 @@ pub fn run<H: Threads + Wait + Sync>(
                 SystemClock::new(*rt),
             )
         }
+        Task::Check { words } => check(rt.alloc(), words, &mut sink, &mut Progress::new(rt), store),
         Task::Drain { words, folder } => {
             let (ended, left) = drain_to(rt, words, folder, &mut sink, store);
             target = left;

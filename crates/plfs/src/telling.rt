@@ -57,7 +57,7 @@ pub fn tell_ran(
         target,
     } = ran;
     let Ended { store, status } = ended;
-    if is_told(rt, task, target, status, &said) {
+    if is_told(rt, root, task, target, status, &said) {
         return ExitCode::from(status);
     }
     let Some(store) = store else {
@@ -102,14 +102,24 @@ fn is_of_script(said: &Said) -> bool {
     }
 }
 
-// Says of a drain why its target failed, and which item is damaged: whether something was said.
+// Says of a check that the folder isn't sound, and of a drain why its target failed and which item is damaged: whether something was
+// said.
 fn is_told(
     rt: &HostRuntime,
+    root: &Word,
     task: &Task<'_>,
     cause: Option<Cause>,
     status: u8,
     said: &Said,
 ) -> bool {
+    if let Task::Check { .. } = task {
+        if status != 7 {
+            return false;
+        }
+        let root = Spelled(root.as_str());
+        let _ = eprintln!(rt; "plfs: {root}: it isn't sound");
+        return true;
+    }
     let Task::Drain { folder, .. } = task else {
         return false;
     };
@@ -269,6 +279,7 @@ pub fn usage(rt: &HostRuntime, program: Program) -> ExitCode {
             b"|drain NAME FOLDER\n"
         }
         Program::Copy => copy_program::USAGE,
+        Program::Check => check_program::USAGE,
     };
     let _ = io::writer(rt).write_all(line);
     ExitCode::from(2)

@@ -1,16 +1,15 @@
 -- What is shown of a file of a container.
-use Rattle.std.proofs.Common.{◌≡◌, ℕ, ◌⊎◌, inl, inr, ◌↔◌, Bool, true, false, List, [], ◌∷◌, length, Option, Some, None, refl, ap, sym, ◌∙◌, subst, arith}
+use Rattle.std.proofs.Common.{◌≡◌, ℕ, ◌⊎◌, inl, inr, ◌↔◌, Bool, true, false, List, [], length, Option, Some, None, refl, ap, sym, ◌∙◌, subst}
 use Rattle.std.specs.Prelude.{◌≢◌, slice_get, IsTrue, IfErr, OnOk, Result, Ok, Err}
 use Rattle.std.proofs.lemmas.Bool.{false≢true}
 use Rattle.plfs_types.specs.declared.names.Path.{Path}
 use Rattle.container_layout.specs.declared.items.Item.{Item}
 use Rattle.container_layout.specs.declared.items.Item.TheVariants.{Access, OpenHost, Meta, Trunc, Flat, TmpFlat, Index, Log, Packed, TmpPacked}
-use Rattle.container_layout.specs.Paths.{IsAt}
 use Rattle.store_api.specs.declared.tree.Room.{Room}
 use Rattle.store_api.specs.declared.tree.Tree.{Tree}
 use Rattle.store_api.specs.Acts.{Stored}
 use Rattle.store_laws.specs.Files.{file_at}
-use Rattle.mount_shape.specs.Container.{IsItemFile, MayHold, IsOfId}
+use Rattle.mount_shape.specs.Container.{MayHold, IsOfId}
 use Rattle.mount_shape.specs.Marks.{IsOfMark}
 use Rattle.shape_check.specs.declared.files.Place.{Place}
 use Rattle.shape_check.specs.declared.finding.Finding.{Finding}

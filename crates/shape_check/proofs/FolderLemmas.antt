@@ -1,5 +1,5 @@
 -- The folders that a container may have.
-use Rattle.std.proofs.Common.{◌≡◌, ℕ, ◌<◌, ◌≤◌, ◌⊎◌, inl, inr, ◌↔◌, Bool, true, false, refl, sym, ap, ◌∙◌, arith}
+use Rattle.std.proofs.Common.{◌≡◌, ℕ, ◌<◌, ◌≤◌, inl, inr, ◌↔◌, false, ap, ◌∙◌, arith}
 use Rattle.std.specs.Prelude.{IsTrue, ◌+◌}
 use Rattle.std.proofs.lemmas.Bool.{cases_lt, false≢true}
 use Rattle.container_layout.specs.Paths.{hostdir_of}

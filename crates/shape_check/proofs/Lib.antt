@@ -7,4 +7,6 @@ mod ListLemmas
 mod IdLemmas
 mod FileLemmas
 mod FolderLemmas
+mod OrderLemmas
 mod ShapeLemmas
+mod Unbroken

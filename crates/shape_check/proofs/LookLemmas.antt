@@ -1,9 +1,8 @@
 -- What an answer to a look tells of a tree of which all is kept.
-use Rattle.std.proofs.Common.{◌≡◌, ℕ, ◌≤◌, ◌⊎◌, inl, inr, Bool, true, false, ◌&&◌, ◌||◌, List, [], ◌∷◌, length, take, drop, Option, Some, None, Result, Ok, Err, refl, ap, sym, ◌∙◌, subst, arith}
-use Rattle.std.specs.Prelude.{IfOk, IfErr, slice_get, map, option_map, min, ◌^◌, ◌-◌, ◌+◌}
+use Rattle.std.proofs.Common.{◌≡◌, ℕ, ◌≤◌, inl, inr, true, ◌||◌, List, [], ◌∷◌, Option, Some, None, Result, Ok, Err, refl, ap, sym, ◌∙◌, subst, arith}
+use Rattle.std.specs.Prelude.{IfOk, IfErr, slice_get, map, option_map}
 use Rattle.std.specs.List.{list_any}
 use Rattle.std.proofs.lemmas.Option.{slice_get-map}
-use Rattle.plfs_types.specs.Counts.{HasRisen, next_count}
 use Rattle.plfs_types.specs.declared.names.Path.{Path}
 use Rattle.store_api.specs.declared.tree.Room.{Room}
 use Rattle.store_api.specs.declared.tree.Tree.{Tree}
@@ -21,8 +20,6 @@ use Rattle.store_api.specs.Step.{Step, Name, rooms, find_room, list_folder, leng
 use Rattle.store_laws.specs.Files.{file_at}
 use Rattle.store_laws.specs.Outcomes.{IsLook, Looks}
 use Rattle.store_laws.specs.Says.{AreRoomNames, RoomsTell, FindTells, ListTells, LengthTells, ReadTells}
-use Rattle.store_laws.specs.Tells.{Tells}
-use Rattle.store_laws.specs.There.{AreNamesOf, has_entry, IsRoomOf, IsFree, LacksRoom}
 use Rattle.store_laws.proofs.Facts.{acts_told, look_answered, look_told, rooms_tell, find_tells, list_tells, length_tells, read_tells}
 use Rattle.shape_check.specs.declared.finding.Finding.{Finding}
 use Rattle.shape_check.specs.declared.finding.Finding.TheVariants.{Broken, Fault, NoMemory, Untold}

@@ -1,5 +1,5 @@
 -- Loops over names, each of which is checked.
-use Rattle.std.proofs.Common.{◌≡◌, ℕ, zero, suc, ◌+◌, ◌≤◌, ◌<◌, ◌⊎◌, inl, inr, Bool, true, false, ◌||◌, List, [], ◌∷◌, length, take, Option, Some, None, refl, ap, sym, ◌∙◌, subst, arith}
+use Rattle.std.proofs.Common.{◌≡◌, ℕ, zero, suc, ◌+◌, ◌≤◌, ◌<◌, ◌⊎◌, inl, inr, true, false, ◌||◌, List, [], ◌∷◌, length, take, Some, refl, ap, sym, ◌∙◌, subst, arith}
 use Rattle.std.specs.Prelude.{slice_get, get_or, IfErr, Result, Ok, Err}
 use Rattle.std.proofs.lemmas.Option.{slice_get_read}
 use Rattle.std.proofs.lemmas.List.{take_all}
@@ -14,10 +14,10 @@ use Rattle.store_laws.proofs.Facts.{name_eq}
 use Rattle.shape_check.specs.declared.files.Place.{Place}
 use Rattle.shape_check.specs.declared.finding.Finding.{Finding}
 use Rattle.shape_check.specs.declared.finding.Finding.TheVariants.{NoMemory}
-use Rattle.shape_check.specs.Files.{IsPlaced, OfPlace}
-use Rattle.shape_check.specs.Places.{IsMarksPlace, OfMarks, Each}
+use Rattle.shape_check.specs.Files.{OfPlace}
+use Rattle.shape_check.specs.Places.{OfMarks, Each}
 use Rattle.shape_check.specs.Rightness.{Fails}
-use Rattle.shape_check.specs.Seeing.{IsSeen, IsLookedAt}
+use Rattle.shape_check.specs.Seeing.{IsLookedAt}
 use Rattle.shape_check.proofs.Seen.{seen_on, risen_on}
 
 pub fails_on : (P : Tree → Type 0) (old mid new : Stored) (finding : Finding) → IsLookedAt old mid → Fails P mid new finding → Fails P old new finding

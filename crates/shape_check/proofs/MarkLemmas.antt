@@ -1,7 +1,6 @@
 -- What is shown of a file in the room of marks.
-use Rattle.std.proofs.Common.{◌≡◌, ℕ, ◌≤◌, ◌<◌, ◌⊎◌, inl, inr, ◌↔◌, Bool, true, false, List, [], ◌∷◌, length, Option, Some, None, refl, ap, sym, ◌∙◌, subst, arith}
+use Rattle.std.proofs.Common.{◌≡◌, ℕ, ◌⊎◌, inl, inr, ◌↔◌, Bool, true, false, List, [], ◌∷◌, length, Option, Some, None, refl, ap, sym, ◌∙◌, subst, arith}
 use Rattle.std.specs.Prelude.{slice_get, IsTrue, IfErr, OnOk, Result, Ok, Err}
-use Rattle.std.specs.Option.{is_none}
 use Rattle.std.specs.Prelude.{is_some, ◌||◌, ◌&&◌}
 use Rattle.std.proofs.lemmas.Bool.Decides.{nat_tests}
 use Rattle.plfs_types.specs.declared.names.Path.{Path}
@@ -17,13 +16,12 @@ use Rattle.mount_model.specs.Paths.{Name, marks_name, marks_folder, mark_name, m
 use Rattle.mount_shape.specs.Marks.{IsMarkFile, IsMarksRoom}
 use Rattle.tree_laws.specs.Complaints as complaint
 use Rattle.shape_check.specs.declared.finding.Finding.{Finding}
-use Rattle.shape_check.specs.declared.finding.Finding.TheVariants.{Broken, Fault, NoMemory, Untold}
+use Rattle.shape_check.specs.declared.finding.Finding.TheVariants.{Broken, Untold}
 use Rattle.shape_check.specs.declared.finding.Complaint.TheVariants as variant
 use Rattle.shape_check.specs.Places.{IsMarksPlace, IsMarkName, OfMarks, IsFineMark, IsFineFile, IsFineTop, IsFineFolder, Each, ShowsNames}
-use Rattle.shape_check.specs.Rightness.{Fails, IsRight}
+use Rattle.shape_check.specs.Rightness.{Fails}
 use Rattle.shape_check.specs.Seeing.{IsSeen, IsLookedAt, HasRoom}
 use Rattle.shape_check.specs.Told.{TellsFolder, TellsLength}
-use Rattle.shape_check.proofs.LoopLemmas.{marks_on}
 use Rattle.shape_check.proofs.Seen.{seen_on}
 
 -- a look at the room failed
@@ -82,14 +80,11 @@ mark_wrong old new number name len is result shows rule no_mark e =
 
 -- ---- the top
 
-abbrev ShowsFolder : Stored → ℕ → Name → Option (List Name) → Type 0
+abbrev pub ShowsFolder : Stored → ℕ → Name → Option (List Name) → Type 0
 ShowsFolder old number folder found = (tree : Tree) (held : Room) → IsSeen old tree → slice_get tree.rooms number ≡ Some held → TellsFolder held folder found
 
 no_folder : (old : Stored) (number : ℕ) (top : Name) → ShowsFolder old number top None → OfMarks (IsFineFolder top) number old
 no_folder old number top shows = λ tree seen place has. (let none : has_folder place.room top ≡ false = shows tree place.room seen place.there in absurd (cc))
-
-pub folder_fine : (old : Stored) (number : ℕ) (top : Name) → (top ≡ []) ⊎ (top ≡ marks_folder) → OfMarks (IsFineFolder top) number old
-folder_fine old number top is = λ tree seen place has. is
 
 pub folder_wrong : (old new : Stored) (number : ℕ) (top : Name) (names : List Name) (finding : Finding) → ShowsFolder old number top (Some names) → (finding ≡ Broken (variant.ForeignFolder marks_name top)) × ((top ≡ []) ⊎ (top ≡ marks_folder) → ⊥)
     → Fails (IsMarksPlace number) old new finding
@@ -111,33 +106,6 @@ top_file old new number name len finding shows is = subst (λ (f : Finding). Fai
   cause = λ e. absurd (cc);
   right = λ tree seen place. (let t = shows tree place.room seen place.there in (number, place.room, place.there, place.named, (t.0, t.1, no_top_mark name t.0)));
 })
-
-pub top_fine : (old : Stored) (number : ℕ) (name : Name) → Shows old number (record { folder = []; file = name }) None → OfMarks (IsFineFolder name) number old → OfMarks (IsFineTop name) number old
-top_fine old number name shows folder = λ tree seen place. record {
-  file = mark_gone old number (record { folder = []; file = name }) shows tree seen place;
-  folder = folder tree seen place;
-}
-
-pub folder_gone : (old : Stored) (number : ℕ) (top : Name) (found : Option (List Name)) → ShowsFolder old number top found → is_none found ≡ true → OfMarks (IsFineFolder top) number old
-folder_gone old number top None shows e = no_folder old number top shows
-folder_gone old number top (Some names) shows e = absurd (cc)
-
--- what is judged of a folder that is there
-pub folder_judged : (old : Stored) (number : ℕ) (top : Name) (result : Result Unit Finding) → OnOk result ((top ≡ []) ⊎ (top ≡ marks_folder)) → OnOk result (OfMarks (IsFineFolder top) number old)
-folder_judged old number top (Ok done) is = folder_fine old number top is
-folder_judged old number top (Err finding) is = tt
-
-pub folder_right : (old new : Stored) (number : ℕ) (top : Name) (found : Option (List Name)) (result : Result Unit Finding) → ShowsFolder old number top found → is_none found ≡ false
-    → IfErr result (λ finding. (finding ≡ Broken (variant.ForeignFolder marks_name top)) × ((top ≡ []) ⊎ (top ≡ marks_folder) → ⊥)) → IfErr result (Fails (IsMarksPlace number) old new)
-folder_right old new number top None result shows e wrong = absurd (cc)
-folder_right old new number top (Some names) (Ok done) shows e wrong = tt
-folder_right old new number top (Some names) (Err finding) shows e wrong = folder_wrong old new number top names finding shows wrong
-
--- the entry of the top, once its folder has been judged
-pub top_judged : (old mid : Stored) (number : ℕ) (name : Name) (result : Result Unit Finding) → IsLookedAt old mid → Shows old number (record { folder = []; file = name }) None
-    → OnOk result (OfMarks (IsFineFolder name) number mid) → OnOk result (OfMarks (IsFineTop name) number old)
-top_judged old mid number name (Ok done) looked shows folder = top_fine old number name shows (marks_on (IsFineFolder name) number old mid looked folder)
-top_judged old mid number name (Err finding) looked shows folder = tt
 
 -- ---- the room
 
@@ -174,6 +142,40 @@ folder_entry room name names are e =
 pub top_is_empty : (folder : Name) → is_top folder ≡ true → folder ≡ []
 top_is_empty [] e = refl
 top_is_empty (x ∷ xs) e = absurd (grind (arith, nat_tests))
+
+-- the entry of the empty name
+pub empty_fine : (old : Stored) (number : ℕ) (top : Name) (result : Result Unit Finding) → top ≡ [] → OnOk result (OfMarks (IsFineMark (record { folder = []; file = top })) number old) → OnOk result (OfMarks (IsFineTop top) number old)
+empty_fine old number top (Err finding) is file = tt
+empty_fine old number top (Ok done) is file = λ tree seen place. record { file = file tree seen place; folder = λ has. inl is }
+
+-- one that is no folder
+pub file_fine : (old mid : Stored) (number : ℕ) (top : Name) (result : Result Unit Finding) → ShowsFolder old number top None → IsLookedAt old mid → OnOk result (OfMarks (IsFineMark (record { folder = []; file = top })) number mid)
+    → OnOk result (OfMarks (IsFineTop top) number old)
+file_fine old mid number top (Err finding) shows looked file = tt
+file_fine old mid number top (Ok done) shows looked file = λ tree seen place. record {
+  file = file tree (seen_on old mid tree looked seen) place;
+  folder = no_folder old number top shows tree seen place;
+}
+
+-- one that is a folder is no file
+no_file_of : (tree : Tree) (number : ℕ) (place : IsMarksPlace number tree) (folder : Name) → (folder ≡ [] → ⊥) → (b : Bool) → is_top folder ≡ b → (b || is_listed folder place.room.folders) ≡ true → file_at place.room (record { folder = []; file = folder }) ≡ None
+no_file_of tree number place folder other true t listed = absurd (other (top_is_empty folder t))
+no_file_of tree number place folder other false t listed = place.listable.apart number place.room folder place.there listed
+
+vacuous : (room : Room) (path : Path) → file_at room path ≡ None → IsFineMark path room
+vacuous room path none bytes b = absurd (cc)
+
+pub folder_judged : (old : Stored) (number : ℕ) (top : Name) (names : List Name) (result : Result Unit Finding) → (top ≡ [] → ⊥) → ShowsFolder old number top (Some names) → OnOk result ((top ≡ []) ⊎ (top ≡ marks_folder)) → OnOk result (OfMarks (IsFineTop top) number old)
+folder_judged old number top names (Err finding) other shows is = tt
+folder_judged old number top names (Ok done) other shows is = λ tree seen place. record {
+  file = vacuous place.room (record { folder = []; file = top }) (no_file_of tree number place top other (is_top top) refl (shows tree place.room seen place.there).0);
+  folder = λ has. is;
+}
+
+pub folder_right : (old new : Stored) (number : ℕ) (top : Name) (names : List Name) (result : Result Unit Finding) → ShowsFolder old number top (Some names)
+    → IfErr result (λ finding. (finding ≡ Broken (variant.ForeignFolder marks_name top)) × ((top ≡ []) ⊎ (top ≡ marks_folder) → ⊥)) → IfErr result (Fails (IsMarksPlace number) old new)
+folder_right old new number top names (Ok done) shows wrong = tt
+folder_right old new number top names (Err finding) shows wrong = folder_wrong old new number top names finding shows wrong
 
 module _ (tree : Tree) (number : ℕ) (place : IsMarksPlace number tree) (tops files : List Name) (top_names : AreNamesOf place.room [] tops) (has_marks : has_folder place.room marks_folder ≡ true)
     (file_names : AreNamesOf place.room marks_folder files) (fine_tops : Each IsFineTop tops place.room) (fine_files : Each IsFineFile files place.room) where

@@ -1,7 +1,7 @@
 -- A tree of which all is kept, beside the one that a store tells.
-use Rattle.std.proofs.Common.{◌≡◌, ℕ, ◌≤◌, ◌<◌, ◌⊎◌, inl, inr, Bool, true, false, ◌&&◌, ◌||◌, List, [], ◌∷◌, length, Option, Some, None, refl, ap, sym, ◌∙◌, subst, arith}
-use Rattle.std.specs.Prelude.{slice_get, option_map, map, is_some, if◌then◌else◌, ◌^◌, ◌-◌}
-use Rattle.std.specs.List.{find, list_any}
+use Rattle.std.proofs.Common.{◌≡◌, ℕ, ◌≤◌, inl, inr, Bool, true, false, ◌&&◌, ◌||◌, List, [], ◌∷◌, length, Option, Some, None, refl, ap, sym, ◌∙◌, arith}
+use Rattle.std.specs.Prelude.{slice_get, option_map, map, is_some, if◌then◌else◌}
+use Rattle.std.specs.List.{find}
 use Rattle.std.proofs.lemmas.Option.{slice_get-map}
 use Rattle.plfs_types.specs.Counts.{HasRisen}
 use Rattle.plfs_types.specs.declared.names.Path.{Path}
@@ -12,9 +12,9 @@ use Rattle.store_api.specs.Acts.{Stored}
 use Rattle.store_api.specs.AllKept.{all_kept, room_kept}
 use Rattle.store_api.specs.Kept.{synced}
 use Rattle.store_api.specs.Step.{Name}
-use Rattle.store_api.specs.Room.{file_in, has_folder, is_at, is_top}
+use Rattle.store_api.specs.Room.{file_in, is_at, is_top}
 use Rattle.store_laws.specs.Files.{file_at, kept_at, kept_of}
-use Rattle.store_laws.specs.There.{AreNamesOf, has_entry}
+use Rattle.store_laws.specs.There.{has_entry}
 use Rattle.store_laws.specs.Differ.{is_listed}
 use Rattle.shape_check.specs.Seeing.{IsSeen, IsLookedAt}
 

@@ -1,6 +1,6 @@
 -- What is shown of the shape of a container.
-use Rattle.std.proofs.Common.{◌≡◌, ℕ, suc, ◌+◌, ◌≤◌, ◌⊎◌, inl, inr, ◌↔◌, Bool, true, false, ◌||◌, List, [], ◌∷◌, ◌++◌, length, take, map, Option, Some, None, refl, ap, sym, ◌∙◌, subst, arith, append_assoc}
-use Rattle.std.specs.Prelude.{slice_get, is_some, ◌&&◌, IsTrue, IfErr, IfOk, OnOk, Result, Ok, Err, ◌≢◌}
+use Rattle.std.proofs.Common.{◌≡◌, ℕ, suc, ◌+◌, ◌≤◌, ◌⊎◌, inl, inr, Bool, true, false, ◌||◌, List, [], ◌∷◌, ◌++◌, length, take, map, Option, Some, None, refl, ap, sym, ◌∙◌, subst, arith}
+use Rattle.std.specs.Prelude.{slice_get, is_some, ◌&&◌, IfErr, IfOk, OnOk, Result, Ok, Err, ◌≢◌}
 use Rattle.std.proofs.lemmas.List.{take_all}
 use Rattle.plfs_types.specs.declared.names.Path.{Path}
 use Rattle.plfs_types.specs.Names.{IsLogicalName}
@@ -16,23 +16,24 @@ use Rattle.store_laws.specs.Differ.{is_listed}
 use Rattle.store_laws.specs.There.{AreNamesOf}
 use Rattle.store_laws.proofs.Facts.{path_eq}
 use Rattle.mount_model.specs.Paths.{Name, marks_name, metadata, truncs, flats, access_path}
-use Rattle.mount_shape.specs.Container.{IsContainer, IsContainerFolder, IsItemFile, MayHold}
+use Rattle.mount_shape.specs.Container.{IsContainerFolder, IsItemFile, MayHold}
 use Rattle.mount_shape.specs.Marks.{IsOfMark}
 use Rattle.tree_laws.specs.Complaints as complaint
 use Rattle.shape_check.specs.declared.files.Place.{Place}
 use Rattle.shape_check.specs.declared.finding.Finding.{Finding}
 use Rattle.shape_check.specs.declared.finding.Finding.TheVariants.{Broken}
 use Rattle.shape_check.specs.declared.finding.Complaint.TheVariants as variant
-use Rattle.shape_check.specs.Files.{IsPlaced, OfPlace, IsFineItem}
+use Rattle.shape_check.specs.Files.{IsPlaced, OfPlace, IsFineItem, IsForeignFolder}
 use Rattle.shape_check.specs.Places.{ShowsNames}
 use Rattle.shape_check.specs.Rightness.{Fails}
 use Rattle.shape_check.specs.Seeing.{IsSeen, IsLookedAt, HasRoom}
-use Rattle.shape_check.specs.Shape.{in_folder, IsOneOf, EachAt, HaveFiles, Adds, IsFolderOf, IsTopOf, HasWalked, AreWalked, HasAccess, HasNeeded, HasShape}
+use Rattle.shape_check.specs.Shape.{in_folder, ArePathsInOrder, IsOneOf, EachAt, Adds, IsFolderOf, IsTopOf, HasWalked, AreWalked, HasAccess, HasNeeded, HasShape}
 use Rattle.shape_check.specs.Told.{TellsFolder, TellsLength}
 use Rattle.shape_check.proofs.FileLemmas.{no_place}
 use Rattle.shape_check.proofs.ListLemmas.{in_front, behind, one_of_both, name_has_path, path_has_name}
-use Rattle.shape_check.proofs.LoopLemmas.{fails_on, listed_more}
+use Rattle.shape_check.proofs.LoopLemmas.{fails_on, listed_more, no_memory}
 use Rattle.shape_check.proofs.MarkLemmas.{some_entry, folder_entry, top_is_empty}
+use Rattle.shape_check.proofs.OrderLemmas.{folder_front, folder_last, folder_sorted, none_sorted, paths_sorted}
 use Rattle.shape_check.proofs.Seen.{seen_on}
 
 abbrev pub ShowsFolder : Stored → ℕ → Name → Option (List Name) → Type 0
@@ -81,41 +82,65 @@ nothing : (xs : List Path) → xs ++ [] ≡ xs
 nothing [] = refl
 nothing (x ∷ xs) = ap (λ (l : List Path). x ∷ l) (nothing xs)
 
-pub adds_top : (place : Place) (old : Stored) (folder : Name) (paths : List Path) → folder ≡ [] → Adds (IsFolderOf folder) paths paths place old
-adds_top place old folder paths top = record {
+-- where nothing is listed no folder of this name is there
+lacks : (room : Room) (folder : Name) → TellsFolder room folder None → has_folder room folder ≡ true → ⊥
+lacks room folder none has = absurd (cc)
+
+none_in : (place : Place) (tree : Tree) (at : IsPlaced place tree) (folder : Name) → TellsFolder at.room folder None → IsFolderOf folder [] tree at.room
+none_in place tree at folder none = record {
+  allowed = λ has. absurd (lacks at.room folder none has);
+  all = λ name bytes other b. absurd (lacks at.room folder none ((at.listable.orderly.rooms place.number at.room at.there).housed (in_folder folder name) bytes b));
+  are = λ path one. absurd one;
+  inside = λ path one. absurd one;
+  ordered = none_sorted;
+}
+
+-- the entry of the empty name
+pub adds_empty : (place : Place) (old : Stored) (top : Name) (path : Path) (paths : List Path) (result : Result Unit Finding) → top ≡ [] → path ≡ in_folder [] top → OnOk result (OfPlace (IsFineItem path) place old)
+    → OnOk result (Adds (IsTopOf top) paths paths place old)
+adds_empty place old top path paths (Err finding) empty is file = tt
+adds_empty place old top path paths (Ok done) empty is file = record {
   more = [];
   longer = sym (nothing paths);
   of = λ tree seen at. record {
-    allowed = λ has. inl top;
-    all = λ name bytes other b. absurd (other top);
-    are = λ path one. absurd one;
+    file = subst (λ (p : Path). IsFineItem p tree at.room) is (file tree seen at);
+    folder = record {
+      allowed = λ has. inl empty;
+      all = λ name bytes other b. absurd (other empty);
+      are = λ path one. absurd one;
+      inside = λ path one. absurd one;
+      ordered = none_sorted;
+    };
   };
 }
 
-pub adds_none : (place : Place) (old : Stored) (folder : Name) (paths : List Path) → ShowsFolder old place.number folder None → Adds (IsFolderOf folder) paths paths place old
-adds_none place old folder paths shows = record {
+-- one that is no folder
+pub adds_file : (place : Place) (old mid : Stored) (top : Name) (path : Path) (paths : List Path) (result : Result Unit Finding) → ShowsFolder old place.number top None → IsLookedAt old mid → path ≡ in_folder [] top
+    → OnOk result (OfPlace (IsFineItem path) place mid) → OnOk result (Adds (IsTopOf top) paths paths place old)
+adds_file place old mid top path paths (Err finding) shows looked is file = tt
+adds_file place old mid top path paths (Ok done) shows looked is file = record {
   more = [];
   longer = sym (nothing paths);
   of = λ tree seen at. record {
-    allowed = λ has. (let none : has_folder at.room folder ≡ false = shows tree at.room seen at.there in absurd (cc));
-    all = λ name bytes other b. (
-        let none : has_folder at.room folder ≡ false = shows tree at.room seen at.there in
-        let housed : has_folder at.room folder ≡ true = (at.listable.orderly.rooms place.number at.room at.there).housed (in_folder folder name) bytes b in
-        absurd (cc));
-    are = λ path one. absurd one;
+    file = subst (λ (p : Path). IsFineItem p tree at.room) is (file tree (seen_on old mid tree looked seen) at);
+    folder = none_in place tree at top (shows tree at.room seen at.there);
   };
 }
 
-pub folder_foreign : (place : Place) (old new : Stored) (folder : Name) (names : List Name) (is : Bool) → ShowsFolder old place.number folder (Some names) → (IsTrue is ↔ IsContainerFolder folder) → is ≡ false
-    → Fails (IsPlaced place) old new (Broken (variant.ForeignFolder place.name folder))
-folder_foreign place old new folder names is shows rule fails = record {
+foreign_so : (place : Place) (old new : Stored) (folder : Name) (names : List Name) (finding : Finding) → ShowsFolder old place.number folder (Some names) → IsForeignFolder place.name folder finding → Fails (IsPlaced place) old new finding
+foreign_so place old new folder names finding shows (inl none) = no_memory (IsPlaced place) old new finding none
+foreign_so place old new folder names finding shows (inr (is, other)) = subst (λ (f : Finding). Fails (IsPlaced place) old new f) (sym is) (record {
   cause = λ e. absurd (cc);
   right = λ tree seen at. (place.number, at.room, at.there, at.named, ((shows tree at.room seen at.there).0, wrong at.other));
-}
+})
   where
     wrong : place.name ≢ marks_name → complaint.IsAllowed place.name folder → ⊥
-    wrong other (inl of_marks) = other of_marks.0
-    wrong other (inr may) = (let t : is ≡ true = rule.1 may.1 in absurd (cc))
+    wrong apart (inl of_marks) = apart of_marks.0
+    wrong apart (inr may) = other may.1
+
+pub folder_foreign : (place : Place) (old new : Stored) (folder : Name) (names : List Name) (result : Result Unit Finding) → ShowsFolder old place.number folder (Some names) → IfErr result (IsForeignFolder place.name folder) → IfErr result (Fails (IsPlaced place) old new)
+folder_foreign place old new folder names (Ok done) shows wrong = tt
+folder_foreign place old new folder names (Err finding) shows wrong = foreign_so place old new folder names finding shows wrong
 
 file_there : (room : Room) (folder name : Name) (names : List Name) → AreNamesOf room folder names → folder ≢ [] → is_listed name names ≡ true → (bytes : List ℕ) × (file_at room (in_folder folder name) ≡ Some bytes)
 file_there room folder name names are other e = of (is_top folder) refl (file_at room (in_folder folder name)) refl (sym (are.exactly name) ∙ e)
@@ -125,32 +150,36 @@ file_there room folder name names are other e = of (is_top folder) refl (file_at
     of false t (Some bytes) f has = (bytes, f)
     of false t None f has = absurd (cc)
 
-pub adds_files : (place : Place) (old : Stored) (folder : Name) (names : List Name) (is : Bool) (before after : List Path) → folder ≢ [] → ShowsFolder old place.number folder (Some names) → (IsTrue is ↔ IsContainerFolder folder) → is ≡ true
-    → after ≡ before ++ map (in_folder folder) names → Adds (IsFolderOf folder) before after place old
-adds_files place old folder names is before after other shows rule holds e = record {
-  more = map (in_folder folder) names;
-  longer = e;
-  of = λ tree seen at. record {
-    allowed = λ has. rule.0 holds;
-    all = λ name bytes not_top b. name_has_path folder names name (some_entry at.room folder name bytes names (shows tree at.room seen at.there).1 b);
-    are = λ path one. (
-        let has = path_has_name folder names path one in
-        let file = file_there at.room folder has.0 names (shows tree at.room seen at.there).1 other has.2 in
-        (file.0, ap (file_at at.room) has.1 ∙ file.1));
-  };
-}
+-- a folder and no file has the name
+no_file_of : (place : Place) (tree : Tree) (at : IsPlaced place tree) (folder : Name) → folder ≢ [] → has_folder at.room folder ≡ true → file_at at.room (in_folder [] folder) ≡ None
+no_file_of place tree at folder other has = of (is_top folder) refl has
+  where
+    of : (b : Bool) → is_top folder ≡ b → (b || is_listed folder at.room.folders) ≡ true → file_at at.room (in_folder [] folder) ≡ None
+    of true t listed = absurd (other (top_is_empty folder t))
+    of false t listed = at.listable.apart place.number at.room folder at.there listed
 
--- ---- an entry of the top
+vacuous : (tree : Tree) (room : Room) (path : Path) → file_at room path ≡ None → IsFineItem path tree room
+vacuous tree room path none bytes b = absurd (cc)
 
-pub adds_entry : (place : Place) (old mid : Stored) (top : Name) (before after : List Path) (result : Result Unit Finding) → IsLookedAt old mid → OfPlace (IsFineItem (in_folder [] top)) place old
-    → OnOk result (Adds (IsFolderOf top) before after place mid) → OnOk result (Adds (IsTopOf top) before after place old)
-adds_entry place old mid top before after (Err finding) looked file adds = tt
-adds_entry place old mid top before after (Ok done) looked file adds = record {
-  more = adds.more;
-  longer = adds.longer;
+-- one that is a folder
+pub adds_files : (place : Place) (old : Stored) (top : Name) (names : List Name) (before after : List Path) (result : Result Unit Finding) → top ≢ [] → ShowsFolder old place.number top (Some names)
+    → OnOk result (IsContainerFolder top × (after ≡ before ++ map (in_folder top) names)) → OnOk result (Adds (IsTopOf top) before after place old)
+adds_files place old top names before after (Err finding) other shows both = tt
+adds_files place old top names before after (Ok done) other shows both = record {
+  more = map (in_folder top) names;
+  longer = both.1;
   of = λ tree seen at. record {
-    file = file tree seen at;
-    folder = adds.of tree (seen_on old mid tree looked seen) at;
+    file = vacuous tree at.room (in_folder [] top) (no_file_of place tree at top other (shows tree at.room seen at.there).0);
+    folder = record {
+      allowed = λ has. both.0;
+      all = λ name bytes not_top b. name_has_path top names name (some_entry at.room top name bytes names (shows tree at.room seen at.there).1 b);
+      are = λ path one. (
+          let has = path_has_name top names path one in
+          let file = file_there at.room top has.0 names (shows tree at.room seen at.there).1 other has.2 in
+          (file.0, ap (file_at at.room) has.1 ∙ file.1));
+      inside = λ path one. ap (λ (p : Path). p.folder) (path_has_name top names path one).1;
+      ordered = folder_sorted top names (shows tree at.room seen at.there).1.ordered;
+    };
   };
 }
 
@@ -162,6 +191,8 @@ walked_none place old tops = λ tree seen at. record {
   folders = λ folder e has. absurd (cc);
   all = λ folder name bytes e other b. absurd (cc);
   are = λ path one. absurd one;
+  inside = λ path one. absurd one;
+  ordered = λ sorted. none_sorted;
 }
 
 abbrev IsEarlier : List Name → ℕ → Name → Name → Type 0
@@ -193,6 +224,11 @@ walked_more place old mid tops i top before after at_i looked walked adds = λ t
         | inl before_it ↦ was.are path before_it
         | inr behind_it ↦ now.folder.are path behind_it
       ];
+      inside = λ path one. elim (one_of_both before adds.more path (subst (λ (l : List Path). IsOneOf l path) adds.longer one)) [
+        | inl before_it ↦ folder_front tops i path.folder (was.inside path before_it)
+        | inr behind_it ↦ folder_last tops i top path.folder at_i (now.folder.inside path behind_it)
+      ];
+      ordered = λ sorted. subst ArePathsInOrder (sym adds.longer) (paths_sorted tops i top before adds.more at_i was.inside now.folder.inside was.ordered now.folder.ordered sorted);
     })
   where
     of_this : (tree : Tree) (room : Room) → ((name : Name) (bytes : List ℕ) → top ≢ [] → file_at room (in_folder top name) ≡ Some bytes → IsOneOf adds.more (in_folder top name))
@@ -217,6 +253,7 @@ paths_are place old mid tops (Ok paths) looked shows walked = λ tree seen at. (
           let housed : has_folder room path.folder ≡ true = (at.listable.orderly.rooms place.number room at.there).housed path bytes b in
           was.all path.folder path.file bytes (in_tops room tops names path.folder other (is_top path.folder) refl housed) other b);
       are = was.are;
+      ordered = was.ordered names.ordered;
     })
   where
     of_folder : (room : Room) (tops : List Name) → AreNamesOf room [] tops → ((folder : Name) → is_listed folder tops ≡ true → has_folder room folder ≡ true → IsContainerFolder folder)
@@ -263,6 +300,7 @@ shape_at place tree at paths named walked each needed =
       };
       all = walked.all;
       are = walked.are;
+      ordered = walked.ordered;
     }
 
 pub has_shape : (place : Place) (old a b : Stored) (paths : List Path) → IsLogicalName place.name → IsLookedAt old a → IsLookedAt old b → OfPlace (AreWalked paths) place old → OfPlace (EachAt IsFineItem paths) place a → OfPlace HasNeeded place b → OfPlace (HasShape paths) place old

@@ -7,17 +7,15 @@ use Rattle.container_layout.specs.Paths.{IsAt, hostdir_of}
 use Rattle.store_api.specs.declared.tree.Room.{Room}
 use Rattle.store_api.specs.declared.tree.Tree.{Tree}
 use Rattle.store_api.specs.Acts.{Stored}
-use Rattle.store_api.specs.Room.{has_folder}
 use Rattle.store_laws.specs.Files.{file_at}
-use Rattle.store_laws.specs.Differ.{is_listed}
 use Rattle.mount_model.specs.Paths.{Name, marks_name}
-use Rattle.mount_shape.specs.Container.{IsItemFile}
+use Rattle.mount_shape.specs.Container.{IsContainerFolder, IsItemFile}
 use Rattle.mount_shape.specs.Marks.{IsOfMark}
 use Rattle.tree_laws.specs.Listable.{IsListable}
 use Rattle.shape_check.specs.declared.files.Place.{Place}
 use Rattle.shape_check.specs.declared.finding.Finding.{Finding}
-use Rattle.shape_check.specs.declared.finding.Finding.TheVariants.{Broken}
-use Rattle.shape_check.specs.declared.finding.Complaint.TheVariants.{Foreign, Filled}
+use Rattle.shape_check.specs.declared.finding.Finding.TheVariants.{Broken, NoMemory}
+use Rattle.shape_check.specs.declared.finding.Complaint.TheVariants.{Foreign, ForeignFolder, Filled}
 use Rattle.shape_check.specs.Seeing.{IsSeen}
 use Rattle.shape_check.specs.Told.{TellsRoom}
 
@@ -94,3 +92,7 @@ pub record HasItemFile (place : Place) (path : Path) (id : Option ℕ) (tree : T
 -- it is a folder of droppings
 abbrev pub IsHostdir : Name → Type 0
 IsHostdir folder = (host : ℕ) × (host < 32) × (folder ≡ hostdir_of host)
+
+-- memory was refused, or no container may have the folder
+abbrev pub IsForeignFolder : Name → Name → Finding → Type 0
+IsForeignFolder room folder finding = (finding ≡ NoMemory) ⊎ ((finding ≡ Broken (ForeignFolder room folder)) × (IsContainerFolder folder → ⊥))

@@ -1,5 +1,5 @@
 -- When what a check finds is right.
-use Rattle.std.specs.Prelude.{◌≡◌}
+use Rattle.std.specs.Prelude.{◌≡◌, Bool, true, false}
 use Rattle.plfs_types.specs.Counts.{HasRisen}
 use Rattle.store_api.specs.declared.tree.Tree.{Tree}
 use Rattle.store_api.specs.declared.store.Trouble.{Trouble}
@@ -33,6 +33,33 @@ complaint_of (variant.Between room path stamp) = complaint.between room path sta
 complaint_of (variant.TwoTruncates room stamp) = complaint.two_truncates room stamp
 complaint_of (variant.WrongIndex room path) = complaint.wrong_index room path
 
+-- whether it is of the shape of a room, of its writers' hosts or of its truncates' stamps
+abbrev pub is_of_shape : code.Complaint → Bool
+is_of_shape (variant.RoomName room) = true
+is_of_shape (variant.NoFolder room folder) = true
+is_of_shape (variant.NoAccess room) = true
+is_of_shape (variant.ForeignFolder room folder) = true
+is_of_shape (variant.Foreign room path) = true
+is_of_shape (variant.NoMark path) = true
+is_of_shape (variant.Filled room path) = true
+is_of_shape (variant.Unmarked room path) = true
+is_of_shape (variant.TwoHosts room writer) = true
+is_of_shape (variant.Entry room path place) = false
+is_of_shape (variant.LongLog room path) = false
+is_of_shape (variant.Unaccounted room path) = false
+is_of_shape (variant.Untrue room path) = false
+is_of_shape (variant.Unsettled room path) = false
+is_of_shape (variant.Between room path stamp) = false
+is_of_shape (variant.TwoTruncates room stamp) = true
+is_of_shape (variant.WrongIndex room path) = false
+
+-- what is found wrong, if anything is, is of the shape
+abbrev pub IsOfShape : Finding → Type 0
+IsOfShape (Broken complaint) = is_of_shape complaint ≡ true
+IsOfShape Fault = Unit {0}
+IsOfShape NoMemory = Unit {0}
+IsOfShape Untold = Unit {0}
+
 -- what a trouble of the store is
 abbrev pub finding_of : Trouble → Finding
 finding_of trouble.Fault = Fault
@@ -56,3 +83,10 @@ NoAnswer old new Fault = HasRisen old.faults new.faults
 NoAnswer old new NoMemory = Unit {0}
 NoAnswer old new (Broken complaint) = ⊥
 NoAnswer old new Untold = ⊥
+
+-- nothing was found wrong
+abbrev pub IsNoComplaint : Finding → Type 0
+IsNoComplaint (Broken complaint) = ⊥
+IsNoComplaint Fault = Unit {0}
+IsNoComplaint NoMemory = Unit {0}
+IsNoComplaint Untold = Unit {0}

@@ -2,7 +2,7 @@
 ghost use Rattle.std.specs.Prelude.{◌≡◌, Some, IfErr, IfOk, OnOk};
 ghost use Rattle.store_api.specs.declared.tree.Tree.{Tree};
 ghost use Rattle.shape_check.specs.Files.{IsPlaced, OfPlace, IsFineItem, IsItemOf, IsNoItem, IsDrawn, HasItemFile, holds_bytes, id_in};
-ghost use Rattle.shape_check.specs.Rightness.{Fails};
+ghost use Rattle.shape_check.specs.Rightness.{Fails, IsOfShape};
 ghost use Rattle.shape_check.specs.Seeing.{IsSeen, IsLookedAt};
 
 use crate::finding::{Complaint, Finding};
@@ -28,6 +28,7 @@ pub fn check_file<S: Store>(store: &mut S, place: &Place, path: Path) -> Result<
     ensures looked { IsLookedAt (S.stored store.old) (S.stored store.new) }
     ensures ok { OnOk result (OfPlace (IsFineItem path) place.now (S.stored store.old)) }
     ensures err { IfErr result (Fails (IsPlaced place.now) (S.stored store.old) (S.stored store.new)) }
+    ensures shape { IfErr result IsOfShape }
 {
     let Some(len) = length(store, place.number, &path)? else {
         return Ok(());
@@ -46,6 +47,7 @@ fn check_id<S: Store>(
     ensures looked { IsLookedAt (S.stored store.old) (S.stored store.new) }
     ensures ok { OnOk result ((tree : Tree) → IsSeen (S.stored store.old) tree → IsPlaced place.now tree → IsDrawn id tree) }
     ensures err { IfErr result (Fails (HasItemFile place.now path id) (S.stored store.old) (S.stored store.new)) }
+    ensures shape { IfErr result IsOfShape }
 {
     match id {
         Some(id) => check_drawn(store, place, path, id),
@@ -59,6 +61,7 @@ fn check_drawn<S: Store>(store: &mut S, place: &Place, path: Path, id: u64) -> R
     ensures looked { IsLookedAt (S.stored store.old) (S.stored store.new) }
     ensures ok { OnOk result ((tree : Tree) → IsSeen (S.stored store.old) tree → IsPlaced place.now tree → IsDrawn (Some id) tree) }
     ensures err { IfErr result (Fails (HasItemFile place.now path (Some id)) (S.stored store.old) (S.stored store.new)) }
+    ensures shape { IfErr result IsOfShape }
 {
     let is = is_marked(store, place.marks, id)?;
     if is {
@@ -76,6 +79,7 @@ fn check_drawn<S: Store>(store: &mut S, place: &Place, path: Path, id: u64) -> R
 fn judge_file(room: Name, path: &Path, len: u64) -> Result<Option<u64>, Finding>
     ensures ok { IfOk result (IsItemOf path.now len) }
     ensures err { IfErr result (IsNoItem room path.now len) }
+    ensures shape { IfErr result IsOfShape }
 {
     let Some(item) = read(path) else {
         return Err(Finding::Broken {

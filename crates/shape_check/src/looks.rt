@@ -6,7 +6,7 @@ ghost use Rattle.store_api.specs.Acts.{Acts};
 ghost use Rattle.store_api.specs.Step.{step_of};
 ghost use Rattle.store_laws.specs.Outcomes.{IsLook};
 ghost use Rattle.store_laws.specs.Says.{AreRoomNames};
-ghost use Rattle.shape_check.specs.Rightness.{Fails, NoAnswer};
+ghost use Rattle.shape_check.specs.Rightness.{Fails, IsNoComplaint, NoAnswer, IsOfShape};
 ghost use Rattle.shape_check.specs.Seeing.{IsSeen, IsLookedAt, HasRoom, IsOrderlyFile, IsAny};
 ghost use Rattle.shape_check.specs.Told.{TellsFolder, TellsLength, TellsBytes, TellsRoom, names_of as names_told, length_in as length_told, bytes_in as bytes_told, rooms_in as rooms_told, number_in as number_told};
 
@@ -38,11 +38,12 @@ fn rooms_in(answer: Answer) -> Result<NameList, Finding>
 }
 
 /// The names of the rooms.
-#[tactic(auto, using(crate::proofs::LookLemmas::no_answer, crate::proofs::LookLemmas::rooms_ok, crate::proofs::LookLemmas::rooms_err))]
+#[tactic(auto, using(crate::proofs::LookLemmas::no_answer, crate::proofs::LookLemmas::rooms_ok, crate::proofs::LookLemmas::rooms_err, crate::proofs::Unbroken::unanswered, crate::proofs::Unbroken::no_rooms))]
 pub fn rooms<S: Store>(store: &mut S) -> Result<NameList, Finding>
     ensures looked { IsLookedAt (S.stored store.old) (S.stored store.new) }
     ensures ok { IfOk result (λ names. (tree : Tree) → IsSeen (S.stored store.old) tree → AreRoomNames tree names) }
     ensures err { IfErr result (Fails IsAny (S.stored store.old) (S.stored store.new)) }
+    ensures unbroken { IfErr result IsNoComplaint }
 {
     let answer = ask(store, &Step::Rooms)?;
     rooms_in(answer)
@@ -59,11 +60,12 @@ fn number_in(answer: &Answer) -> Result<Option<u64>, Finding>
 }
 
 /// The number of the room of this name, if one has it.
-#[tactic(auto, using(crate::proofs::LookLemmas::no_answer, crate::proofs::LookLemmas::number_ok, crate::proofs::LookLemmas::number_err))]
+#[tactic(auto, using(crate::proofs::LookLemmas::no_answer, crate::proofs::LookLemmas::number_ok, crate::proofs::LookLemmas::number_err, crate::proofs::Unbroken::unanswered, crate::proofs::Unbroken::no_number))]
 pub fn find_room<S: Store>(store: &mut S, name: Name) -> Result<Option<u64>, Finding>
     ensures looked { IsLookedAt (S.stored store.old) (S.stored store.new) }
     ensures ok { IfOk result (λ found. (tree : Tree) → IsSeen (S.stored store.old) tree → TellsRoom tree name found) }
     ensures err { IfErr result (Fails IsAny (S.stored store.old) (S.stored store.new)) }
+    ensures unbroken { IfErr result IsNoComplaint }
 {
     let answer = ask(store, &Step::FindRoom { name })?;
     number_in(&answer)
@@ -80,11 +82,12 @@ fn names_of(answer: Answer) -> Result<Option<NameList>, Finding>
 }
 
 /// The names of the folder's entries, if the folder is there.
-#[tactic(auto, using(crate::proofs::LookLemmas::no_answer, crate::proofs::LookLemmas::folder_ok, crate::proofs::LookLemmas::folder_err))]
+#[tactic(auto, using(crate::proofs::LookLemmas::no_answer, crate::proofs::LookLemmas::folder_ok, crate::proofs::LookLemmas::folder_err, crate::proofs::Unbroken::unanswered_shape, crate::proofs::Unbroken::no_names))]
 pub fn list<S: Store>(store: &mut S, room: u64, folder: Name) -> Result<Option<NameList>, Finding>
     ensures looked { IsLookedAt (S.stored store.old) (S.stored store.new) }
     ensures ok { IfOk result (λ found. (tree : Tree) (held : Room) → IsSeen (S.stored store.old) tree → slice_get tree.rooms room ≡ Some held → TellsFolder held folder found) }
     ensures err { IfErr result (Fails (HasRoom room) (S.stored store.old) (S.stored store.new)) }
+    ensures shape { IfErr result IsOfShape }
 {
     let answer = ask(store, &Step::List { room, folder })?;
     names_of(answer)
@@ -102,11 +105,12 @@ fn length_in(answer: &Answer) -> Result<Option<u64>, Finding>
 }
 
 /// The length of the file, if it is there.
-#[tactic(auto, using(crate::proofs::LookLemmas::no_answer, crate::proofs::LookLemmas::length_ok, crate::proofs::LookLemmas::length_err))]
+#[tactic(auto, using(crate::proofs::LookLemmas::no_answer, crate::proofs::LookLemmas::length_ok, crate::proofs::LookLemmas::length_err, crate::proofs::Unbroken::unanswered_shape, crate::proofs::Unbroken::no_length))]
 pub fn length<S: Store>(store: &mut S, room: u64, path: &Path) -> Result<Option<u64>, Finding>
     ensures looked { IsLookedAt (S.stored store.old) (S.stored store.new) }
     ensures ok { IfOk result (λ found. (tree : Tree) (held : Room) → IsSeen (S.stored store.old) tree → slice_get tree.rooms room ≡ Some held → TellsLength held path.now found) }
     ensures err { IfErr result (Fails (HasRoom room) (S.stored store.old) (S.stored store.new)) }
+    ensures shape { IfErr result IsOfShape }
 {
     let answer = ask(
         store,

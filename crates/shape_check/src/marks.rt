@@ -5,8 +5,8 @@ ghost use Rattle.mount_model.specs.Paths.{marks_name as marks_room_name, marks_f
 ghost use Rattle.mount_shape.specs.Marks.{IsMarksRoom, IsOfMark};
 ghost use Rattle.shape_check.specs.declared.finding.Complaint.TheVariants.{ForeignFolder};
 ghost use Rattle.shape_check.specs.declared.finding.Finding.TheVariants.{Broken};
-ghost use Rattle.shape_check.specs.Places.{IsMarksPlace, IsMarkName, OfMarks, IsFineMark, IsFineFile, IsFineTop, IsFineFolder, Each, ShowsNames, HasMarks};
-ghost use Rattle.shape_check.specs.Rightness.{Fails};
+ghost use Rattle.shape_check.specs.Places.{IsMarksPlace, IsMarkName, OfMarks, IsFineMark, IsFineFile, IsFineTop, Each, ShowsNames, HasMarks};
+ghost use Rattle.shape_check.specs.Rightness.{Fails, IsOfShape};
 ghost use Rattle.shape_check.specs.Seeing.{IsSeen, IsLookedAt, HasRoom};
 
 use crate::finding::{Complaint, Finding, broken};
@@ -45,6 +45,7 @@ pub fn check_marks<S: Store>(store: &mut S, number: u64) -> Result<(), Finding>
     ensures looked { IsLookedAt (S.stored store.old) (S.stored store.new) }
     ensures ok { OnOk result (OfMarks IsMarksRoom number (S.stored store.old)) }
     ensures err { IfErr result (Fails (IsMarksPlace number) (S.stored store.old) (S.stored store.new)) }
+    ensures shape { IfErr result IsOfShape }
 {
     let tops = tops_of(store, number)?;
     check_tops(store, number, tops.as_slice())?;
@@ -58,6 +59,7 @@ pub fn tops_of<S: Store>(store: &mut S, number: u64) -> Result<NameList, Finding
     ensures looked { IsLookedAt (S.stored store.old) (S.stored store.new) }
     ensures ok { IfOk result (λ names. ShowsNames (S.stored store.old) number [] names) }
     ensures err { IfErr result (Fails (HasRoom number) (S.stored store.old) (S.stored store.new)) }
+    ensures shape { IfErr result IsOfShape }
 {
     match list(store, number, Name::empty())? {
         Some(names) => Ok(names),
@@ -71,6 +73,7 @@ fn files_of<S: Store>(store: &mut S, number: u64) -> Result<NameList, Finding>
     ensures looked { IsLookedAt (S.stored store.old) (S.stored store.new) }
     ensures ok { IfOk result (λ names. ShowsNames (S.stored store.old) number marks_folder_name names) }
     ensures err { IfErr result (Fails (IsMarksPlace number) (S.stored store.old) (S.stored store.new)) }
+    ensures shape { IfErr result IsOfShape }
 {
     match list(store, number, marks_folder())? {
         Some(names) => Ok(names),
@@ -88,6 +91,7 @@ fn check_tops<S: Store>(store: &mut S, number: u64, tops: &[Name]) -> Result<(),
     ensures looked { IsLookedAt (S.stored store.old) (S.stored store.new) }
     ensures ok { OnOk result (OfMarks (Each IsFineTop tops.now) number (S.stored store.old)) }
     ensures err { IfErr result (Fails (IsMarksPlace number) (S.stored store.old) (S.stored store.new)) }
+    ensures shape { IfErr result IsOfShape }
 {
     for top in tops {
         check_top(store, number, *top)?;
@@ -95,38 +99,44 @@ fn check_tops<S: Store>(store: &mut S, number: u64, tops: &[Name]) -> Result<(),
     Ok(())
 }
 
-/// Whether the entry of the top is the folder of marks, and no file.
-#[tactic(auto, using(crate::proofs::MarkLemmas::no_room, crate::proofs::MarkLemmas::top_file, crate::proofs::MarkLemmas::top_judged, crate::proofs::LoopLemmas::fails_on, crate::proofs::LoopLemmas::later_fails, crate::proofs::Seen::looked_on))]
+/// Whether the entry of the top is the folder of marks, and no file. A folder's name is asked for no file, which a store on
+/// real folders would take for a fault.
+#[tactic(auto, using(crate::proofs::MarkLemmas::no_room, crate::proofs::LoopLemmas::fails_on, crate::proofs::LoopLemmas::later_fails, crate::proofs::Seen::looked_on))]
 fn check_top<S: Store>(store: &mut S, number: u64, top: Name) -> Result<(), Finding>
     ensures looked { IsLookedAt (S.stored store.old) (S.stored store.new) }
     ensures ok { OnOk result (OfMarks (IsFineTop top) number (S.stored store.old)) }
     ensures err { IfErr result (Fails (IsMarksPlace number) (S.stored store.old) (S.stored store.new)) }
+    ensures shape { IfErr result IsOfShape }
+{
+    if top == Name::empty() {
+        return check_top_file(store, number, top);
+    }
+    match list(store, number, top)? {
+        Some(_names) => judge_folder(top),
+        None => check_top_file(store, number, top),
+    }
+}
+
+/// Whether it is no file.
+#[tactic(auto, using(crate::proofs::MarkLemmas::no_room, crate::proofs::MarkLemmas::top_file, crate::proofs::MarkLemmas::mark_gone, crate::proofs::LoopLemmas::fails_on))]
+fn check_top_file<S: Store>(store: &mut S, number: u64, top: Name) -> Result<(), Finding>
+    ensures looked { IsLookedAt (S.stored store.old) (S.stored store.new) }
+    ensures ok { OnOk result (OfMarks (IsFineMark (record { folder = []; file = top })) number (S.stored store.old)) }
+    ensures err { IfErr result (Fails (IsMarksPlace number) (S.stored store.old) (S.stored store.new)) }
+    ensures shape { IfErr result IsOfShape }
 {
     let path = at_top(top);
     match length(store, number, &path)? {
         Some(_) => broken(Complaint::NoMark { path }),
-        None => check_top_folder(store, number, top),
+        None => Ok(()),
     }
-}
-
-/// Whether it is no folder, but that of the marks.
-#[tactic(auto, using(crate::proofs::MarkLemmas::no_room, crate::proofs::MarkLemmas::folder_gone, crate::proofs::MarkLemmas::folder_judged, crate::proofs::MarkLemmas::folder_right))]
-fn check_top_folder<S: Store>(store: &mut S, number: u64, top: Name) -> Result<(), Finding>
-    ensures looked { IsLookedAt (S.stored store.old) (S.stored store.new) }
-    ensures ok { OnOk result (OfMarks (IsFineFolder top) number (S.stored store.old)) }
-    ensures err { IfErr result (Fails (IsMarksPlace number) (S.stored store.old) (S.stored store.new)) }
-{
-    let found = list(store, number, top)?;
-    if found.is_none() {
-        return Ok(());
-    }
-    judge_folder(top)
 }
 
 /// Whether the room of marks may have the folder.
 fn judge_folder(top: Name) -> Result<(), Finding>
     ensures ok { OnOk result ((top ≡ []) ⊎ (top ≡ marks_folder_name)) }
     ensures err { IfErr result (λ finding. (finding ≡ Broken (ForeignFolder marks_room_name top)) × ((top ≡ []) ⊎ (top ≡ marks_folder_name) → ⊥)) }
+    ensures shape { IfErr result IsOfShape }
 {
     if top == Name::empty() || top == marks_folder() {
         Ok(())
@@ -143,6 +153,7 @@ fn check_files<S: Store>(store: &mut S, number: u64, files: &[Name]) -> Result<(
     ensures looked { IsLookedAt (S.stored store.old) (S.stored store.new) }
     ensures ok { OnOk result (OfMarks (Each IsFineFile files.now) number (S.stored store.old)) }
     ensures err { IfErr result (Fails (IsMarksPlace number) (S.stored store.old) (S.stored store.new)) }
+    ensures shape { IfErr result IsOfShape }
 {
     for file in files {
         check_mark(store, number, *file)?;
@@ -156,6 +167,7 @@ fn check_mark<S: Store>(store: &mut S, number: u64, file: Name) -> Result<(), Fi
     ensures looked { IsLookedAt (S.stored store.old) (S.stored store.new) }
     ensures ok { OnOk result (OfMarks (IsFineMark (record { folder = marks_folder_name; file = file })) number (S.stored store.old)) }
     ensures err { IfErr result (Fails (IsMarksPlace number) (S.stored store.old) (S.stored store.new)) }
+    ensures shape { IfErr result IsOfShape }
 {
     let path = Path {
         folder: marks_folder(),
@@ -193,6 +205,7 @@ pub fn is_marked<S: Store>(store: &mut S, marks: Option<u64>, id: u64) -> Result
     ensures looked { IsLookedAt (S.stored store.old) (S.stored store.new) }
     ensures ok { IfOk result (λ is. (tree : Tree) → IsSeen (S.stored store.old) tree → HasMarks marks tree → (IsTrue is ↔ IsOfMark tree id)) }
     ensures err { IfErr result (Fails (HasMarks marks) (S.stored store.old) (S.stored store.new)) }
+    ensures shape { IfErr result IsOfShape }
 {
     match marks {
         Some(number) => is_of_mark(store, number, id),
@@ -206,6 +219,7 @@ fn is_of_mark<S: Store>(store: &mut S, number: u64, id: u64) -> Result<bool, Fin
     ensures looked { IsLookedAt (S.stored store.old) (S.stored store.new) }
     ensures ok { IfOk result (λ is. (tree : Tree) → IsSeen (S.stored store.old) tree → HasMarks (Some number) tree → (IsTrue is ↔ IsOfMark tree id)) }
     ensures err { IfErr result (Fails (HasMarks (Some number)) (S.stored store.old) (S.stored store.new)) }
+    ensures shape { IfErr result IsOfShape }
 {
     let serial = id % (1 << 32);
     if serial == 0 {

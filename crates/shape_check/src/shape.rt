@@ -2,13 +2,14 @@
 ghost use Rattle.std.specs.Prelude.{◌≡◌, ◌≢◌, ◌⊎◌, ◌++◌, [], map, true, IfOk, IfErr, OnOk};
 ghost use Rattle.plfs_types.specs.Names.{IsLogicalName};
 ghost use Rattle.store_api.specs.Room.{has_folder};
+ghost use Rattle.mount_shape.specs.Container.{IsContainerFolder};
 ghost use Rattle.mount_model.specs.Paths.{metadata as metadata_name, truncs as truncs_name, flats as flats_name};
 ghost use Rattle.shape_check.specs.declared.finding.Complaint.TheVariants.{RoomName};
 ghost use Rattle.shape_check.specs.declared.finding.Finding.TheVariants.{Broken};
-ghost use Rattle.shape_check.specs.Files.{IsPlaced, OfPlace, IsFineItem};
-ghost use Rattle.shape_check.specs.Rightness.{Fails};
+ghost use Rattle.shape_check.specs.Files.{IsPlaced, OfPlace, IsFineItem, IsForeignFolder};
+ghost use Rattle.shape_check.specs.Rightness.{Fails, IsOfShape};
 ghost use Rattle.shape_check.specs.Seeing.{IsLookedAt};
-ghost use Rattle.shape_check.specs.Shape.{in_folder, Adds, IsFolderOf, IsTopOf, HasWalked, AreWalked, EachAt, HasAccess, HasNeeded, HasShape};
+ghost use Rattle.shape_check.specs.Shape.{in_folder, Adds, IsTopOf, HasWalked, AreWalked, EachAt, HasAccess, HasNeeded, HasShape};
 
 use crate::files::{Place, check_file};
 use crate::finding::{Complaint, Finding};
@@ -34,6 +35,7 @@ pub fn check_shape<S: Store>(
     ensures looked { IsLookedAt (S.stored store.old) (S.stored store.new) }
     ensures ok { IfOk result (λ paths. OfPlace (HasShape paths) place.now (S.stored store.old)) }
     ensures err { IfErr result (Fails (IsPlaced place.now) (S.stored store.old) (S.stored store.new)) }
+    ensures shape { IfErr result IsOfShape }
 {
     check_name(place.name)?;
     let paths = paths_of(alloc, store, place)?;
@@ -46,6 +48,7 @@ pub fn check_shape<S: Store>(
 fn check_name(name: Name) -> Result<(), Finding>
     ensures ok { OnOk result (IsLogicalName name) }
     ensures err { IfErr result (λ finding. (finding ≡ Broken (RoomName name)) × (IsLogicalName name → ⊥)) }
+    ensures shape { IfErr result IsOfShape }
 {
     if name.is_logical() {
         return Ok(());
@@ -60,6 +63,7 @@ fn paths_of<S: Store>(alloc: Global, store: &mut S, place: &Place) -> Result<Pat
     ensures looked { IsLookedAt (S.stored store.old) (S.stored store.new) }
     ensures ok { IfOk result (λ paths. OfPlace (AreWalked paths) place.now (S.stored store.old)) }
     ensures err { IfErr result (Fails (IsPlaced place.now) (S.stored store.old) (S.stored store.new)) }
+    ensures shape { IfErr result IsOfShape }
 {
     let tops = tops_of(store, place.number)?;
     walk(alloc, store, place, tops.as_slice())
@@ -75,6 +79,7 @@ fn walk<S: Store>(
     ensures looked { IsLookedAt (S.stored store.old) (S.stored store.new) }
     ensures ok { IfOk result (λ paths. OfPlace (HasWalked tops.now paths) place.now (S.stored store.old)) }
     ensures err { IfErr result (Fails (IsPlaced place.now) (S.stored store.old) (S.stored store.new)) }
+    ensures shape { IfErr result IsOfShape }
 {
     let mut paths = PathList::new(alloc);
     for top in tops {
@@ -83,8 +88,9 @@ fn walk<S: Store>(
     Ok(paths)
 }
 
-/// Adds the paths of the folder's files, where the entry of the top is a folder, once both have been judged.
-#[tactic(auto, using(crate::proofs::LoopLemmas::later_fails, crate::proofs::Seen::looked_on))]
+/// Adds the paths of the folder's files, where the entry of the top is a folder that a container may have. Else its file is
+/// judged. A folder's name is asked for no file, which a store on real folders would take for a fault.
+#[tactic(auto, using(crate::proofs::FileLemmas::no_place, crate::proofs::LoopLemmas::later_fails, crate::proofs::Seen::looked_on))]
 fn add_top<S: Store>(
     store: &mut S,
     place: &Place,
@@ -94,38 +100,30 @@ fn add_top<S: Store>(
     ensures looked { IsLookedAt (S.stored store.old) (S.stored store.new) }
     ensures ok { OnOk result (Adds (IsTopOf top) paths.old paths.new place.now (S.stored store.old)) }
     ensures err { IfErr result (Fails (IsPlaced place.now) (S.stored store.old) (S.stored store.new)) }
+    ensures shape { IfErr result IsOfShape }
 {
-    check_file(store, place, at_top(top))?;
-    add_folder(store, place, top, paths)
+    if top == Name::empty() {
+        return check_file(store, place, at_top(top));
+    }
+    match list(store, place.number, top)? {
+        Some(names) => add_folder(place.name, top, names.as_slice(), paths),
+        None => check_file(store, place, at_top(top)),
+    }
 }
 
-/// Adds the paths of the folder's files, if it is there, once it has been judged. The top itself adds none.
-#[tactic(auto, using(crate::proofs::FileLemmas::no_place, crate::proofs::ShapeLemmas::adds_top, crate::proofs::ShapeLemmas::adds_none, crate::proofs::LoopLemmas::later_fails, crate::proofs::Seen::looked_on))]
-fn add_folder<S: Store>(
-    store: &mut S,
-    place: &Place,
-    folder: Name,
-    paths: &mut PathList,
-) -> Result<(), Finding>
-    ensures looked { IsLookedAt (S.stored store.old) (S.stored store.new) }
-    ensures ok { OnOk result (Adds (IsFolderOf folder) paths.old paths.new place.now (S.stored store.old)) }
-    ensures err { IfErr result (Fails (IsPlaced place.now) (S.stored store.old) (S.stored store.new)) }
+/// Adds the paths of files of these names in the folder, unless no container may have it.
+#[tactic(auto, using(crate::proofs::Unbroken::memory_shape))]
+fn add_folder(room: Name, folder: Name, names: &[Name], paths: &mut PathList) -> Result<(), Finding>
+    ensures ok { OnOk result (IsContainerFolder folder × (paths.new ≡ paths.old ++ map (in_folder folder) names.now)) }
+    ensures err { IfErr result (IsForeignFolder room folder) }
+    ensures shape { IfErr result IsOfShape }
 {
-    if folder == Name::empty() {
-        return Ok(());
-    }
-    let Some(names) = list(store, place.number, folder)? else {
-        return Ok(());
-    };
     if !is_container_folder(folder) {
         return Err(Finding::Broken {
-            complaint: Complaint::ForeignFolder {
-                room: place.name,
-                folder,
-            },
+            complaint: Complaint::ForeignFolder { room, folder },
         });
     }
-    push_names(folder, names.as_slice(), paths)?;
+    push_names(folder, names, paths)?;
     Ok(())
 }
 
@@ -148,6 +146,7 @@ fn check_paths<S: Store>(store: &mut S, place: &Place, paths: &[Path]) -> Result
     ensures looked { IsLookedAt (S.stored store.old) (S.stored store.new) }
     ensures ok { OnOk result (OfPlace (EachAt IsFineItem paths.now) place.now (S.stored store.old)) }
     ensures err { IfErr result (Fails (IsPlaced place.now) (S.stored store.old) (S.stored store.new)) }
+    ensures shape { IfErr result IsOfShape }
 {
     for path in paths {
         check_file(store, place, *path)?;
@@ -161,6 +160,7 @@ fn check_needed<S: Store>(store: &mut S, place: &Place) -> Result<(), Finding>
     ensures looked { IsLookedAt (S.stored store.old) (S.stored store.new) }
     ensures ok { OnOk result (OfPlace HasNeeded place.now (S.stored store.old)) }
     ensures err { IfErr result (Fails (IsPlaced place.now) (S.stored store.old) (S.stored store.new)) }
+    ensures shape { IfErr result IsOfShape }
 {
     check_has(store, place, metadata())?;
     check_has(store, place, truncs())?;
@@ -175,6 +175,7 @@ fn check_has<S: Store>(store: &mut S, place: &Place, folder: Name) -> Result<(),
     ensures looked { IsLookedAt (S.stored store.old) (S.stored store.new) }
     ensures ok { OnOk result (OfPlace (λ tree room. has_folder room folder ≡ true) place.now (S.stored store.old)) }
     ensures err { IfErr result (Fails (IsPlaced place.now) (S.stored store.old) (S.stored store.new)) }
+    ensures shape { IfErr result IsOfShape }
 {
     match list(store, place.number, folder)? {
         Some(_names) => Ok(()),
@@ -193,6 +194,7 @@ fn check_access<S: Store>(store: &mut S, place: &Place) -> Result<(), Finding>
     ensures looked { IsLookedAt (S.stored store.old) (S.stored store.new) }
     ensures ok { OnOk result (OfPlace HasAccess place.now (S.stored store.old)) }
     ensures err { IfErr result (Fails (IsPlaced place.now) (S.stored store.old) (S.stored store.new)) }
+    ensures shape { IfErr result IsOfShape }
 {
     match length(store, place.number, &print(&Item::Access))? {
         Some(_len) => Ok(()),

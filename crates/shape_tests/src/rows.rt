@@ -223,10 +223,9 @@ const ROWS: &[(Case, &str)] = &[
     ),
     (
         Case {
-            folders: FOLDERS,
+            folders: &["openhosts", "truncs", "flats", "hostdir.1"],
             files: &[
                 ("", "access", 0),
-                ("metadata", "10.10.5.1.4294967297", 0),
                 ("hostdir.1", "index.1.4294967297", 40),
                 ("hostdir.1", "log.1.4294967297", 10),
                 ("", "metadata", 0),

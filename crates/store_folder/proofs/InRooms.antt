@@ -1,7 +1,9 @@
 -- What is done by the paths of a room is done in the room.
-use Rattle.std.proofs.Common.{◌≡◌, ℕ, ◌≤◌, List, [], ◌∷◌, length, Option, Some, None, Result, Ok, Err, subst, rules}
-use Rattle.std.specs.Prelude.{IfOk, IfSome, string_bytes}
+use Rattle.std.proofs.Common.{◌≡◌, ℕ, ◌≤◌, ◌<◌, List, [], ◌∷◌, length, Option, Some, None, Result, Ok, Err, refl, subst, rules}
+use Rattle.std.proofs.lemmas.Bool.{false≢true}
+use Rattle.std.specs.Prelude.{IfOk, IfSome, IsSome, string_bytes}
 use Rattle.store_api.specs.declared.step.Answer.{Answer}
+use Rattle.store_api.specs.declared.step.Answer.TheVariants.{NoRoom}
 use Rattle.folder_calls.specs.declared.failure.Failure.{Failure}
 use Rattle.folder_calls.specs.Calls.{Log, Makes, synced_folder}
 use Rattle.store_folder.specs.declared.disk.Disk.{Disk}
@@ -16,7 +18,19 @@ of_one {A} found one P is holds =
     let Holds : Option A → Type 0 = λ found. IfSome found P in
     subst Holds is holds
 
+-- there is none, or there is one
+pub none_there : {A : Type 0} (found : Option A) → found ≡ None → IsSome found → ⊥
+none_there None is there = false≢true there
+none_there (Some one) is there = cc
+
+pub some_absent : {A : Type 0} (found : Option A) (one : A) → found ≡ Some one → ◌≡◌ {A = Result (Option A) Failure} (Ok found) (Ok None) → ⊥
+some_absent found one is absent = cc
+
 module _ {C F : Type 0} (disk : Disk C F) (room : ℕ) (folder : List ℕ) (log later : Log F) where
+  -- what is answered where there is no room of this number
+  pub in_no_room : {A : Type 0} (says : List ℕ → Type 0) (found : Option A) → found ≡ None → (room < length disk.rooms.items → IsSome found) → later ≡ log → InRoom disk room NoRoom log later says
+  in_no_room says found is there same = ((λ past. (refl, same)), λ within. absurd (none_there found is (there within)))
+
   -- what is answered by the paths of a folder's spot
   pub in_folder : (says : List ℕ → List ℕ → Answer → Type 0) (result : Result Answer Failure) (found : Option Spot) (spot : Spot) → found ≡ Some spot → (length disk.rooms.items ≤ room → ◌≡◌ {A = Result (Option Spot) Failure} (Ok found) (Ok None)) → IfSome found (λ spot. string_bytes spot.room ≡ room_path disk room) → IfSome found (λ spot. string_bytes spot.folder ≡ folder_path (room_path disk room) folder) → IfOk result (says (string_bytes spot.room) (string_bytes spot.folder)) → IfOk result (λ answer. InRoom disk room answer log later (λ path. says path (folder_path path folder) answer))
   in_folder says (Err failure) found spot is absent in_it of_it told = tt

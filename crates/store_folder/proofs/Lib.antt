@@ -12,3 +12,6 @@ pub mod Entering
 pub mod InRooms
 pub mod Staying
 pub mod FailedRooms
+pub mod Ending
+pub mod Removing
+pub mod Attempted

@@ -13,7 +13,7 @@ use Rattle.store_folder.specs.Leaving.{OpensMade, LeavesActed, LeavesOpen, Leave
 use Rattle.store_folder.specs.Places.{file_of}
 use Rattle.store_folder.specs.Steps.{PerformsOnFile, Performs}
 
-none : {A : Type 0} {one : A} → ◌≡◌ {A = Option A} None (Some one) → ⊥
+pub none : {A : Type 0} {one : A} → ◌≡◌ {A = Option A} None (Some one) → ⊥
 none is = cc
 
 module _ {F : Type 0} (other : FileKey) (held : Held F) where
@@ -143,3 +143,14 @@ pub neither_own : (first second was now : Bool) → (first ≡ true → was ≡ 
 neither_own first second was false gone also only one = refl
 neither_own true second was true gone also only one = sym (only refl) ∙ gone refl
 neither_own false second was true gone also only one = also one
+
+-- what was so of all but two names is so of another
+pub others_stay : (first second was between now : Bool) → (first ≡ false → between ≡ was) → (second ≡ false → now ≡ between) → (first || second) ≡ false → now ≡ was
+others_stay false false was between now one also is = also refl ∙ one refl
+others_stay false true was between now one also is = cc
+others_stay true second was between now one also is = cc
+
+-- what isn't open isn't where another was taken out
+pub stays_closed : {F : Type 0} (is_other : Bool) (before after : Option (Held F)) → after ≡ cond is_other None before → before ≡ None → after ≡ None
+stays_closed true before after taken was = taken
+stays_closed false before after taken was = taken ∙ was

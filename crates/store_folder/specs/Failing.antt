@@ -1,6 +1,6 @@
 -- How far the calls of a step on a name came where it failed: with that of them which failed, or which found what stands
 -- in the way. There is a line for each call that can end it.
-use Rattle.std.specs.Prelude.{◌≡◌, ◌⊎◌, ℕ, position, List, [], ◌∷◌, true, false, nat_eq, string_bytes, Some, None, Result, Ok, Err}
+use Rattle.std.specs.Prelude.{◌≡◌, ◌⊎◌, ℕ, position, List, [], ◌∷◌, Bool, true, false, nat_eq, string_bytes, Some, None, Result, Ok, Err}
 use Rattle.std.specs.Cmp.Lexicographic.{pointwise}
 use Rattle.store_api.specs.Names.{same_name}
 use Rattle.store_api.specs.Step.{Step, rooms, find_room, make_room, rename_room, make_folder, remove_folder, list_folder, create, remove, replace}
@@ -50,6 +50,11 @@ module _ {F : Type 0} (log later : Log F) where
     not_synced : (told : Failure) → failure ≡ Failed → Makes (looked_at room (Ok Folder) ∷ removed_folder folder (Ok Removed) ∷ synced_folder room (Err told) ∷ []) log later → FailsToRemoveItem room folder failure
     not_listed : Makes (looked_at room (Ok Folder) ∷ removed_folder folder (Ok NotEmpty) ∷ listed_folder folder (Err failure) ∷ []) log later → FailsToRemoveItem room folder failure
     none_listed : failure ≡ Failed → Makes (looked_at room (Ok Folder) ∷ removed_folder folder (Ok NotEmpty) ∷ listed_folder folder (Ok []) ∷ []) log later → FailsToRemoveItem room folder failure
+
+  -- the top, or another folder, by its path
+  abbrev pub FailsToRemoveSpot : Bool → List ℕ → List ℕ → Failure → Type 0
+  FailsToRemoveSpot true room folder failure = FailsToRemoveTop room failure
+  FailsToRemoveSpot false room folder failure = FailsToRemoveItem room folder failure
 
   -- the folder of this name, which is the top where it is empty
   abbrev pub FailsToRemoveFolder : List ℕ → List ℕ → Failure → Type 0

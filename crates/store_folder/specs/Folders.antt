@@ -1,5 +1,5 @@
 -- What a step on a folder asks of the system and answers. There is a line for each answer.
-use Rattle.std.specs.Prelude.{◌≡◌, ℕ, List, [], ◌∷◌, true, false, Result, Ok, Err}
+use Rattle.std.specs.Prelude.{◌≡◌, ℕ, List, [], ◌∷◌, Bool, true, false, Result, Ok, Err}
 use Rattle.store_api.specs.declared.step.Answer.{Answer}
 use Rattle.store_api.specs.declared.step.Answer.TheVariants.{Made, Old, NoFolder, NotEmpty, Names}
 use Rattle.folder_calls.specs.declared.calls.Removal.TheVariants.{Removed, Absent, NotEmpty as Filled}
@@ -67,6 +67,11 @@ module _ {F : Type 0} (log later : Log F) where
       (names : List (List ℕ)) × Makes (looked_at room (Ok Folder) ∷ removed_folder folder (Ok Filled) ∷ listed_folder folder (Ok names) ∷ []) log later × IsLeast names least
   RemovesItem room folder NoFolder = Makes (looked_at room (Ok Folder) ∷ removed_folder folder (Ok Absent) ∷ []) log later
   RemovesItem room folder other = ⊥
+
+  -- the top, or another folder, by its path
+  abbrev pub RemovesSpot : Bool → List ℕ → List ℕ → Answer → Type 0
+  RemovesSpot true room folder answer = RemovesTop room answer
+  RemovesSpot false room folder answer = RemovesItem room folder answer
 
   -- the folder of this name, which is the top where it is empty
   abbrev pub RemovesFolder : List ℕ → List ℕ → Answer → Type 0

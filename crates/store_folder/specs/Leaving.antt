@@ -1,5 +1,6 @@
 -- What a step leaves of the rooms' numbers, and which files it leaves open, however it ended.
-use Rattle.std.specs.Prelude.{◌≡◌, ◌⊎◌, ◌++◌, ℕ, List, [], ◌∷◌, true, false, slice_set, string_bytes, Some, Result, Ok, Err, OnErr, IfErr, IfSome}
+use Rattle.std.specs.Map.{remove_entry}
+use Rattle.std.specs.Prelude.{◌≡◌, ◌⊎◌, ◌++◌, ℕ, List, [], ◌∷◌, true, false, slice_set, string_bytes, Some, Result, Ok, Err, OnErr, IfOk, IfErr, IfSome}
 use Rattle.store_api.specs.declared.step.Answer.{Answer}
 use Rattle.store_api.specs.declared.step.Answer.TheVariants.{Made}
 use Rattle.store_api.specs.Step.{Step, make_room, rename_room, create, remove, replace, length_of, read_at, write_at, cut, sync}
@@ -21,7 +22,7 @@ use Rattle.store_folder.specs.NewRooms.{MakesRoom}
 use Rattle.store_folder.specs.Paths.{item_of, room_path, folder_path}
 use Rattle.store_folder.specs.Places.{FindsFile, file_of, ActsOnFile, BecomesOwn, takes_name}
 use Rattle.store_folder.specs.Rooms.{MovesRoom, IsStill}
-use Rattle.store_folder.specs.Steps.{Numbers}
+use Rattle.store_folder.specs.Steps.{Numbers, Performs}
 
 module _ {C F : Type 0} (old new : Disk C F) (log later : Log F) where
   -- The rooms after a step that failed are those before it. But a room that was made has its number, and one that was
@@ -70,16 +71,38 @@ module _ {C F : Type 0} (old : Disk C F) (log later : Log F) where
   LeavesOpen (sync room folder file) end key held = LeavesActed (record { room = room; folder = folder; file = file }) (sync room folder file) end key held
   LeavesOpen other end key held = held_at old.open key ≡ Some held
 
--- How a step among numbered rooms ended, and what it leaves. One that failed did so for one of its calls, for a name or
--- for want of memory. One on a file ended as its calls did. A file becomes this
--- run's own only in a step on it that found it with no bytes. It stays so but where its name is taken from it, or given
--- to another, and then it is no more.
+module _ {C F : Type 0} (old new : Disk C F) where
+  -- all files that were open are so as before, but that of this key
+  abbrev pub ClosesOne : FileKey → Type 0
+  ClosesOne key = new.open.files.entries ≡ remove_entry (same_file key) old.open.files.entries
+
+  -- Which files a step closes, with a line for each: those that it takes a name from or gives one, and that of a step that
+  -- failed. A file that is kept open after its step may take the place of the one that was not used for longest.
+  abbrev pub Closes : Step → Result Answer Failure → Type 0
+  Closes (create room folder file) end = OnErr end (ClosesOne (record { room = room; folder = folder; file = file }))
+  Closes (remove room folder file) end = ClosesOne (record { room = room; folder = folder; file = file })
+  Closes (replace room folder from to) end =
+      new.open.files.entries ≡ remove_entry (same_file (record { room = room; folder = folder; file = to })) (remove_entry (same_file (record { room = room; folder = folder; file = from })) old.open.files.entries)
+  Closes (length_of room folder file) end = OnErr end (ClosesOne (record { room = room; folder = folder; file = file }))
+  Closes (read_at room folder file at len) end = OnErr end (ClosesOne (record { room = room; folder = folder; file = file }))
+  Closes (write_at room folder file at bytes) end = OnErr end (ClosesOne (record { room = room; folder = folder; file = file }))
+  Closes (cut room folder file len) end = OnErr end (ClosesOne (record { room = room; folder = folder; file = file }))
+  Closes (sync room folder file) end = OnErr end (ClosesOne (record { room = room; folder = folder; file = file }))
+  Closes other end = new.open ≡ old.open
+
+-- How a step among numbered rooms ended, and what it leaves. One that was answered made its calls. One that failed did so
+-- for one of its calls, for a name or for want of memory. One on a file ended as its calls did. A file becomes this run's
+-- own only in a step on it that found it with no bytes. It stays so but where its name is taken from it, or given to
+-- another, and then it is no more.
 pub record EndsAmongRooms {C F : Type 0} (log : C → Log F) (old new : Disk C F) (step : Step) (end : Result Answer Failure) : Type 0 where
+  pub root : new.root ≡ old.root
   pub numbered : new.is_numbered ≡ old.is_numbered
+  pub performs : IfOk end (Performs old new (log old.calls) (log new.calls) step)
   pub fails : IfErr end (Fails old (log old.calls) (log new.calls) step)
   pub rooms : OnErr end (LeavesRooms old new (log old.calls) (log new.calls) step)
   pub on_file : IfSome (file_of step) (λ key. ActsOnFile old key (log old.calls) (log new.calls) step end)
   pub opened : (key : FileKey) (held : Held F) → held_at new.open key ≡ Some held → LeavesOpen old (log old.calls) (log new.calls) step end key held
+  pub closes : Closes old new step end
   pub own : (key : FileKey) → is_own new.own key ≡ true → (is_own old.own key ≡ true) ⊎ BecomesOwn old (file_of step) key (log old.calls)
   pub renames : (key : FileKey) → takes_name step key ≡ true → is_own new.own key ≡ false
   pub keeps_own : (key : FileKey) → is_own old.own key ≡ true → takes_name step key ≡ false → is_own new.own key ≡ true

@@ -1,11 +1,11 @@
 //! How a room is made: it is built in a folder of ROOT that is no room, and then that folder gets the room's name.
-ghost use Rattle.std.specs.Prelude.{◌≡◌, ◌∷◌, [], ◌++◌, ◌⊎◌, All, Err, None, Option, position, IsOk, IfOk, IfErr, OnOk, OnErr, string_bytes};
-ghost use Rattle.store_api.specs.Names.{same_name};
-ghost use Rattle.store_folder.specs.FailedBuilding.{FailsToBuildFolder, FailsToPutFile, FailsToBuildFile, FailsToFill, FailsToBuildRoom, FailsToMakeRoom};
+ghost use Rattle.std.specs.Prelude.{◌≡◌, All, Err, Option, IsOk, IfErr, OnOk, OnErr};
+ghost use Rattle.store_api.specs.Step.{make_room};
+ghost use Rattle.store_folder.specs.FailedBuilding.{FailsToBuildFolder, FailsToPutFile, FailsToBuildFile, FailsToFill, FailsToBuildRoom};
 ghost use Rattle.store_folder.specs.ForEach.{ForEach, FailsAtOne};
-ghost use Rattle.store_folder.specs.Paths.{IsNameable, item_of};
-ghost use Rattle.store_folder.specs.NewRooms.{BuildsFolder, PutsFile, BuildsFile, TakesPlace, Fills, BuildsRoom, MakesRoom};
-ghost use Rattle.store_folder.specs.Rooms.{AddsRoom};
+ghost use Rattle.store_folder.specs.Leaving.{EndsAmongRooms};
+ghost use Rattle.store_folder.specs.Paths.{IsNameable};
+ghost use Rattle.store_folder.specs.NewRooms.{BuildsFolder, PutsFile, BuildsFile, Fills, BuildsRoom};
 
 use crate::disk::Disk;
 use crate::files::old_file;
@@ -26,13 +26,7 @@ impl<C: Calls<File = F>, F: Drop> Disk<C, F> {
         folders: &[Name],
         files: &[Name],
     ) -> Result<Answer, Failure>
-        ensures adds { IfOk result (AddsRoom self.old self.new name.now (C.log self.old.calls) (C.log self.new.calls) folders.now files.now) }
-        ensures failed { OnErr result ((self.new.rooms.items ≡ self.old.rooms.items) ⊎ ((self.new.rooms.items ≡ self.old.rooms.items ++ name.now ∷ []) × MakesRoom (string_bytes self.old.root) (item_of (string_bytes self.old.root) name.now) folders.now files.now (Err Failure.Failed) (C.log self.old.calls) (C.log self.new.calls))) }
-        ensures fails { IfErr result (λ failure. (position (λ room. same_name room name.now) self.old.rooms.items ≡ None) × FailsToMakeRoom (string_bytes self.old.root) name.now folders.now files.now (C.log self.old.calls) (C.log self.new.calls) failure) }
-        ensures root { self.new.root ≡ self.old.root }
-        ensures numbered { self.new.is_numbered ≡ self.old.is_numbered }
-        ensures open { self.new.open ≡ self.old.open }
-        ensures own { self.new.own ≡ self.old.own }
+        ensures ends { EndsAmongRooms C.log self.old self.new (make_room name.now folders.now files.now) result }
     {
         if let Some(room) = self.number_of(name) {
             return Ok(Answer::Old { room });

@@ -1,16 +1,11 @@
 //! What a store keeps of its folder, and each step's way to the system.
-ghost use Rattle.std.specs.Prelude.{◌≡◌, ◌⊎◌, [], true, false, Some, IfOk, IfErr, IfSome, OnErr, string_bytes};
+ghost use Rattle.std.specs.Prelude.{◌≡◌, [], false, IfOk, IfErr, string_bytes};
 ghost use Rattle.store_api.specs.Step.{step_of};
-ghost use Rattle.folder_calls.specs.Calls.{failed_calls};
-ghost use Rattle.folder_calls.specs.Opened.{held_at};
 ghost use Rattle.folder_calls.specs.Own.{is_own};
-ghost use Rattle.store_folder.specs.Failing.{Fails};
-ghost use Rattle.store_folder.specs.Leaving.{LeavesRooms, LeavesOpen, Attempts};
-ghost use Rattle.store_folder.specs.Places.{file_of, ActsOnFile, BecomesOwn, takes_name};
+ghost use Rattle.store_folder.specs.Leaving.{Attempts, EndsAmongRooms};
 ghost use Rattle.store_folder.specs.StepPlaces.{room_name, place_of};
-ghost use Rattle.store_folder.specs.Steps.{Numbers, Performs};
 
-use folder_calls::{Calls, Failure, FileKey, Held, OpenFiles, OwnFiles, Place};
+use folder_calls::{Calls, Failure, FileKey, OpenFiles, OwnFiles, Place};
 use plfs_types::{Name, Word};
 use std::alloc::Global;
 use store_api::{Answer, Step};
@@ -52,9 +47,6 @@ impl<C: Calls<File = F> + Drop, F: Drop> Disk<C, F> {
 
     /// Makes one step, and numbers the rooms before the first.
     pub fn make(&mut self, step: &Step<'_>) -> Result<Answer, Failure>
-        ensures performs { IfOk result (λ answer. (numbered : Disk C F) × Numbers self.old numbered (C.log self.old.calls) (C.log numbered.calls) × Performs numbered self.new (C.log numbered.calls) (C.log self.new.calls) (step_of step.now) answer) }
-        ensures well { IfOk result (λ _. failed_calls (C.log self.new.calls) ≡ failed_calls (C.log self.old.calls)) }
-        ensures root { self.new.root ≡ self.old.root }
         ensures attempted { Attempts C.log self.old self.new (step_of step.now) result }
     {
         self.number_rooms()?;
@@ -63,16 +55,7 @@ impl<C: Calls<File = F> + Drop, F: Drop> Disk<C, F> {
 
     // Makes one step among numbered rooms.
     fn perform(&mut self, step: &Step<'_>) -> Result<Answer, Failure>
-        ensures performs { IfOk result (Performs self.old self.new (C.log self.old.calls) (C.log self.new.calls) (step_of step.now)) }
-        ensures on_file { IfSome (file_of (step_of step.now)) (λ key. ActsOnFile self.old key (C.log self.old.calls) (C.log self.new.calls) (step_of step.now) result) }
-        ensures root { self.new.root ≡ self.old.root }
-        ensures own { (key : FileKey) → is_own self.new.own key ≡ true → (is_own self.old.own key ≡ true) ⊎ BecomesOwn self.old (file_of (step_of step.now)) key (C.log self.old.calls) }
-        ensures renames { (key : FileKey) → takes_name (step_of step.now) key ≡ true → is_own self.new.own key ≡ false }
-        ensures numbered { self.new.is_numbered ≡ self.old.is_numbered }
-        ensures fails { IfErr result (Fails self.old (C.log self.old.calls) (C.log self.new.calls) (step_of step.now)) }
-        ensures rooms { OnErr result (LeavesRooms self.old self.new (C.log self.old.calls) (C.log self.new.calls) (step_of step.now)) }
-        ensures opened { (key : FileKey) → (held : Held F) → held_at self.new.open key ≡ Some held → LeavesOpen self.old (C.log self.old.calls) (C.log self.new.calls) (step_of step.now) result key held }
-        ensures keeps_own { (key : FileKey) → is_own self.old.own key ≡ true → takes_name (step_of step.now) key ≡ false → is_own self.new.own key ≡ true }
+        ensures ends { EndsAmongRooms C.log self.old self.new (step_of step.now) result }
     {
         match *step {
             Step::Rooms => self.room_names(),

@@ -1,6 +1,6 @@
 //! The steps of files.
 ghost use Rattle.std.specs.Prelude.{◌≡◌, ◌⊎◌, ◌||◌, ◌≤◌, ◌<◌, ◌∷◌, [], ℕ, length, true, false, None, Some, Ok, IfOk, IfErr, IfSome, OnOk, OnErr, Result, if◌then◌else◌, string_bytes, ⊤};
-ghost use Rattle.store_api.specs.Step.{step_of};
+ghost use Rattle.store_api.specs.Step.{step_of, create, remove, replace};
 ghost use Rattle.std.specs.Map.{remove_entry};
 ghost use Rattle.folder_calls.specs.Calls.{Makes, looked_at};
 ghost use Rattle.store_folder.specs.Failing.{FailsUncalled, FailsToCreate, FailsToRemove, FailsToReplace};
@@ -9,8 +9,8 @@ ghost use Rattle.folder_calls.specs.Keys.{same_file, with_name};
 ghost use Rattle.store_folder.specs.Paths.{IsNameable, room_path, folder_path, item_of};
 ghost use Rattle.folder_calls.specs.Opened.{held_at};
 ghost use Rattle.folder_calls.specs.Own.{is_own};
-ghost use Rattle.store_folder.specs.Leaving.{StaysOpen, OpensMade, LeavesActed};
-ghost use Rattle.store_folder.specs.Places.{FindsFile, IsNamed, ActsAt, ActsOnFile, BecomesOwn};
+ghost use Rattle.store_folder.specs.Leaving.{OpensMade, EndsAmongRooms};
+ghost use Rattle.store_folder.specs.Places.{FindsFile, IsNamed, file_of};
 ghost use Rattle.store_folder.specs.Rooms.{IsStill, HasRooms, InRoom};
 
 use crate::disk::Disk;
@@ -30,13 +30,7 @@ pub enum Found<F> {
 impl<C: Calls<File = F>, F: Drop> Disk<C, F> {
     /// Adds an empty file, and syncs its name. The file stays open.
     pub fn create(&mut self, key: &FileKey) -> Result<Answer, Failure>
-        ensures creates { IfOk result (λ answer. InRoom self.old key.now.room answer (C.log self.old.calls) (C.log self.new.calls) (λ room. CreatesFile (C.log self.old.calls) (C.log self.new.calls) room (folder_path room key.now.folder) key.now.file answer)) }
-        ensures fails { IfErr result (λ failure. FailsUncalled (C.log self.old.calls) (C.log self.new.calls) (IsNamed self.old key.now) failure ⊎ ((failure ≡ Failure.Failed) × FailsToCreate (C.log self.old.calls) (C.log self.new.calls) (room_path self.old key.now.room) (folder_path (room_path self.old key.now.room) key.now.folder) key.now.file)) }
-        ensures rooms { HasRooms self.old self.new }
-        ensures closed { OnErr result (self.new.open.files.entries ≡ remove_entry (same_file key.now) self.old.open.files.entries) }
-        ensures gone { OnErr result (held_at self.new.open key.now ≡ None) }
-        ensures opened { (other : FileKey) → (held : Held F) → held_at self.new.open other ≡ Some held → StaysOpen self.old key.now other held ⊎ ((same_file key.now other ≡ true) × OpensMade (C.log self.old.calls) (C.log self.new.calls) (room_path self.old key.now.room) (folder_path (room_path self.old key.now.room) key.now.folder) key.now.file result held) }
-        ensures own { self.new.own ≡ self.old.own }
+        ensures ends { EndsAmongRooms C.log self.old self.new (create key.now.room key.now.folder key.now.file) result }
     {
         drop(self.open.take(key));
         let Some(spot) = self.spot(key.room, &key.folder)? else {
@@ -50,15 +44,7 @@ impl<C: Calls<File = F>, F: Drop> Disk<C, F> {
 
     /// Removes a file, and syncs that its name is gone.
     pub fn remove(&mut self, key: &FileKey) -> Result<Answer, Failure>
-        ensures removes { IfOk result (λ answer. InRoom self.old key.now.room answer (C.log self.old.calls) (C.log self.new.calls) (λ room. RemovesFile (C.log self.old.calls) (C.log self.new.calls) room (folder_path room key.now.folder) key.now.file answer)) }
-        ensures fails { IfErr result (λ failure. FailsUncalled (C.log self.old.calls) (C.log self.new.calls) (IsNamed self.old key.now) failure ⊎ ((failure ≡ Failure.Failed) × FailsToRemove (C.log self.old.calls) (C.log self.new.calls) (room_path self.old key.now.room) (folder_path (room_path self.old key.now.room) key.now.folder) key.now.file)) }
-        ensures rooms { HasRooms self.old self.new }
-        ensures closed { self.new.open.files.entries ≡ remove_entry (same_file key.now) self.old.open.files.entries }
-        ensures gone { held_at self.new.open key.now ≡ None }
-        ensures own { (other : FileKey) → is_own self.new.own other ≡ true → is_own self.old.own other ≡ true }
-        ensures opened { (other : FileKey) → (held : Held F) → held_at self.new.open other ≡ Some held → StaysOpen self.old key.now other held }
-        ensures not_own { (other : FileKey) → same_file key.now other ≡ true → is_own self.new.own other ≡ false }
-        ensures others_own { (other : FileKey) → same_file key.now other ≡ false → is_own self.new.own other ≡ is_own self.old.own other }
+        ensures ends { EndsAmongRooms C.log self.old self.new (remove key.now.room key.now.folder key.now.file) result }
     {
         drop(self.open.take(key));
         self.own.remove(key);
@@ -74,15 +60,7 @@ impl<C: Calls<File = F>, F: Drop> Disk<C, F> {
     /// Gives the file `from` the name `to`, whose old file is gone, and syncs the names. A file that has the name
     /// already is left as it is.
     pub fn replace(&mut self, from: &FileKey, to: &Name) -> Result<Answer, Failure>
-        ensures replaces { IfOk result (λ answer. InRoom self.old from.now.room answer (C.log self.old.calls) (C.log self.new.calls) (λ room. ReplacesFile (C.log self.old.calls) (C.log self.new.calls) room (folder_path room from.now.folder) from.now.file to.now answer)) }
-        ensures fails { IfErr result (λ failure. FailsUncalled (C.log self.old.calls) (C.log self.new.calls) (IsNamed self.old from.now × IsNameable to.now) failure ⊎ ((failure ≡ Failure.Failed) × FailsToReplace (C.log self.old.calls) (C.log self.new.calls) (room_path self.old from.now.room) (folder_path (room_path self.old from.now.room) from.now.folder) from.now.file to.now)) }
-        ensures rooms { HasRooms self.old self.new }
-        ensures closed { self.new.open.files.entries ≡ remove_entry (same_file (with_name from.now to.now)) (remove_entry (same_file from.now) self.old.open.files.entries) }
-        ensures gone { (held_at self.new.open from.now ≡ None) × (held_at self.new.open (with_name from.now to.now) ≡ None) }
-        ensures own { (other : FileKey) → is_own self.new.own other ≡ true → is_own self.old.own other ≡ true }
-        ensures opened { (other : FileKey) → (held : Held F) → held_at self.new.open other ≡ Some held → StaysOpen self.old from.now other held × StaysOpen self.old (with_name from.now to.now) other held }
-        ensures not_own { (other : FileKey) → (same_file from.now other || same_file (with_name from.now to.now) other) ≡ true → is_own self.new.own other ≡ false }
-        ensures others_own { (other : FileKey) → (same_file from.now other || same_file (with_name from.now to.now) other) ≡ false → is_own self.new.own other ≡ is_own self.old.own other }
+        ensures ends { EndsAmongRooms C.log self.old self.new (replace from.now.room from.now.folder from.now.file to.now) result }
     {
         let target = FileKey {
             room: from.room,
@@ -141,14 +119,7 @@ impl<C: Calls<File = F>, F: Drop> Disk<C, F> {
 
     /// Makes a step on an open file. After a failure the file is closed, so that its length is asked again.
     pub fn act_at(&mut self, key: &FileKey, step: &Step<'_>) -> Result<Answer, Failure>
-        ensures acts { IfOk result (λ answer. InRoom self.old key.now.room answer (C.log self.old.calls) (C.log self.new.calls) (λ room. ActsAt (held_at self.old.open key.now) (is_own self.old.own key.now) (C.log self.old.calls) (C.log self.new.calls) (IsNamed self.old key.now) room (folder_path room key.now.folder) key.now.file (step_of step.now) (Ok answer))) }
-        ensures on_file { ActsOnFile self.old key.now (C.log self.old.calls) (C.log self.new.calls) (step_of step.now) result }
-        ensures rooms { HasRooms self.old self.new }
-        ensures closed { OnErr result (self.new.open.files.entries ≡ remove_entry (same_file key.now) self.old.open.files.entries) }
-        ensures gone { OnErr result (held_at self.new.open key.now ≡ None) }
-        ensures opened { (other : FileKey) → (held : Held F) → held_at self.new.open other ≡ Some held → LeavesActed self.old (C.log self.old.calls) (C.log self.new.calls) key.now (step_of step.now) result other held }
-        ensures own { (other : FileKey) → is_own self.new.own other ≡ true → (is_own self.old.own other ≡ true) ⊎ BecomesOwn self.old (Some key.now) other (C.log self.old.calls) }
-        ensures lasts { (other : FileKey) → is_own self.old.own other ≡ true → is_own self.new.own other ≡ true }
+        ensures ends { file_of (step_of step.now) ≡ Some key.now → EndsAmongRooms C.log self.old self.new (step_of step.now) result }
     {
         let found = match self.find(key) {
             Ok(found) => found,

@@ -2,8 +2,10 @@
 ghost use Rattle.std.specs.Prelude.{◌≡◌, ◌⊎◌, ◌==◌, ◌≤◌, ◌<◌, ◌∷◌, [], List, ℕ, length, true, false, None, Ok, Err, IsSome, IfSome, Result, IfOk, IfErr, OnOk, OnErr, string_bytes};
 ghost use Rattle.folder_calls.specs.Calls.{Makes, looked_at, listed_folder};
 ghost use Rattle.folder_calls.specs.Parts.{IsPart};
-ghost use Rattle.store_folder.specs.Failing.{FailsUncalled, IsNamedFolder, FailsToMakeFolder, FailsToRemoveTop, FailsToRemoveItem, FailsToRemoveFolder, FailsToList};
-ghost use Rattle.store_folder.specs.Folders.{IsNoFolder, IsNoEntry, IsInTheWay, EntersFolder, FindsNoFolder, FailsToEnter, MakesFolder, RemovesTop, RemovesItem, RemovesFolder, TellsFolder};
+ghost use Rattle.store_api.specs.Step.{make_folder, remove_folder, list_folder};
+ghost use Rattle.store_folder.specs.Leaving.{EndsAmongRooms};
+ghost use Rattle.store_folder.specs.Failing.{FailsUncalled, IsNamedFolder, FailsToMakeFolder, FailsToRemoveTop, FailsToRemoveItem, FailsToRemoveSpot, FailsToList};
+ghost use Rattle.store_folder.specs.Folders.{IsNoFolder, IsNoEntry, IsInTheWay, EntersFolder, FindsNoFolder, FailsToEnter, MakesFolder, RemovesTop, RemovesItem, RemovesSpot, TellsFolder};
 ghost use Rattle.store_folder.specs.Listings.{IsSortedListing, IsLeast};
 ghost use Rattle.store_folder.specs.Paths.{IsNameable, IsNameableFolder, item_of, room_path, folder_path};
 ghost use Rattle.store_folder.specs.StepPlaces.{room_name};
@@ -69,9 +71,7 @@ impl<C, F> Disk<C, F> {
 impl<C: Calls<File = F>, F: Drop> Disk<C, F> {
     /// Adds a folder, and syncs its name. The top is always there.
     pub fn make_folder(&mut self, room: u64, folder: &Name) -> Result<Answer, Failure>
-        ensures makes { IfOk result (λ answer. InRoom self.old room answer (C.log self.old.calls) (C.log self.new.calls) (λ path. MakesFolder (C.log self.old.calls) (C.log self.new.calls) path (folder_path path folder.now) answer)) }
-        ensures still { IsStill self.old self.new }
-        ensures fails { IfErr result (λ failure. FailsUncalled (C.log self.old.calls) (C.log self.new.calls) (IsNamedFolder self.old room folder.now) failure ⊎ ((failure ≡ Failure.Failed) × FailsToMakeFolder (C.log self.old.calls) (C.log self.new.calls) (room_path self.old room) (folder_path (room_path self.old room) folder.now))) }
+        ensures ends { EndsAmongRooms C.log self.old self.new (make_folder room folder.now) result }
     {
         let Some(spot) = self.spot(room, folder)? else {
             return Ok(Answer::NoRoom);
@@ -83,26 +83,19 @@ impl<C: Calls<File = F>, F: Drop> Disk<C, F> {
 
     /// Removes an empty folder, and syncs that its name is gone. The top stays where it is.
     pub fn remove_folder(&mut self, room: u64, folder: &Name) -> Result<Answer, Failure>
-        ensures removes { IfOk result (λ answer. InRoom self.old room answer (C.log self.old.calls) (C.log self.new.calls) (λ path. RemovesFolder (C.log self.old.calls) (C.log self.new.calls) path folder.now answer)) }
-        ensures still { IsStill self.old self.new }
-        ensures fails { IfErr result (λ failure. FailsUncalled (C.log self.old.calls) (C.log self.new.calls) (IsNamedFolder self.old room folder.now) failure ⊎ FailsToRemoveFolder (C.log self.old.calls) (C.log self.new.calls) (room_path self.old room) folder.now failure) }
+        ensures ends { EndsAmongRooms C.log self.old self.new (remove_folder room folder.now) result }
     {
         let Some(spot) = self.spot(room, folder)? else {
             return Ok(Answer::NoRoom);
         };
-        let answer = if spot.is_top {
-            remove_top(&mut self.calls, self.alloc, &spot)
-        } else {
-            remove_item(&mut self.calls, self.alloc, &spot)
-        };
+        let answer = remove_spot(&mut self.calls, self.alloc, &spot);
+        drop(spot);
         answer
     }
 
     /// Names what is in a folder, in byte order.
     pub fn list(&mut self, room: u64, folder: &Name) -> Result<Answer, Failure>
-        ensures lists { IfOk result (λ answer. InRoom self.old room answer (C.log self.old.calls) (C.log self.new.calls) (λ path. TellsFolder (C.log self.old.calls) (C.log self.new.calls) path (folder_path path folder.now) answer)) }
-        ensures still { IsStill self.old self.new }
-        ensures fails { IfErr result (λ failure. FailsUncalled (C.log self.old.calls) (C.log self.new.calls) (IsNamedFolder self.old room folder.now) failure ⊎ FailsToList (C.log self.old.calls) (C.log self.new.calls) (room_path self.old room) (folder_path (room_path self.old room) folder.now) failure) }
+        ensures ends { EndsAmongRooms C.log self.old self.new (list_folder room folder.now) result }
     {
         let Some(spot) = self.spot(room, folder)? else {
             return Ok(Answer::NoRoom);
@@ -166,6 +159,22 @@ fn add_folder<C: Calls<File = F>, F: Drop>(calls: &mut C, spot: &Spot) -> Result
         Ok(Answer::Old { room: 0 })
     } else {
         Err(Failure::Failed)
+    }
+}
+
+// Removes this folder, unless it is the top.
+fn remove_spot<C: Calls<File = F>, F: Drop>(
+    calls: &mut C,
+    alloc: Global,
+    spot: &Spot,
+) -> Result<Answer, Failure>
+    ensures removes { IfOk result (RemovesSpot (C.log calls.old) (C.log calls.new) spot.now.is_top (string_bytes spot.now.room) (string_bytes spot.now.folder)) }
+    ensures fails { IfErr result (FailsToRemoveSpot (C.log calls.old) (C.log calls.new) spot.now.is_top (string_bytes spot.now.room) (string_bytes spot.now.folder)) }
+{
+    if spot.is_top {
+        remove_top(calls, alloc, spot)
+    } else {
+        remove_item(calls, alloc, spot)
     }
 }
 

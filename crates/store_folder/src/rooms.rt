@@ -1,7 +1,8 @@
 //! The rooms: which items of ROOT they are, and the steps that name, find and rename them.
 ghost use Rattle.std.specs.Prelude.{◌≡◌, ◌≤◌, ◌<◌, ◌∷◌, [], ◌++◌, ◌⊎◌, length, position, true, false, None, Ok, Err, IsSome, IfSome, IfOk, IfErr, OnErr, OnOk, slice_set, string_bytes};
 ghost use Rattle.store_folder.specs.FailedListing.{FailsToLookForRoom, FailsToFindRooms, FailsToListRooms};
-ghost use Rattle.store_folder.specs.Failing.{FailsToRenameRoom};
+ghost use Rattle.store_api.specs.Step.{rename_room};
+ghost use Rattle.store_folder.specs.Leaving.{EndsAmongRooms};
 ghost use Rattle.store_folder.specs.Paths.{IsNameable, item_of, room_path};
 ghost use Rattle.store_folder.specs.StepPlaces.{room_name};
 ghost use Rattle.store_folder.specs.Rooms.{if_room, LooksForRoom, FindsRooms, ListsRooms, IsStill, InRoom, MovesRoom, RenamesRoom};
@@ -136,13 +137,7 @@ impl<C: Calls<File = F>, F: Drop> Disk<C, F> {
 
     /// Gives a room a name that no room has. Its open files stay open.
     pub fn rename_room(&mut self, room: u64, to: &Name) -> Result<Answer, Failure>
-        ensures renames { IfOk result (λ answer. InRoom self.old room answer (C.log self.old.calls) (C.log self.new.calls) (RenamesRoom self.old self.new to.now (C.log self.old.calls) (C.log self.new.calls) room answer)) }
-        ensures fails { IfErr result (FailsToRenameRoom (C.log self.old.calls) (C.log self.new.calls) self.old room to.now) }
-        ensures failed { OnErr result ((self.new.rooms.items ≡ self.old.rooms.items) ⊎ ((self.new.rooms.items ≡ slice_set self.old.rooms.items room to.now) × MovesRoom (string_bytes self.old.root) (room_path self.old room) to.now (Err Failure.Failed) (C.log self.old.calls) (C.log self.new.calls))) }
-        ensures root { self.new.root ≡ self.old.root }
-        ensures numbered { self.new.is_numbered ≡ self.old.is_numbered }
-        ensures open { self.new.open ≡ self.old.open }
-        ensures own { self.new.own ≡ self.old.own }
+        ensures ends { EndsAmongRooms C.log self.old self.new (rename_room room to.now) result }
     {
         let Some(old) = self.room_path(room)? else {
             return Ok(Answer::NoRoom);

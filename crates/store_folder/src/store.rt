@@ -200,9 +200,6 @@ fn attempt<C: Calls<File = F> + Drop, F: Drop>(
     doubts: &mut Doubts,
     step: &Step<'_>,
 ) -> Result<Answer, Failure>
-    ensures performs { IfOk result (λ answer. (numbered : Disk C F) × Numbers disk.old numbered (C.log disk.old.calls) (C.log numbered.calls) × Performs numbered disk.new (C.log numbered.calls) (C.log disk.new.calls) (step_of step.now) answer) }
-    ensures well { IfOk result (λ _. failed_calls (C.log disk.new.calls) ≡ failed_calls (C.log disk.old.calls)) }
-    ensures root { disk.new.root ≡ disk.old.root }
     ensures refused { is_refused doubts.old (step_of step.now) ≡ true → result ≡ Err Failure.Failed }
     ensures still { IfSome (refusal doubts.old (step_of step.now)) (λ doubt. IsStill disk.old disk.new × (C.log disk.new.calls ≡ C.log disk.old.calls) × (C.told disk.new.calls ≡ noted (C.told disk.old.calls) (Reason.Unsynced doubt))) }
     ensures doubted { is_refused doubts.old (step_of step.now) ≡ false → HasRisen (C.unsynced disk.old.calls) (C.unsynced disk.new.calls) → IsDoubtedFor doubts.new (step_of step.now) (doubt_by (C.told disk.new.calls)) }

@@ -1,6 +1,6 @@
 -- A container of which each item is right is as in a sound tree.
 use Rattle.std.proofs.Common.{◌≡◌, ℕ, inl, true, false, List, [], length, Option, Some, None, Result, Ok, Err, refl, ap, sym, ◌∙◌, subst, arith}
-use Rattle.std.specs.Prelude.{slice_get, IfErr, OnOk}
+use Rattle.std.specs.Prelude.{slice_get, IfErr, IfOk}
 use Rattle.std.specs.BTreeMap.{BTreeMap, get}
 use Rattle.std.specs.Ordering.{nat_cmp}
 use Rattle.std.proofs.lemmas.Bool.{false≢true}
@@ -24,6 +24,7 @@ use Rattle.mount_sound.specs.Sound.{TruncatesDiffer}
 use Rattle.mount_sound.specs.There.{landed_in}
 use Rattle.tree_laws.specs.Checked.{IsCheckedDropping, IsCheckedWriter, IsCheckedRoom}
 use Rattle.shape_check.specs.declared.files.Place.{Place}
+use Rattle.shape_check.specs.declared.finding.Complaint.{Complaint}
 use Rattle.shape_check.specs.declared.finding.Finding.{Finding}
 use Rattle.shape_check.specs.Files.{IsPlaced, OfPlace}
 use Rattle.shape_check.specs.Rightness.{Fails}
@@ -31,10 +32,11 @@ use Rattle.shape_check.specs.Seeing.{IsSeen, IsLookedAt}
 use Rattle.shape_check.specs.Shape.{EachAt, HasShape}
 use Rattle.shape_check.proofs.Facts.{kept_whole, seen_on}
 use Rattle.tree_check.specs.declared.owners.Owner.{Owner}
+use Rattle.tree_check.specs.Complaining.{TellsOfContainer, TellsOfItems}
 use Rattle.tree_check.specs.Known.{IsRightItem, IsRightAt, IsLeftWriter, IsOpenWriter, IsKnownAll, OfKnownAll}
 use Rattle.tree_check.specs.Owners.{AreOwnersAt, AreOwnersOf}
-use Rattle.tree_check.specs.Rooms.{IsCheckedContainer}
 use Rattle.tree_check.specs.Truncates.{AreTruncsAt}
+use Rattle.tree_check.proofs.EachLemmas.{each_none}
 use Rattle.tree_check.proofs.Failing.{all_fail_for}
 use Rattle.tree_check.proofs.IndexLemmas.{index_widths}
 use Rattle.tree_check.proofs.OwnerLemmas.{one_host, owners_in_room}
@@ -126,16 +128,22 @@ module _ (place : Place) (paths : List Path) (owners : BTreeMap ℕ Owner) (trun
     owners_are = owners_in_room at.room tree paths s owners owners_are;
   })
 
-  pub container_checked : (result : Result Unit Finding) → OnOk result (OfKnownAll (EachAt IsRightAt paths) place owners truncs paths mid) → OnOk result (OfPlace IsCheckedContainer place old)
+  pub container_told : (result : Result (List Complaint) Finding) → IfOk result (λ found. OfKnownAll (TellsOfItems paths found) place owners truncs paths mid) → IfOk result (λ found. OfPlace (TellsOfContainer found) place old)
   unfolding known_all
-  container_checked (Err finding) right = tt
-  container_checked (Ok done) right = λ tree seen at. (
+  container_told (Err finding) told = tt
+  container_told (Ok found) told = λ tree seen at. (
       let s : HasShape paths tree at.room = shape tree seen at in
+      let each : TellsOfItems paths found tree at.room = told tree (seen_on old mid tree looked seen) (known_all tree seen at) in
       record {
-        shape = s.container;
-        checked = checked_room old tree seen place.number at.room at.there paths s owners (owners_in_room at.room tree paths s owners owners_are)
-            (right tree (seen_on old mid tree looked seen) (known_all tree seen at)) (truncs_differ at.room tree paths truncs s truncs_are);
+        paths = paths;
+        shape = s;
+        each = each;
+        none = λ none. record {
+          shape = s.container;
+          checked = checked_room old tree seen place.number at.room at.there paths s owners (owners_in_room at.room tree paths s owners owners_are)
+              (each_none tree (λ (p : Path). IsRightAt p tree at.room) paths (subst (λ (l : List Complaint). TellsOfItems paths l tree at.room) none each)) (truncs_differ at.room tree paths truncs s truncs_are);
+        };
       })
 
-  pub container_fails : (new : Stored) (result : Result Unit Finding) → IfErr result (Fails (IsKnownAll place owners truncs paths) mid new) → IfErr result (Fails (IsPlaced place) old new)
+  pub container_fails : {A : Type 0} (new : Stored) (result : Result A Finding) → IfErr result (Fails (IsKnownAll place owners truncs paths) mid new) → IfErr result (Fails (IsPlaced place) old new)
   container_fails new result f = all_fail_for (IsPlaced place) (IsKnownAll place owners truncs paths) old mid new result known_all looked f

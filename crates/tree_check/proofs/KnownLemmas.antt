@@ -1,5 +1,5 @@
 -- What is shown of the items of a container.
-use Rattle.std.proofs.Common.{◌≡◌, ℕ, suc, ◌+◌, ◌≤◌, inl, inr, true, false, List, length, take, Option, Some, None, Result, Ok, Err, refl, ap, sym, ◌∙◌, subst, arith}
+use Rattle.std.proofs.Common.{◌≡◌, ℕ, suc, ◌+◌, ◌≤◌, ◌⊎◌, inl, inr, true, false, List, [], length, take, Option, Some, None, Result, Ok, Err, refl, ap, sym, ◌∙◌, subst, arith}
 use Rattle.std.specs.Prelude.{slice_get, IfErr, OnOk}
 use Rattle.std.specs.BTreeMap.{BTreeMap, get}
 use Rattle.std.specs.Ordering.{nat_cmp}
@@ -17,18 +17,22 @@ use Rattle.store_api.specs.Acts.{Stored}
 use Rattle.store_laws.specs.Files.{file_at}
 use Rattle.mount_sound.specs.Items.{HasItem, HasMeta, HasItemOf}
 use Rattle.shape_check.specs.declared.files.Place.{Place}
+use Rattle.shape_check.specs.declared.finding.Complaint.{Complaint}
 use Rattle.shape_check.specs.declared.finding.Finding.{Finding}
+use Rattle.shape_check.specs.declared.finding.Finding.TheVariants.{Broken, Fault, NoMemory, Untold}
 use Rattle.shape_check.specs.Files.{IsPlaced, OfPlace}
 use Rattle.shape_check.specs.Rightness.{Fails}
 use Rattle.shape_check.specs.Seeing.{IsLookedAt}
-use Rattle.shape_check.specs.Shape.{IsOneOf, EachAt}
-use Rattle.shape_check.proofs.Facts.{one_more, risen_on, seen_on}
+use Rattle.shape_check.specs.Shape.{IsOneOf}
+use Rattle.shape_check.proofs.Facts.{no_memory, risen_on, seen_on}
 use Rattle.tree_check.specs.declared.droppings.Dropping.{Dropping}
 use Rattle.tree_check.specs.declared.owners.Owner.{Owner}
+use Rattle.tree_check.specs.Complaining.{HasNoted, TellsOfItems}
 use Rattle.tree_check.specs.Droppings.{IsDroppingOf, landed_of, AreBesideAll, IsBetween}
 use Rattle.tree_check.specs.Indices.{IsOwnedAt, OfOwnedAt}
 use Rattle.tree_check.specs.Known.{IsRightItem, IsRightAt, IsAtWork, OfWork, IsKnownAt, OfKnownAt, IsKnownAll, OfKnownAll, IsOpenAt, IsOpenEntry}
 use Rattle.tree_check.specs.Owners.{AreOwnersOf, left_before}
+use Rattle.tree_check.proofs.EachLemmas.{each_fine, each_wrong}
 use Rattle.tree_check.proofs.OwnerLemmas.{path_there}
 use Rattle.tree_check.proofs.WriterLemmas.{between_fails, fine_of, landed_number}
 
@@ -126,23 +130,36 @@ module _ (place : Place) (owners : BTreeMap ℕ Owner) (truncs : List Trunc) (pa
   at_path path tree known one = (let file = known.files path one in
       record { at = record { placed = known.placed; bytes = file.0; there = file.1; truncs_are = known.truncs_are }; owners_are = known.owners_are })
 
-  pub items_none : (old : Stored) → OfKnownAll (EachAt IsRightAt (take 0 paths)) place owners truncs paths old
-  items_none old = λ tree seen known path one. absurd one
+  pub items_none : (old : Stored) → OfKnownAll (TellsOfItems (take 0 paths) []) place owners truncs paths old
+  items_none old = λ tree seen known. tt
 
-  pub items_more : (i : ℕ) (path : Path) (old mid : Stored) → slice_get paths i ≡ Some path → IsLookedAt old mid → OfKnownAll (EachAt IsRightAt (take i paths)) place owners truncs paths old
-      → OfKnownAt (IsRightAt path) place owners truncs path mid → OfKnownAll (EachAt IsRightAt (take (i + 1) paths)) place owners truncs paths old
+  so_far : (i : ℕ) (found : List Complaint) (tree : Tree) (room : Room) → TellsOfItems (take (suc i) paths) found tree room → TellsOfItems (take (i + 1) paths) found tree room
+  so_far i found tree room told = (let next : suc i ≡ i + 1 = omega arith in subst (λ (n : ℕ). TellsOfItems (take n paths) found tree room) next told)
+
+  pub items_more : (i : ℕ) (path : Path) (old mid new : Stored) (told : Result Unit Finding) (found more : List Complaint) → slice_get paths i ≡ Some path → IsLookedAt old mid
+      → OfKnownAll (TellsOfItems (take i paths) found) place owners truncs paths old → OnOk told (OfKnownAt (IsRightAt path) place owners truncs path mid) → IfErr told (Fails (IsKnownAt place owners truncs path) mid new)
+      → HasNoted told found more → OfKnownAll (TellsOfItems (take (i + 1) paths) more) place owners truncs paths old
   unfolding at_path
-  items_more i path old mid at looked before this = λ tree seen known other one. (
-      let next : i + 1 ≡ suc i = omega arith in
-      elim (one_more paths i path other at (subst (λ (n : ℕ). IsOneOf (take n paths) other) next one)) [
-        | inl earlier ↦ before tree seen known other earlier
-        | inr same ↦ subst (λ (p : Path). IsRightAt p tree known.placed.room) same (this tree (seen_on old mid tree looked seen) (at_path path tree known (path_there paths i path at)))
-      ])
+  items_more i path old mid new (Ok done) found more at looked before fine wrong noted = λ tree seen known. so_far i more tree known.placed.room
+      (subst (λ (l : List Complaint). TellsOfItems (take (suc i) paths) l tree known.placed.room) (sym noted)
+      (each_fine tree (λ (p : Path). IsRightAt p tree known.placed.room) paths i path found at (fine tree (seen_on old mid tree looked seen) (at_path path tree known (path_there paths i path at))) (before tree seen known)))
+  items_more i path old mid new (Err (Broken complaint)) found more at looked before fine wrong noted = λ tree seen known. so_far i more tree known.placed.room
+      (subst (λ (l : List Complaint). TellsOfItems (take (suc i) paths) l tree known.placed.room) (sym noted)
+      (each_wrong tree (λ (p : Path). IsRightAt p tree known.placed.room) paths i path found complaint at (wrong.right tree (seen_on old mid tree looked seen) (at_path path tree known (path_there paths i path at))) (before tree seen known)))
+  items_more i path old mid new (Err Fault) found more at looked before fine wrong noted = absurd noted
+  items_more i path old mid new (Err NoMemory) found more at looked before fine wrong noted = absurd noted
+  items_more i path old mid new (Err Untold) found more at looked before fine wrong noted = absurd noted
 
-  pub items_all : (i : ℕ) (old : Stored) → length paths ≤ i → OfKnownAll (EachAt IsRightAt (take i paths)) place owners truncs paths old → OfKnownAll (EachAt IsRightAt paths) place owners truncs paths old
-  items_all i old past right = subst (λ (l : List Path). OfKnownAll (EachAt IsRightAt l) place owners truncs paths old) (take_all i paths past) right
+  pub items_all : (i : ℕ) (found : List Complaint) (old : Stored) → length paths ≤ i → OfKnownAll (TellsOfItems (take i paths) found) place owners truncs paths old → OfKnownAll (TellsOfItems paths found) place owners truncs paths old
+  items_all i found old past told = subst (λ (l : List Path). OfKnownAll (TellsOfItems l found) place owners truncs paths old) (take_all i paths past) told
 
-  pub item_fails_all : (i : ℕ) (path : Path) (old mid new : Stored) (result : Result Unit Finding) → slice_get paths i ≡ Some path → IsLookedAt old mid → IfErr result (Fails (IsKnownAt place owners truncs path) mid new)
+  pub noted_fails : (path : Path) (mid new : Stored) (told result : Result Unit Finding) → IfErr told (Fails (IsKnownAt place owners truncs path) mid new) → IfErr result (λ finding. (finding ≡ NoMemory) ⊎ (told ≡ Err finding))
+      → IfErr result (Fails (IsKnownAt place owners truncs path) mid new)
+  noted_fails path mid new told (Ok done) wrong why = tt
+  noted_fails path mid new told (Err finding) wrong (inl none) = no_memory (IsKnownAt place owners truncs path) mid new finding none
+  noted_fails path mid new told (Err finding) wrong (inr same) = subst (λ (r : Result Unit Finding). IfErr r (Fails (IsKnownAt place owners truncs path) mid new)) same wrong
+
+  pub item_fails_all : {A : Type 0} (i : ℕ) (path : Path) (old mid new : Stored) (result : Result A Finding) → slice_get paths i ≡ Some path → IsLookedAt old mid → IfErr result (Fails (IsKnownAt place owners truncs path) mid new)
       → IfErr result (Fails (IsKnownAll place owners truncs paths) old new)
   item_fails_all i path old mid new (Ok done) at looked f = tt
   item_fails_all i path old mid new (Err finding) at looked f = record {

@@ -1,3 +1,4 @@
+pub mod Facts
 mod WholeLemmas
 mod EntryLemmas
 mod Failing
@@ -8,6 +9,9 @@ mod WriterLemmas
 mod KnownLemmas
 mod IndexLemmas
 mod FlatLemmas
+mod EachLemmas
+mod HaltLemmas
+mod OfShape
 mod ContainerLemmas
 mod RoomLemmas
 mod TreeLemmas

@@ -1,7 +1,8 @@
 -- A tree of which all bytes are kept is shown by listings where the tree that the store tells is.
-use Rattle.std.proofs.Common.{◌≡◌, ℕ, Bool, ◌||◌, List, [], ◌∷◌, map, Some, Result, Ok, Err, refl, ap, sym, ◌∙◌, subst}
+use Rattle.std.proofs.Common.{◌≡◌, ℕ, Bool, ◌||◌, List, [], ◌∷◌, map, Some, None, Result, Ok, Err, refl, ap, sym, ◌∙◌, subst}
 use Rattle.std.specs.Prelude.{slice_get, IfErr, OnOk}
 use Rattle.plfs_types.specs.Counts.{HasRisen}
+use Rattle.plfs_types.specs.declared.names.Path.{Path}
 use Rattle.store_api.specs.declared.tree.File.{File}
 use Rattle.store_api.specs.declared.tree.Room.{Room}
 use Rattle.store_api.specs.declared.tree.Tree.{Tree}
@@ -53,21 +54,25 @@ module _ (tree : Tree) where
       let q = before_of n b there_b in
       d m n p.0 q.0 p.1 q.1 (ap (λ (r : Room). r.name) (sym p.2) ∙ same ∙ ap (λ (r : Room). r.name) q.2)
 
-  listable_kept : IsListable tree → IsListable (all_kept tree)
+  pub listable_kept : IsListable tree → IsListable (all_kept tree)
   listable_kept l = record {
     orderly = record {
       rooms_differ = rooms_differ l.orderly.rooms_differ;
       rooms = λ n room there. (let p = before_of n room there in subst IsOrderlyRoom (sym p.2) (room_orderly p.0 (l.orderly.rooms n p.0 p.1)));
     };
     tops_unlisted = λ n room there. (let p = before_of n room there in ap (λ (r : Room). is_listed [] r.folders) p.2 ∙ l.tops_unlisted n p.0 p.1);
+    apart = λ n room name there listed. (
+        let p = before_of n room there in
+        let top : Path = record { folder = []; file = name } in
+        subst (λ (r : Room). file_at r top ≡ None) (sym p.2) (file_kept_so p.0 top ∙ l.apart n p.0 name p.1 (ap (λ (r : Room). is_listed name r.folders) (sym p.2) ∙ listed)));
   }
 
-  bytes_kept : HoldsBytes tree → HoldsBytes (all_kept tree)
+  pub bytes_kept : HoldsBytes tree → HoldsBytes (all_kept tree)
   bytes_kept holds n room there host writer bytes at =
       let p = before_of n room there in
       holds n p.0 p.1 host writer bytes (sym (file_kept_so p.0 (index_path host writer)) ∙ ap (λ (r : Room). file_at r (index_path host writer)) (sym p.2) ∙ at)
 
-  seen_kept : (stored : Stored) → stored.tree ≡ Some tree → IsSeen stored (all_kept tree)
+  pub seen_kept : (stored : Stored) → stored.tree ≡ Some tree → IsSeen stored (all_kept tree)
   seen_kept stored told = record { told = tree; tells = told; kept = refl }
 
 pub found_sound : (old : Stored) (result : Result Unit Finding) → ((tree : Tree) → HoldsBytes tree → IsCheckedTree tree → IsSoundTree tree) → OnOk result (OfTree old)

@@ -6,3 +6,5 @@ pub mod Truncates
 pub mod Known
 pub mod Indices
 pub mod Rooms
+pub mod Complaining
+pub mod Halting

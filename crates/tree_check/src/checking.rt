@@ -1,17 +1,23 @@
 //! The check of a tree.
-ghost use Rattle.std.specs.Prelude.{◌≡◌, Some, IfErr, OnOk};
+ghost use Rattle.std.specs.Prelude.{◌≡◌, [], Some, IfErr, IfOk, OnOk};
 ghost use Rattle.plfs_types.specs.Counts.{HasRisen};
 ghost use Rattle.store_api.specs.declared.tree.Tree.{Tree};
 ghost use Rattle.store_api.specs.AllKept.{all_kept};
+ghost use Rattle.mount_shape.specs.Marks.{IsMarksRoom};
 ghost use Rattle.mount_sound.specs.Sound.{IsSoundTree};
 ghost use Rattle.tree_laws.specs.Checked.{HoldsBytes};
 ghost use Rattle.tree_laws.specs.Listable.{IsListable};
 ghost use Rattle.shape_check.specs.declared.finding.Finding.TheVariants.{Fault};
 ghost use Rattle.shape_check.specs.Files.{IsPlaced, OfPlace};
-ghost use Rattle.shape_check.specs.Rightness.{Fails, IsRight};
-ghost use Rattle.shape_check.specs.Seeing.{IsLookedAt};
-ghost use Rattle.tree_check.specs.Rooms.{IsCheckedContainer, IsNamed, OfNamed, HasRooms, AreRight, OfTree};
+ghost use Rattle.shape_check.specs.Places.{IsMarksPlace, OfMarks};
+ghost use Rattle.shape_check.specs.Rightness.{Fails, IsOfShape, IsRight};
+ghost use Rattle.shape_check.specs.Seeing.{IsSeen, IsLookedAt};
+ghost use Rattle.tree_check.specs.Complaining.{InNamed, IsToldOf, TellsOfContainer, TellsOfRoom};
+ghost use Rattle.tree_check.specs.Halting.{Halts};
+ghost use Rattle.tree_check.specs.Rooms.{IsNamed, OfNamed, HasRooms, AreRight, OfTree};
 
+use crate::gathered::{ComplaintList, first_of, one_of};
+use crate::halting::Halt;
 use crate::owners::owners_of;
 use crate::truncates::truncs_of;
 use crate::writers::check_items;
@@ -59,13 +65,13 @@ fn check_rooms<S: Store>(
     ensures err { IfErr result (Fails (HasRooms marks names.now) (S.stored store.old) (S.stored store.new)) }
 {
     for name in names {
-        check_room(alloc, store, marks, *name)?;
+        check_first(alloc, store, marks, *name)?;
     }
     Ok(())
 }
 
 /// Whether the room of this name is as in a sound tree.
-fn check_room<S: Store>(
+fn check_first<S: Store>(
     alloc: Global,
     store: &mut S,
     marks: Option<u64>,
@@ -75,11 +81,50 @@ fn check_room<S: Store>(
     ensures ok { OnOk result (OfNamed marks name (S.stored store.old)) }
     ensures err { IfErr result (Fails (IsNamed marks name) (S.stored store.old) (S.stored store.new)) }
 {
+    let found = check_named(alloc, store, marks, name)?;
+    first_of(found.as_slice())
+}
+
+/// What is complained of the room of this name.
+///
+/// A room with another shape than those of a sound tree, or where a writer has two hosts or two truncates have one stamp, has one
+/// complaint. Another container has one for each item that isn't as in a sound tree, in the order of their paths.
+pub fn check_room<S: Store>(
+    alloc: Global,
+    store: &mut S,
+    marks: Option<u64>,
+    name: Name,
+) -> Result<ComplaintList, Halt>
+    // Nothing changes.
+    ensures looked { IsLookedAt (S.stored store.old) (S.stored store.new) }
+    // What is complained of the room is right, and it is all that is wrong with its items.
+    ensures ok { IfOk result (λ found. (tree : Tree) → IsSeen (S.stored store.old) tree → IsNamed marks name tree → IsToldOf found name tree) }
+    // A fault comes only where the count rose.
+    ensures err { IfErr result (Halts (IsNamed marks name) (S.stored store.old) (S.stored store.new)) }
+{
+    match check_named(alloc, store, marks, name) {
+        Ok(found) => Ok(found),
+        Err(finding) => one_of(alloc, finding),
+    }
+}
+
+/// What is complained of the room of this name, unless one thing ends the check of it.
+fn check_named<S: Store>(
+    alloc: Global,
+    store: &mut S,
+    marks: Option<u64>,
+    name: Name,
+) -> Result<ComplaintList, Finding>
+    ensures looked { IsLookedAt (S.stored store.old) (S.stored store.new) }
+    ensures ok { IfOk result (λ found. InNamed (TellsOfRoom found) marks name (S.stored store.old)) }
+    ensures err { IfErr result (Fails (IsNamed marks name) (S.stored store.old) (S.stored store.new)) }
+    ensures shape { IfErr result IsOfShape }
+{
     let Some(number) = find_room(store, name)? else {
         return Err(Finding::Untold);
     };
     if name == marks_name() {
-        check_marks(store, number)
+        check_marks_room(alloc, store, number)
     } else {
         check_container(
             alloc,
@@ -93,11 +138,31 @@ fn check_room<S: Store>(
     }
 }
 
-/// Whether the container is as in a sound tree.
-fn check_container<S: Store>(alloc: Global, store: &mut S, place: &Place) -> Result<(), Finding>
+/// What is complained of the room of marks: nothing, once its shape is as in a sound tree.
+fn check_marks_room<S: Store>(
+    alloc: Global,
+    store: &mut S,
+    number: u64,
+) -> Result<ComplaintList, Finding>
     ensures looked { IsLookedAt (S.stored store.old) (S.stored store.new) }
-    ensures ok { OnOk result (OfPlace IsCheckedContainer place.now (S.stored store.old)) }
+    ensures ok { IfOk result (λ found. (found ≡ []) × OfMarks IsMarksRoom number (S.stored store.old)) }
+    ensures err { IfErr result (Fails (IsMarksPlace number) (S.stored store.old) (S.stored store.new)) }
+    ensures shape { IfErr result IsOfShape }
+{
+    check_marks(store, number)?;
+    Ok(ComplaintList::new(alloc))
+}
+
+/// What is complained of the items of the container, once its shape is as in a sound tree.
+fn check_container<S: Store>(
+    alloc: Global,
+    store: &mut S,
+    place: &Place,
+) -> Result<ComplaintList, Finding>
+    ensures looked { IsLookedAt (S.stored store.old) (S.stored store.new) }
+    ensures ok { IfOk result (λ found. OfPlace (TellsOfContainer found) place.now (S.stored store.old)) }
     ensures err { IfErr result (Fails (IsPlaced place.now) (S.stored store.old) (S.stored store.new)) }
+    ensures shape { IfErr result IsOfShape }
 {
     let paths = check_shape(alloc, store, place)?;
     let owners = owners_of(alloc, place.name, paths.as_slice())?;

@@ -1,18 +1,19 @@
 //! The items of a container, each with what has to hold of it.
-ghost use Rattle.std.specs.Prelude.{◌≡◌, IfErr, OnOk};
+ghost use Rattle.std.specs.Prelude.{◌≡◌, IfErr, IfOk, OnOk};
 ghost use Rattle.std.specs.BTreeMap.{get};
 ghost use Rattle.std.specs.Ordering.{nat_cmp};
 ghost use Rattle.container_layout.specs.declared.items.Item.TheVariants.{Index, Meta};
 ghost use Rattle.container_layout.specs.Paths.{IsAt};
 ghost use Rattle.mount_model.specs.Paths.{open_path as open_path_of};
 ghost use Rattle.shape_check.specs.Files.{OfPlace};
-ghost use Rattle.shape_check.specs.Rightness.{Fails};
+ghost use Rattle.shape_check.specs.Rightness.{Fails, IsNoComplaint};
 ghost use Rattle.shape_check.specs.Seeing.{IsLookedAt};
-ghost use Rattle.shape_check.specs.Shape.{EachAt};
+ghost use Rattle.tree_check.specs.Complaining.{TellsOfItems};
 ghost use Rattle.tree_check.specs.Known.{IsAtWork, OfWork, IsKnownAt, OfKnownAt, IsKnownAll, OfKnownAll, IsOpenAt, IsOpenEntry, IsRightItem, IsRightAt};
 ghost use Rattle.tree_check.specs.Owners.{left_before};
 
 use crate::droppings::{Dropping, Left, check_beside, index_of, judge_left, read_dropping};
+use crate::gathered::{ComplaintList, note};
 use crate::indices::{check_flat, check_pack};
 use crate::owners::{Owners, owner_of};
 use crate::whole::has_file;
@@ -22,7 +23,7 @@ use shape_check::{Complaint, Finding, Place};
 use std::alloc::Global;
 use store_api::Store;
 
-/// Whether each file at these paths is as in a sound tree.
+/// What is complained of the files at these paths: one complaint of each that isn't as in a sound tree.
 pub(crate) fn check_items<S: Store>(
     alloc: Global,
     store: &mut S,
@@ -30,15 +31,18 @@ pub(crate) fn check_items<S: Store>(
     owners: &Owners,
     truncs: &[Trunc],
     paths: &[Path],
-) -> Result<(), Finding>
+) -> Result<ComplaintList, Finding>
     ensures looked { IsLookedAt (S.stored store.old) (S.stored store.new) }
-    ensures ok { OnOk result (OfKnownAll (EachAt IsRightAt paths.now) place.now owners.now truncs.now paths.now (S.stored store.old)) }
+    ensures ok { IfOk result (λ found. OfKnownAll (TellsOfItems paths.now found) place.now owners.now truncs.now paths.now (S.stored store.old)) }
     ensures err { IfErr result (Fails (IsKnownAll place.now owners.now truncs.now paths.now) (S.stored store.old) (S.stored store.new)) }
+    ensures unbroken { IfErr result IsNoComplaint }
 {
+    let mut found = ComplaintList::new(alloc);
     for path in paths {
-        check_item(alloc, store, place, owners, truncs, path)?;
+        let told = check_item(alloc, store, place, owners, truncs, path);
+        note(told, &mut found)?;
     }
-    Ok(())
+    Ok(found)
 }
 
 fn check_item<S: Store>(

@@ -12,7 +12,9 @@ use Rattle.store_api.specs.declared.tree.Room.{Room}
 use Rattle.store_api.specs.declared.tree.Tree.{Tree}
 use Rattle.store_api.specs.Step.{Step, create}
 use Rattle.store_laws.specs.Files.{file_at}
+use Rattle.store_laws.specs.Tells.{Tells}
 use Rattle.mount_model.specs.Paths.{Name, trunc_path, truncs as truncs_folder}
+use Rattle.mount_shape.specs.Marks.{IsOfMark}
 use Rattle.gathering.specs.Moments.{HadTrunc, IsSoundAt, Moment}
 use Rattle.drain_copy.specs.declared.outcome.Drained.{Drained}
 use Rattle.drain_copy.specs.declared.plan.Due.{Due}
@@ -21,7 +23,9 @@ use Rattle.drain_copy.specs.Copying.{copies, is_trunc, puts_truncs, trunc_file}
 use Rattle.drain_copy.specs.Telling.{made_or_old, on_good, told_well}
 use Rattle.drain_sound.specs.Steps.{IsNamedRoom}
 use Rattle.drain_sound.specs.Steps as step
+use Rattle.drain_sound.proofs.Facts.{container_of}
 use Rattle.drain_laws.proofs.Planning.Aims.{AreApart, IsGood, IsPlanned, Safely}
+use Rattle.drain_laws.proofs.Copying.Answered.{created_well, told_fair}
 use Rattle.drain_laws.proofs.Copying.Mild.{mild_create, some_room}
 use Rattle.drain_laws.proofs.Copying.OneStep.{Stuff, all_clear, one_step, stuff_stays}
 use Rattle.drain_laws.proofs.Copying.Told.{file_there}
@@ -75,6 +79,8 @@ module _ (number : ℕ) (name : Name) (g : Moment) (s : IsSoundAt g) (Sure : Typ
         dones = st_after.dones;
         puts = (record { bytes = f.bytes; has = record { is_item = had.is_item; there = ap (λ z. file_at z path) (sym same) ∙ f.there } }, st_after.puts);
       })
+      (λ y after r told why good_y named a tells e. told_fair name after path made_or_old told why
+      (λ answer is. created_well to y r named.there path after answer (container_of (IsOfMark y) name r good_y.logical named.named (good_y.sound.shaped.rooms to r named.there)).has_truncs (subst (λ o. Tells cr y o after) is tells)) e)
       (λ y r made good_y named b. truncs_safe left (x ∷ put) all stood.1 y r good_y named b)
       t room good at st in
       subst (λ p. Safely number name g Sure all_dues Post (acts (create to p.folder p.file) (λ told. on_good (λ made. puts_truncs to left drained) (told_well p made_or_old told))) t) (sym (its_file x had)) goes

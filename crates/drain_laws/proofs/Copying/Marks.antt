@@ -1,6 +1,6 @@
 -- The marks and the container are made at the target, and then all is copied.
-use Rattle.std.proofs.Common.{◌≡◌, ℕ, ◌*◌, ◌≤◌, ◌<◌, ◌^◌, List, [], ◌∷◌, length, Some, refl, ap, sym, ◌∙◌, inl, inr, subst, arith}
-use Rattle.std.specs.Prelude.{Result, Ok, slice_get}
+use Rattle.std.proofs.Common.{◌≡◌, true, ℕ, ◌*◌, ◌≤◌, ◌<◌, ◌^◌, List, [], ◌∷◌, length, Some, refl, ap, sym, ◌∙◌, inl, inr, subst, arith}
+use Rattle.std.specs.Prelude.{Result, Ok, Err, slice_get}
 use Rattle.std.specs.List.{AllByRecursion}
 use Rattle.std.proofs.lemmas.Bool.{cases_eq}
 use Rattle.plain_file.proofs.Facts.{Among, All-Among}
@@ -9,6 +9,7 @@ use Rattle.plfs_types.specs.declared.names.Path.{Path}
 use Rattle.container_layout.specs.declared.items.Item.TheVariants.{Log, Meta}
 use Rattle.store_api.specs.declared.tree.Room.{Room}
 use Rattle.store_api.specs.declared.tree.Tree.{Tree}
+use Rattle.store_api.specs.Room.{has_folder}
 use Rattle.store_api.specs.Step.{Step, create, make_room}
 use Rattle.store_laws.specs.Files.{file_at, kept_at}
 use Rattle.store_laws.specs.Naming.{NamesRoom, OnlyAdds}
@@ -32,7 +33,8 @@ use Rattle.drain_copy.specs.Telling.{DrainsOn, folder_alone, made_or_old, on_goo
 use Rattle.drain_sound.specs.Steps.{IsNamedRoom}
 use Rattle.drain_sound.specs.Steps as step
 use Rattle.drain_sound.proofs.Facts.{no_marks}
-use Rattle.drain_laws.proofs.Planning.Aims.{AreApart, IsFitting, IsGood, IsPlanned, IsRight, IsSince, Safely}
+use Rattle.drain_laws.proofs.Planning.Aims.{AreApart, EndsSo, IsFair, IsFitting, IsGood, IsPlanned, IsRight, IsSince, Safely}
+use Rattle.drain_laws.proofs.Copying.Answered.{created_well, roomed_well, told_fair}
 use Rattle.drain_laws.proofs.Copying.Copy.{all_onto, copies_safe, onto}
 use Rattle.drain_laws.proofs.Copying.Mild.{HasDone, HasFront, IsKeptTo, all_so, some_room}
 use Rattle.drain_laws.proofs.Copying.Roomed.{Roomed, came, room_there, stood}
@@ -110,13 +112,14 @@ module _ (number : ℕ) (name : Name) (g : Moment) (s : IsSoundAt g) (Sure : Typ
   tree_step : {X : Type 0} (A : Tree → Type 0) (B : X → Tree → Type 0) (x : Step) (told_so : Told → Result X DrainStuck) (next : X → DrainsOn)
       → ((t : Tree) → Good t → A t → IsRight number name g Sure all_dues x t)
       → ((t after : Tree) (told : Told) (y : X) → Good t → Good after → A t → Tells x t told after → told_so told ≡ Ok y → B y after)
+      → ((t after : Tree) (told : Told) (why : DrainStuck) → Good t → A t → Tells x t told after → told_so told ≡ Err why → IsFair name after why)
       → ((t : Tree) (y : X) → Good t → B y t → Safe (next y) t)
       → (t : Tree) → Good t → A t → Safe (acts x (λ told. on_good next (told_so told))) t
-  tree_step A B x told_so next is_right goes then_safe t good a = (
+  tree_step A B x told_so next is_right goes fair then_safe t good a = (
     is_right t good a,
     λ told after tells good_after.
-        safe_on (IsSince number name g Sure all_dues) (IsGood number name g Sure all_dues) (IsFitting number name g Sure all_dues) (IsRight number name g Sure all_dues) Post next (told_so told) after
-        (λ y e. then_safe after y good_after (goes t after told y good good_after a tells e)),
+        safe_on (IsSince number name g Sure all_dues) (IsGood number name g Sure all_dues) (IsFitting number name g Sure all_dues) (IsRight number name g Sure all_dues) (EndsSo name Post) next (told_so told) after
+        (λ y e. then_safe after y good_after (goes t after told y good good_after a tells e)) (λ why e. fair t after told why good a tells e),
   )
 
   -- ---- marks
@@ -125,6 +128,13 @@ module _ (number : ℕ) (name : Name) (g : Moment) (s : IsSoundAt g) (Sure : Typ
   mark_is_empty : (t : Tree) (n mount : ℕ) (room : Room) (bytes : List ℕ) → Good t → IsNamedRoom t n marks_name room → file_at room (mark_path mount) ≡ Some bytes → bytes ≡ []
   mark_is_empty t n mount room bytes good at e = elim (good.sound.shaped.rooms n room at.there) as (λ _. bytes ≡ []) [
     | inl marks ↦ (marks.files (mark_path mount) bytes e).4
+    | inr container ↦ absurd (no_marks room.name room container.named refl at.named)
+  ]
+
+  -- and it has their folder
+  marks_held : (t : Tree) (n : ℕ) (room : Room) → Good t → IsNamedRoom t n marks_name room → has_folder room marks_folder ≡ true
+  marks_held t n room good at = elim (good.sound.shaped.rooms n room at.there) as (λ _. has_folder room marks_folder ≡ true) [
+    | inl marks ↦ marks.has_marks
     | inr container ↦ absurd (no_marks room.name room container.named refl at.named)
   ]
 
@@ -235,6 +245,7 @@ module _ (number : ℕ) (name : Name) (g : Moment) (s : IsSoundAt g) (Sure : Typ
         tree_step Marked Placed (make_room name new_folders new_files) (told_well (folder_alone []) roomed) (copies_to job)
         (λ x good_x a. record { is_step = λ n sound grows. step.container; news = tt })
         (λ x after told to good_x good_after a tells e. placed x after to told good_after (room_there x after name new_folders new_files told to tells e) tells a)
+        (λ x after told why good_x a tells e. told_fair name after (folder_alone []) roomed told why (λ answer is. roomed_well name new_folders new_files x after answer (subst (λ o. Tells (make_room name new_folders new_files) x o after) is tells)) e)
         (λ x to good_x b. copied_safe to x good_x b)
         t good k
 
@@ -288,6 +299,7 @@ module _ (number : ℕ) (name : Name) (g : Moment) (s : IsSoundAt g) (Sure : Typ
           at = at;
           marks = (record { number = k; room = r.0; there = r.1; named = at.named; mark = there ∙ ap (λ z. Some z) empty }, all_so (HasMark x) (HasMark after) put (λ y h. mark_stays cr x after told y tt (λ j named. named) tells good_after h) b.marks);
         })
+        (λ x after told why good_x b tells e. told_fair name after (mark_path mount) made_or_old told why (λ answer is. created_well k x b.room b.at.there (mark_path mount) after answer (marks_held x k b.room good_x b.at) (subst (λ o. Tells cr x o after) is tells)) e)
         (λ x made good_x b. marks_safe k left (mount ∷ put) all least.1 most.1 x good_x b)
         t good a
 
@@ -316,5 +328,6 @@ module _ (number : ℕ) (name : Name) (g : Moment) (s : IsSoundAt g) (Sure : Typ
         tree_step Plan (λ k. Marking k []) (make_room marks_name (marks_folder ∷ []) []) (told_well (folder_alone []) roomed) (makes_all_marks job mounts)
         (λ x good_x a. record { is_step = λ n sound grows. step.marks; news = tt })
         (λ x after told k good_x good_after a tells e. marks_roomed x after k good_x (room_there x after marks_name (marks_folder ∷ []) [] told k tells e) a)
+        (λ x after told why good_x a tells e. told_fair name after (folder_alone []) roomed told why (λ answer is. roomed_well marks_name (marks_folder ∷ []) [] x after answer (subst (λ o. Tells (make_room marks_name (marks_folder ∷ []) []) x o after) is tells)) e)
         (λ x k good_x b. marks_safe k mounts [] refl some small x good_x b)
         t good p

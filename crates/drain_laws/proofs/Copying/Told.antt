@@ -1,5 +1,5 @@
 -- What the answers to a drain's steps tell of its target, and a Read's reply of its source.
-use Rattle.std.proofs.Common.{◌≡◌, ℕ, ◌+◌, ◌≤◌, nat_lt, List, [], length, Option, Some, None, refl, ap, sym, ◌∙◌, inl, inr, subst, arith}
+use Rattle.std.proofs.Common.{◌≡◌, ℕ, ◌+◌, ◌≤◌, nat_lt, true, List, [], length, Option, Some, None, refl, ap, sym, ◌∙◌, inl, inr, subst, arith}
 use Rattle.std.specs.Prelude.{Result, Ok, Err, slice_get}
 use Rattle.std.proofs.lemmas.Bool.{cases_Bool, cond-true, cond-false}
 use Rattle.std.proofs.lemmas.Bool.Decides.{nat_tests}
@@ -10,11 +10,12 @@ use Rattle.store_api.specs.declared.step.Answer.TheVariants.{Bytes, Made, NoFold
 use Rattle.store_api.specs.declared.store.Trouble.TheVariants.{Fault, NoMemory}
 use Rattle.store_api.specs.declared.tree.Room.{Room}
 use Rattle.store_api.specs.declared.tree.Tree.{Tree}
-use Rattle.store_api.specs.Step.{create, sync, write_at}
+use Rattle.store_api.specs.Room.{has_folder}
+use Rattle.store_api.specs.Step.{Name as FolderName, create, make_folder, sync, write_at}
 use Rattle.store_laws.specs.Files.{file_at}
 use Rattle.store_laws.specs.Losing.{KeepsFront}
 use Rattle.store_laws.specs.Tells.{Tells}
-use Rattle.store_laws.proofs.Facts.{changed_room, create_told, length-overwritten, sync_told, write_told}
+use Rattle.store_laws.proofs.Facts.{changed_room, create_told, length-overwritten, make_folder_told, sync_told, write_told}
 use Rattle.mount_model.specs.declared.reply.Reply.{Reply}
 use Rattle.mount_model.specs.declared.reply.Reply.TheVariants.{Looked}
 use Rattle.mount_sound.specs.Dropping.{bytes_of}
@@ -64,6 +65,24 @@ pub file_there : (to : ℕ) (path of : Path) (t after : Tree) (told : Told) (x :
 file_there to path of t after (Ok answer) x tells good = created to path t after answer tells (undamaged of (made_or_old answer) x good)
 file_there to path of t after (Err Fault) x tells good = absurd (cc)
 file_there to path of t after (Err NoMemory) x tells good = absurd (cc)
+
+-- a folder that was made, or was there, is there
+folder_so : (to : ℕ) (folder : FolderName) (t after : Tree) (new : Room) (answer : Answer) → Tells (make_folder to folder) t (Ok answer) after → (made_or_old answer ≡ None → ⊥) → slice_get after.rooms to ≡ Some new → has_folder new folder ≡ true
+folder_so to folder t after new Made tells good here =
+    let c = (make_folder_told to folder t (Ok Made) after tells).done refl in
+    let there : slice_get after.rooms to ≡ Some c.new = ap (λ (x : Tree). slice_get x.rooms to) c.gives ∙ changed_room t to c.room c.new c.has_room in
+    ap (λ r. has_folder r folder) (some_room new c.new (slice_get after.rooms to) here there) ∙ c.now
+folder_so to folder t after new (Old n) tells good here =
+    let s = (make_folder_told to folder t (Ok (Old n)) after tells).stays (Old n) refl (λ same. cc) in
+    let h = s.1.1 in
+    let there : slice_get after.rooms to ≡ Some h.room = ap (λ (x : Tree). slice_get x.rooms to) s.0 ∙ h.has_room in
+    ap (λ r. has_folder r folder) (some_room new h.room (slice_get after.rooms to) here there) ∙ h.there
+folder_so to folder t after new answer tells good here = absurd (good refl)
+
+pub folder_there : (to : ℕ) (folder : FolderName) (of : Path) (t after : Tree) (new : Room) (told : Told) (x : Unit {0}) → Tells (make_folder to folder) t told after → told_well of made_or_old told ≡ Ok x → slice_get after.rooms to ≡ Some new → has_folder new folder ≡ true
+folder_there to folder of t after new (Ok answer) x tells good here = folder_so to folder t after new answer tells (undamaged of (made_or_old answer) x good) here
+folder_there to folder of t after new (Err Fault) x tells good here = absurd (cc)
+folder_there to folder of t after new (Err NoMemory) x tells good here = absurd (cc)
 
 -- Bytes that were written are there: so much behind the file's start at least, and no more than that and what was there before.
 pub record HasBytes (t after : Tree) (to : ℕ) (path : Path) (end : ℕ) : Type 0 where

@@ -1,22 +1,26 @@
 -- What a step of a drain leaves of the container's files: none goes, and each ends where it ended, or where it was written to.
-use Rattle.std.proofs.Common.{◌≡◌, ℕ, ◌+◌, ◌≤◌, List, [], ◌∷◌, length, take, Some, refl, ap, sym, ◌∙◌, inl, inr, subst, arith}
-use Rattle.std.specs.Prelude.{slice_get}
+use Rattle.std.proofs.Common.{◌≡◌, true, ℕ, ◌+◌, ◌≤◌, List, [], ◌∷◌, length, take, Some, refl, ap, sym, ◌∙◌, inl, inr, subst, arith}
+use Rattle.std.specs.Prelude.{slice_get, ◌||◌}
+use Rattle.std.specs.List.{list_any}
 use Rattle.std.proofs.lemmas.Bool.{cases_eq}
 use Rattle.std.proofs.lemmas.List.{length-take}
 use Rattle.plfs_types.specs.Bytes.{overwritten}
 use Rattle.plfs_types.specs.declared.names.Path.{Path}
 use Rattle.store_api.specs.declared.tree.Room.{Room}
 use Rattle.store_api.specs.declared.tree.Tree.{Tree}
+use Rattle.store_api.specs.Names.{same_name}
+use Rattle.store_api.specs.Room.{has_folder, is_top}
 use Rattle.store_api.specs.Step.{Step, create, cut, make_room, remove, replace, write_at}
 use Rattle.store_laws.specs.Files.{file_at}
-use Rattle.store_laws.specs.Naming.{KeepsRoom, NamesRoom, OnlyAdds}
-use Rattle.store_laws.specs.Changes.{Wrote}
+use Rattle.store_laws.specs.Naming.{KeepsRoom, NamesFolder, NamesRoom, OnlyAdds}
+use Rattle.store_laws.specs.Changes.{RoomMade, Wrote}
 use Rattle.store_laws.specs.Tells.{Tells}
 use Rattle.store_laws.proofs.Facts.{changed_room, create_told, keeps_rooms, length-overwritten, lengthens_told, look_told, make_room_told, other_room, path_cases, write_told}
-use Rattle.mount_model.specs.Paths.{Name, mark_path, marks_folder, marks_name, new_files, new_folders}
+use Rattle.mount_model.specs.Paths.{Name, mark_path, marks_folder, marks_name, new_files, new_folders, openhosts}
 use Rattle.mount_sound.specs.Dropping.{bytes_of}
 use Rattle.mount_sound.proofs.Facts.{IsBare, made_bare}
 use Rattle.gathering.specs.Moments.{Moment}
+use Rattle.reader_laws.proofs.Faults.ScanFails.{no_openhosts}
 use Rattle.drain_copy.specs.Asking.{Told}
 use Rattle.drain_sound.specs.Fronts.{IsTarget}
 use Rattle.drain_sound.specs.Steps.{IsDrainStep, IsNamedRoom}
@@ -34,16 +38,18 @@ write_end step = 0
 pub record RoomGoes (x : Step) (n : ℕ) (room new : Room) : Type 0 where
   pub stays : (path : Path) (bytes : List ℕ) → file_at room path ≡ Some bytes → (later : List ℕ) × (file_at new path ≡ Some later)
   pub ends : (path : Path) (most : ℕ) → length (bytes_of (file_at room path)) ≤ most → (WritesFile x n path → write_end x ≤ most) → length (bytes_of (file_at new path)) ≤ most
+  pub opens : has_folder room openhosts ≡ true → has_folder new openhosts ≡ true
 
 -- the container came with the step, and is bare, or was there
 pub data Goes (x : Step) (t : Tree) (n : ℕ) (name : Name) (new : Room) : Type 0 where
-  bare : IsBare new → Goes x t n name new
+  bare : IsBare new → has_folder new openhosts ≡ true → Goes x t n name new
   was : (room : Room) → IsNamedRoom t n name room → RoomGoes x n room new → Goes x t n name new
 
 same_goes : (x : Step) (n : ℕ) (room new : Room) → new ≡ room → RoomGoes x n room new
 same_goes x n room new e = record {
   stays = λ path bytes f. (bytes, ap (λ r. file_at r path) e ∙ f);
   ends = λ path most l written. omega (arith, l, ap (λ r. length (bytes_of (file_at r path))) e);
+  opens = λ has. ap (λ r. has_folder r openhosts) e ∙ has;
 }
 
 -- ---- a file that is written to
@@ -73,13 +79,14 @@ write_ends n folder file at bytes t after told room new path most tells there he
 
 -- ---- a step in the container
 
-goes_in : (x : Step) (t after : Tree) (told : Told) (n : ℕ) (room new : Room) → OnlyAdds x → Tells x t told after → slice_get t.rooms n ≡ Some room → slice_get after.rooms n ≡ Some new → KeepsRoom x n room new → RoomGoes x n room new
-goes_in x t after told n room new adds tells there here keeps = record {
+goes_in : (x : Step) (t after : Tree) (told : Told) (n : ℕ) (room new : Room) → OnlyAdds x → Tells x t told after → slice_get t.rooms n ≡ Some room → slice_get after.rooms n ≡ Some new → KeepsRoom x n room new → (NamesFolder x n openhosts → ⊥) → RoomGoes x n room new
+goes_in x t after told n room new adds tells there here keeps spares = record {
   stays = λ path bytes e.
       let l = lengthens_told x t told after adds tells n room path bytes there e in
       let same : l.0 ≡ new = some_room l.0 new (slice_get after.rooms n) l.2 here in
       (l.1, ap (λ r. file_at r path) (sym same) ∙ l.3);
   ends = λ path most l written. by_step x adds tells keeps path most l written;
+  opens = λ has. keeps.folders openhosts spares ∙ has;
 }
   where
     by_step : (y : Step) → OnlyAdds y → Tells y t told after → KeepsRoom y n room new → (path : Path) (most : ℕ) → length (bytes_of (file_at room path)) ≤ most → (WritesFile y n path → write_end y ≤ most) → length (bytes_of (file_at new path)) ≤ most
@@ -94,22 +101,22 @@ goes_in x t after told n room new adds tells there here keeps = record {
     by_step y adds tells keeps path most l written = omega (arith, l, no_longer y t told after n room new path adds tells there here keeps (λ w. w))
 
 module _ (g : Moment) (number : ℕ) (name : Name) (t after : Tree) (target : IsTarget g number name t) (good : IsTarget g number name after) (told : Told) where
-  in_room : (x : Step) → OnlyAdds x → ((k : ℕ) → NamesRoom x k → ⊥) → Tells x t told after → (m : ℕ) (room : Room) → IsNamedRoom t m name room → (n : ℕ) (new : Room) → IsNamedRoom after n name new → Goes x t n name new
-  in_room x adds no_names tells m room at n new here =
+  in_room : (x : Step) → OnlyAdds x → ((k : ℕ) → NamesRoom x k → ⊥) → ((k : ℕ) → NamesFolder x k openhosts → ⊥) → Tells x t told after → (m : ℕ) (room : Room) → IsNamedRoom t m name room → (n : ℕ) (new : Room) → IsNamedRoom after n name new → Goes x t n name new
+  in_room x adds no_names spares tells m room at n new here =
       let k = keeps_rooms x t told after tells m room at.there in
       let now : IsNamedRoom after m name k.0 = record { there = k.1; named = k.2.name (no_names m) ∙ at.named } in
       let number_is : m ≡ n = good.sound.shaped.rooms_differ m n k.0 new now.there here.there (now.named ∙ sym here.named) in
       let same : k.0 ≡ new = some_room k.0 new (slice_get after.rooms n) (subst (λ j. slice_get after.rooms j ≡ Some k.0) number_is k.1) here.there in
       subst (λ j. Goes x t j name new) number_is
-      (was room at (goes_in x t after told m room new adds tells at.there (subst (λ r. slice_get after.rooms m ≡ Some r) same k.1) (subst (KeepsRoom x m room) same k.2)))
+      (was room at (goes_in x t after told m room new adds tells at.there (subst (λ r. slice_get after.rooms m ≡ Some r) same k.1) (subst (KeepsRoom x m room) same k.2) (spares m)))
 
   -- another room has come, or this one
-  roomed : (of : Name) (folders files : List Name) → Tells (make_room of folders files) t told after → (n : ℕ) (new : Room) → IsNamedRoom after n name new → Goes (make_room of folders files) t n name new
-  roomed of folders files tells n new here = elim (make_room_told of folders files t told after tells).either as (λ _. Goes (make_room of folders files) t n name new) [
+  roomed : (of : Name) (folders files : List Name) → ((c : RoomMade t of folders files after) → c.new.name ≡ name → has_folder c.new openhosts ≡ true) → Tells (make_room of folders files) t told after → (n : ℕ) (new : Room) → IsNamedRoom after n name new → Goes (make_room of folders files) t n name new
+  roomed of folders files opened tells n new here = elim (make_room_told of folders files t told after tells).either as (λ _. Goes (make_room of folders files) t n name new) [
     | inr same ↦ was new (subst (λ x. IsNamedRoom x n name new) same here) (same_goes (make_room of folders files) n new new refl)
     | inl c ↦ elim (added_or_was t.rooms c.new new n (sym (ap (λ (y : Tree). slice_get y.rooms n) c.gives) ∙ here.there)) as (λ _. Goes (make_room of folders files) t n name new) [
       | inl there ↦ was new (record { there = there; named = here.named }) (same_goes (make_room of folders files) n new new refl)
-      | inr is ↦ bare (subst IsBare (sym is) (made_bare t of folders files after c))
+      | inr is ↦ bare (subst IsBare (sym is) (made_bare t of folders files after c)) (subst (λ r. has_folder r openhosts ≡ true) (sym is) (opened c (ap (λ (r : Room). r.name) (sym is) ∙ here.named)))
     ]
   ]
 
@@ -131,15 +138,15 @@ module _ (g : Moment) (number : ℕ) (name : Name) (t after : Tree) (target : Is
   room_goes x (step.looks look is) tells n new here =
       let same : after ≡ t = look_told look t told after is tells in
       was new (subst (λ y. IsNamedRoom y n name new) same here) (same_goes look n new new refl)
-  room_goes x step.marks tells n new here = roomed marks_name (marks_folder ∷ []) [] tells n new here
+  room_goes x step.marks tells n new here = roomed marks_name (marks_folder ∷ []) [] (λ c its_name. absurd (no_marks name c.new target.logical its_name c.named)) tells n new here
   room_goes x (step.mark m mount room at some fits) tells n new here = marked m mount room at tells n new here
-  room_goes x step.container tells n new here = roomed name new_folders new_files tells n new here
-  room_goes x (step.opens m host writer room at may) tells n new here = in_room x tt (λ k named. named) tells m room at n new here
-  room_goes x (step.houses m host room at) tells n new here = in_room x tt (λ k named. named) tells m room at n new here
-  room_goes x (step.index m host writer room at copied) tells n new here = in_room x tt (λ k named. named) tells m room at n new here
-  room_goes x (step.log m host writer room at copied) tells n new here = in_room x tt (λ k named. named) tells m room at n new here
-  room_goes x (step.writes_log m host writer at len room named copied behind) tells n new here = in_room x tt (λ k named. named) tells m room named n new here
-  room_goes x (step.writes_index m host writer from len room named copied behind) tells n new here = in_room x tt (λ k named. named) tells m room named n new here
-  room_goes x (step.syncs_log m host writer room at) tells n new here = in_room x tt (λ k named. named) tells m room at n new here
-  room_goes x (step.syncs_index m host writer room at) tells n new here = in_room x tt (λ k named. named) tells m room at n new here
-  room_goes x (step.truncates m stamp size room at had) tells n new here = in_room x tt (λ k named. named) tells m room at n new here
+  room_goes x step.container tells n new here = roomed name new_folders new_files (λ c its_name. ap (λ fs. is_top openhosts || list_any (λ n. same_name n openhosts) fs) c.has_folders) tells n new here
+  room_goes x (step.opens m host writer room at may) tells n new here = in_room x tt (λ k named. named) (λ k named. named) tells m room at n new here
+  room_goes x (step.houses m host room at) tells n new here = in_room x tt (λ k named. named) (λ k named. no_openhosts host (sym named.1)) tells m room at n new here
+  room_goes x (step.index m host writer room at copied) tells n new here = in_room x tt (λ k named. named) (λ k named. named) tells m room at n new here
+  room_goes x (step.log m host writer room at copied) tells n new here = in_room x tt (λ k named. named) (λ k named. named) tells m room at n new here
+  room_goes x (step.writes_log m host writer at len room named copied behind) tells n new here = in_room x tt (λ k named. named) (λ k named. named) tells m room named n new here
+  room_goes x (step.writes_index m host writer from len room named copied behind) tells n new here = in_room x tt (λ k named. named) (λ k named. named) tells m room named n new here
+  room_goes x (step.syncs_log m host writer room at) tells n new here = in_room x tt (λ k named. named) (λ k named. named) tells m room at n new here
+  room_goes x (step.syncs_index m host writer room at) tells n new here = in_room x tt (λ k named. named) (λ k named. named) tells m room at n new here
+  room_goes x (step.truncates m stamp size room at had) tells n new here = in_room x tt (λ k named. named) (λ k named. named) tells m room at n new here

@@ -1,5 +1,5 @@
 -- What is due of one writer is copied by right steps, and then all of it is there.
-use Rattle.std.proofs.Common.{◌≡◌, ℕ, zero, suc, ◌+◌, ◌-◌, ◌*◌, ◌/◌, ◌%◌, ◌≤◌, min, List, [], ◌∷◌, length, take, drop, Some, refl, ap, sym, ◌∙◌, inl, inr, subst, arith}
+use Rattle.std.proofs.Common.{◌≡◌, true, false, Bool, ℕ, zero, suc, ◌+◌, ◌-◌, ◌*◌, ◌≤◌, min, List, [], ◌∷◌, length, take, drop, Some, refl, ap, sym, ◌∙◌, inl, inr, subst, arith}
 use Rattle.std.specs.Prelude.{slice_get}
 use Rattle.std.specs.List.{AllByRecursion}
 use Rattle.std.proofs.lemmas.List.{length-take, length-drop}
@@ -13,9 +13,11 @@ use Rattle.index_entry.proofs.Facts.{length-spelling_all}
 use Rattle.store_api.specs.declared.step.Answer.TheVariants.{Bytes}
 use Rattle.store_api.specs.declared.tree.Room.{Room}
 use Rattle.store_api.specs.declared.tree.Tree.{Tree}
+use Rattle.store_api.specs.Room.{has_folder}
 use Rattle.store_api.specs.Step.{Step, create, make_folder, sync, write_at}
 use Rattle.store_laws.specs.Files.{file_at}
 use Rattle.store_laws.specs.Naming.{NamesFile}
+use Rattle.store_laws.specs.Tells.{Tells}
 use Rattle.mount_model.specs.declared.call.Ask.{Ask}
 use Rattle.mount_model.specs.declared.call.Call.TheVariants.{Look}
 use Rattle.mount_model.specs.declared.call.Look.TheVariants.{Read}
@@ -24,10 +26,9 @@ use Rattle.mount_model.specs.Paths.{Name, index_path, log_path, open_path}
 use Rattle.mount_shape.specs.Marks.{IsOfMark}
 use Rattle.mount_shape.proofs.Facts.{item_held}
 use Rattle.mount_sound.specs.Dropping.{bytes_of, log_bytes}
-use Rattle.mount_sound.specs.Items.{HasMeta}
 use Rattle.mount_sound.proofs.Facts.{apart}
-use Rattle.gathering.specs.Moments.{Grows, IsSoundAt, Moment}
-use Rattle.gathering.proofs.Facts.{answers_as, read_told, stood_grows}
+use Rattle.gathering.specs.Moments.{IsSoundAt, Moment}
+use Rattle.gathering.proofs.Facts.{answers_as, read_told}
 use Rattle.drain_copy.specs.declared.outcome.Drained.{Drained}
 use Rattle.drain_copy.specs.declared.plan.Copying.{Copying}
 use Rattle.drain_copy.specs.declared.plan.Due.{Due}
@@ -40,32 +41,13 @@ use Rattle.drain_sound.specs.Steps as step
 use Rattle.drain_sound.proofs.Facts.{container_of}
 use Rattle.drain_laws.proofs.Planning.Aims.{IsApart, IsGood, IsPlanned, Safely}
 use Rattle.drain_laws.proofs.Planning.Due.{IsDueOf, due_later, log_read, log_stays, part_is, place_is}
-use Rattle.drain_laws.proofs.Copying.Mild.{Changes, HasFront, IsClear, IsKeptTo, all_so, front_stays, longer_file, longer_log, mild_create, mild_folder, mild_sync, mild_write, some_room}
+use Rattle.drain_laws.proofs.Copying.Mild.{longer_file, mild_create, mild_folder, mild_sync, mild_write, some_room}
 use Rattle.drain_laws.proofs.Copying.OneStep.{Stuff, all_clear, on_good_safe, one_step, stuff_stays}
-use Rattle.drain_laws.proofs.Copying.Told.{bytes_there, entry_there, file_there, part_good, synced_there}
-
--- ---- parts of bounded size
-
-parts_done : (size left : ℕ) → 0 ≡ left / 4096 + min (left % 4096) 1 → left ≡ 0
-parts_done size left e = omega (arith, e)
-
-part_left : (n left : ℕ) → suc n ≡ left / 4096 + min (left % 4096) 1 → (1 ≤ left) × (n ≡ (left - min left 4096) / 4096 + min ((left - min left 4096) % 4096) 1)
-part_left n left e = (omega (arith, e), omega (arith, e))
-
-bytes_done : (left : ℕ) → 0 ≡ left / 1048576 + min (left % 1048576) 1 → left ≡ 0
-bytes_done left e = omega (arith, e)
-
-bytes_left : (n left : ℕ) → suc n ≡ left / 1048576 + min (left % 1048576) 1 → (1 ≤ left) × (n ≡ (left - min left 1048576) / 1048576 + min ((left - min left 1048576) % 1048576) 1)
-bytes_left n left e = (omega (arith, e), omega (arith, e))
-
-read_at_place : (a b : Path) (room from at len place most : ℕ) → Look room (Read a at len) ≡ Look from (Read b place most) → (a ≡ b) × (at ≡ place)
-read_at_place a b room from at len place most e = (cc, cc)
-
-log_same : (h w host writer : ℕ) → Log h w ≡ Log host writer → w ≡ writer
-log_same h w host writer e = cc
-
-index_same : (h w host writer : ℕ) → Index h w ≡ Index host writer → w ≡ writer
-index_same h w host writer e = cc
+use Rattle.drain_laws.proofs.Copying.Answered.{created_well, entry_fair, folder_made_well, synced_well, told_fair, written_well}
+use Rattle.drain_laws.proofs.Copying.Doing as way
+use Rattle.drain_laws.proofs.Copying.Doing.{bytes_done, bytes_left, part_left, parts_done, read_at_place}
+use Rattle.drain_laws.proofs.Copying.Failing.{part_fair}
+use Rattle.drain_laws.proofs.Copying.Told.{bytes_there, entry_there, file_there, folder_there, part_good, synced_there}
 
 module _ (number : ℕ) (name : Name) (g : Moment) (s : IsSoundAt g) (Sure : Type 0) (dues : List Due) (Post : Drained → Tree → Type 0) (to : ℕ) where
   abbrev Safe : DrainsOn → Tree → Type 0
@@ -84,105 +66,35 @@ module _ (number : ℕ) (name : Name) (g : Moment) (s : IsSoundAt g) (Sure : Typ
     abbrev c : Copying
     c = record { from = number; to = to; due = due }
 
-    abbrev d : IsDueOf number g due
-    d = planned.due_then
-
     is_index : IsItem (Index due.host due.writer)
-    is_index = planned.due_then.stood.is_item
+    is_index = way.is_index number name g s Sure dues Post to due rest done put planned apart_rest apart_done
 
     is_log : IsItem (Log due.host due.writer)
-    is_log = record { in_range = tt; widths = is_index.widths }
+    is_log = way.is_log number name g s Sure dues Post to due rest done put planned apart_rest apart_done
 
     is_open : IsItem (OpenHost due.host due.writer)
-    is_open = record { in_range = tt; widths = is_index.widths }
-
-    log_item : (other : Due) → IsItem (Index other.host other.writer) → IsItem (Log other.host other.writer)
-    log_item other is = record { in_range = tt; widths = is.widths }
-
-    -- bytes of its log are none of another's
-    log_clear : (at : ℕ) (bytes : List ℕ) (other : Due) → IsApart due other → IsClear (write_at to (log_of due).folder (log_of due).file at bytes) to other
-    log_clear at bytes other a = (
-      λ named. apart (Index other.host other.writer) (Log due.host due.writer) a.1 is_log (λ e. cc) named.1.0 named.1.1,
-      λ named. apart (Log other.host other.writer) (Log due.host due.writer) (log_item other a.1) is_log (λ e. a.0 (log_same other.host other.writer due.host due.writer e)) named.1.0 named.1.1,
-    )
-
-    index_clear : (at : ℕ) (bytes : List ℕ) (other : Due) → IsApart due other → IsClear (write_at to (index_of due).folder (index_of due).file at bytes) to other
-    index_clear at bytes other a = (
-      λ named. apart (Index other.host other.writer) (Index due.host due.writer) a.1 is_index (λ e. a.0 (index_same other.host other.writer due.host due.writer e)) named.1.0 named.1.1,
-      λ named. apart (Log other.host other.writer) (Index due.host due.writer) (log_item other a.1) is_index (λ e. cc) named.1.0 named.1.1,
-    )
-
-    others_log : (at : ℕ) (bytes : List ℕ) (xs : List Due) → AllByRecursion (IsApart due) xs → AllByRecursion (IsClear (write_at to (log_of due).folder (log_of due).file at bytes) to) xs
-    others_log at bytes xs all = all_so (IsApart due) (IsClear (write_at to (log_of due).folder (log_of due).file at bytes) to) xs (λ other a. log_clear at bytes other a) all
-
-    others_index : (at : ℕ) (bytes : List ℕ) (xs : List Due) → AllByRecursion (IsApart due) xs → AllByRecursion (IsClear (write_at to (index_of due).folder (index_of due).file at bytes) to) xs
-    others_index at bytes xs all = all_so (IsApart due) (IsClear (write_at to (index_of due).folder (index_of due).file at bytes) to) xs (λ other a. index_clear at bytes other a) all
-
-    -- ---- how far it is
+    is_open = way.is_open number name g s Sure dues Post to due rest done put planned apart_rest apart_done
 
     abbrev Whole : Tree → Room → Type 0
-    Whole t room = Stuff number name g s Sure dues Post to (due ∷ rest) done put t room
+    Whole t room = way.Whole number name g s Sure dues Post to due rest done put planned apart_rest apart_done t room
 
-    -- its entry of an open writer stands
-    record Begun (t : Tree) (room : Room) : Type 0 where
-      stuff : Stuff number name g s Sure dues Post to rest done put t room
-      front : HasFront name to Sure t room due
-      opened : file_at room (open_path due.host due.writer) ≡ Some []
+    abbrev Begun : Tree → Room → Type 0
+    Begun t room = way.Begun number name g s Sure dues Post to due rest done put planned apart_rest apart_done t room
 
-    -- its droppings go so far
-    record Doing (at from : ℕ) (t : Tree) (room : Room) : Type 0 where
-      stuff : Stuff number name g s Sure dues Post to rest done put t room
-      marked : IsOfMark t due.writer
-      unsettled : HasMeta room due.host due.writer → ⊥
-      opened : file_at room (open_path due.host due.writer) ≡ Some []
-      stands : (bytes : List ℕ) × (file_at room (index_path due.host due.writer) ≡ Some bytes)
-      log : at ≤ length (log_bytes room due.host due.writer)
-      ends : Sure → due.log ≤ due.bytes → length (log_bytes room due.host due.writer) ≤ at
-      index : 40 * from ≤ length (bytes_of (file_at room (index_path due.host due.writer)))
+    abbrev Doing : Bool → ℕ → ℕ → Tree → Room → Type 0
+    Doing made at from t room = way.Doing number name g s Sure dues Post to due rest done put planned apart_rest apart_done made at from t room
 
-    -- and its log is kept
-    record Logged (from : ℕ) (t : Tree) (room : Room) : Type 0 where
-      doing : Doing due.bytes from t room
-      kept : IsKeptTo t to (log_path due.host due.writer) due.bytes
+    abbrev Logged : ℕ → Tree → Room → Type 0
+    Logged from t room = way.Logged number name g s Sure dues Post to due rest done put planned apart_rest apart_done from t room
 
-    begun_stays : (sp : Step) (t after : Tree) (room new : Room) → ((due : Due) → IsClear sp to due) → (NamesFile sp to (open_path due.host due.writer) → ⊥) → Changes name to sp t after room new → Begun t room → Begun after new
-    begun_stays sp t after room new clear other x b = record {
-      stuff = stuff_stays number name g s Sure dues Post to rest done put sp t after room new (all_clear number name g s Sure dues Post to sp rest clear) (all_clear number name g s Sure dues Post to sp done clear) x b.stuff;
-      front = front_stays name to Sure sp t after room new due (clear due) x b.front;
-      opened = x.keeps.files (open_path due.host due.writer) other ∙ b.opened;
-    }
+    -- the folder of its droppings is there too
+    record Housed (t : Tree) (room : Room) : Type 0 where
+      begun : Begun t room
+      folder : has_folder room (hostdir_of due.host) ≡ true
 
-    -- a step that doesn't write its log
-    doing_stays : (at from : ℕ) (sp : Step) (t after : Tree) (room new : Room) → AllByRecursion (IsClear sp to) rest → AllByRecursion (IsClear sp to) done → (NamesFile sp to (open_path due.host due.writer) → ⊥) → (length (log_bytes new due.host due.writer) ≤ length (log_bytes room due.host due.writer))
-        → Changes name to sp t after room new → Doing at from t room → Doing at from after new
-    doing_stays at from sp t after room new clear_rest clear_done other no_more x o =
-        let l = x.longer (index_path due.host due.writer) o.stands.0 o.stands.1 in
-        record {
-          stuff = stuff_stays number name g s Sure dues Post to rest done put sp t after room new clear_rest clear_done x o.stuff;
-          marked = x.marked due.writer o.marked;
-          unsettled = λ h. o.unsettled (x.settled due.host due.writer h);
-          opened = x.keeps.files (open_path due.host due.writer) other ∙ o.opened;
-          stands = (l.0, l.1);
-          log = omega (arith, o.log, longer_log name to sp t after room new due x);
-          ends = λ sure fits. omega (arith, o.ends sure fits, no_more);
-          index = omega (arith, o.index, longer_file name to sp t after room new x (index_path due.host due.writer));
-        }
-
-    clear_stays : (at from : ℕ) (sp : Step) (t after : Tree) (room new : Room) → ((due : Due) → IsClear sp to due) → (NamesFile sp to (open_path due.host due.writer) → ⊥) → Changes name to sp t after room new → Doing at from t room → Doing at from after new
-    clear_stays at from sp t after room new clear other x o =
-        doing_stays at from sp t after room new (all_clear number name g s Sure dues Post to sp rest clear) (all_clear number name g s Sure dues Post to sp done clear) other (x.ends (log_path due.host due.writer) (clear due).1) x o
-
-    may : (m : Moment) → Grows g m → (t : Tree) (room : Room) → IsOfMark t due.writer → (HasMeta room due.host due.writer → ⊥) → MayCopy m number t room due.host due.writer
-    may m grows t room marked unsettled = record { stood = stood_grows g m (dropping_in number due.host due.writer) grows planned.due_then.stood; marked = marked; unsettled = unsettled }
-
-    copied : (m : Moment) → Grows g m → (t : Tree) (room : Room) → IsOfMark t due.writer → (HasMeta room due.host due.writer → ⊥) → file_at room (open_path due.host due.writer) ≡ Some [] → IsCopied m number t room due.host due.writer
-    copied m grows t room marked unsettled opened = record { may = may m grows t room marked unsettled; opened = opened }
-
-    -- in the one room of the name
-    one_room : (t : Tree) (room : Room) → Good t → Named t room → (n : ℕ) (other : Room) → IsNamedRoom t n name other → room ≡ other
-    one_room t room good at n other is =
-        let same : n ≡ to = good.sound.shaped.rooms_differ n to other room is.there at.there (is.named ∙ sym at.named) in
-        some_room room other (slice_get t.rooms to) at.there (subst (λ k. slice_get t.rooms k ≡ Some other) same is.there)
+    -- the folder of a file that is there
+    its_folder : (t : Tree) (room : Room) → Good t → Named t room → (path : Path) → (file : (bytes : List ℕ) × (file_at room path ≡ Some bytes)) → has_folder room path.folder ≡ true
+    its_folder t room good at path file = way.housed number name g s Sure dues Post to due rest done put planned apart_rest apart_done t room good at path file.0 file.1
 
     -- ---- the sync of its index dropping, after which it is done
 
@@ -194,7 +106,7 @@ module _ (number : ℕ) (name : Name) (g : Moment) (s : IsSoundAt g) (Sure : Typ
         (λ x r good_x named a. record { is_step = λ m sound grows. step.syncs_index to due.host due.writer r named; news = tt })
         (λ x after r new told made good_x good_after named a tells ch e.
         let k = synced_there to (index_of due) (index_of due) x after r told made (40 * all) tells e named.there a.doing.index in
-        let o = clear_stays due.bytes all sy x after r new (λ other. (λ w. w, λ w. w)) (λ w. w) ch a.doing in
+        let o = way.clear_stays number name g s Sure dues Post to due rest done put planned apart_rest apart_done true due.bytes all sy x after r new (λ other. (λ w. w, λ w. w)) (λ w. w) ch a.doing in
         record {
           fronts = o.stuff.fronts;
           dones = (
@@ -210,6 +122,8 @@ module _ (number : ℕ) (name : Name) (g : Moment) (s : IsSoundAt g) (Sure : Typ
           );
           puts = o.stuff.puts;
         })
+        (λ x after r told why good_x named a tells e. told_fair name after (index_of due) made_now told why
+        (λ answer is. synced_well to x r named.there (index_of due) a.doing.stands.0 after answer (its_folder x r good_x named (index_of due) a.doing.stands) a.doing.stands.1 (subst (λ o. Tells sy x o after) is tells)) e)
         (λ x r made good_x named b. next_safe x r good_x named b)
         t room good at l
 
@@ -233,7 +147,7 @@ module _ (number : ℕ) (name : Name) (g : Moment) (s : IsSoundAt g) (Sure : Typ
         wr (told_well (index_of due) made_now) (λ made. writes_index next n c (part - min part 4096)) (mild_write to (Index due.host due.writer) (40 * place) bytes is_index (λ last b stamp h w e. cc))
         (λ x r good_x named a. record {
           is_step = λ m sound grows. subst (λ b. IsDrainStep m number name x (write_at to (index_of due).folder (index_of due).file (40 * place) b)) (sym (part_is number m sound due (due_later number g s due planned.due_then m grows) part within))
-              (step.writes_index to due.host due.writer place (40 * min part 4096) r named (copied m grows x r a.doing.marked a.doing.unsettled a.doing.opened) a.doing.index);
+              (step.writes_index to due.host due.writer place (40 * min part 4096) r named (way.copied number name g s Sure dues Post to due rest done put planned apart_rest apart_done m grows x r a.doing.marked a.doing.unsettled a.doing.opened) a.doing.index);
           news = (due, (planned, omega (arith, left.0, within)), inr (record { folder_is = refl; file_is = refl; within = omega (arith, long, within) }));
         })
         (λ x after r new told made good_x good_after named a tells ch e.
@@ -241,7 +155,7 @@ module _ (number : ℕ) (name : Name) (g : Moment) (s : IsSoundAt g) (Sure : Typ
         let same : w.room ≡ new = some_room w.room new (slice_get after.rooms to) w.has_room ch.at.there in
         let there : file_at new (index_path due.host due.writer) ≡ Some w.bytes = ap (λ y. file_at y (index_path due.host due.writer)) (sym same) ∙ w.there in
         let spared : NamesFile wr to (log_path due.host due.writer) → ⊥ = λ names. apart (Log due.host due.writer) (Index due.host due.writer) is_log is_index (λ y. cc) names.1.0 names.1.1 in
-        let o = doing_stays due.bytes place wr x after r new (others_index (40 * place) bytes rest apart_rest) (others_index (40 * place) bytes done apart_done)
+        let o = way.doing_stays number name g s Sure dues Post to due rest done put planned apart_rest apart_done true due.bytes place wr x after r new (way.others_index number name g s Sure dues Post to due rest done put planned apart_rest apart_done (40 * place) bytes rest apart_rest) (way.others_index number name g s Sure dues Post to due rest done put planned apart_rest apart_done (40 * place) bytes done apart_done)
         (λ names. apart (OpenHost due.host due.writer) (Index due.host due.writer) is_open is_index (λ y. cc) names.1.0 names.1.1) (ch.ends (log_path due.host due.writer) spared) ch a.doing in
         record {
           doing = record {
@@ -250,12 +164,16 @@ module _ (number : ℕ) (name : Name) (g : Moment) (s : IsSoundAt g) (Sure : Typ
             unsettled = o.unsettled;
             opened = o.opened;
             stands = (w.bytes, there);
+            has_log = o.has_log;
             log = o.log;
             ends = o.ends;
             index = omega (arith, w.long, ap (λ f. length (bytes_of f)) there, long, within);
           };
           kept = ch.kept (log_path due.host due.writer) due.bytes spared a.kept;
         })
+        (λ x after r told why good_x named a tells e. told_fair name after (index_of due) made_now told why
+        (λ answer is. written_well to x r named.there (index_of due) (40 * place) bytes a.doing.stands.0 after answer (its_folder x r good_x named (index_of due) a.doing.stands) a.doing.stands.1
+        (omega (arith, a.doing.index, ap (λ f. length (bytes_of f)) a.doing.stands.1)) (subst (λ o. Tells wr x o after) is tells)) e)
         (λ x r made good_x named b. entries_safe n (part - min part 4096) left.1 (omega (arith, within)) x r good_x named b)
         t room good at l in
         subst (λ p. Safe (acts (write_at to (index_of due).folder (index_of due).file p bytes) (λ told. on_good (λ made. writes_index next n c (part - min part 4096)) (told_well (index_of due) made_now told))) t)
@@ -263,15 +181,17 @@ module _ (number : ℕ) (name : Name) (g : Moment) (s : IsSoundAt g) (Sure : Typ
 
     -- ---- the sync of its log
 
-    kept_safe : (t : Tree) (room : Room) → Good t → Named t room → Doing due.bytes due.count t room → Safe (syncs_log next c) t
+    kept_safe : (t : Tree) (room : Room) → Good t → Named t room → Doing true due.bytes due.count t room → Safe (syncs_log next c) t
     kept_safe t room good at o =
         let sy : Step = sync to (log_of due).folder (log_of due).file in
-        one_step number name g s Sure dues Post to (Doing due.bytes due.count) (Logged due.count) sy (told_well (log_of due) made_now) (λ made. writes_entries next c) (mild_sync to (log_of due).folder (log_of due).file)
+        one_step number name g s Sure dues Post to (Doing true due.bytes due.count) (Logged due.count) sy (told_well (log_of due) made_now) (λ made. writes_entries next c) (mild_sync to (log_of due).folder (log_of due).file)
         (λ x r good_x named a. record { is_step = λ m sound grows. step.syncs_log to due.host due.writer r named; news = tt })
         (λ x after r new told made good_x good_after named a tells ch e. record {
-          doing = clear_stays due.bytes due.count sy x after r new (λ other. (λ w. w, λ w. w)) (λ w. w) ch a;
+          doing = way.clear_stays number name g s Sure dues Post to due rest done put planned apart_rest apart_done true due.bytes due.count sy x after r new (λ other. (λ w. w, λ w. w)) (λ w. w) ch a;
           kept = inr (synced_there to (log_of due) (log_of due) x after r told made due.bytes tells e named.there a.log);
         })
+        (λ x after r told why good_x named a tells e. told_fair name after (log_of due) made_now told why
+        (λ answer is. synced_well to x r named.there (log_of due) (a.has_log refl).0 after answer (its_folder x r good_x named (log_of due) (a.has_log refl)) (a.has_log refl).1 (subst (λ o. Tells sy x o after) is tells)) e)
         (λ x r made good_x named b.
         let none : due.count ≡ due.count + (length due.entries - length due.entries) = omega arith in
         entries_safe (parts_of 4096 (length due.entries)) (length due.entries) refl (omega arith) x r good_x named (subst (λ k. Logged k x r) none b))
@@ -280,17 +200,17 @@ module _ (number : ℕ) (name : Name) (g : Moment) (s : IsSoundAt g) (Sure : Typ
     -- ---- its log
 
     write_safe : (part place len : ℕ) (bytes : List ℕ) (on : DrainsOn) → 1 ≤ part → part ≤ due.bytes - due.log → place ≡ due.bytes - part → len ≡ min part 1048576 → len ≤ length bytes → bytes ≡ take len (drop place (log_there g (dropping_in number due.host due.writer)))
-        → ((t : Tree) (room : Room) → Good t → Named t room → Doing (due.bytes - (part - len)) due.count t room → Safe on t)
-        → (t : Tree) (room : Room) → Good t → Named t room → Doing place due.count t room
+        → ((t : Tree) (room : Room) → Good t → Named t room → Doing true (due.bytes - (part - len)) due.count t room → Safe on t)
+        → (t : Tree) (room : Room) → Good t → Named t room → Doing true place due.count t room
         → Safe (acts (write_at to (log_of due).folder (log_of due).file place bytes) (λ told. on_good (λ made. on) (told_well (log_of due) made_now told))) t
     write_safe part place len bytes on some within place_is len_is full are on_safe t room good at o =
         let wr : Step = write_at to (log_of due).folder (log_of due).file place bytes in
         let short : length bytes ≤ len = omega (arith, ap length are, length-take len (drop place (log_there g (dropping_in number due.host due.writer)))) in
-        one_step number name g s Sure dues Post to (Doing place due.count) (Doing (due.bytes - (part - len)) due.count)
+        one_step number name g s Sure dues Post to (Doing true place due.count) (Doing true (due.bytes - (part - len)) due.count)
         wr (told_well (log_of due) made_now) (λ made. on) (mild_write to (Log due.host due.writer) place bytes is_log (λ last b stamp h w e. cc))
         (λ x r good_x named a. record {
           is_step = λ m sound grows. subst (λ b. IsDrainStep m number name x (write_at to (log_of due).folder (log_of due).file place b)) (log_stays number g s due planned.due_then m sound grows place len (omega (arith, within, place_is, len_is)) ∙ sym are)
-              (step.writes_log to due.host due.writer place len r named (copied m grows x r a.marked a.unsettled a.opened) a.log);
+              (step.writes_log to due.host due.writer place len r named (way.copied number name g s Sure dues Post to due rest done put planned apart_rest apart_done m grows x r a.marked a.unsettled a.opened) a.log);
           news = (
             due,
             (planned, has_news part some within),
@@ -298,7 +218,7 @@ module _ (number : ℕ) (name : Name) (g : Moment) (s : IsSoundAt g) (Sure : Typ
               folder_is = refl;
               file_is = refl;
               within = omega (arith, within, place_is, len_is, short);
-              beside = λ n other is. (a.stands.0, subst (λ y. file_at y (index_path due.host due.writer) ≡ Some a.stands.0) (one_room x r good_x named n other is) a.stands.1);
+              beside = λ n other is. (a.stands.0, subst (λ y. file_at y (index_path due.host due.writer) ≡ Some a.stands.0) (way.one_room number name g s Sure dues Post to due rest done put planned apart_rest apart_done x r good_x named n other is) a.stands.1);
             }),
           );
         })
@@ -309,15 +229,19 @@ module _ (number : ℕ) (name : Name) (g : Moment) (s : IsSoundAt g) (Sure : Typ
         let there : file_at new (log_path due.host due.writer) ≡ Some b.bytes = ap (λ y. file_at y (log_path due.host due.writer)) (sym same) ∙ b.there in
         let l = ch.longer (index_path due.host due.writer) a.stands.0 a.stands.1 in
         record {
-          stuff = stuff_stays number name g s Sure dues Post to rest done put wr x after r new (others_log place bytes rest apart_rest) (others_log place bytes done apart_done) ch a.stuff;
+          stuff = stuff_stays number name g s Sure dues Post to rest done put wr x after r new (way.others_log number name g s Sure dues Post to due rest done put planned apart_rest apart_done place bytes rest apart_rest) (way.others_log number name g s Sure dues Post to due rest done put planned apart_rest apart_done place bytes done apart_done) ch a.stuff;
           marked = ch.marked due.writer a.marked;
           unsettled = λ h. a.unsettled (ch.settled due.host due.writer h);
           opened = ch.keeps.files (open_path due.host due.writer) (λ names. apart (OpenHost due.host due.writer) (Log due.host due.writer) is_open is_log (λ y. cc) names.1.0 names.1.1) ∙ a.opened;
           stands = (l.0, l.1);
+          has_log = λ is. (b.bytes, there);
           log = omega (arith, b.long, ap (λ f. length (bytes_of f)) there, full, place_is, len_is, within);
           ends = λ sure fits. omega (arith, b.most (due.bytes - (part - len)) (omega (arith, a.ends sure fits, ap (λ y. length (log_bytes y due.host due.writer)) was, place_is, len_is)) (omega (arith, short, within, place_is, len_is)), ap (λ f. length (bytes_of f)) there);
           index = omega (arith, a.index, longer_file name to wr x after r new ch (index_path due.host due.writer));
         })
+        (λ x after r told why good_x named a tells e. told_fair name after (log_of due) made_now told why
+        (λ answer is. written_well to x r named.there (log_of due) place bytes (a.has_log refl).0 after answer (its_folder x r good_x named (log_of due) (a.has_log refl)) (a.has_log refl).1
+        (omega (arith, a.log, ap (λ f. length (bytes_of f)) (a.has_log refl).1)) (subst (λ o. Tells wr x o after) is tells)) e)
         (λ x r made good_x named b. on_safe x r good_x named b)
         t room good at o
       where
@@ -327,10 +251,10 @@ module _ (number : ℕ) (name : Name) (g : Moment) (s : IsSoundAt g) (Sure : Typ
           | suc k ↦ λ e. omega arith
         ] refl
 
-    log_safe : (n part : ℕ) → n ≡ parts_of 1048576 part → part ≤ due.bytes - due.log → (t : Tree) (room : Room) → Good t → Named t room → Doing (due.bytes - part) due.count t room → Safe (copies_log next n c part) t
+    log_safe : (n part : ℕ) → n ≡ parts_of 1048576 part → part ≤ due.bytes - due.log → (t : Tree) (room : Room) → Good t → Named t room → Doing true (due.bytes - part) due.count t room → Safe (copies_log next n c part) t
     log_safe zero part count within t room good at o =
         let none : due.bytes - part ≡ due.bytes = omega (arith, bytes_done part count) in
-        kept_safe t room good at (subst (λ k. Doing k due.count t room) none o)
+        kept_safe t room good at (subst (λ k. Doing true k due.count t room) none o)
     log_safe (suc n) part count within t room good at o =
         let left = bytes_left n part count in
         let place : ℕ = due.bytes - part in
@@ -341,7 +265,7 @@ module _ (number : ℕ) (name : Name) (g : Moment) (s : IsSoundAt g) (Sure : Typ
             news = (planned, has_news left.0);
             behind = λ sure from host writer at_place most e n other is.
                 let r = read_at_place (log_of due) (log_path host writer) number from place len at_place most e in
-                let its : room ≡ other = one_room t room good at n other is in
+                let its : room ≡ other = way.one_room number name g s Sure dues Post to due rest done put planned apart_rest apart_done t room good at n other is in
                 let same : length (bytes_of (file_at room (log_of due))) ≡ length (log_bytes other host writer) = λ i. length (bytes_of (file_at (its i) (r.0 i))) in
                 omega (arith, same, r.1, o.log, o.ends sure (omega (arith, left.0, within)));
           },
@@ -359,7 +283,8 @@ module _ (number : ℕ) (name : Name) (g : Moment) (s : IsSoundAt g) (Sure : Typ
               sym read.2 ∙ log_read number m since.sound due due_now read.0 place len read.1 fits ∙ log_stays number g s due planned.due_then m since.sound since.grows place len fits in
               write_safe part place len bytes (copies_log next n c (part - len)) left.0 within refl refl p.1 are
               (λ x r good_x named b. log_safe n (part - len) left.1 (omega (arith, within)) x r good_x named b)
-              t room good at o),
+              t room good at o)
+              (λ why bad. part_fair name t number m since.sound e due (due_later number g s due planned.due_then m since.grows) place len (omega (arith, left.0)) fits asked made why bad),
         )
       where
         has_news : 1 ≤ part → 1 ≤ length due.entries
@@ -368,50 +293,77 @@ module _ (number : ℕ) (name : Name) (g : Moment) (s : IsSoundAt g) (Sure : Typ
           | suc k ↦ λ e. omega arith
         ] refl
 
-    bytes_safe : (t : Tree) (room : Room) → Good t → Named t room → Doing (due.bytes - (due.bytes - due.log)) due.count t room → Safe (copies_bytes next c) t
+    bytes_safe : (t : Tree) (room : Room) → Good t → Named t room → Doing true (due.bytes - (due.bytes - due.log)) due.count t room → Safe (copies_bytes next c) t
     bytes_safe t room good at o = log_safe (parts_of 1048576 (due.bytes - due.log)) (due.bytes - due.log) refl (omega arith) t room good at o
 
     -- ---- its files
 
-    log_made : (t : Tree) (room : Room) → Good t → Named t room → Doing (due.bytes - (due.bytes - due.log)) due.count t room → Safe (makes_log next c) t
+    log_made : (t : Tree) (room : Room) → Good t → Named t room → Doing false (due.bytes - (due.bytes - due.log)) due.count t room → Safe (makes_log next c) t
     log_made t room good at o =
         let start : ℕ = due.bytes - (due.bytes - due.log) in
         let cr : Step = create to (log_of due).folder (log_of due).file in
-        one_step number name g s Sure dues Post to (Doing start due.count) (Doing start due.count) cr (told_well (log_of due) made_or_old) (λ made. copies_bytes next c) (mild_create to (Log due.host due.writer) is_log (λ last b stamp h w e. cc))
-        (λ x r good_x named a. record { is_step = λ m sound grows. step.log to due.host due.writer r named (copied m grows x r a.marked a.unsettled a.opened); news = tt })
-        (λ x after r new told made good_x good_after named a tells ch e. clear_stays start due.count cr x after r new (λ other. (λ w. w, λ w. w))
-        (λ names. apart (OpenHost due.host due.writer) (Log due.host due.writer) is_open is_log (λ y. cc) names.1.0 names.1.1) ch a)
+        one_step number name g s Sure dues Post to (Doing false start due.count) (Doing true start due.count) cr (told_well (log_of due) made_or_old) (λ made. copies_bytes next c) (mild_create to (Log due.host due.writer) is_log (λ last b stamp h w e. cc))
+        (λ x r good_x named a. record { is_step = λ m sound grows. step.log to due.host due.writer r named (way.copied number name g s Sure dues Post to due rest done put planned apart_rest apart_done m grows x r a.marked a.unsettled a.opened); news = tt })
+        (λ x after r new told made good_x good_after named a tells ch e.
+        let o = way.clear_stays number name g s Sure dues Post to due rest done put planned apart_rest apart_done false start due.count cr x after r new (λ other. (λ w. w, λ w. w))
+        (λ names. apart (OpenHost due.host due.writer) (Log due.host due.writer) is_open is_log (λ y. cc) names.1.0 names.1.1) ch a in
+        let f = file_there to (log_of due) (log_of due) x after told made tells e in
+        let same : f.room ≡ new = some_room f.room new (slice_get after.rooms to) f.has_room ch.at.there in
+        record {
+          stuff = o.stuff;
+          marked = o.marked;
+          unsettled = o.unsettled;
+          opened = o.opened;
+          stands = o.stands;
+          has_log = λ is. (f.bytes, ap (λ z. file_at z (log_path due.host due.writer)) (sym same) ∙ f.there);
+          log = o.log;
+          ends = o.ends;
+          index = o.index;
+        })
+        (λ x after r told why good_x named a tells e. told_fair name after (log_of due) made_or_old told why
+        (λ answer is. created_well to x r named.there (log_of due) after answer (its_folder x r good_x named (index_of due) a.stands) (subst (λ o. Tells cr x o after) is tells)) e)
         (λ x r made good_x named b. bytes_safe x r good_x named b)
         t room good at o
 
-    index_made : (t : Tree) (room : Room) → Good t → Named t room → Begun t room → Safe (makes_index next c) t
+    index_made : (t : Tree) (room : Room) → Good t → Named t room → Housed t room → Safe (makes_index next c) t
     index_made t room good at begun =
         let start : ℕ = due.bytes - (due.bytes - due.log) in
         let cr : Step = create to (index_of due).folder (index_of due).file in
-        one_step number name g s Sure dues Post to Begun (Doing start due.count) cr (told_well (index_of due) made_or_old) (λ made. makes_log next c) (mild_create to (Index due.host due.writer) is_index (λ last b stamp h w e. cc))
-        (λ x r good_x named a. record { is_step = λ m sound grows. step.index to due.host due.writer r named (copied m grows x r a.front.marked a.front.unsettled a.opened); news = tt })
+        one_step number name g s Sure dues Post to Housed (Doing false start due.count) cr (told_well (index_of due) made_or_old) (λ made. makes_log next c) (mild_create to (Index due.host due.writer) is_index (λ last b stamp h w e. cc))
+        (λ x r good_x named a. record { is_step = λ m sound grows. step.index to due.host due.writer r named (way.copied number name g s Sure dues Post to due rest done put planned apart_rest apart_done m grows x r a.begun.front.marked a.begun.front.unsettled a.begun.opened); news = tt })
         (λ x after r new told made good_x good_after named a tells ch e.
         let y = file_there to (index_of due) (index_of due) x after told made tells e in
         let same : y.room ≡ new = some_room y.room new (slice_get after.rooms to) y.has_room ch.at.there in
-        let b = begun_stays cr x after r new (λ other. (λ w. w, λ w. w)) (λ names. apart (OpenHost due.host due.writer) (Index due.host due.writer) is_open is_index (λ z. cc) names.1.0 names.1.1) ch a in
+        let b = way.begun_stays number name g s Sure dues Post to due rest done put planned apart_rest apart_done cr x after r new (λ other. (λ w. w, λ w. w)) (λ names. apart (OpenHost due.host due.writer) (Index due.host due.writer) is_open is_index (λ z. cc) names.1.0 names.1.1) ch a.begun in
         record {
           stuff = b.stuff;
           marked = b.front.marked;
           unsettled = b.front.unsettled;
           opened = b.opened;
           stands = (y.bytes, ap (λ z. file_at z (index_path due.host due.writer)) (sym same) ∙ y.there);
+          has_log = λ is. absurd (no_log is);
           log = omega (arith, b.front.log);
           ends = λ sure fits. omega (arith, b.front.ends sure, fits);
           index = b.front.index;
         })
+        (λ x after r told why good_x named a tells e. told_fair name after (index_of due) made_or_old told why
+        (λ answer is. created_well to x r named.there (index_of due) after answer a.folder (subst (λ o. Tells cr x o after) is tells)) e)
         (λ x r made good_x named b. log_made x r good_x named b)
         t room good at begun
+      where
+        no_log : false ≡ true → ⊥
+        no_log e = cc
 
     hostdir_made : (t : Tree) (room : Room) → Good t → Named t room → Begun t room → Safe (makes_hostdir next c) t
     hostdir_made t room good at begun =
-        one_step number name g s Sure dues Post to Begun Begun (make_folder to (hostdir_of due.host)) (told_well (folder_alone (hostdir_of due.host)) made_or_old) (λ made. makes_index next c) (mild_folder to (hostdir_of due.host))
+        one_step number name g s Sure dues Post to Begun Housed (make_folder to (hostdir_of due.host)) (told_well (folder_alone (hostdir_of due.host)) made_or_old) (λ made. makes_index next c) (mild_folder to (hostdir_of due.host))
         (λ x r good_x named a. record { is_step = λ m sound grows. step.houses to due.host r named; news = tt })
-        (λ x after r new told made good_x good_after named a tells ch e. begun_stays (make_folder to (hostdir_of due.host)) x after r new (λ other. (λ w. w, λ w. w)) (λ w. w) ch a)
+        (λ x after r new told made good_x good_after named a tells ch e. record {
+          begun = way.begun_stays number name g s Sure dues Post to due rest done put planned apart_rest apart_done (make_folder to (hostdir_of due.host)) x after r new (λ other. (λ w. w, λ w. w)) (λ w. w) ch a;
+          folder = folder_there to (hostdir_of due.host) (folder_alone (hostdir_of due.host)) x after new told made tells e ch.at.there;
+        })
+        (λ x after r told why good_x named a tells e. told_fair name after (folder_alone (hostdir_of due.host)) made_or_old told why
+        (λ answer is. folder_made_well to x r named.there (hostdir_of due.host) after answer (subst (λ o. Tells (make_folder to (hostdir_of due.host)) x o after) is tells)) e)
         (λ x r made good_x named b. index_made x r good_x named b)
         t room good at begun
 
@@ -419,7 +371,7 @@ module _ (number : ℕ) (name : Name) (g : Moment) (s : IsSoundAt g) (Sure : Typ
     writer_safe t room good at st =
         let cr : Step = create to (entry_of due).folder (entry_of due).file in
         one_step number name g s Sure dues Post to Whole Begun cr (entry_made (entry_of due)) (λ made. makes_hostdir next c) (mild_create to (OpenHost due.host due.writer) is_open (λ last b stamp h w e. cc))
-        (λ x r good_x named a. record { is_step = λ m sound grows. step.opens to due.host due.writer r named (may m grows x r a.fronts.0.marked a.fronts.0.unsettled); news = tt })
+        (λ x r good_x named a. record { is_step = λ m sound grows. step.opens to due.host due.writer r named (way.may number name g s Sure dues Post to due rest done put planned apart_rest apart_done m grows x r a.fronts.0.marked a.fronts.0.unsettled); news = tt })
         (λ x after r new told made good_x good_after named a tells ch e.
         let y = entry_there to (entry_of due) x after told made tells e in
         let same : y.room ≡ new = some_room y.room new (slice_get after.rooms to) y.has_room ch.at.there in
@@ -432,5 +384,6 @@ module _ (number : ℕ) (name : Name) (g : Moment) (s : IsSoundAt g) (Sure : Typ
           front = all.fronts.0;
           opened = there ∙ ap (λ z. Some z) empty;
         })
+        (λ x after r told why good_x named a tells e. entry_fair name to x after r named (entry_of due) refl told why tells e)
         (λ x r made good_x named b. hostdir_made x r good_x named b)
         t room good at st

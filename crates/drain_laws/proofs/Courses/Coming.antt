@@ -1,98 +1,52 @@
 -- Who drives a drain comes to its source being gathered, or stops before that having changed nothing.
 use Rattle.std.proofs.Common.{◌≡◌, ◌⊎◌, ℕ, List, [], ◌∷◌, ◌++◌, Option, Some, None, ap, sym, ◌∙◌, inl, inr, subst, append_assoc}
 use Rattle.std.specs.Prelude.{Result, Ok, Err}
-use Rattle.store_api.specs.declared.step.Answer.TheVariants.{Absent, Number}
-use Rattle.store_api.specs.declared.store.Trouble.TheVariants.{Fault, NoMemory}
 use Rattle.store_api.specs.declared.tree.Room.{Room}
 use Rattle.store_api.specs.declared.tree.Tree.{Tree}
 use Rattle.store_api.specs.Acts.{Stored}
-use Rattle.store_api.specs.Effect.{Effect}
 use Rattle.store_api.specs.Step.{find_room}
-use Rattle.store_laws.specs.Says.{FindTells}
-use Rattle.store_laws.specs.Tells.{Tells}
-use Rattle.store_laws.specs.There.{IsFree}
-use Rattle.store_laws.proofs.Facts.{find_tells}
 use Rattle.turn_object.specs.Callers.{made_by}
 use Rattle.mount_model.specs.declared.call.Call.TheVariants.{Find}
-use Rattle.mount_model.specs.declared.reply.Reply.{Reply}
-use Rattle.mount_model.specs.declared.reply.Reply.TheVariants.{Room as RoomReply}
 use Rattle.mount_model.specs.History.{Event}
 use Rattle.mount_model.specs.Paths.{Name}
 use Rattle.mount_sound.specs.Owed.{IsLawful}
 use Rattle.flow.specs.declared.stuck.Stuck.{Stuck}
+use Rattle.flow.specs.declared.stuck.Stuck.TheVariants as stuck
 use Rattle.flow.specs.Running.{Runs}
+use Rattle.story.proofs.Facts.{entries_not_first}
 use Rattle.gathering.specs.Moments.{Grows, IsSoundAt, Moment, moment_after, next_moment}
 use Rattle.gathering.proofs.Facts.{grows_after, grows_refl, grows_trans, legal_first, legal_rest, moment-append, sound_after}
+use Rattle.reader_laws.specs.Failing.{IsContainerAt}
+use Rattle.reader_laws.proofs.Facts.{container_later}
 use Rattle.drain_read.specs.declared.held.Held.{Held}
 use Rattle.drain_read.specs.declared.read.Contained.{Contained}
 use Rattle.drain_read.specs.Holding.{held_program}
 use Rattle.drain_read.specs.Reading.{contained_program}
 use Rattle.drain_copy.specs.declared.outcome.DrainStuck.{DrainStuck}
 use Rattle.drain_copy.specs.declared.outcome.DrainStuck.TheVariants.{Source}
-use Rattle.drain_copy.specs.Asking.{Told}
 use Rattle.drain_copy.specs.Draining.{drain_program, finds_source, gathers, if_gathered, if_held, known_at, reads_target, works_on}
 use Rattle.drain_copy.specs.Planning.{nothing_held}
-use Rattle.drain_copy.specs.Telling.{DrainsOn, folder_alone, found_room, or_damaged, sought, stuck_there, told_well}
-use Rattle.drain_sound.specs.Draining.{Happening, at_source, at_target, source_after, target_after}
+use Rattle.drain_copy.specs.Telling.{DrainsOn, folder_alone, found_room, sought, stuck_there, told_well}
+use Rattle.drain_sound.specs.Draining.{Happening, source_after, target_after}
 use Rattle.drain_sound.specs.Fronts.{IsTarget}
 use Rattle.drain_sound.specs.Steps.{IsNamedRoom}
 use Rattle.drain_sound.proofs.Facts.{target_lasts}
 use Rattle.drain_laws.specs.Driving.{AreMade, Drives, FindsRoom}
 use Rattle.drain_laws.specs.Gathered.{HasGathered, began_at, events_in, listed_at}
 use Rattle.drain_laws.specs.Resting.{SparesAll}
+use Rattle.drain_laws.proofs.Courses.Sought.{HaltsBy, IsSought, finds_so, found_so, search_told, sought_fair}
 use Rattle.drain_laws.proofs.Driving.Happened.{IsIdle, events_both, finds_rest, idle_tree, lawful_events, made_first, made_rest, source_both, source_is}
 use Rattle.drain_laws.proofs.Reading.Held.{held_so}
-use Rattle.drain_laws.proofs.Driving.Passing.{HasCalled, HasRun, HasSeen, HasTold, IsUnfinished, Passes, Sees, ended_badly, none_both, pass_on, pass_or, passes_call, passes_calls, passes_look, passes_looks, stops}
+use Rattle.drain_laws.proofs.Driving.Passing.{HasCalled, HasRun, HasSeen, HasTold, IsFairCall, IsUnfinished, Passes, Sees, ended_badly, none_both, pass_on, pass_or, passes_call, passes_calls, passes_look, passes_looks, stops}
+use Rattle.drain_laws.proofs.Planning.Known.{known_covers}
+use Rattle.drain_laws.proofs.Planning.Unrefused.{find_ends, found_container}
+use Rattle.drain_laws.proofs.Reading.Failing.{contained_fails}
+use Rattle.drain_laws.proofs.Reading.Undamaged.{held_fails}
 use Rattle.drain_laws.proofs.Planning.Plan.{Knows, knows_held, knows_nothing}
 use Rattle.drain_laws.proofs.Reading.Read.{HasContained, HasReadContainer, contained_run}
 use Rattle.drain_laws.proofs.Reading.Sparing.{spares_contained, spares_find}
 
--- ---- what was told of the search
-
-sought_so : (o : Option (Option ℕ)) (found : Option ℕ) → or_damaged (folder_alone []) o ≡ Ok found → o ≡ Some found
-sought_so None found e = absurd (cc)
-sought_so (Some x) found e = let same : x ≡ found = cc in ap (λ y. Some y) same
-
-abbrev IsSought : Name → Tree → Option ℕ → Type 0
-IsSought name t None = IsFree t name
-IsSought name t (Some n) = (room : Room) × IsNamedRoom t n name room
-
-search_told : (name : Name) (t after : Tree) (told : Told) (found : Option ℕ) → Tells (find_room name) t told after → told_well (folder_alone []) sought told ≡ Ok found → IsSought name t found
-search_told name t after (Ok (Number n)) found tells e =
-    let says : FindTells t name (Number n) = subst (FindTells t name) (ap (λ (x : Effect). x.answer) tells) (find_tells t name).says_so in
-    let good : ◌≡◌ {A = Result (Option ℕ) DrainStuck} (Ok (Some n)) (Ok found) = e in
-    let same : Some n ≡ found = cc in
-    subst (IsSought name t) same (says.room, record { there = says.has_room; named = says.named })
-search_told name t after (Ok Absent) found tells e =
-    let says : FindTells t name Absent = subst (FindTells t name) (ap (λ (x : Effect). x.answer) tells) (find_tells t name).says_so in
-    let good : ◌≡◌ {A = Result (Option ℕ) DrainStuck} (Ok None) (Ok found) = e in
-    let same : None ≡ found = cc in
-    subst (IsSought name t) same says
-search_told name t after (Ok answer) found tells e = absurd (cc)
-search_told name t after (Err Fault) found tells e = absurd (cc)
-search_told name t after (Err NoMemory) found tells e = absurd (cc)
-
--- ---- the room that was found
-
-found_so : (reply : Reply) (room : ℕ) → found_room reply ≡ Ok room → reply ≡ RoomReply room
-found_so (RoomReply room) x e = let same : room ≡ x = cc in ap (λ k. RoomReply k) same
-found_so reply x e = absurd (cc)
-
-finds_so : (caller number : ℕ) (happened : List Happening) (others more : List Event) (event : Event) → FindsRoom caller number happened → events_in happened ≡ others ++ event ∷ more → event.caller ≡ caller → (room : ℕ) → event.reply ≡ RoomReply room → room ≡ number
-finds_so caller number [] [] more event finds split own room is = absurd (cc)
-finds_so caller number [] (o ∷ others) more event finds split own room is = absurd (cc)
-finds_so caller number (at_target a ∷ happened) others more event finds split own room is = finds_so caller number happened others more event finds split own room is
-finds_so caller number (at_source e ∷ happened) [] more event finds split own room is =
-    let same : e ≡ event = cc in
-    finds.0 (ap (λ (x : Event). x.caller) same ∙ own) room (ap (λ (x : Event). x.reply) same ∙ is)
-finds_so caller number (at_source e ∷ happened) (o ∷ others) more event finds split own room is =
-    let rest : events_in happened ≡ others ++ event ∷ more = cc in
-    finds_so caller number happened others more event finds.1 rest own room is
-
 module _ (caller number : ℕ) (name : Name) (source : Moment) (s : IsSoundAt source) (t : Tree) (target : IsTarget source number name t) (left : DrainsOn) where
-  abbrev Pass : (List Happening → List Happening → Type 0) → List Happening → Type 0
-  Pass Behind happened = Passes SparesAll caller left Behind happened
-
   -- ---- the source after a part
 
   module _ (store : Stored) (first rest : List Happening) (made : AreMade source store (first ++ rest)) where
@@ -142,9 +96,50 @@ module _ (caller number : ℕ) (name : Name) (source : Moment) (s : IsSoundAt so
     pub knows : Knows moment sound number name t its_target held
 
   module _ (store : Stored) (happened : List Happening) (told : store.tree ≡ Some t) (made : AreMade source store happened) (finds : FindsRoom caller number happened) where
+    abbrev Bad : DrainStuck → Type 0
+    Bad why = HaltsBy caller name source happened why
+
+    abbrev Pass : (List Happening → List Happening → Type 0) → List Happening → Type 0
+    Pass Behind hs = Passes Bad SparesAll caller left Behind hs
+
+    -- ---- until the source is sought
+
+    -- these calls were others', and these happenings are left
+    record IsBefore (m : Moment) (rest : List Happening) : Type 0 where
+      before : List Event
+      at : m ≡ moment_after source before
+      split : events_in happened ≡ before ++ events_in rest
+      none : made_by caller before ≡ []
+      sound : IsSoundAt m
+
+    fair_find : IsFairCall Bad SparesAll caller left (Find name) found_room IsBefore
+    fair_find = record {
+      on = λ m e rest other now l. record {
+        before = now.before ++ e ∷ [];
+        at = ap (λ k. next_moment k e) now.at ∙ sym (moment-append source now.before (e ∷ []));
+        split = now.split ∙ sym (append_assoc now.before (e ∷ []) (events_in rest));
+        none = none_both caller now.before (e ∷ []) now.none (entries_not_first caller e [] other);
+        sound = sound_after m (e ∷ []) l now.sound;
+      };
+      fair = λ m e rest why now l own asked bad. elim (find_ends m now.sound e name l asked why bad) as (λ _. Bad why) [
+        | inl is ↦ subst Bad (sym is) tt
+        | inr (is, free) ↦ subst Bad (sym is) (record {
+          before = now.before;
+          first = e;
+          later = events_in rest;
+          split = now.split;
+          none_before = now.none;
+          by_caller = own;
+          tree = now.sound.shape.tree;
+          told = ap (λ (k : Moment). k.state.store.tree) (sym now.at) ∙ now.sound.shape.told;
+          free = free;
+        })
+      ];
+    }
+
     -- ---- the container is read
 
-    module _ (a b d last : List Happening) (e : happened ≡ a ++ (b ++ (d ++ last))) (x : HasHeldIt a) (y : HasCalled SparesAll caller left (Find name) found_room (gathers name x.held) b (d ++ last)) (contained : Contained) (runs : Runs caller (contained_program (known_at x.held number)) (events_in d) (Ok contained)) (drives : Drives caller (works_on name x.held contained) last left) where
+    module _ (a b d last : List Happening) (e : happened ≡ a ++ (b ++ (d ++ last))) (x : HasHeldIt a) (y : HasCalled Bad SparesAll caller left (Find name) found_room (gathers name x.held) b (d ++ last)) where
       all_made : AreMade source store (a ++ (b ++ (d ++ last)))
       all_made = subst (AreMade source store) e made
 
@@ -182,43 +177,6 @@ module _ (caller number : ℕ) (name : Name) (source : Moment) (s : IsSoundAt so
       unfolding begin
       lawful_d = lawful_events (source_after source (a ++ b)) (target_after store (a ++ b)) d (made_first (source_after source (a ++ b)) (target_after store (a ++ b)) d last (made_rest source store (a ++ b) (d ++ last) ab_made))
 
-      read : HasReadContainer caller (known_at x.held number) begin (events_in d) contained
-      read = contained_run caller (known_at x.held number) begin (events_in d) contained begin_sound lawful_d runs
-
-      gathered_so : HasGathered caller number (events_in (a ++ (b ++ d)))
-      unfolding before_find
-      gathered_so = record {
-        before = events_in a ++ y.others;
-        first = y.event;
-        between = read.before;
-        listing = read.listing;
-        later = read.later;
-        split = ap events_in (sym (append_assoc a b d)) ∙ events_both (a ++ b) d ∙ (λ i. events_ab i ++ read.split i) ∙ append_assoc (events_in a ++ y.others) (y.event ∷ []) (read.before ++ read.listing ∷ read.later);
-        none_before = none_both caller (events_in a) y.others x.waits y.waits;
-        by_caller = y.own;
-        listed_by = read.listed_by;
-        lists = read.lists;
-      }
-
-      -- the moment of the listing, counted from the Find's
-      listing_is : listed_at source gathered_so ≡ moment_after begin read.before
-      unfolding before_find gathered_so
-      listing_is = ap (λ (k : Moment). moment_after k read.before) (sym begin_is)
-
-      lawful_listing : IsLawful begin.state (read.before ++ read.listing ∷ read.later)
-      lawful_listing = subst (IsLawful begin.state) read.split lawful_d
-
-      sound_listing : IsSoundAt (moment_after begin read.before)
-      sound_listing = sound_after begin read.before (legal_first begin read.before (read.listing ∷ read.later) lawful_listing) begin_sound
-
-      goes_on : Grows (moment_after begin read.before) (source_after source (a ++ (b ++ d)))
-      unfolding begin
-      goes_on =
-          let n : Moment = moment_after (source_after source (a ++ b)) read.before in
-          let ends : source_after source (a ++ (b ++ d)) ≡ moment_after n (read.listing ∷ read.later) =
-          ap (source_after source) (sym (append_assoc a b d)) ∙ source_both source (a ++ b) d ∙ source_is (source_after source (a ++ b)) d ∙ ap (moment_after (source_after source (a ++ b))) read.split ∙ moment-append (source_after source (a ++ b)) read.before (read.listing ∷ read.later) in
-          subst (Grows n) (sym ends) (grows_after n (read.listing ∷ read.later) (legal_rest (source_after source (a ++ b)) read.before (read.listing ∷ read.later) lawful_listing) sound_listing)
-
       to_begin : Grows x.moment begin
       unfolding begin
       to_begin =
@@ -227,31 +185,91 @@ module _ (caller number : ℕ) (name : Name) (source : Moment) (s : IsSoundAt so
           let ends : source_after source (a ++ b) ≡ moment_after (source_after source a) (events_in b) = source_both source a b ∙ source_is (source_after source a) b in
           grows_trans x.moment (source_after source a) (source_after source (a ++ b)) x.since (subst (Grows (source_after source a)) (sym ends) (grows_after (source_after source a) (events_in b) (lawful_events (source_after source a) (target_after store a) b b_made) sound_a))
 
-      target_listing : IsTarget (moment_after begin read.before) number name t
-      unfolding begin
-      target_listing = target_lasts (source_after source (a ++ b)) number name t read.before (legal_first (source_after source (a ++ b)) read.before (read.listing ∷ read.later) lawful_listing) begin_sound (target_then store (a ++ b) (d ++ last) ab_made)
+      -- the room that was found is a container
+      room_is : y.told ≡ number
+      unfolding before_find
+      room_is =
+          let split : events_in happened ≡ (events_in a ++ y.others) ++ y.event ∷ events_in (d ++ last) =
+          ap events_in (e ∙ sym (append_assoc a b (d ++ last))) ∙ events_both (a ++ b) (d ++ last) ∙ ap (λ l. l ++ events_in (d ++ last)) events_ab ∙ append_assoc (events_in a ++ y.others) (y.event ∷ []) (events_in (d ++ last)) in
+          finds_so caller number happened (events_in a ++ y.others) (events_in (d ++ last)) y.event finds split y.own y.told (found_so y.event.reply y.told y.good)
 
-      pub read_so : HasRead (a ++ (b ++ d)) last
-      unfolding gathered_so before_find
-      read_so = record {
-        gathered = gathered_so;
-        begin = begin;
-        began = began_so;
-        listing_sound = subst IsSoundAt (sym listing_is) sound_listing;
-        since = subst (λ k. Grows k (source_after source (a ++ (b ++ d)))) (sym listing_is) goes_on;
-        its_target = subst (λ k. IsTarget k number name t) (sym listing_is) target_listing;
-        held = x.held;
-        moment = x.moment;
-        sound = x.sound;
-        then_target = x.its_target;
-        begun = x.begun;
-        knows = x.knows;
-        before = to_begin;
-        grows = subst (Grows begin) (sym listing_is) (grows_after begin read.before (legal_first begin read.before (read.listing ∷ read.later) lawful_listing) begin_sound);
-        contained = contained;
-        contains = subst (λ k. HasContained caller (known_at x.held number) begin k contained) (sym listing_is) read.has;
-        drives = drives;
-      }
+      container : IsContainerAt begin number
+      unfolding begin before_find
+      container =
+          let before : Moment = moment_after source (events_in a ++ y.others) in
+          container_later before (source_after source (a ++ b)) number began_so
+          (subst (IsContainerAt before) room_is (found_container before sound_before y.event name (legal_rest source (events_in a ++ y.others) (y.event ∷ []) lawful_ab) y.asked y.told y.good))
+
+      -- so it is read past what the target has, unless the store fails
+      pub gather_fails : (why : Stuck) → Runs caller (contained_program (known_at x.held number)) (events_in d) (Err why) → why ≡ stuck.Fault
+      unfolding begin
+      gather_fails why runs =
+          (contained_fails caller (known_at x.held number) x.moment (λ k sound grows its stood. known_covers x.moment x.sound number name t x.its_target x.held x.knows k sound grows its.host its.writer stood)
+          (source_after source (a ++ b)) (events_in d) why to_begin begin_sound container lawful_d runs).0
+
+      module _ (contained : Contained) (runs : Runs caller (contained_program (known_at x.held number)) (events_in d) (Ok contained)) (drives : Drives caller (works_on name x.held contained) last left) where
+        read : HasReadContainer caller (known_at x.held number) begin (events_in d) contained
+        read = contained_run caller (known_at x.held number) begin (events_in d) contained begin_sound lawful_d runs
+
+        gathered_so : HasGathered caller number (events_in (a ++ (b ++ d)))
+        unfolding before_find
+        gathered_so = record {
+          before = events_in a ++ y.others;
+          first = y.event;
+          between = read.before;
+          listing = read.listing;
+          later = read.later;
+          split = ap events_in (sym (append_assoc a b d)) ∙ events_both (a ++ b) d ∙ (λ i. events_ab i ++ read.split i) ∙ append_assoc (events_in a ++ y.others) (y.event ∷ []) (read.before ++ read.listing ∷ read.later);
+          none_before = none_both caller (events_in a) y.others x.waits y.waits;
+          by_caller = y.own;
+          listed_by = read.listed_by;
+          lists = read.lists;
+        }
+
+        -- the moment of the listing, counted from the Find's
+        listing_is : listed_at source gathered_so ≡ moment_after begin read.before
+        unfolding before_find gathered_so
+        listing_is = ap (λ (k : Moment). moment_after k read.before) (sym begin_is)
+
+        lawful_listing : IsLawful begin.state (read.before ++ read.listing ∷ read.later)
+        lawful_listing = subst (IsLawful begin.state) read.split lawful_d
+
+        sound_listing : IsSoundAt (moment_after begin read.before)
+        sound_listing = sound_after begin read.before (legal_first begin read.before (read.listing ∷ read.later) lawful_listing) begin_sound
+
+        goes_on : Grows (moment_after begin read.before) (source_after source (a ++ (b ++ d)))
+        unfolding begin
+        goes_on =
+            let n : Moment = moment_after (source_after source (a ++ b)) read.before in
+            let ends : source_after source (a ++ (b ++ d)) ≡ moment_after n (read.listing ∷ read.later) =
+            ap (source_after source) (sym (append_assoc a b d)) ∙ source_both source (a ++ b) d ∙ source_is (source_after source (a ++ b)) d ∙ ap (moment_after (source_after source (a ++ b))) read.split ∙ moment-append (source_after source (a ++ b)) read.before (read.listing ∷ read.later) in
+            subst (Grows n) (sym ends) (grows_after n (read.listing ∷ read.later) (legal_rest (source_after source (a ++ b)) read.before (read.listing ∷ read.later) lawful_listing) sound_listing)
+
+        target_listing : IsTarget (moment_after begin read.before) number name t
+        unfolding begin
+        target_listing = target_lasts (source_after source (a ++ b)) number name t read.before (legal_first (source_after source (a ++ b)) read.before (read.listing ∷ read.later) lawful_listing) begin_sound (target_then store (a ++ b) (d ++ last) ab_made)
+
+        pub read_so : HasRead (a ++ (b ++ d)) last
+        unfolding gathered_so before_find
+        read_so = record {
+          gathered = gathered_so;
+          begin = begin;
+          began = began_so;
+          listing_sound = subst IsSoundAt (sym listing_is) sound_listing;
+          since = subst (λ k. Grows k (source_after source (a ++ (b ++ d)))) (sym listing_is) goes_on;
+          its_target = subst (λ k. IsTarget k number name t) (sym listing_is) target_listing;
+          held = x.held;
+          moment = x.moment;
+          sound = x.sound;
+          then_target = x.its_target;
+          begun = x.begun;
+          knows = x.knows;
+          before = to_begin;
+          grows = subst (Grows begin) (sym listing_is) (grows_after begin read.before (legal_first begin read.before (read.listing ∷ read.later) lawful_listing) begin_sound);
+          contained = contained;
+          contains = subst (λ k. HasContained caller (known_at x.held number) begin k contained) (sym listing_is) read.has;
+          drives = drives;
+        }
 
     -- ---- the source is sought and read
 
@@ -259,22 +277,23 @@ module _ (caller number : ℕ) (name : Name) (source : Moment) (s : IsSoundAt so
     after_held a rest e x drives =
         let both : AreMade source store (a ++ rest) = subst (AreMade source store) e made in
         let made_on = made_rest source store a rest both in
-        pass_on SparesAll caller left (HasCalled SparesAll caller left (Find name) found_room (gathers name x.held)) (λ first last. HasRead (a ++ first) last) rest
-        (passes_call SparesAll caller left (Find name) found_room (gathers name x.held) (source_after source a) (target_after store a) rest (spares_find name) made_on drives)
+        pass_on Bad SparesAll caller left (HasCalled Bad SparesAll caller left (Find name) found_room (gathers name x.held)) (λ first last. HasRead (a ++ first) last) rest
+        (passes_call Bad SparesAll caller left (Find name) found_room (gathers name x.held) IsBefore (source_after source a) (target_after store a) rest fair_find
+        (record { before = events_in a; at = source_is source a; split = ap events_in e ∙ events_both a rest; none = x.waits; sound = sound_then store a rest both }) (spares_find name) made_on drives)
         (λ b c f j y.
         let made_c = made_rest (source_after source a) (target_after store a) b c (subst (AreMade (source_after source a) (target_after store a)) f made_on) in
         let finds_b : FindsRoom caller number (b ++ c) = finds_rest caller number a (b ++ c) (subst (FindsRoom caller number) (e ∙ ap (λ l. a ++ l) f) finds) in
         let room_is : y.told ≡ number = finds_so caller number (b ++ c) y.others (events_in c) y.event finds_b (events_both b c ∙ ap (λ l. l ++ events_in c) y.split ∙ append_assoc y.others (y.event ∷ []) (events_in c)) y.own y.told (found_so y.event.reply y.told y.good) in
-        pass_or SparesAll caller left (HasRun SparesAll caller left (contained_program (known_at x.held number)) (if_gathered name x.held)) (λ first last. HasRead (a ++ (b ++ first)) last) c
+        pass_or Bad SparesAll caller left (HasRun Bad SparesAll caller left (contained_program (known_at x.held number)) (if_gathered name x.held)) (λ first last. HasRead (a ++ (b ++ first)) last) c
         (λ d last g k z.
         let made_last = made_rest (source_after (source_after source a) b) (target_after (target_after store a) b) d last (subst (AreMade (source_after (source_after source a) b) (target_after (target_after store a) b)) g made_c) in
-        by_out a b d last (e ∙ ap (λ l. a ++ l) (f ∙ ap (λ l. b ++ l) g)) x (subst (HasCalled SparesAll caller left (Find name) found_room (gathers name x.held) b) g y) (source_after (source_after (source_after source a) b) d) (target_after (target_after (target_after store a) b) d) made_last z.0 z.1 z.2)
-        (passes_calls SparesAll caller left (contained_program (known_at x.held number)) (if_gathered name x.held) (source_after (source_after source a) b) (target_after (target_after store a) b) c (spares_contained (known_at x.held number)) made_c
+        by_out a b d last (e ∙ ap (λ l. a ++ l) (f ∙ ap (λ l. b ++ l) g)) x (subst (HasCalled Bad SparesAll caller left (Find name) found_room (gathers name x.held) b) g y) (source_after (source_after (source_after source a) b) d) (target_after (target_after (target_after store a) b) d) made_last z.0 z.1 z.2)
+        (passes_calls Bad SparesAll caller left (contained_program (known_at x.held number)) (if_gathered name x.held) (source_after (source_after source a) b) (target_after (target_after store a) b) c (spares_contained (known_at x.held number)) made_c
         (subst (λ r. Drives caller (gathers name x.held r) c left) room_is y.drives)))
       where
-        by_out : (a b d last : List Happening) → happened ≡ a ++ (b ++ (d ++ last)) → (x : HasHeldIt a) → HasCalled SparesAll caller left (Find name) found_room (gathers name x.held) b (d ++ last) → (m : Moment) (its : Stored) → AreMade m its last
-            → (out : Result Contained Stuck) → Runs caller (contained_program (known_at x.held number)) (events_in d) out → Drives caller (if_gathered name x.held out) last left → HasRead (a ++ (b ++ d)) last ⊎ (IsIdle SparesAll caller last × IsUnfinished left)
-        by_out a b d last e x y m its made_last (Err why) runs drives = inr (ended_badly SparesAll caller left (Source why) m its last made_last drives)
+        by_out : (a b d last : List Happening) → happened ≡ a ++ (b ++ (d ++ last)) → (x : HasHeldIt a) → HasCalled Bad SparesAll caller left (Find name) found_room (gathers name x.held) b (d ++ last) → (m : Moment) (its : Stored) → AreMade m its last
+            → (out : Result Contained Stuck) → Runs caller (contained_program (known_at x.held number)) (events_in d) out → Drives caller (if_gathered name x.held out) last left → HasRead (a ++ (b ++ d)) last ⊎ (IsIdle SparesAll caller last × IsUnfinished Bad left)
+        by_out a b d last e x y m its made_last (Err why) runs drives = inr (ended_badly Bad SparesAll caller left (Source why) m its last (subst (λ w. Bad (Source w)) (sym (gather_fails a b d last e x y why runs)) tt) made_last drives)
         by_out a b d last e x y m its made_last (Ok contained) runs drives = inl (read_so a b d last e x y contained runs drives)
 
     -- ---- the target is sought and read
@@ -300,8 +319,8 @@ module _ (caller number : ℕ) (name : Name) (source : Moment) (s : IsSoundAt so
         let here : (target_after store a).tree ≡ Some t = idle_tree caller SparesAll source store t a i (made_first source store a rest both) told in
         let sound = sound_then store a rest both in
         let its_target = target_then store a rest both in
-        pass_on SparesAll caller left (HasSeen SparesAll caller left t (held_program n) (if_held name)) (λ first last. HasRead (a ++ first) last) rest
-        (passes_looks SparesAll caller left (held_program n) (if_held name) (source_after source a) (target_after store a) t rest here made_on drives)
+        pass_on Bad SparesAll caller left (HasSeen Bad SparesAll caller left t (held_program n) (if_held name)) (λ first last. HasRead (a ++ first) last) rest
+        (passes_looks Bad SparesAll caller left (held_program n) (if_held name) (source_after source a) (target_after store a) t rest here made_on drives)
         (λ b c f j y.
         let made_c = made_rest (source_after source a) (target_after store a) b c (subst (AreMade (source_after source a) (target_after store a)) f made_on) in
         by_out a b c (e ∙ ap (λ l. a ++ l) f) waits n room at sound its_target (grows_then store a rest both)
@@ -311,11 +330,12 @@ module _ (caller number : ℕ) (name : Name) (source : Moment) (s : IsSoundAt so
             → AreMade (source_after source a) (target_after store a) b → AreMade (source_after (source_after source a) b) (target_after (target_after store a) b) c
             → (out : Result Held Stuck) → made_by caller (events_in b) ≡ [] → Sees t (held_program n) out → Drives caller (if_held name out) c left → Pass (λ first last. HasRead (a ++ (b ++ first)) last) c
         by_out a b c e waits n room at sound its_target begun made_b made_c (Err why) none sees drives =
-            let bad = ended_badly SparesAll caller left (stuck_there why) (source_after (source_after source a) b) (target_after (target_after store a) b) c made_c drives in
+            let fault = held_fails (source_after source a) sound number name t its_target n room at why sees in
+            let bad = ended_badly Bad SparesAll caller left (stuck_there why) (source_after (source_after source a) b) (target_after (target_after store a) b) c (subst (λ w. Bad (stuck_there w)) (sym fault) tt) made_c drives in
             stops bad.0 bad.1
         by_out a b c e waits n room at sound its_target begun made_b made_c (Ok held) none sees drives =
             let ends : source_after source (a ++ b) ≡ moment_after (source_after source a) (events_in b) = source_both source a b ∙ source_is (source_after source a) b in
-            pass_or SparesAll caller left (λ first last. HasRead ((a ++ b) ++ first) last) (λ first last. HasRead (a ++ (b ++ first)) last) c (λ first last f k z. inl (subst (λ l. HasRead l last) (append_assoc a b first) z))
+            pass_or Bad SparesAll caller left (λ first last. HasRead ((a ++ b) ++ first) last) (λ first last. HasRead (a ++ (b ++ first)) last) c (λ first last f k z. inl (subst (λ l. HasRead l last) (append_assoc a b first) z))
             (after_held (a ++ b) c (e ∙ sym (append_assoc a b c)) (record {
               waits = ap (made_by caller) (events_both a b) ∙ none_both caller (events_in a) (events_in b) waits none;
               held = held;
@@ -329,6 +349,6 @@ module _ (caller number : ℕ) (name : Name) (source : Moment) (s : IsSoundAt so
 
     pub comes : Drives caller (drain_program name) happened left → Pass HasRead happened
     comes drives =
-        pass_on SparesAll caller left (HasTold SparesAll caller left t (find_room name) (told_well (folder_alone []) sought) (reads_target name)) HasRead happened
-        (passes_look SparesAll caller left (find_room name) (told_well (folder_alone []) sought) (reads_target name) source store t happened tt told made drives)
+        pass_on Bad SparesAll caller left (HasTold Bad SparesAll caller left t (find_room name) (told_well (folder_alone []) sought) (reads_target name)) HasRead happened
+        (passes_look Bad SparesAll caller left (find_room name) (told_well (folder_alone []) sought) (reads_target name) source store t happened (λ o why tells e. subst Bad (sym (sought_fair name t t o why tells e)) tt) tt told made drives)
         (λ a rest e i x. after_sought a rest e i x.2 x.1 (search_told name t t x.0 x.1 x.3 x.4) x.5)

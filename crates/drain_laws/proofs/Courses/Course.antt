@@ -1,6 +1,6 @@
 -- The course of a drain from its start on, and where it has ended well.
 use Rattle.std.proofs.Common.{◌≡◌, ◌⊎◌, ℕ, ◌≤◌, List, [], ◌∷◌, ◌++◌, length, take, Some, ap, sym, ◌∙◌, inl, inr, subst, append_assoc, arith}
-use Rattle.std.specs.Prelude.{Ok}
+use Rattle.std.specs.Prelude.{Ok, Err}
 use Rattle.std.proofs.lemmas.List.{append-nil}
 use Rattle.store_api.specs.declared.tree.Room.{Room}
 use Rattle.store_api.specs.declared.tree.Tree.{Tree}
@@ -11,11 +11,15 @@ use Rattle.mount_model.specs.Paths.{Name}
 use Rattle.mount_sound.specs.Entries.{logged}
 use Rattle.mount_sound.specs.Ledger.{entries_in}
 use Rattle.mount_sound.proofs.Facts.{logged_take, take_less}
+use Rattle.flow.specs.declared.stuck.Stuck.TheVariants as stuck
 use Rattle.gathering.specs.Moments.{Dropping, Grows, IsSoundAt, Moment, landed}
 use Rattle.gathering.proofs.Facts.{entries_stay, grows_after, grows_trans, landed_whole}
 use Rattle.drain_copy.specs.declared.outcome.Drained.{Drained}
+use Rattle.drain_copy.specs.declared.outcome.DrainStuck.{DrainStuck}
+use Rattle.drain_copy.specs.declared.outcome.DrainStuck.TheVariants.{Source}
 use Rattle.drain_copy.specs.declared.plan.Due.{Due}
 use Rattle.drain_copy.specs.Asking.{ends}
+use Rattle.drain_copy.specs.Planning.{taken}
 use Rattle.drain_copy.specs.Draining.{drain_program}
 use Rattle.drain_copy.specs.Telling.{DrainsOn}
 use Rattle.drain_sound.specs.Draining.{Happening, IsDraining, source_after, target_after}
@@ -25,16 +29,17 @@ use Rattle.drain_laws.specs.Driving.{AreMade, Drives, FindsRoom}
 use Rattle.drain_laws.specs.Gathered.{HasGathered, began_at, events_in, listed_at}
 use Rattle.drain_laws.specs.Reading.{AllReadBehind}
 use Rattle.drain_laws.specs.Resting.{SparesAll, SparesLogs}
-use Rattle.drain_laws.proofs.Planning.Aims.{NoBareLog}
+use Rattle.drain_laws.proofs.Planning.Aims.{IsFair, NoBareLog}
 use Rattle.drain_laws.proofs.Courses.Coming.{HasRead, comes, sound_then}
+use Rattle.drain_laws.proofs.Courses.Sought.{HaltsBy}
 use Rattle.drain_laws.proofs.Courses.Drain.{Got, Works, its_dues, its_listing, works_so}
 use Rattle.drain_laws.proofs.Courses.Got.{HasGot}
 use Rattle.drain_laws.proofs.Driving.Happened.{IsIdle, events_both, idle_draining, idle_reads, idle_tree, idle_weaker, lawful_events, made_first, made_rest, source_both, source_is, target_both}
 use Rattle.drain_laws.proofs.Driving.Passing.{IsUnfinished, Passes, goes, stops}
-use Rattle.drain_laws.proofs.Driving.Traced.{HasEnd, draining_of, end_of, reads_of}
+use Rattle.drain_laws.proofs.Driving.Traced.{HasEnd, HasStopped, draining_of, end_of, reads_of, stopped_of}
 
 -- what was gathered in the first events was gathered in all
-abbrev more_events : (caller number : ℕ) (events more : List Event) → HasGathered caller number events → HasGathered caller number (events ++ more)
+abbrev pub more_events : (caller number : ℕ) (events more : List Event) → HasGathered caller number events → HasGathered caller number (events ++ more)
 more_events caller number events more g = record {
   before = g.before;
   first = g.first;
@@ -48,7 +53,7 @@ more_events caller number events more g = record {
   lists = g.lists;
 }
 
-abbrev same_events : (caller number : ℕ) (events others : List Event) → events ≡ others → HasGathered caller number others → HasGathered caller number events
+abbrev pub same_events : (caller number : ℕ) (events others : List Event) → events ≡ others → HasGathered caller number others → HasGathered caller number events
 same_events caller number events others e g = record {
   before = g.before;
   first = g.first;
@@ -61,6 +66,13 @@ same_events caller number events others e g = record {
   listed_by = g.listed_by;
   lists = g.lists;
 }
+
+-- it ended badly, and so not well
+pub not_well : (why : DrainStuck) (drained : Drained) → ◌≡◌ {A = DrainsOn} (ends (Err why)) (ends (Ok drained)) → ⊥
+not_well why drained e = cc
+
+only_fault : (name : Name) (t : Tree) (why : DrainStuck) → why ≡ Source stuck.Fault → IsFair name t why
+only_fault name t why is = subst (IsFair name t) (sym is) tt
 
 spares_logs : (call : Call) → SparesAll call → SparesLogs call
 spares_logs call spares = spares.0
@@ -92,10 +104,10 @@ module _ (caller number : ℕ) (name : Name) (source : Moment) (s : IsSoundAt so
     pub works : Works caller number name source s t target left first all read
 
   -- it stopped before its source was gathered, or worked on
-  pub course : (IsIdle SparesAll caller happened × IsUnfinished left) ⊎ HasBegun
+  pub course : (IsIdle SparesAll caller happened × IsUnfinished (HaltsBy caller name source happened) left) ⊎ HasBegun
   course = of_passes (comes caller number name source s t target left store happened told made finds drives)
     where
-      of_passes : Passes SparesAll caller left (HasRead caller number name source s t target left) happened → (IsIdle SparesAll caller happened × IsUnfinished left) ⊎ HasBegun
+      of_passes : Passes (HaltsBy caller name source happened) SparesAll caller left (HasRead caller number name source s t target left) happened → (IsIdle SparesAll caller happened × IsUnfinished (HaltsBy caller name source happened) left) ⊎ HasBegun
       of_passes (stops i u) = inl (i, u)
       of_passes (goes first all e i x) = inr (record {
         first = first;
@@ -188,13 +200,13 @@ module _ (caller number : ℕ) (name : Name) (source : Moment) (s : IsSoundAt so
 
   pub finished : (drained : Drained) → left ≡ ends (Ok drained) → HasFinished drained
   finished drained is = elim course as (λ _. HasFinished drained) [
-    | inl idle ↦ absurd (idle.1 drained is)
+    | inl idle ↦ absurd (idle.1 (Ok drained) is)
     | inr b ↦ by_works b b.works
   ]
     where
       by_works : (b : HasBegun) → Works caller number name source s t target left b.first b.all b.read → HasFinished drained
-      by_works b (inl bad) = absurd (bad.1 drained is)
-      by_works b (inr (inl (o, os, new, free, idle, bad))) = absurd (bad drained is)
+      by_works b (inl (idle, (why, taken_so, ended))) = absurd (not_well why drained (sym ended ∙ is))
+      by_works b (inr (inl (o, os, new, free, idle, bad))) = absurd (bad (Ok drained) is)
       by_works b (inr (inr (middle, rest, f, idle, y))) =
           let x = b.read in
           let m : Moment = source_after source b.first in
@@ -225,3 +237,37 @@ module _ (caller number : ℕ) (name : Name) (source : Moment) (s : IsSoundAt so
         where
           since_sound : (b : HasBegun) → IsSoundAt (source_after source b.first)
           since_sound b = sound_then caller number name source s t target left store b.first b.all (all_made b)
+
+  -- ---- where it has ended before it was through
+
+  -- before its source was gathered; or as a writer was taken; or in trouble behind that, at the tree that is there then
+  pub data HasStoppedBy (why : DrainStuck) : Type 0 where
+    halted : HaltsBy caller name source happened why → HasStoppedBy why
+    took : (b : HasBegun) → taken b.read.held b.read.contained.writers ≡ Some why → HasStoppedBy why
+    stopped_in : (after : Tree) → (target_after store happened).tree ≡ Some after → IsFair name after why → HasStoppedBy why
+
+  pub stopped : (why : DrainStuck) → left ≡ ends (Err why) → HasStoppedBy why
+  stopped why is = elim course as (λ _. HasStoppedBy why) [
+    | inl idle ↦ halted (idle.1 (Err why) is)
+    | inr b ↦ by_works b b.works
+  ]
+    where
+      one_why : (other : DrainStuck) → ◌≡◌ {A = DrainsOn} (ends (Err other)) (ends (Err why)) → other ≡ why
+      one_why other e = cc
+
+      by_works : (b : HasBegun) → Works caller number name source s t target left b.first b.all b.read → HasStoppedBy why
+      by_works b (inl (idle, (other, taken_so, ended))) = took b (taken_so ∙ ap (λ w. Some w) (one_why other (sym ended ∙ is)))
+      by_works b (inr (inl (o, os, new, free, idle, bad))) =
+          let here : (target_after store happened).tree ≡ Some t = ap (λ hs. (target_after store hs).tree) b.split ∙ ap (λ (k : Stored). k.tree) (target_both store b.first b.all) ∙ idle_tree caller SparesLogs (source_after source b.first) (target_after store b.first) t b.all idle (made_on b) (here b) in
+          stopped_in t here (only_fault name t why (bad (Err why) is))
+      by_works b (inr (inr (middle, rest, f, idle, y))) =
+          let x = b.read in
+          let m : Moment = source_after source b.first in
+          let its : Stored = target_after store b.first in
+          let both : AreMade m its (middle ++ rest) = subst (AreMade m its) f (made_on b) in
+          let listing : Moment = its_listing caller number name source s t target left b.first b.all x in
+          let end : HasStopped number name listing x.listing_sound (NoBareLog name t) (its_dues caller number name source s t target left b.first b.all x) (Got caller number name source s t target left b.first b.all x) caller left (target_after (target_after its middle) rest) why =
+          stopped_of number name listing x.listing_sound (NoBareLog name t) (its_dues caller number name source s t target left b.first b.all x) (Got caller number name source s t target left b.first b.all x) caller left
+          (target_after its middle) t rest why is (idle_tree caller SparesLogs m its t middle idle (made_first m its middle rest both) (here b)) y.trace in
+          let tree_is : target_after store happened ≡ target_after (target_after its middle) rest = ap (target_after store) (b.split ∙ ap (λ l. b.first ++ l) f) ∙ target_both store b.first (middle ++ rest) ∙ target_both its middle rest in
+          stopped_in end.after (ap (λ (k : Stored). k.tree) tree_is ∙ end.told) end.fair

@@ -4,29 +4,36 @@ use Rattle.plain_file.proofs.Facts.{Among}
 use Rattle.store_api.specs.declared.tree.Tree.{Tree}
 use Rattle.store_api.specs.Acts.{Stored}
 use Rattle.mount_model.specs.Paths.{Name}
-use Rattle.gathering.specs.Moments.{Grows, IsSoundAt, Moment}
-use Rattle.gathering.proofs.Facts.{grows_after, grows_trans, sound_after}
+use Rattle.flow.specs.declared.stuck.Stuck.TheVariants as stuck
+use Rattle.gathering.specs.Moments.{Grows, IsSoundAt, Moment, Stood}
+use Rattle.gathering.proofs.Facts.{all_at, grows_after, grows_trans, sound_after}
+use Rattle.reader_laws.specs.Failing.{IsContainerAt}
+use Rattle.reader_laws.proofs.Facts.{container_later}
+use Rattle.reader_laws.proofs.Faults.TailFails.{stood_container}
 use Rattle.drain_read.specs.declared.read.WriterRead.{WriterRead}
 use Rattle.drain_copy.specs.declared.outcome.Drained.{Drained}
 use Rattle.drain_copy.specs.declared.outcome.DrainStuck.{DrainStuck}
+use Rattle.drain_copy.specs.declared.outcome.DrainStuck.TheVariants.{Source}
 use Rattle.drain_copy.specs.declared.plan.Due.{Due}
 use Rattle.drain_copy.specs.declared.plan.Job.{Job}
 use Rattle.drain_copy.specs.declared.plan.Owner.{Owner}
+use Rattle.std.specs.Prelude.{Err}
+use Rattle.drain_copy.specs.Asking.{ends}
 use Rattle.drain_copy.specs.Draining.{job_of, makes_marks_room, syncs, unless_taken}
 use Rattle.drain_copy.specs.Planning.{drained_of, due_of, dues_of, mounts_of, owners_of, taken}
 use Rattle.drain_copy.specs.Telling.{DrainsOn}
 use Rattle.drain_sound.specs.Draining.{Happening, source_after, target_after}
-use Rattle.drain_sound.specs.Fronts.{IsTarget}
+use Rattle.drain_sound.specs.Fronts.{IsTarget, dropping_in}
 use Rattle.drain_laws.specs.Driving.{AreMade, Drives}
 use Rattle.drain_laws.specs.Gathered.{events_in, listed_at}
 use Rattle.drain_laws.specs.Resting.{SparesAll, SparesLogs}
 use Rattle.drain_laws.proofs.Planning.Aims.{IsKeptDue, IsSince, NoBareLog}
 use Rattle.drain_laws.proofs.Courses.Coming.{HasRead, sound_then}
 use Rattle.drain_laws.proofs.Planning.Due.{IsDueOf, due_later}
-use Rattle.drain_laws.proofs.Planning.Dues.{dues_all, owner_among}
+use Rattle.drain_laws.proofs.Planning.Dues.{dues_all, new_owner, owner_among}
 use Rattle.drain_laws.proofs.Courses.Got.{HasGot, all_safe, its_due}
 use Rattle.drain_laws.proofs.Driving.Happened.{IsIdle, idle_tree, lawful_events, made_first, made_rest, source_is}
-use Rattle.drain_laws.proofs.Driving.Passing.{IsUnfinished, Passes, ended_badly, goes, pass_or, stops}
+use Rattle.drain_laws.proofs.Driving.Passing.{IsUnfinished, Passes, ended, goes, pass_or, stops}
 use Rattle.drain_laws.proofs.Planning.Syncs.{HasSynced, all_synced}
 use Rattle.drain_laws.proofs.Driving.Traced.{Trace, drive_traced}
 
@@ -51,11 +58,15 @@ module _ (caller number : ℕ) (name : Name) (source : Moment) (s : IsSoundAt so
     pub none : owners_of x.contained.writers ≡ [] → middle ≡ []
     pub trace : Trace number name (its_listing first all x) x.listing_sound (NoBareLog name t) (its_dues first all x) (Got first all x) caller left t rest
 
-  -- how it went on with what was read
+  -- the source's store failed
+  abbrev pub IsFailed : DrainStuck → Type 0
+  IsFailed why = why ≡ Source stuck.Fault
+
+  -- how it went on with what was read: a writer was taken; or it stopped as it synced what is new; or it went on
   abbrev pub Works : (first all : List Happening) → Read first all → Type 0
   Works first all x =
-      (IsIdle SparesAll caller all × IsUnfinished left)
-      ⊎ ((o : Owner) × (os : List Owner) × (owners_of x.contained.writers ≡ o ∷ os) × (taken x.held x.contained.writers ≡ None) × IsIdle SparesLogs caller all × IsUnfinished left)
+      (IsIdle SparesAll caller all × ((why : DrainStuck) × (taken x.held x.contained.writers ≡ Some why) × (left ≡ ends (Err why))))
+      ⊎ ((o : Owner) × (os : List Owner) × (owners_of x.contained.writers ≡ o ∷ os) × (taken x.held x.contained.writers ≡ None) × IsIdle SparesLogs caller all × IsUnfinished IsFailed left)
       ⊎ ((middle : List Happening) × (rest : List Happening) × (all ≡ middle ++ rest) × IsIdle SparesLogs caller middle × HasCome first all x middle rest)
 
   module _ (store : Stored) (told : store.tree ≡ Some t) (first all : List Happening) (made : AreMade source store (first ++ all)) (idle : IsIdle SparesAll caller first) (x : Read first all) where
@@ -74,6 +85,13 @@ module _ (caller number : ℕ) (name : Name) (source : Moment) (s : IsSoundAt so
     here : its_store.tree ≡ Some t
     here = idle_tree caller SparesAll source store t first idle (made_first source store first all made) told
 
+    -- a container that has writers
+    its_container : (o : Owner) (os : List Owner) → owners_of x.contained.writers ≡ o ∷ os → IsContainerAt before number
+    its_container o os e =
+        let (w, a, some) = new_owner x.contained.writers o os e in
+        let stood : Stood (its_listing first all x) (dropping_in number w.host w.writer) = all_at (λ (y : WriterRead). Stood (its_listing first all x) (dropping_in number y.host y.writer)) x.contained.writers w x.contains.stood a in
+        container_later (its_listing first all x) before number x.since (stood_container (its_listing first all x) x.listing_sound (dropping_in number w.host w.writer) stood)
+
     room_is : x.contained.room ≡ number
     room_is = x.contains.room
 
@@ -83,7 +101,7 @@ module _ (caller number : ℕ) (name : Name) (source : Moment) (s : IsSoundAt so
           due_later number (its_listing first all x) x.listing_sound (due_of x.held w)
           (its_due caller number name t x.moment x.sound x.then_target x.held x.knows x.begin (its_listing first all x) x.listing_sound x.before x.grows x.contained x.contains free w a) before x.since
 
-      comes_so : (middle rest : List Happening) → all ≡ middle ++ rest → IsIdle SparesLogs caller middle → HasSynced number caller left (owners_of x.contained.writers) (makes_marks_room (job_of name x.held x.contained) (mounts_of x.contained.writers)) before middle rest → HasCome first all x middle rest
+      comes_so : (middle rest : List Happening) → all ≡ middle ++ rest → IsIdle SparesLogs caller middle → HasSynced number IsFailed refl caller left (owners_of x.contained.writers) (makes_marks_room (job_of name x.held x.contained) (mounts_of x.contained.writers)) before middle rest → HasCome first all x middle rest
       comes_so middle rest e i y =
           let both : AreMade before its_store (middle ++ rest) = subst (AreMade before its_store) e made_on in
           let made_middle = made_first before its_store middle rest both in
@@ -110,11 +128,11 @@ module _ (caller number : ℕ) (name : Name) (source : Moment) (s : IsSoundAt so
                 (subst (λ (j : Job). Drives caller (makes_marks_room j (mounts_of x.contained.writers)) rest left) from_is y.drives);
           }
 
-      pub synced_so : Drives caller (syncs x.contained.room (owners_of x.contained.writers) (makes_marks_room (job_of name x.held x.contained) (mounts_of x.contained.writers))) all left → Passes SparesLogs caller left (HasCome first all x) all
-      synced_so drives =
-          pass_or SparesLogs caller left (HasSynced number caller left (owners_of x.contained.writers) (makes_marks_room (job_of name x.held x.contained) (mounts_of x.contained.writers)) before) (HasCome first all x) all
+      pub synced_so : Drives caller (syncs x.contained.room (owners_of x.contained.writers) (makes_marks_room (job_of name x.held x.contained) (mounts_of x.contained.writers))) all left → IsContainerAt before number → Passes IsFailed SparesLogs caller left (HasCome first all x) all
+      synced_so drives container =
+          pass_or IsFailed SparesLogs caller left (HasSynced number IsFailed refl caller left (owners_of x.contained.writers) (makes_marks_room (job_of name x.held x.contained) (mounts_of x.contained.writers)) before) (HasCome first all x) all
           (λ middle rest e i y. inl (comes_so middle rest e i y))
-          (all_synced number caller left (owners_of x.contained.writers) (makes_marks_room (job_of name x.held x.contained) (mounts_of x.contained.writers)) before before_sound its_store all made_on
+          (all_synced number IsFailed refl caller left (owners_of x.contained.writers) (makes_marks_room (job_of name x.held x.contained) (mounts_of x.contained.writers)) before before_sound container its_store all made_on
           (subst (λ r. Drives caller (syncs r (owners_of x.contained.writers) (makes_marks_room (job_of name x.held x.contained) (mounts_of x.contained.writers))) all left) room_is drives))
 
     -- it is taken, and ends; or it stops as it syncs what is new; or it goes on
@@ -133,9 +151,9 @@ module _ (caller number : ℕ) (name : Name) (source : Moment) (s : IsSoundAt so
             none = λ f. refl;
           }),
         ))
-        by_owners free drives (o ∷ os) e = of_passes (synced_so free drives)
+        by_owners free drives (o ∷ os) e = of_passes (synced_so free drives (its_container o os e))
           where
-            of_passes : Passes SparesLogs caller left (HasCome first all x) all → Works first all x
+            of_passes : Passes IsFailed SparesLogs caller left (HasCome first all x) all → Works first all x
             of_passes (stops i u) = inr (inl (o, os, e, free, i, u))
             of_passes (goes middle rest f i y) = inr (inr (middle, rest, f, i, y))
 
@@ -143,4 +161,5 @@ module _ (caller number : ℕ) (name : Name) (source : Moment) (s : IsSoundAt so
         by_taken None free =
             by_owners free (subst (λ o. Drives caller (unless_taken o (syncs x.contained.room (owners_of x.contained.writers) (makes_marks_room (job_of name x.held x.contained) (mounts_of x.contained.writers)))) all left) free x.drives) (owners_of x.contained.writers) refl
         by_taken (Some why) is =
-            inl (ended_badly SparesAll caller left why before its_store all made_on (subst (λ o. Drives caller (unless_taken o (syncs x.contained.room (owners_of x.contained.writers) (makes_marks_room (job_of name x.held x.contained) (mounts_of x.contained.writers)))) all left) is x.drives))
+            let r = ended IsFailed SparesAll caller left (Err why) before its_store all made_on (subst (λ o. Drives caller (unless_taken o (syncs x.contained.room (owners_of x.contained.writers) (makes_marks_room (job_of name x.held x.contained) (mounts_of x.contained.writers)))) all left) is x.drives) in
+            inl (r.0, (why, is, r.1))

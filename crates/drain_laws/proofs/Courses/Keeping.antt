@@ -11,12 +11,13 @@ use Rattle.index_entry.specs.Spelling.{spelling_all}
 use Rattle.store_api.specs.declared.tree.Room.{Room}
 use Rattle.store_api.specs.declared.tree.Tree.{Tree}
 use Rattle.store_api.specs.Acts.{Stored}
+use Rattle.store_api.specs.Room.{has_folder}
 use Rattle.store_api.specs.Step.{Name, Step, write_at}
 use Rattle.store_laws.specs.Files.{file_at}
 use Rattle.store_laws.specs.Tells.{Tells}
 use Rattle.store_laws.proofs.Facts.{prefix_length}
 use Rattle.mount_model.specs.History.{Event}
-use Rattle.mount_model.specs.Paths.{index_path, log_path}
+use Rattle.mount_model.specs.Paths.{index_path, log_path, openhosts}
 use Rattle.mount_sound.specs.Dropping.{bytes_of, log_bytes}
 use Rattle.mount_sound.specs.Entries.{logged}
 use Rattle.mount_sound.specs.Keeping.{kept_in}
@@ -79,6 +80,10 @@ no_item (x ∷ xs) l = absurd (omega (arith, l))
 -- the target's files reach no further than what the source keeps of them
 abbrev pub IsKeptAt : ℕ → Name → Moment → Tree → Type 0
 IsKeptAt number name m t = (left : Tree) (there : Room) (n : ℕ) (room : Room) → m.state.store.tree ≡ Some left → slice_get left.rooms number ≡ Some there → IsNamedRoom t n name room → IsKeptThere m number there room
+
+-- the container has the folder of those that have it open
+abbrev pub Opens : Name → Tree → Type 0
+Opens name t = (n : ℕ) (room : Room) → IsNamedRoom t n name room → has_folder room openhosts ≡ true
 
 -- so it is of one writer
 abbrev IsKeptOf : Moment → ℕ → Room → Room → ℕ → ℕ → Type 0
@@ -191,7 +196,7 @@ module _ (number : ℕ) (name : Name) (g : Moment) (s_g : IsSoundAt g) where
       kept_step m since kept left there n room told_left has_there at = by_goes (goes_there n room at)
         where
           by_goes : Goes x t n name room → IsKeptThere m number there room
-          by_goes (bare b) = record {
+          by_goes (bare b opened) = record {
             index = λ host writer is. omega (arith, bare_index room host writer b);
             log = λ host writer is. omega (arith, bare_log room host writer b);
           }
@@ -217,7 +222,7 @@ module _ (number : ℕ) (name : Name) (g : Moment) (s_g : IsSoundAt g) where
       bare_step none_bare n room at host writer is missing = no_item (log_bytes room host writer) (by_goes (goes_there n room at))
         where
           by_goes : Goes x t n name room → length (log_bytes room host writer) ≤ 0
-          by_goes (bare b) = omega (arith, bare_log room host writer b)
+          by_goes (bare b opened) = omega (arith, bare_log room host writer b)
           by_goes (was old at_old goes) = by_file (file_at old (index_path host writer)) refl
             where
               by_file : (found : Option (List ℕ)) → file_at old (index_path host writer) ≡ found → length (log_bytes room host writer) ≤ 0
@@ -226,6 +231,13 @@ module _ (number : ℕ) (name : Name) (g : Moment) (s_g : IsSoundAt g) where
                   let (due, news, h, w, within, beside) = log_written x t n host writer is right.news named in
                   let there = beside n old at_old in
                   absurd (let clash : Some there.0 ≡ None = sym there.1 ∙ (λ i. file_at old (index_path (h i) (w i))) ∙ e in cc))
+
+      pub opens_step : Opens name t → Opens name after
+      opens_step opens n room at = by_goes (goes_there n room at)
+        where
+          by_goes : Goes x t n name room → has_folder room openhosts ≡ true
+          by_goes (bare b opened) = opened
+          by_goes (was old at_old goes) = goes.opens (opens n old at_old)
 
     -- ---- along what happened
 
@@ -245,3 +257,9 @@ module _ (number : ℕ) (name : Name) (g : Moment) (s_g : IsSoundAt g) where
       bare_traced store t (at_source e ∷ rest) good told trace none after now = bare_traced store t rest good told trace.1 none after now
       bare_traced store t (at_target a ∷ rest) good told trace none after now =
           bare_traced a.after trace.1.0 rest trace.1.3 trace.1.1 trace.1.4 (bare_step t trace.1.0 good trace.1.3 a.step a.answer trace.0 trace.1.2 none) after now
+
+      pub opens_traced : (store : Stored) (t : Tree) (happened : List Happening) → IsTarget g number name t → store.tree ≡ Some t → Traced t happened → Opens name t → (after : Tree) → (target_after store happened).tree ≡ Some after → Opens name after
+      opens_traced store t [] good told trace opens after now = subst (Opens name) (one_tree t after store.tree told now) opens
+      opens_traced store t (at_source e ∷ rest) good told trace opens after now = opens_traced store t rest good told trace.1 opens after now
+      opens_traced store t (at_target a ∷ rest) good told trace opens after now =
+          opens_traced a.after trace.1.0 rest trace.1.3 trace.1.1 trace.1.4 (opens_step t trace.1.0 good trace.1.3 a.step a.answer trace.0 trace.1.2 opens) after now

@@ -11,6 +11,7 @@ use Rattle.drain_copy.specs.Telling.{DrainsOn}
 use Rattle.drain_sound.specs.Draining.{Happening, source_after, target_after}
 use Rattle.drain_sound.specs.Fronts.{IsTarget}
 use Rattle.drain_laws.specs.Driving.{AreMade, Drives, FindsRoom}
+use Rattle.drain_laws.specs.Ending.{HasOpenhosts}
 use Rattle.drain_laws.specs.Gathered.{events_in}
 use Rattle.drain_laws.specs.Keeping.{IsKeptBySource}
 use Rattle.drain_laws.specs.Reading.{HasNoBareLog}
@@ -19,7 +20,7 @@ use Rattle.drain_laws.proofs.Planning.Aims.{NoBareLog}
 use Rattle.drain_laws.proofs.Courses.Course.{HasBegun, course, here, made_on}
 use Rattle.drain_laws.proofs.Courses.Drain.{Got, Works, its_dues, its_listing}
 use Rattle.drain_laws.proofs.Driving.Happened.{IsIdle, idle_both, idle_tree, idle_weaker, lawful_events, made_first, made_rest, source_both, source_is, target_both}
-use Rattle.drain_laws.proofs.Courses.Keeping.{IsKeptAt, bare_traced, kept_calls, kept_traced}
+use Rattle.drain_laws.proofs.Courses.Keeping.{IsKeptAt, Opens, bare_traced, kept_calls, kept_traced, opens_traced}
 
 module _ (caller number : ℕ) (name : Name) (source : Moment) (s : IsSoundAt source) (t : Tree) (target : IsTarget source number name t) (store : Stored) (told : store.tree ≡ Some t) (happened : List Happening) (made : AreMade source store happened) (finds : FindsRoom caller number happened) (left : DrainsOn) (drives : Drives caller (drain_program name) happened left) where
   abbrev Begun : Type 0
@@ -54,6 +55,12 @@ module _ (caller number : ℕ) (name : Name) (source : Moment) (s : IsSoundAt so
 
   bare_none : IsIdle SparesLogs caller happened → NoBareLog name t → BareEnds (target_after store happened)
   bare_none idle none after now = subst (NoBareLog name) (same_tree (target_after store happened) (stays_there idle) after now) none
+
+  abbrev OpensEnds : Type 0
+  OpensEnds = (after : Tree) → (target_after store happened).tree ≡ Some after → Opens name after
+
+  opens_none : IsIdle SparesLogs caller happened → Opens name t → OpensEnds
+  opens_none idle opens after now = subst (Opens name) (same_tree (target_after store happened) (stays_there idle) after now) opens
 
   -- where it copies
   module _ (b : Begun) (middle rest : List Happening) (f : b.all ≡ middle ++ rest) where
@@ -108,6 +115,24 @@ module _ (caller number : ℕ) (name : Name) (source : Moment) (s : IsSoundAt so
           bare_traced number name (its_listing caller number name source s t target left b.first b.all x) x.listing_sound (NoBareLog name t) (its_dues caller number name source s t target left b.first b.all x) (Got caller number name source s t target left b.first b.all x) caller left
           (target_after (target_after store b.first) middle) t rest x.its_target (tree_then b middle rest f idle) y.trace none after
           (subst (λ (k : Stored). k.tree ≡ Some after) (target_ends b middle rest f) now)
+
+  opens_ends : Opens name t → OpensEnds
+  opens_ends opens = elim (course caller number name source s t target store told happened made finds left drives) as (λ _. (after : Tree) → (target_after store happened).tree ≡ Some after → Opens name after) [
+    | inl idle ↦ λ after now. opens_none (idle_weaker caller SparesAll SparesLogs happened (λ call spares. spares.0) idle.0) opens after now
+    | inr b ↦ by_works b b.works
+  ]
+    where
+      by_works : (b : Begun) → Works caller number name source s t target left b.first b.all b.read → (after : Tree) → (target_after store happened).tree ≡ Some after → Opens name after
+      by_works b (inl bad) = λ after now. opens_none (all_idle b (idle_weaker caller SparesAll SparesLogs b.all (λ call spares. spares.0) bad.0)) opens after now
+      by_works b (inr (inl (o, os, new, free, idle, bad))) = λ after now. opens_none (all_idle b idle) opens after now
+      by_works b (inr (inr (middle, rest, f, idle, y))) = λ after now.
+          let x = b.read in
+          opens_traced number name (its_listing caller number name source s t target left b.first b.all x) x.listing_sound (NoBareLog name t) (its_dues caller number name source s t target left b.first b.all x) (Got caller number name source s t target left b.first b.all x) caller left
+          (target_after (target_after store b.first) middle) t rest x.its_target (tree_then b middle rest f idle) y.trace opens after
+          (subst (λ (k : Stored). k.tree ≡ Some after) (target_ends b middle rest f) now)
+
+  pub openhosts_last : HasOpenhosts name store → HasOpenhosts name (target_after store happened)
+  openhosts_last opens tree n room now at = opens_ends (λ n room at. opens t n room told at) tree now n room at
 
   pub kept_by_source : IsKeptBySource source number name store → IsKeptBySource (source_after source happened) number name (target_after store happened)
   kept_by_source kept left_tree there tree n room told_left has_there now at =

@@ -32,7 +32,7 @@ use Rattle.drain_laws.specs.Gathered.{events_in}
 use Rattle.drain_laws.specs.Resting.{CopiesNothing, HasAll, SparesAll}
 use Rattle.drain_laws.proofs.Planning.Aims.{HasNews, IsPlanned, NoBareLog}
 use Rattle.drain_laws.proofs.Courses.Coming.{sound_then}
-use Rattle.drain_laws.proofs.Courses.Course.{HasBegun, all_made, course, made_on}
+use Rattle.drain_laws.proofs.Courses.Course.{HasBegun, all_made, course, made_on, not_well}
 use Rattle.drain_laws.proofs.Courses.Drain.{Got, HasCome, Works, its_dues, its_listing}
 use Rattle.drain_laws.proofs.Planning.Dues.{dues_all, new_owner}
 use Rattle.drain_laws.proofs.Courses.Got.{its_due, its_stood, planned}
@@ -54,15 +54,21 @@ none_behind : (dues : List Due) (sofar : Drained) → AllByRecursion IsIdleDue d
 none_behind [] sofar all = refl
 none_behind (due ∷ dues) sofar all = ap (λ d. drained_behind d dues) (with_nothing due sofar all.0) ∙ none_behind dues sofar all.1
 
--- what was copied at a later moment was copied at one of which the target is
-copied_then : (m end : Moment) (s : IsSoundAt m) (number : ℕ) (name : Name) (t : Tree) (target : IsTarget m number name t) (n : ℕ) (room : Room) (host writer count : ℕ) → Grows m end → (there : slice_get t.rooms n ≡ Some room) → room.name ≡ name → HasCopied end number room host writer count → HasCopied m number room host writer count
-copied_then m end s number name t target n room host writer count grows there named c =
+-- no more was copied than had landed at a moment of which the target is
+pub copied_few : (m other : Moment) (s : IsSoundAt m) (number : ℕ) (name : Name) (t : Tree) (target : IsTarget m number name t) (n : ℕ) (room : Room) (host writer count : ℕ) → slice_get t.rooms n ≡ Some room → room.name ≡ name → HasCopied other number room host writer count → count ≤ landed m (dropping_in number host writer)
+copied_few m other s number name t target n room host writer count there named c =
     let d : Dropping = dropping_in number host writer in
     let front = (target.drained n room there named).fronts host writer c.has.is_item in
     let few = landed_whole m s d c.has.is_item in
     let long : length (index_there m d) ≡ 40 * landed m d = length-spelling_all (take (landed m d) (entries_in (m.issued number writer))) ∙ ap (λ k. 40 * k) (length_taken (landed m d) (entries_in (m.issued number writer)) (omega (arith, few, length-entries (m.issued number writer)))) in
-    let short : count ≤ landed m d = omega (arith, c.entries, ap (λ o. length (bytes_of o)) c.has.there, prefix_length (bytes_of (file_at room (index_path host writer))) (index_there m d) front.index, long) in
-    let same = entries_stay m end d count grows (omega (arith, short, few)) in
+    omega (arith, c.entries, ap (λ o. length (bytes_of o)) c.has.there, prefix_length (bytes_of (file_at room (index_path host writer))) (index_there m d) front.index, long)
+
+-- what was copied at a later moment was copied at one of which the target is
+pub copied_then : (m end : Moment) (s : IsSoundAt m) (number : ℕ) (name : Name) (t : Tree) (target : IsTarget m number name t) (n : ℕ) (room : Room) (host writer count : ℕ) → Grows m end → (there : slice_get t.rooms n ≡ Some room) → room.name ≡ name → HasCopied end number room host writer count → HasCopied m number room host writer count
+copied_then m end s number name t target n room host writer count grows there named c =
+    let d : Dropping = dropping_in number host writer in
+    let short : count ≤ landed m d = copied_few m end s number name t target n room host writer count there named c in
+    let same = entries_stay m end d count grows (omega (arith, short, landed_whole m s d c.has.is_item)) in
     record { bytes = c.bytes; has = c.has; entries = c.entries; written = omega (arith, c.written, ap logged same) }
 
 module _ (caller number : ℕ) (name : Name) (source : Moment) (s : IsSoundAt source) (t : Tree) (target : IsTarget source number name t) (store : Stored) (told : store.tree ≡ Some t) (happened : List Happening) (made : AreMade source store happened) (finds : FindsRoom caller number happened) (left : DrainsOn) (drives : Drives caller (drain_program name) happened left)
@@ -143,19 +149,19 @@ module _ (caller number : ℕ) (name : Name) (source : Moment) (s : IsSoundAt so
 
   pub drained_nothing : (drained : Drained) → left ≡ ends (Ok drained) → drained ≡ nothing_drained
   drained_nothing drained is = elim (course caller number name source s t target store told happened made finds left drives) as (λ _. drained ≡ nothing_drained) [
-    | inl idle ↦ absurd (idle.1 drained is)
+    | inl idle ↦ absurd (idle.1 (Ok drained) is)
     | inr b ↦ by_works b b.works
   ]
     where
       by_works : (b : Begun) → Works caller number name source s t target left b.first b.all b.read → drained ≡ nothing_drained
-      by_works b (inl bad) = absurd (bad.1 drained is)
-      by_works b (inr (inl (o, os, new, free, idle, bad))) = absurd (bad drained is)
+      by_works b (inl (idle, (why, taken_so, ended))) = absurd (not_well why drained (sym ended ∙ is))
+      by_works b (inr (inl (o, os, new, free, idle, bad))) = absurd (bad (Ok drained) is)
       by_works b (inr (inr (middle, rest, f, idle, y))) = counts_of b middle rest y ∙ none_behind (dues_of b.read.held b.read.contained.writers) nothing_drained (all_idle b y.free)
         where
           counts_of : (b : Begun) (middle rest : List Happening) (y : HasCome caller number name source s t target left b.first b.all b.read middle rest) → drained ≡ drained_of (dues_of b.read.held b.read.contained.writers)
           counts_of b middle rest y = counts_in t rest y.trace
             where
               counts_in : (x : Tree) (hs : List Happening) → Trace number name (listing b y.free) b.read.listing_sound (NoBareLog name t) (its_dues caller number name source s t target left b.first b.all b.read) (Got caller number name source s t target left b.first b.all b.read) caller left x hs → drained ≡ drained_of (dues_of b.read.held b.read.contained.writers)
-              counts_in x [] trace = (trace drained is).counts
+              counts_in x [] trace = (trace (Ok drained) is).counts
               counts_in x (at_source e ∷ hs) trace = counts_in x hs trace.1
               counts_in x (at_target a ∷ hs) trace = counts_in trace.1.0 hs trace.1.4

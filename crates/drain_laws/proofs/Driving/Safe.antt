@@ -11,24 +11,22 @@ use Rattle.mount_model.specs.History.{Event}
 use Rattle.mount_sound.specs.Owed.{IsLawful}
 use Rattle.flow.specs.Running.{unbroken}
 use Rattle.gathering.specs.Moments.{Moment, next_moment}
-use Rattle.drain_copy.specs.declared.outcome.Drained.{Drained}
 use Rattle.drain_copy.specs.declared.outcome.DrainStuck.{DrainStuck}
 use Rattle.drain_copy.specs.Asking.{Told, acts, calls, ends}
-use Rattle.drain_copy.specs.Telling.{DrainsOn, on_good}
+use Rattle.drain_copy.specs.Telling.{DrainsOn, Outcome, on_good}
 use Rattle.drain_sound.specs.Draining.{Act, Happening, at_source, at_target}
 use Rattle.drain_laws.specs.Driving.{AreMade, Drives, IsReplied, IsTold}
 
 -- What holds of the source at each moment, and of the target's tree; what is asked of calls and steps; and what holds in the end.
-module _ (Now : Moment → Type 0) (Good : Tree → Type 0) (Asks : Call → Tree → Type 0) (Does : Step → Tree → Type 0) (Post : Drained → Tree → Type 0) where
+module _ (Now : Moment → Type 0) (Good : Tree → Type 0) (Asks : Call → Tree → Type 0) (Does : Step → Tree → Type 0) (Post : Outcome → Tree → Type 0) where
   abbrev pub IsSafe : DrainsOn → Tree → Type 0
-  IsSafe (ends (Ok drained)) t = Post drained t
-  IsSafe (ends (Err why)) t = Unit {0}
+  IsSafe (ends outcome) t = Post outcome t
   IsSafe (calls call k) t = Asks call t × ((m : Moment) (e : Event) → Now m → IsLawful m.state (e ∷ []) → e.ask ≡ unbroken call → IsSafe (k e.reply) t)
   IsSafe (acts step k) t = Does step t × ((told : Told) (after : Tree) → Tells step t told after → Good after → IsSafe (k told) after)
 
-  pub safe_on : {X : Type 0} (next : X → DrainsOn) (r : Result X DrainStuck) (t : Tree) → ((x : X) → r ≡ Ok x → IsSafe (next x) t) → IsSafe (on_good next r) t
-  safe_on next (Ok x) t h = h x refl
-  safe_on next (Err why) t h = tt
+  pub safe_on : {X : Type 0} (next : X → DrainsOn) (r : Result X DrainStuck) (t : Tree) → ((x : X) → r ≡ Ok x → IsSafe (next x) t) → ((why : DrainStuck) → r ≡ Err why → Post (Err why) t) → IsSafe (on_good next r) t
+  safe_on next (Ok x) t h bad = h x refl
+  safe_on next (Err why) t h bad = bad why refl
 
   -- ---- who drives a safe program
 
@@ -36,9 +34,9 @@ module _ (Now : Moment → Type 0) (Good : Tree → Type 0) (Asks : Call → Tre
   abbrev pub IsAsked : Event → Tree → Type 0
   IsAsked e t = (call : Call) × (e.ask ≡ unbroken call) × Asks call t
 
-  -- Each of the caller's calls is right, and so is each step; and where it has ended well, that holds.
+  -- Each of the caller's calls is right, and so is each step; and where it has ended, that holds.
   abbrev pub IsTraced : ℕ → Tree → List Happening → DrainsOn → Type 0
-  IsTraced caller t [] left = (drained : Drained) → left ≡ ends (Ok drained) → Post drained t
+  IsTraced caller t [] left = (outcome : Outcome) → left ≡ ends outcome → Post outcome t
   IsTraced caller t (at_source e ∷ rest) left = (e.caller ≡ caller → IsAsked e t) × IsTraced caller t rest left
   IsTraced caller t (at_target a ∷ rest) left = Does a.step t × ((after : Tree) × (a.after.tree ≡ Some after) × Tells a.step t a.answer after × Good after × IsTraced caller after rest left)
 
@@ -58,7 +56,7 @@ module _ (Now : Moment → Type 0) (Good : Tree → Type 0) (Asks : Call → Tre
   module _ (caller : ℕ) (now_on : (m : Moment) (e : Event) → Now m → IsLawful m.state (e ∷ []) → Now (next_moment m e))
       (good_on : (step : Step) (t after : Tree) (told : Told) → Good t → Does step t → Tells step t told after → Good after) where
     pub traced : (p : DrainsOn) (m : Moment) (store : Stored) (t : Tree) (happened : List Happening) (left : DrainsOn) → IsSafe p t → Now m → Good t → store.tree ≡ Some t → AreMade m store happened → Drives caller p happened left → IsTraced caller t happened left
-    traced p m store t [] left safe now good told made drives = λ drained is. subst (λ q. IsSafe q t) (sym drives ∙ is) safe
+    traced p m store t [] left safe now good told made drives = λ outcome is. subst (λ q. IsSafe q t) (sym drives ∙ is) safe
     traced p m store t (at_source e ∷ rest) left safe now good told (l, made) (inl (other, drives)) =
         (λ own. absurd (other own), traced p (next_moment m e) store t rest left safe (now_on m e now l) good told made drives)
     traced p m store t (at_source e ∷ rest) left safe now good told (l, made) (inr (own, (next, is, drives))) =

@@ -1,6 +1,6 @@
 -- What a safe program of a drain gives whoever drives it.
 use Rattle.std.proofs.Common.{◌≡◌, ℕ, List, [], ◌∷◌, Some, ap, sym, ◌∙◌, subst}
-use Rattle.std.specs.Prelude.{Ok}
+use Rattle.std.specs.Prelude.{Ok, Err}
 use Rattle.store_api.specs.declared.tree.Tree.{Tree}
 use Rattle.store_api.specs.Acts.{Stored}
 use Rattle.store_api.specs.Step.{Step, write_at}
@@ -13,6 +13,7 @@ use Rattle.mount_sound.proofs.Facts.{one_tree}
 use Rattle.gathering.specs.Moments.{IsSoundAt, Moment, next_moment}
 use Rattle.gathering.proofs.Facts.{grows_after, grows_refl, grows_trans, sound_after}
 use Rattle.drain_copy.specs.declared.outcome.Drained.{Drained}
+use Rattle.drain_copy.specs.declared.outcome.DrainStuck.{DrainStuck}
 use Rattle.drain_copy.specs.declared.plan.Due.{Due}
 use Rattle.drain_copy.specs.Asking.{Told, ends}
 use Rattle.drain_copy.specs.Telling.{DrainsOn}
@@ -23,7 +24,7 @@ use Rattle.drain_sound.proofs.Facts.{step_target, told_leaves}
 use Rattle.drain_laws.specs.Driving.{AreMade, Drives}
 use Rattle.drain_laws.specs.Reading.{AllReadBehind, ReadsBehind}
 use Rattle.drain_laws.specs.Resting.{CopiesNothing, WritesNothing}
-use Rattle.drain_laws.proofs.Planning.Aims.{HasNews, IsFitting, IsGood, IsKeptDue, IsRight, IsSince, Safely, WritesNews}
+use Rattle.drain_laws.proofs.Planning.Aims.{EndsSo, HasNews, IsFair, IsFitting, IsGood, IsKeptDue, IsRight, IsSince, Safely, WritesNews}
 use Rattle.drain_laws.proofs.Copying.Mild.{all_so}
 use Rattle.drain_laws.proofs.Driving.Safe.{IsTraced, traced}
 use Rattle.drain_laws.proofs.Planning.Syncs.{kept_next}
@@ -36,7 +37,7 @@ module _ (number : ℕ) (name : Name) (g : Moment) (s : IsSoundAt g) (Sure : Typ
   Good t = IsGood number name g Sure dues t
 
   abbrev pub Trace : Tree → List Happening → Type 0
-  Trace t happened = IsTraced (IsSince number name g Sure dues) (IsGood number name g Sure dues) (IsFitting number name g Sure dues) (IsRight number name g Sure dues) Post caller t happened left
+  Trace t happened = IsTraced (IsSince number name g Sure dues) (IsGood number name g Sure dues) (IsFitting number name g Sure dues) (IsRight number name g Sure dues) (EndsSo name Post) caller t happened left
 
   pub since_next : (m : Moment) (e : Event) → Since m → IsLawful m.state (e ∷ []) → Since (next_moment m e)
   since_next m e since l = record {
@@ -50,7 +51,7 @@ module _ (number : ℕ) (name : Name) (g : Moment) (s : IsSoundAt g) (Sure : Typ
 
   pub drive_traced : (p : DrainsOn) (m : Moment) (store : Stored) (t : Tree) (happened : List Happening) → Safely number name g Sure dues Post p t → Since m → Good t → store.tree ≡ Some t → AreMade m store happened → Drives caller p happened left → Trace t happened
   drive_traced p m store t happened safe since good told made drives =
-      traced (IsSince number name g Sure dues) (IsGood number name g Sure dues) (IsFitting number name g Sure dues) (IsRight number name g Sure dues) Post caller since_next good_step p m store t happened left safe since good told made drives
+      traced (IsSince number name g Sure dues) (IsGood number name g Sure dues) (IsFitting number name g Sure dues) (IsRight number name g Sure dues) (EndsSo name Post) caller since_next good_step p m store t happened left safe since good told made drives
 
   -- ---- each step is one of a drain
 
@@ -96,6 +97,17 @@ module _ (number : ℕ) (name : Name) (g : Moment) (s : IsSoundAt g) (Sure : Typ
     pub post : Post drained after
 
   pub end_of : (store : Stored) (t : Tree) (happened : List Happening) (drained : Drained) → left ≡ ends (Ok drained) → Good t → store.tree ≡ Some t → Trace t happened → HasEnd (target_after store happened) drained
-  end_of store t [] drained is good told trace = record { after = t; told = told; good = good; post = trace drained is }
+  end_of store t [] drained is good told trace = record { after = t; told = told; good = good; post = trace (Ok drained) is }
   end_of store t (at_source e ∷ rest) drained is good told trace = end_of store t rest drained is good told trace.1
   end_of store t (at_target a ∷ rest) drained is good told trace = end_of a.after trace.1.0 rest drained is trace.1.3 trace.1.1 trace.1.4
+
+  -- or the trouble in which it ended, at the tree that is there then
+  pub record HasStopped (store : Stored) (why : DrainStuck) : Type 0 where
+    pub after : Tree
+    pub told : store.tree ≡ Some after
+    pub fair : IsFair name after why
+
+  pub stopped_of : (store : Stored) (t : Tree) (happened : List Happening) (why : DrainStuck) → left ≡ ends (Err why) → store.tree ≡ Some t → Trace t happened → HasStopped (target_after store happened) why
+  stopped_of store t [] why is told trace = record { after = t; told = told; fair = trace (Err why) is }
+  stopped_of store t (at_source e ∷ rest) why is told trace = stopped_of store t rest why is told trace.1
+  stopped_of store t (at_target a ∷ rest) why is told trace = stopped_of a.after trace.1.0 rest why is trace.1.1 trace.1.4

@@ -1,5 +1,6 @@
 -- What is asked of a drain once its source is gathered: of the calls, of the steps, and of the source meanwhile.
 use Rattle.std.proofs.Common.{◌≡◌, ◌⊎◌, ℕ, ◌+◌, ◌*◌, ◌≤◌, List, [], ◌∷◌, length, Some, None}
+use Rattle.std.specs.Prelude.{Ok, Err}
 use Rattle.std.specs.List.{AllByRecursion}
 use Rattle.plain_file.proofs.Facts.{Among}
 use Rattle.container_layout.specs.declared.items.Item.TheVariants.{Index}
@@ -11,16 +12,20 @@ use Rattle.store_laws.specs.Files.{file_at}
 use Rattle.mount_model.specs.declared.call.Call.{Call}
 use Rattle.mount_model.specs.declared.call.Call.TheVariants.{Look}
 use Rattle.mount_model.specs.declared.call.Look.TheVariants.{Read}
-use Rattle.mount_model.specs.Paths.{Name, index_path, log_path}
+use Rattle.mount_model.specs.Paths.{Name, index_path, log_path, openhosts}
 use Rattle.mount_sound.specs.Dropping.{log_bytes}
 use Rattle.mount_sound.proofs.Facts.{AreKeptIn}
+use Rattle.flow.specs.declared.stuck.Stuck.TheVariants as stuck
 use Rattle.gathering.specs.Moments.{Grows, IsSoundAt, Moment}
 use Rattle.drain_copy.specs.declared.outcome.Drained.{Drained}
+use Rattle.drain_copy.specs.declared.outcome.DrainStuck.{DrainStuck}
+use Rattle.drain_copy.specs.declared.outcome.DrainStuck.TheVariants.{Source, TargetDamaged, TargetFault}
 use Rattle.drain_copy.specs.declared.plan.Due.{Due}
 use Rattle.drain_copy.specs.Copying.{index_of, log_of}
-use Rattle.drain_copy.specs.Telling.{DrainsOn}
+use Rattle.drain_copy.specs.Telling.{DrainsOn, Outcome}
 use Rattle.drain_sound.specs.Fronts.{IsTarget}
 use Rattle.drain_sound.specs.Steps.{IsDrainStep, IsNamedRoom}
+use Rattle.drain_laws.specs.Ending.{LacksOpenhosts}
 use Rattle.drain_laws.proofs.Planning.Due.{IsDueOf}
 use Rattle.drain_laws.proofs.Driving.Safe.{IsSafe}
 
@@ -39,6 +44,20 @@ AreApart (due ∷ rest) done = AllByRecursion (IsApart due) rest × AllByRecursi
 
 abbrev pub NoBareLog : Name → Tree → Type 0
 NoBareLog name t = (n : ℕ) (room : Room) → IsNamedRoom t n name room → (host writer : ℕ) → IsItem (Index host writer) → file_at room (index_path host writer) ≡ None → log_bytes room host writer ≡ []
+
+-- ---- the troubles that there may be
+
+-- one of the stores failed, or the folder is missing in which entries of open writers stand
+abbrev pub IsFair : Name → Tree → DrainStuck → Type 0
+IsFair name t TargetFault = Unit {0}
+IsFair name t (Source stuck.Fault) = Unit {0}
+IsFair name t (TargetDamaged folder file place) = (folder ≡ openhosts) × (file ≡ []) × (place ≡ 0) × LacksOpenhosts name t
+IsFair name t why = ⊥
+
+-- it ended well and this holds, or in such a trouble
+abbrev pub EndsSo : Name → (Drained → Tree → Type 0) → Outcome → Tree → Type 0
+EndsSo name Post (Ok drained) t = Post drained t
+EndsSo name Post (Err why) t = IsFair name t why
 
 -- ---- the aim
 
@@ -97,4 +116,4 @@ module _ (number : ℕ) (name : Name) (gathered : Moment) (Sure : Type 0) (dues 
     pub news : WritesNews step t
 
   abbrev pub Safely : (Drained → Tree → Type 0) → DrainsOn → Tree → Type 0
-  Safely Post program t = IsSafe IsSince IsGood IsFitting IsRight Post program t
+  Safely Post program t = IsSafe IsSince IsGood IsFitting IsRight (EndsSo name Post) program t

@@ -27,6 +27,7 @@ use Rattle.index_reader.specs.Found.{item_of}
 use Rattle.gathering.specs.Gathering.{IsPrefixOf}
 use Rattle.gathering.specs.Moments.{Dropping, Grows, IsSoundAt, Moment, Stood, landed}
 use Rattle.gathering.proofs.Facts.{any_found, entries_stay, grows_trans, landed_whole, stood_grows}
+use Rattle.reader_laws.specs.Covering.{cover_with, empty_cover}
 use Rattle.drain_read.specs.declared.held.Held.{Held}
 use Rattle.drain_read.specs.declared.held.Mirror.{Mirror}
 use Rattle.drain_read.specs.declared.read.WriterRead.{WriterRead}
@@ -47,12 +48,12 @@ use Rattle.drain_laws.proofs.Planning.Settled.{settled_index, settled_log}
 
 -- ---- mirrors and covers
 
-abbrev cover_in : Option Mirror → Option Cover
+abbrev pub cover_in : Option Mirror → Option Cover
 cover_in None = None
 cover_in (Some x) = Some x.cover
 
 -- the cover that is known of a writer is its mirror's
-known_cover : (mirrors : List Mirror) (writer : ℕ) → item_of (λ (c : Cover). c.writer) writer (covers_of mirrors) ≡ cover_in (mirror_in mirrors writer)
+pub known_cover : (mirrors : List Mirror) (writer : ℕ) → item_of (λ (c : Cover). c.writer) writer (covers_of mirrors) ≡ cover_in (mirror_in mirrors writer)
 known_cover [] writer = refl
 known_cover (x ∷ mirrors) writer = elim (nat_eq x.cover.writer writer) as (λ b. (if b then Some x.cover else item_of (λ (c : Cover). c.writer) writer (covers_of mirrors)) ≡ cover_in (if b then Some x else mirror_in mirrors writer)) [
   | true ↦ refl
@@ -99,6 +100,7 @@ module _ (m : Moment) (s : IsSoundAt m) (number : ℕ) (name : Name) (t : Tree) 
   pub record IsMirrorOf (n : Moment) (host writer : ℕ) (x : Mirror) : Type 0 where
     pub was_landed : x.cover.count ≤ landed m (dropping_in number host writer)
     pub sum : x.cover.bytes ≡ logged (take x.cover.count (entries_in (n.issued number writer)))
+    pub tells : x.cover ≡ cover_with (empty_cover writer) (take x.cover.count (entries_in (n.issued number writer)))
     pub logs : x.cover.bytes ≤ x.log
     pub index : (k : ℕ) (room : Room) → IsNamedRoom t k name room → (bytes : List ℕ) × HasItem room (Index host writer) bytes × (40 * x.cover.count ≤ length bytes)
     pub log : (k : ℕ) (room : Room) → IsNamedRoom t k name room → x.log ≡ length (log_bytes room host writer)
@@ -139,6 +141,7 @@ module _ (m : Moment) (s : IsSoundAt m) (number : ℕ) (name : Name) (t : Tree) 
         record {
           was_landed = subst (λ o. x.cover.count ≤ landed m (dropping_in number o writer)) same few;
           sum = sums ∙ ap logged (sym (entries_stay m n (dropping_in number y.host writer) x.cover.count grows within));
+          tells = subst (λ w. x.cover ≡ cover_with (empty_cover w) (take x.cover.count (entries_in (m.issued number w)))) of y.tells ∙ ap (cover_with (empty_cover writer)) (sym (entries_stay m n (dropping_in number y.host writer) x.cover.count grows within));
           logs = y.fits;
           index = λ j other is. (y.bytes, subst (λ o. HasItem other (Index o writer) y.bytes) same (subst (λ r. HasItem r (Index y.host writer) y.bytes) (one_room j other is) item), y.entries);
           log = λ j other is. subst (λ w. x.log ≡ length (log_bytes room y.host w)) of y.log ∙ (λ i. length (log_bytes (one_room j other is i) (same i) writer));

@@ -23,10 +23,15 @@ use Rattle.mount_sound.specs.Owed.{IsLawful, StandsInRoom}
 use Rattle.mount_sound.specs.Recovered.{HasRecovered, IsSyncedWhole}
 use Rattle.mount_sound.specs.There.{landed_entries}
 use Rattle.mount_sound.proofs.Facts.{has_recovered, its_writers, one_tree, step_keeps_kept, take_less}
+use Rattle.flow.specs.declared.stuck.Stuck.TheVariants as stuck
 use Rattle.flow.specs.Running.{unbroken}
 use Rattle.recovery_laws.proofs.Facts.{AreLogged, HasFirst, Stays, in_log, logged_stays}
 use Rattle.gathering.specs.Moments.{Dropping, Grows, IsSoundAt, Moment, landed, moment_after, next_moment}
 use Rattle.gathering.proofs.Facts.{entries_stay, grows_after, in_a_room, in_tree, landed_at, landed_is_first, landed_whole, legal_first, legal_rest, length-entries, length_taken, moment-append, sound_after}
+use Rattle.reader_laws.specs.Failing.{IsContainerAt}
+use Rattle.reader_laws.proofs.Facts.{container_later}
+use Rattle.drain_copy.specs.declared.outcome.DrainStuck.{DrainStuck}
+use Rattle.drain_copy.specs.declared.outcome.DrainStuck.TheVariants.{Source}
 use Rattle.drain_copy.specs.declared.plan.Due.{Due}
 use Rattle.drain_copy.specs.declared.plan.Owner.{Owner}
 use Rattle.drain_copy.specs.Draining.{syncs, syncs_second}
@@ -38,8 +43,9 @@ use Rattle.drain_laws.specs.Gathered.{events_in}
 use Rattle.drain_laws.specs.Resting.{SparesLogs}
 use Rattle.drain_laws.proofs.Planning.Aims.{IsKeptDue}
 use Rattle.drain_laws.proofs.Planning.Due.{IsDueOf, due_later}
+use Rattle.drain_laws.proofs.Planning.Unrefused.{sync_ends}
 use Rattle.drain_laws.proofs.Driving.Happened.{lawful_events, made_first, made_rest, source_both, source_is}
-use Rattle.drain_laws.proofs.Driving.Passing.{HasCalled, Passes, goes, pass_on, pass_or, passes_call}
+use Rattle.drain_laws.proofs.Driving.Passing.{HasCalled, IsFairCall, Passes, goes, pass_on, pass_or, passes_call}
 
 -- ---- facts that stay
 
@@ -203,7 +209,7 @@ module _ (number : ℕ) where
 
   -- ---- all of them
 
-  module _ (caller : ℕ) (left : DrainsOn) where
+  module _ (Bad : DrainStuck → Type 0) (bad_fault : Bad (Source stuck.Fault)) (caller : ℕ) (left : DrainsOn) where
     -- what was due of these owners as it began is kept
     pub record HasSynced (os : List Owner) (next : DrainsOn) (m : Moment) (first rest : List Happening) : Type 0 where
       pub kept : (due : Due) → IsDueOf number m due → Among (record { host = due.host; writer = due.writer }) os → IsKeptDue number (source_after m first) due
@@ -213,11 +219,28 @@ module _ (number : ℕ) where
     spares_sync : (host writer : ℕ) (is_log : Bool) → SparesLogs (SyncDropping number host writer is_log)
     spares_sync host writer is_log from h w at len e = cc
 
+    -- a container in a sound state
+    abbrev Now : Moment → List Happening → Type 0
+    Now m rest = IsSoundAt m × IsContainerAt m number
+
+    fair_sync : (host writer : ℕ) (is_log : Bool) → IsFairCall Bad SparesLogs caller left (SyncDropping number host writer is_log) kept Now
+    fair_sync host writer is_log = record {
+      on = λ m e rest other now l. (sound_after m (e ∷ []) l now.0, container_later m (next_moment m e) number (grows_after m (e ∷ []) l now.0) now.1);
+      fair = λ m e rest why now l own asked bad. subst Bad (sym (sync_ends why m now.0 e number host writer is_log now.1 l asked bad)) bad_fault;
+    }
+
+    -- so it is after a part
+    now_then : (m : Moment) → IsSoundAt m → IsContainerAt m number → (store : Stored) (first rest : List Happening) → AreMade m store (first ++ rest) → IsSoundAt (source_after m first) × IsContainerAt (source_after m first) number
+    now_then m s container store first rest made =
+        let lawful = lawful_events m store first (made_first m store first rest made) in
+        subst (λ n. IsSoundAt n × IsContainerAt n number) (sym (source_is m first))
+        (sound_after m (events_in first) lawful s, container_later m (moment_after m (events_in first)) number (grows_after m (events_in first) lawful s) container)
+
     abbrev LogCalled : Owner → DrainsOn → List Happening → List Happening → Type 0
-    LogCalled o next first rest = HasCalled SparesLogs caller left (SyncDropping number o.host o.writer true) kept (λ done. syncs_second number o next) first rest
+    LogCalled o next first rest = HasCalled Bad SparesLogs caller left (SyncDropping number o.host o.writer true) kept (λ done. syncs_second number o next) first rest
 
     abbrev IndexCalled : Owner → DrainsOn → List Happening → List Happening → Type 0
-    IndexCalled o next first rest = HasCalled SparesLogs caller left (SyncDropping number o.host o.writer false) kept (λ done. next) first rest
+    IndexCalled o next first rest = HasCalled Bad SparesLogs caller left (SyncDropping number o.host o.writer false) kept (λ done. next) first rest
 
     module _ (o : Owner) (next : DrainsOn) (m : Moment) (s : IsSoundAt m) (store : Stored) (a b c : List Happening) (made : AreMade m store (a ++ (b ++ c))) (x : LogCalled o next a (b ++ c)) (y : IndexCalled o next b c) where
       middle : Moment
@@ -249,33 +272,34 @@ module _ (number : ℕ) where
           (index_synced n sound (events_in b) y.others y.event due y.told y.split lawful_b (y.asked ∙ ap (λ (k : Owner). unbroken (SyncDropping number k.host k.writer false)) is) y.good (due_later number m s due d n grows) there)
 
     -- both droppings of one
-    one_synced : (o : Owner) (next : DrainsOn) (m : Moment) (s : IsSoundAt m) (store : Stored) (happened : List Happening) → AreMade m store happened → Drives caller (syncs number (o ∷ []) next) happened left → Passes SparesLogs caller left (HasSynced (o ∷ []) next m) happened
-    one_synced o next m s store happened made drives =
-        pass_on SparesLogs caller left (LogCalled o next) (HasSynced (o ∷ []) next m) happened
-        (passes_call SparesLogs caller left (SyncDropping number o.host o.writer true) kept (λ done. syncs_second number o next) m store happened (spares_sync o.host o.writer true) made drives)
+    one_synced : (o : Owner) (next : DrainsOn) (m : Moment) (s : IsSoundAt m) (container : IsContainerAt m number) (store : Stored) (happened : List Happening) → AreMade m store happened → Drives caller (syncs number (o ∷ []) next) happened left → Passes Bad SparesLogs caller left (HasSynced (o ∷ []) next m) happened
+    one_synced o next m s container store happened made drives =
+        pass_on Bad SparesLogs caller left (LogCalled o next) (HasSynced (o ∷ []) next m) happened
+        (passes_call Bad SparesLogs caller left (SyncDropping number o.host o.writer true) kept (λ done. syncs_second number o next) Now m store happened (fair_sync o.host o.writer true) (s, container) (spares_sync o.host o.writer true) made drives)
         (λ a rest e i x.
         let both : AreMade m store (a ++ rest) = subst (AreMade m store) e made in
-        pass_or SparesLogs caller left (IndexCalled o next) (λ b c. HasSynced (o ∷ []) next m (a ++ b) c) rest
+        pass_or Bad SparesLogs caller left (IndexCalled o next) (λ b c. HasSynced (o ∷ []) next m (a ++ b) c) rest
         (λ b c f j y. inl (record {
           kept = λ due d among. both_kept o next m s store a b c (subst (λ r. AreMade m store (a ++ r)) f both) (subst (LogCalled o next a) f x) y due d (only_one (record { host = due.host; writer = due.writer }) o among);
           drives = y.drives;
           none = λ e. absurd (cc);
         }))
-        (passes_call SparesLogs caller left (SyncDropping number o.host o.writer false) kept (λ done. next) (source_after m a) (target_after store a) rest (spares_sync o.host o.writer false) (made_rest m store a rest both) x.drives))
+        (passes_call Bad SparesLogs caller left (SyncDropping number o.host o.writer false) kept (λ done. next) Now (source_after m a) (target_after store a) rest (fair_sync o.host o.writer false) (now_then m s container store a rest both) (spares_sync o.host o.writer false) (made_rest m store a rest both) x.drives))
       where
         only_one : (k o : Owner) → Among k (o ∷ []) → o ≡ k
         only_one k o (inl same) = sym same
         only_one k o (inr none) = absurd none
 
-    pub all_synced : (os : List Owner) (next : DrainsOn) (m : Moment) (s : IsSoundAt m) (store : Stored) (happened : List Happening) → AreMade m store happened → Drives caller (syncs number os next) happened left → Passes SparesLogs caller left (HasSynced os next m) happened
-    all_synced [] next m s store happened made drives = goes [] happened refl tt (record { kept = λ due d among. absurd among; drives = drives; none = λ e. refl })
-    all_synced (o ∷ os) next m s store happened made drives =
-        pass_on SparesLogs caller left (HasSynced (o ∷ []) (syncs number os next) m) (HasSynced (o ∷ os) next m) happened
-        (one_synced o (syncs number os next) m s store happened made drives)
+    pub all_synced : (os : List Owner) (next : DrainsOn) (m : Moment) (s : IsSoundAt m) (container : IsContainerAt m number) (store : Stored) (happened : List Happening) → AreMade m store happened → Drives caller (syncs number os next) happened left → Passes Bad SparesLogs caller left (HasSynced os next m) happened
+    all_synced [] next m s container store happened made drives = goes [] happened refl tt (record { kept = λ due d among. absurd among; drives = drives; none = λ e. refl })
+    all_synced (o ∷ os) next m s container store happened made drives =
+        pass_on Bad SparesLogs caller left (HasSynced (o ∷ []) (syncs number os next) m) (HasSynced (o ∷ os) next m) happened
+        (one_synced o (syncs number os next) m s container store happened made drives)
         (λ a rest e i x.
         let both : AreMade m store (a ++ rest) = subst (AreMade m store) e made in
-        let sound = sound_then m s store a rest both in
-        pass_or SparesLogs caller left (HasSynced os next (source_after m a)) (λ b c. HasSynced (o ∷ os) next m (a ++ b) c) rest
+        let now = now_then m s container store a rest both in
+        let sound : IsSoundAt (source_after m a) = now.0 in
+        pass_or Bad SparesLogs caller left (HasSynced os next (source_after m a)) (λ b c. HasSynced (o ∷ os) next m (a ++ b) c) rest
         (λ b c f j y.
         let all_made : AreMade m store (a ++ (b ++ c)) = subst (λ r. AreMade m store (a ++ r)) f both in
         let lawful_b = lawful_events (source_after m a) (target_after store a) b (made_first (source_after m a) (target_after store a) b c (made_rest m store a (b ++ c) all_made)) in
@@ -288,10 +312,7 @@ module _ (number : ℕ) where
           drives = y.drives;
           none = λ g. absurd (cc);
         }))
-        (all_synced os next (source_after m a) sound (target_after store a) rest (made_rest m store a rest both) x.drives))
+        (all_synced os next (source_after m a) sound now.1 (target_after store a) rest (made_rest m store a rest both) x.drives))
       where
-        sound_then : (m : Moment) → IsSoundAt m → (store : Stored) (first rest : List Happening) → AreMade m store (first ++ rest) → IsSoundAt (source_after m first)
-        sound_then m s store first rest made = subst IsSoundAt (sym (source_is m first)) (sound_after m (events_in first) (lawful_events m store first (made_first m store first rest made)) s)
-
         grows_then : (m : Moment) → IsSoundAt m → (store : Stored) (first rest : List Happening) → AreMade m store (first ++ rest) → Grows m (source_after m first)
         grows_then m s store first rest made = subst (Grows m) (sym (source_is m first)) (grows_after m (events_in first) (lawful_events m store first (made_first m store first rest made)) s)

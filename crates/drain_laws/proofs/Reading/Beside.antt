@@ -1,13 +1,15 @@
 -- A mount that is thought over a target: what it reads there is what a drain reads.
-use Rattle.std.proofs.Common.{◌≡◌, ◌≢◌, ℕ, ◌-◌, ◌^◌, nat_eq, List, [], ◌∷◌, Some, None, refl, ap, sym, ◌∙◌, ◌⊎◌, inl, inr, subst, arith}
-use Rattle.std.specs.Prelude.{Result, Ok, Err, slice_get}
+use Rattle.std.proofs.Common.{◌≡◌, ◌≢◌, ℕ, ◌-◌, ◌^◌, nat_eq, nat_le, length, Bool, true, false, List, [], ◌∷◌, Some, None, refl, ap, sym, ◌∙◌, ◌⊎◌, inl, inr, subst, arith}
+use Rattle.std.specs.Prelude.{Result, Ok, Err, slice_get, if◌then◌else◌}
 use Rattle.std.proofs.lemmas.Bool.{cond-false}
 use Rattle.std.proofs.lemmas.Bool.Decides.{nat_tests}
 use Rattle.std.proofs.lemmas.List.Elements.{All-from_recursion}
+use Rattle.plain_file.proofs.Facts.{Among}
 use Rattle.plfs_types.specs.Counts.{next_count}
 use Rattle.container_layout.specs.declared.items.Item.{Item}
 use Rattle.container_layout.specs.declared.items.Item.TheVariants.{Access, Flat, Index, Log, Meta, OpenHost, Packed, TmpFlat, TmpPacked, Trunc}
 use Rattle.store_api.specs.declared.step.Answer.{Answer}
+use Rattle.store_api.specs.declared.step.Answer.TheVariants.{Absent, Bytes, Names, NoFolder, NoRoom, Number}
 use Rattle.store_api.specs.declared.store.Trouble.TheVariants.{Fault, NoMemory}
 use Rattle.store_api.specs.declared.tree.Room.{Room}
 use Rattle.store_api.specs.declared.tree.Tree.{Tree}
@@ -36,6 +38,7 @@ use Rattle.mount_shape.specs.Shape.{IsDrawnBy}
 use Rattle.mount_sound.specs.Owed.{IsLawful}
 use Rattle.mount_sound.specs.Sound.{IsSoundTree}
 use Rattle.flow.specs.declared.stuck.Stuck.{Stuck}
+use Rattle.flow.specs.declared.stuck.Stuck.TheVariants as stuck
 use Rattle.flow.specs.Replies.{Tries}
 use Rattle.flow.specs.Running.{Runs, asking, unbroken}
 use Rattle.story.specs.Program.{done, ask}
@@ -76,6 +79,31 @@ wider_room few many room more (inr c) = inr (record {
   top_unlisted = c.top_unlisted;
   files = λ path bytes e. (let f = c.files path bytes e in record { item = f.item; is_at = f.is_at; holds = f.holds; id = wider_id few many f.item more f.id; housed = f.housed });
 })
+
+-- an answer is replied to by no want of memory
+never_wants : (look : Sight) (answer : Answer) → mount_reply look (Ok answer) ≡ reply.NoMemory → ⊥
+never_wants Top (Names names) is = cc
+never_wants Top NoFolder is = cc
+never_wants Top NoRoom is = cc
+never_wants Top answer is = cc
+never_wants (ListFolder folder) (Names names) is = cc
+never_wants (ListFolder folder) NoFolder is = cc
+never_wants (ListFolder folder) NoRoom is = cc
+never_wants (ListFolder folder) answer is = cc
+never_wants (Length path) (Number value) is = cc
+never_wants (Length path) NoFolder is = cc
+never_wants (Length path) Absent is = cc
+never_wants (Length path) NoRoom is = cc
+never_wants (Length path) answer is = cc
+never_wants (Read path at len) (Bytes bytes) is = by_length (nat_le (length bytes) len) is
+  where
+    by_length : (b : Bool) → (if b then reply.Looked (Bytes bytes) else reply.Damaged path.folder path.file) ≡ reply.NoMemory → ⊥
+    by_length true e = cc
+    by_length false e = cc
+never_wants (Read path at len) NoFolder is = cc
+never_wants (Read path at len) Absent is = cc
+never_wants (Read path at len) NoRoom is = cc
+never_wants (Read path at len) answer is = cc
 
 module _ (t : Tree) (sound : IsSoundTree t) (marks : ℕ) (room : Room) (marked : IsMarked t marks room) where
   abbrev store : ℕ → Stored
@@ -155,12 +183,15 @@ module _ (t : Tree) (sound : IsSoundTree t) (marks : ℕ) (room : Room) (marked 
     abbrev pub IsStuck : {X : Type 0} → Tries X → Type 0
     IsStuck p = (why : Stuck) × (p ≡ done (Err why))
 
-    -- Each call is a look at the room. What is told there is replied as a mount would, or ends the program, and so does a fault.
+    abbrev pub IsFaulted : {X : Type 0} → Tries X → Type 0
+    IsFaulted p = p ≡ done (Err stuck.Fault)
+
+    -- Each call is a look at the room. What is told there is replied as a mount would, or ends the program, as what a mount would reply does. So does a fault.
     abbrev pub IsStrict : {X : Type 0} → Tries X → Type 0
     IsStrict (done x) = Unit {0}
     IsStrict (ask call k) =
-        ((look : Sight) × (call ≡ Look n look) × ((answer : Answer) → effect t (mount_step n look) ≡ record { tree = t; answer = answer } → (look_reply (Ok answer) ≡ mount_reply look (Ok answer)) ⊎ IsStuck (k (look_reply (Ok answer)))))
-        × IsStuck (k reply.Fault) × IsStuck (k reply.NoMemory) × ((r : Reply) → IsStrict (k r))
+        ((look : Sight) × (call ≡ Look n look) × ((answer : Answer) → effect t (mount_step n look) ≡ record { tree = t; answer = answer } → (look_reply (Ok answer) ≡ mount_reply look (Ok answer)) ⊎ (IsStuck (k (look_reply (Ok answer))) × IsStuck (k (mount_reply look (Ok answer))))))
+        × IsFaulted (k reply.Fault) × IsFaulted (k reply.NoMemory) × ((r : Reply) → IsStrict (k r))
 
     same_step : (look : Sight) → look_step (Look n look) ≡ mount_step n look
     same_step Top = refl
@@ -218,12 +249,65 @@ module _ (t : Tree) (sound : IsSoundTree t) (marks : ℕ) (room : Room) (marked 
               }
 
           by_told : ((r : Reply) → IsStrict (next r) → Sees seen (next r) (Ok x) → HasRun (next r) x (next_count k)) → (told : Told) → Tells (look_step call) seen told seen → Sees seen (next (look_reply told)) (Ok x) → HasRun (ask call next) x k
-          by_told more (Err Fault) tells sees = absurd (not_stuck (next reply.Fault) x strict.1 sees)
-          by_told more (Err NoMemory) tells sees = absurd (not_stuck (next reply.NoMemory) x strict.2 sees)
+          by_told more (Err Fault) tells sees = absurd (not_stuck (next reply.Fault) x (stuck.Fault, strict.1) sees)
+          by_told more (Err NoMemory) tells sees = absurd (not_stuck (next reply.NoMemory) x (stuck.Fault, strict.2) sees)
           by_told more (Ok answer) tells sees =
               let here : Tells (mount_step n strict.0.0) seen (Ok answer) seen = subst (λ s. Tells s seen (Ok answer) seen) (ap look_step strict.0.1 ∙ same_step strict.0.0) tells in
               let e = told_there strict.0.0 answer here in
               elim (strict.0.2 answer e) as (λ _. HasRun (ask call next) x k) [
                 | inl same ↦ goes_on more answer e sees same
-                | inr stuck ↦ absurd (not_stuck (next (look_reply (Ok answer))) x stuck sees)
+                | inr both ↦ absurd (not_stuck (next (look_reply (Ok answer))) x both.0 sees)
+              ]
+
+      -- ---- what is seen in trouble, a caller of the mount reads in trouble, unless the target's store failed
+
+      -- the mount's store didn't fail, and memory wasn't wanting
+      pub record HasFailed {X : Type 0} (p : Tries X) (k : ℕ) : Type 0 where
+        pub by : Stuck
+        pub events : List Event
+        pub last : ℕ
+        pub lawful : IsLawful (state k) events
+        pub runs : Runs 0 p events (Err by)
+        pub ends : moment_after (beside k) events ≡ beside last
+        pub calm : (e : Event) → Among e events → e.reply ≡ reply.NoMemory → ⊥
+
+      one_trouble : {X : Type 0} (a b : Stuck) → ◌≡◌ {A = Result X Stuck} (Err a) (Err b) → b ≡ a
+      one_trouble a b e = cc
+
+      pub sees_fails : {X : Type 0} (p : Tries X) (why : Stuck) (k : ℕ) → IsStrict p → Sees seen p (Err why) → (why ≡ stuck.Fault) ⊎ HasFailed p k
+      sees_fails (done y) why k strict sees = inr (record { by = why; events = []; last = k; lawful = tt; runs = (refl, sees); ends = refl; calm = λ e a is. a })
+      sees_fails {X} (ask call next) why k strict (told, tells, sees) = by_told (λ r st se. sees_fails (next r) why (next_count k) st se) told tells sees
+        where
+          behind : (answer : Answer) → effect t (mount_step n strict.0.0) ≡ record { tree = t; answer = answer } → HasFailed (next (mount_reply strict.0.0 (Ok answer))) (next_count k) → HasFailed (ask call next) k
+          behind answer e r =
+              let l = lawful_look k strict.0.0 answer e in
+              record {
+                by = r.by;
+                events = event k strict.0.0 answer ∷ r.events;
+                last = r.last;
+                lawful = (l.0, l.1, r.lawful);
+                runs = after_own 0 (unbroken call) (λ y. asking (next y)) (event k strict.0.0 answer) r.events (Err r.by) refl (ap unbroken (sym strict.0.1)) r.runs;
+                ends = r.ends;
+                calm = λ x a is. calm_too answer x a is r.calm;
+              }
+            where
+              calm_too : (answer : Answer) (x : Event) → Among x (event k strict.0.0 answer ∷ r.events) → x.reply ≡ reply.NoMemory → ((y : Event) → Among y r.events → y.reply ≡ reply.NoMemory → ⊥) → ⊥
+              calm_too answer x (inl same) is calm = never_wants strict.0.0 answer (ap (λ (y : Event). y.reply) (sym same) ∙ is)
+              calm_too answer x (inr a) is calm = calm x a is
+
+          stuck_there : (r : Reply) → IsStuck (next r) → HasFailed (next r) (next_count k)
+          stuck_there r (other, is) = record { by = other; events = []; last = next_count k; lawful = tt; runs = subst (λ p. Runs 0 p [] (Err other)) (sym is) (refl, refl); ends = refl; calm = λ e a no. a }
+
+          by_told : ((r : Reply) → IsStrict (next r) → Sees seen (next r) (Err why) → (why ≡ stuck.Fault) ⊎ HasFailed (next r) (next_count k)) → (told : Told) → Tells (look_step call) seen told seen → Sees seen (next (look_reply told)) (Err why) → (why ≡ stuck.Fault) ⊎ HasFailed (ask call next) k
+          by_told more (Err Fault) tells sees = inl (one_trouble {X = X} stuck.Fault why (subst (λ p. Sees seen p (Err why)) strict.1 sees))
+          by_told more (Err NoMemory) tells sees = inl (one_trouble {X = X} stuck.Fault why (subst (λ p. Sees seen p (Err why)) strict.2 sees))
+          by_told more (Ok answer) tells sees =
+              let here : Tells (mount_step n strict.0.0) seen (Ok answer) seen = subst (λ s. Tells s seen (Ok answer) seen) (ap look_step strict.0.1 ∙ same_step strict.0.0) tells in
+              let e = told_there strict.0.0 answer here in
+              elim (strict.0.2 answer e) as (λ _. (why ≡ stuck.Fault) ⊎ HasFailed (ask call next) k) [
+                | inl same ↦ elim (more (mount_reply strict.0.0 (Ok answer)) (strict.3 (mount_reply strict.0.0 (Ok answer))) (subst (λ y. Sees seen (next y) (Err why)) same sees)) as (λ _. (why ≡ stuck.Fault) ⊎ HasFailed (ask call next) k) [
+                  | inl fault ↦ inl fault
+                  | inr r ↦ inr (behind answer e r)
+                ]
+                | inr both ↦ inr (behind answer e (stuck_there (mount_reply strict.0.0 (Ok answer)) both.1))
               ]

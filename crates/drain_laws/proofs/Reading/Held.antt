@@ -42,6 +42,7 @@ use Rattle.gathering.specs.Gathering.{IsPrefixOf}
 use Rattle.gathering.specs.Moments.{Dropping, Grows, IsSoundAt, Moment, Stood, file_in_room, index_then, issued_by, landed, log_then, moment_after}
 use Rattle.gathering.proofs.Facts.{among_left, among_right, any_found, found_any, grows_after, landed_logged, landed_whole, legal_first, legal_rest, length-entries, length_taken, moment-append, sound_after}
 use Rattle.gathering.proofs.Containers.Entries.{file_named, named_file}
+use Rattle.reader_laws.specs.Covering.{cover_with, empty_cover}
 use Rattle.drain_copy.specs.Asking.{Told, look_reply}
 use Rattle.drain_read.specs.declared.held.Held.{Held}
 use Rattle.drain_read.specs.declared.held.Mirror.{Mirror}
@@ -67,7 +68,7 @@ pub record SeesInTwo {X Y : Type 0} (t : Tree) (p : Tries Y) (next : Result Y St
   pub first : Sees t p value
   pub behind : Sees t (next value) out
 
-sees_in_two : {X Y : Type 0} (t : Tree) (p : Tries Y) (next : Result Y Stuck → Tries X) (out : Result X Stuck) → Sees t (followed_by p next) out → SeesInTwo t p next out
+pub sees_in_two : {X Y : Type 0} (t : Tree) (p : Tries Y) (next : Result Y Stuck → Tries X) (out : Result X Stuck) → Sees t (followed_by p next) out → SeesInTwo t p next out
 sees_in_two t (done y) next out sees = record { value = y; first = refl; behind = sees }
 sees_in_two t (ask call k) next out (told, tells, sees) =
     let r = sees_in_two t (k (look_reply told)) next out sees in
@@ -229,6 +230,7 @@ module _ (m : Moment) (s : IsSoundAt m) (number : ℕ) (name : Name) (t : Tree) 
     pub entries : 40 * mirror.cover.count ≤ length bytes
     pub landed_there : mirror.cover.count ≤ landed m (dropping_in number host mirror.cover.writer)
     pub sum : mirror.cover.bytes ≡ logged (take mirror.cover.count (entries_in (m.issued number mirror.cover.writer)))
+    pub tells : mirror.cover ≡ cover_with (empty_cover mirror.cover.writer) (take mirror.cover.count (entries_in (m.issued number mirror.cover.writer)))
     pub log : mirror.log ≡ length (log_bytes room host mirror.cover.writer)
     pub fits : mirror.cover.bytes ≤ mirror.log
     pub all : (count : ℕ) → HasCopied m number room host mirror.cover.writer count → count ≤ mirror.cover.count
@@ -281,17 +283,19 @@ module _ (m : Moment) (s : IsSoundAt m) (number : ℕ) (name : Name) (t : Tree) 
         let same_first : take w.cover.count (m.issued number w.writer) ≡ take w.cover.count (marked.target.sound.issued n w.writer) =
         ap (take w.cover.count) more.1 ∙ take-append-le w.cover.count (marked.target.sound.issued n w.writer) more.0 p.were_issued in
         let own_bytes : w.cover.bytes ≡ logged read.entries = omega (arith, ap (λ (c : Cover). c.bytes) read.cover) in
-        let sums : w.cover.bytes ≡ logged (take w.cover.count (entries_in (m.issued number w.writer))) =
-        own_bytes ∙ ap logged (p.entries ∙ sym (entries_take w.cover.count (marked.target.sound.issued n w.writer)) ∙ ap entries_in (sym same_first) ∙ entries_take w.cover.count (m.issued number w.writer)) in
+        let firsts : read.entries ≡ take w.cover.count (entries_in (m.issued number w.writer)) =
+        p.entries ∙ sym (entries_take w.cover.count (marked.target.sound.issued n w.writer)) ∙ ap entries_in (sym same_first) ∙ entries_take w.cover.count (m.issued number w.writer) in
+        let sums : w.cover.bytes ≡ logged (take w.cover.count (entries_in (m.issued number w.writer))) = own_bytes ∙ ap logged firsts in
+        let tells : w.cover ≡ cover_with (empty_cover w.writer) (take w.cover.count (entries_in (m.issued number w.writer))) = read.cover ∙ ap (cover_with (empty_cover w.writer)) firsts in
         let es : List Entry = entries_in (issued_by end d) in
         let log_there : bytes_of (log_then end d) ≡ log_bytes room w.host w.writer = ap (λ o. bytes_of (file_in_room o (log_path w.host w.writer))) here in
         let enough : w.cover.bytes ≤ length (log_bytes room w.host w.writer) =
         omega (arith, landed_logged end end_sound d stood.bytes read.named stood.there, ap length log_there, logged_take w.cover.count (take (landed end d) es), ap logged (take_less w.cover.count (landed end d) es p.most), own_bytes, ap logged p.entries) in
-        of_cover w x of cover_is stood.bytes (record { is_item = read.named; there = there }) long (whole_few w.cover.count (length stood.bytes) (landed m source_d) long short) sums log_is enough (λ count copied. omega (arith, copied_landed m s number name t target n room named.there named.named w.host w.writer count copied, ap (λ o. length (entries_there (bytes_of (file_in_room o (index_path w.host w.writer))) (bytes_of (file_in_room o (log_path w.host w.writer))))) here, p.least))
+        of_cover w x of cover_is stood.bytes (record { is_item = read.named; there = there }) long (whole_few w.cover.count (length stood.bytes) (landed m source_d) long short) sums tells log_is enough (λ count copied. omega (arith, copied_landed m s number name t target n room named.there named.named w.host w.writer count copied, ap (λ o. length (entries_there (bytes_of (file_in_room o (index_path w.host w.writer))) (bytes_of (file_in_room o (log_path w.host w.writer))))) here, p.least))
       where
         of_cover : (w : WriterRead) (x : Mirror) → w.cover.writer ≡ w.writer → x.cover ≡ w.cover → (bytes : List ℕ) → HasItem room (Index w.host w.writer) bytes → 40 * w.cover.count ≤ length bytes → w.cover.count ≤ landed m (dropping_in number w.host w.writer)
-            → w.cover.bytes ≡ logged (take w.cover.count (entries_in (m.issued number w.writer))) → x.log ≡ length (log_bytes room w.host w.writer) → w.cover.bytes ≤ length (log_bytes room w.host w.writer) → ((count : ℕ) → HasCopied m number room w.host w.writer count → count ≤ w.cover.count) → IsMirror x
-        of_cover w x of cover_is bytes item long few sums log_is enough whole_there =
+            → w.cover.bytes ≡ logged (take w.cover.count (entries_in (m.issued number w.writer))) → w.cover ≡ cover_with (empty_cover w.writer) (take w.cover.count (entries_in (m.issued number w.writer))) → x.log ≡ length (log_bytes room w.host w.writer) → w.cover.bytes ≤ length (log_bytes room w.host w.writer) → ((count : ℕ) → HasCopied m number room w.host w.writer count → count ≤ w.cover.count) → IsMirror x
+        of_cover w x of cover_is bytes item long few sums tells log_is enough whole_there =
             let owner : x.cover.writer ≡ w.writer = ap (λ (c : Cover). c.writer) cover_is ∙ of in
             let count : x.cover.count ≡ w.cover.count = ap (λ (c : Cover). c.count) cover_is in
             record {
@@ -301,6 +305,7 @@ module _ (m : Moment) (s : IsSoundAt m) (number : ℕ) (name : Name) (t : Tree) 
               entries = omega (arith, long, count);
               landed_there = subst (λ k. x.cover.count ≤ landed m (dropping_in number w.host k)) (sym owner) (omega (arith, few, count));
               sum = ap (λ (c : Cover). c.bytes) cover_is ∙ sums ∙ (λ i. logged (take (sym count i) (entries_in (m.issued number (sym owner i)))));
+              tells = cover_is ∙ tells ∙ (λ i. cover_with (empty_cover (sym owner i)) (take (sym count i) (entries_in (m.issued number (sym owner i)))));
               log = log_is ∙ (λ i. length (log_bytes room w.host (sym owner i)));
               fits = omega (arith, enough, log_is, ap (λ (c : Cover). c.bytes) cover_is);
               all = λ copies copied. omega (arith, count, whole_there copies (subst (λ k. HasCopied m number room w.host k copies) owner copied));

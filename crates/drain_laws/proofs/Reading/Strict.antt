@@ -23,6 +23,7 @@ use Rattle.mount_model.specs.Looking.{look_step as mount_step, look_reply as mou
 use Rattle.mount_model.specs.Paths.{Name, index_path, log_path, truncs}
 use Rattle.mount_sound.specs.Sound.{IsSoundTree}
 use Rattle.flow.specs.declared.stuck.Stuck.{Stuck}
+use Rattle.flow.specs.declared.stuck.Stuck.TheVariants as stuck
 use Rattle.flow.specs.Entries.{is_next}
 use Rattle.flow.specs.Replies.{Tries, bytes_in, damage, given, names_in, on_ok}
 use Rattle.story.specs.Program.{done, ask, followed_by}
@@ -55,9 +56,9 @@ module _ (t : Tree) (sound : IsSoundTree t) (marks : ℕ) (room : Room) (marked 
   strict_on (done (Ok a)) next strict more = more a
   strict_on (done (Err why)) next strict more = tt
   strict_on (ask call k) next strict more = (
-    (strict.0.0, strict.0.1, λ answer e. elim (strict.0.2 answer e) [ inl same ↦ inl same | inr (why, is) ↦ inr (why, ap (λ p. followed_by p (on_ok next)) is) ]),
-    (strict.1.0, ap (λ p. followed_by p (on_ok next)) strict.1.1),
-    (strict.2.0, ap (λ p. followed_by p (on_ok next)) strict.2.1),
+    (strict.0.0, strict.0.1, λ answer e. elim (strict.0.2 answer e) [ inl same ↦ inl same | inr (a, b) ↦ inr ((a.0, ap (λ p. followed_by p (on_ok next)) a.1), (b.0, ap (λ p. followed_by p (on_ok next)) b.1)) ]),
+    ap (λ p. followed_by p (on_ok next)) strict.1,
+    ap (λ p. followed_by p (on_ok next)) strict.2,
     λ r. strict_on (k r) next (strict.3 r) more,
   )
 
@@ -75,13 +76,20 @@ module _ (t : Tree) (sound : IsSoundTree t) (marks : ℕ) (room : Room) (marked 
 
   -- a look whose reply gives something, or ends it
   abbrev Takes : {A : Type 0} → Sight → (Reply → Option A) → Type 0
-  Takes look take_in = (answer : Answer) → effect t (mount_step n look) ≡ record { tree = t; answer = answer } → (look_reply (Ok answer) ≡ mount_reply look (Ok answer)) ⊎ (take_in (look_reply (Ok answer)) ≡ None)
+  Takes look take_in = (answer : Answer) → effect t (mount_step n look) ≡ record { tree = t; answer = answer } → (look_reply (Ok answer) ≡ mount_reply look (Ok answer)) ⊎ ((take_in (look_reply (Ok answer)) ≡ None) × (take_in (mount_reply look (Ok answer)) ≡ None))
 
-  strict_look : {A X : Type 0} (look : Sight) (take_in : Reply → Option A) (why : Reply → Stuck) (next : A → Tries X) → Takes look take_in → take_in Fault ≡ None → take_in NoMemory ≡ None → ((a : A) → Strict (next a)) → Strict (ask (Look n look) (λ reply. given (take_in reply) (why reply) next))
-  strict_look look take_in why next takes faults wants more = (
-    (look, refl, λ answer e. elim (takes answer e) [ inl same ↦ inl same | inr none ↦ inr (why (look_reply (Ok answer)), ap (λ o. given o (why (look_reply (Ok answer))) next) none) ]),
-    (why Fault, ap (λ o. given o (why Fault) next) faults),
-    (why NoMemory, ap (λ o. given o (why NoMemory) next) wants),
+  strict_look : {A X : Type 0} (look : Sight) (take_in : Reply → Option A) (why : Reply → Stuck) (next : A → Tries X) → Takes look take_in → take_in Fault ≡ None → take_in NoMemory ≡ None → why Fault ≡ stuck.Fault → why NoMemory ≡ stuck.Fault → ((a : A) → Strict (next a)) → Strict (ask (Look n look) (λ reply. given (take_in reply) (why reply) next))
+  strict_look look take_in why next takes faults wants fault want more = (
+    (
+      look,
+      refl,
+      λ answer e. elim (takes answer e) [
+        | inl same ↦ inl same
+        | inr (a, b) ↦ inr ((why (look_reply (Ok answer)), ap (λ o. given o (why (look_reply (Ok answer))) next) a), (why (mount_reply look (Ok answer)), ap (λ o. given o (why (mount_reply look (Ok answer))) next) b))
+      ],
+    ),
+    (λ i. given (faults i) (fault i) next),
+    (λ i. given (wants i) (want i) next),
     λ r. strict_given (take_in r) (why r) next more,
   )
 
@@ -89,24 +97,24 @@ module _ (t : Tree) (sound : IsSoundTree t) (marks : ℕ) (room : Room) (marked 
 
   top_names : Takes Top names_in
   top_names (Names names) e = inl refl
-  top_names NoFolder e = inr refl
-  top_names answer e = inr refl
+  top_names NoFolder e = inr (refl, refl)
+  top_names answer e = inr (refl, refl)
 
   folder_names : (folder : Name) → Takes (ListFolder folder) names_in
   folder_names folder (Names names) e = inl refl
-  folder_names folder NoFolder e = inr refl
-  folder_names folder answer e = inr refl
+  folder_names folder NoFolder e = inr (refl, refl)
+  folder_names folder answer e = inr (refl, refl)
 
   a_number : (path : Path) → Takes (Length path) number_in
   a_number path (Number value) e = inl refl
-  a_number path NoFolder e = inr refl
-  a_number path answer e = inr refl
+  a_number path NoFolder e = inr (refl, refl)
+  a_number path answer e = inr (refl, refl)
 
   a_length : (path : Path) → Takes (Length path) log_length_in
   a_length path (Number value) e = inl refl
   a_length path Absent e = inl refl
-  a_length path NoFolder e = inr refl
-  a_length path answer e = inr refl
+  a_length path NoFolder e = inr (refl, refl)
+  a_length path answer e = inr (refl, refl)
 
   some_bytes : (path : Path) (at len : ℕ) → Takes (Read path at len) bytes_in
   some_bytes path at len (Bytes bytes) e =
@@ -114,20 +122,20 @@ module _ (t : Tree) (sound : IsSoundTree t) (marks : ℕ) (room : Room) (marked 
       let long : length bytes ≤ len = omega (arith, ap length says.1, length-take len (drop at says.0.bytes)) in
       let fits : nat_le (length bytes) len ≡ true = grind (arith, nat_tests, long) in
       inl (sym (cond-true (nat_le (length bytes) len) (Looked (Bytes bytes)) (Damaged path.folder path.file) fits))
-  some_bytes path at len NoFolder e = inr refl
-  some_bytes path at len answer e = inr refl
+  some_bytes path at len NoFolder e = inr (refl, refl)
+  some_bytes path at len answer e = inr (refl, refl)
 
   -- ---- the scan
 
   strict_scans : (id : ℕ) (flat : Flat) (ks : List ℕ) (scan : Scan) → Strict (scans n id flat ks scan)
   strict_scans id flat [] scan = tt
   strict_scans id flat (k ∷ ks) scan =
-      strict_look (ListFolder (hostdir_of k)) names_in _ (λ names. on_ok (λ more. scans n id flat ks more) (scanned (hostdir_of k) names scan)) (folder_names (hostdir_of k)) refl refl
+      strict_look (ListFolder (hostdir_of k)) names_in _ (λ names. on_ok (λ more. scans n id flat ks more) (scanned (hostdir_of k) names scan)) (folder_names (hostdir_of k)) refl refl refl refl
       (λ names. strict_ok (scanned (hostdir_of k) names scan) (λ more. scans n id flat ks more) (λ more. strict_scans id flat ks more))
 
   strict_scan : Strict (scan_program n)
   strict_scan =
-      strict_look Top names_in _ (λ names. on_ok (λ ks. scans n 0 no_flat ks nothing_found) (top_shows names)) top_names refl refl
+      strict_look Top names_in _ (λ names. on_ok (λ ks. scans n 0 no_flat ks nothing_found) (top_shows names)) top_names refl refl refl refl
       (λ names. strict_ok (top_shows names) (λ ks. scans n 0 no_flat ks nothing_found) (λ ks. strict_scans 0 no_flat ks nothing_found))
 
   -- ---- one dropping
@@ -154,20 +162,20 @@ module _ (t : Tree) (sound : IsSoundTree t) (marks : ℕ) (room : Room) (marked 
   strict_reads (suc count) d log whole left ended tail =
       strict_look (Read (index_path d.host d.writer) (40 * (whole - left)) (40 * next_read left)) bytes_in _
       (λ bytes. if_checked d (λ past longer. reads count n d log whole (left - next_read left) past longer) (nat_le (40 * next_read left) (length bytes)) (looked ended log (next_read left) bytes tail))
-      (some_bytes (index_path d.host d.writer) (40 * (whole - left)) (40 * next_read left)) refl refl
+      (some_bytes (index_path d.host d.writer) (40 * (whole - left)) (40 * next_read left)) refl refl refl refl
       (λ bytes. strict_looked d (λ past after. reads count n d log whole (left - next_read left) past after) (nat_le (40 * next_read left) (length bytes)) ended log (next_read left) bytes tail (λ past after. strict_reads count d log whole (left - next_read left) past after))
 
   strict_tail : (d : Listed) (tail : Tail) → Strict (tail_program n d tail)
   strict_tail d tail =
-      strict_look (Length (index_path d.host d.writer)) number_in _ (if_told n d tail) (a_number (index_path d.host d.writer)) refl refl
+      strict_look (Length (index_path d.host d.writer)) number_in _ (if_told n d tail) (a_number (index_path d.host d.writer)) refl refl refl refl
       (λ told. strict_if (nat_lt (told / 40) tail.cover.count) (done (Err (damage (index_path d.host d.writer) told))) (log_then n d tail (told / 40)) tt
-      (strict_look (Length (log_path d.host d.writer)) log_length_in _ (if_logged n d tail (told / 40)) (a_length (log_path d.host d.writer)) refl refl
+      (strict_look (Length (log_path d.host d.writer)) log_length_in _ (if_logged n d tail (told / 40)) (a_length (log_path d.host d.writer)) refl refl refl refl
       (λ log. strict_if (nat_lt log tail.cover.bytes) (done (Err (damage (log_path d.host d.writer) log))) (reads_left n d log (told / 40) (told / 40 - tail.cover.count) false tail) tt (strict_reads (reads_of (told / 40 - tail.cover.count)) d log (told / 40) (told / 40 - tail.cover.count) false tail))))
 
   -- ---- all
 
   strict_truncs : (known : Known) → known.room ≡ n → Strict (trunc_program known.room)
-  strict_truncs known is = subst (λ k. Strict (trunc_program k)) (sym is) (strict_look (ListFolder truncs) names_in _ (λ names. done (truncs_of names [])) (folder_names truncs) refl refl (λ names. tt))
+  strict_truncs known is = subst (λ k. Strict (trunc_program k)) (sym is) (strict_look (ListFolder truncs) names_in _ (λ names. done (truncs_of names [])) (folder_names truncs) refl refl refl refl (λ names. tt))
 
   strict_all : (known : Known) → known.room ≡ n → (ds : List Listed) (sofar : List WriterRead) → Strict (reads_all known ds sofar)
   strict_all known is [] sofar = strict_on (trunc_program known.room) (contains known sofar) (strict_truncs known is) (λ ts. tt)

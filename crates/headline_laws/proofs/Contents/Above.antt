@@ -4,6 +4,7 @@ use Rattle.std.specs.List.{All, AllByRecursion}
 use Rattle.std.proofs.lemmas.List.Elements.{All-from_recursion, recursion_from_All}
 use Rattle.plfs_types.specs.declared.entries.Entry.{Entry}
 use Rattle.plfs_types.specs.declared.entries.Trunc.{Trunc}
+use Rattle.plain_file.specs.declared.changes.Change.{Change}
 use Rattle.plain_file.proofs.Facts.{cases_Option}
 use Rattle.mount_model.specs.Paths.{trunc_path}
 use Rattle.mount_model.specs.History.{Event}
@@ -19,7 +20,10 @@ use Rattle.gathering.proofs.Moments.Bounds.{truncs_above}
 use Rattle.gathering.proofs.Moments.Stepping.{IsAboveThen}
 use Rattle.gathering.proofs.OpenReaders.Viewing.{All-take, entries_split}
 use Rattle.headline.specs.Run.{IsAmong}
-use Rattle.headline.specs.Views.{IsBelow}
+use Rattle.headline.specs.Views.{stamp_of}
+
+abbrev pub IsBelow : ℕ → Change → Type 0
+IsBelow stamp c = stamp_of c < stamp
 
 -- the entries of a cut that had landed when the truncate came are below it
 above_cut : (start end : Moment) (room stamp : ℕ) (cut : List Gathered) → IsSoundAt end → WritersRise room cut → IsAdmissible start end cut → IsAboveThen end room stamp → AllByRecursion (λ (e : Entry). e.stamp < stamp) (entries_in (writes_in end cut))

@@ -39,7 +39,7 @@ use Rattle.play_laws.specs.Showing.{TellsOneFile}
 use Rattle.play_laws.proofs.Facts.{Next}
 use Rattle.headline.specs.Run.{IsAmong, IsLine, Run, Says, Told, before, own, phased, so_far, told}
 use Rattle.headline.specs.Trees.{Has}
-use Rattle.headline.specs.Views.{IdsRise, IsBelow, IsCut, IsWriter, Seen, changes_of, count_of, item_of, writes_of}
+use Rattle.headline.specs.Views.{IdsRise, IsCut, IsWriter, Seen, changes_of, count_of, item_of, writes_of}
 use Rattle.headline.specs.Files.{Answers, entry_of, reader_after, reader_at, reader_next}
 use Rattle.headline.specs.Changes.{writing_at}
 use Rattle.headline.specs.Contents.{HasContents, ShowsContents}
@@ -52,7 +52,7 @@ use Rattle.headline_laws.proofs.Story.Lines.{AnyLine, LineOn, container, line_he
 use Rattle.headline_laws.proofs.Story.Shown.{ShownEach}
 use Rattle.headline_laws.proofs.Trees.Reading.{ReaderLine, ids_rise, last_tree, reader_line}
 use Rattle.headline_laws.proofs.Trees.Still.{file_of}
-use Rattle.headline_laws.proofs.Contents.Above.{later_above}
+use Rattle.headline_laws.proofs.Contents.Above.{IsBelow, later_above}
 use Rattle.headline_laws.proofs.Contents.Counted.{Begin, HasSeen, IsSeen, all_seen, homes, sound_begin}
 use Rattle.headline_laws.proofs.Contents.Cuts.{counts_between}
 use Rattle.headline_laws.proofs.Landed.Counting.{counted_in, seen_counted, seen_rise}

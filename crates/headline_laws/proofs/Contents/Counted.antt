@@ -1,5 +1,5 @@
 -- A reader's line counts of each writer the first writes that the lines tell, or that the tree before has.
-use Rattle.std.proofs.Common.{◌≡◌, ◌≤◌, ◌<◌, ◌^◌, inl, inr, ℕ, zero, suc, Bool, true, false, nat_eq, List, [], ◌∷◌, ◌++◌, length, map, take, Option, Some, None, refl, sym, ap, ◌∙◌, subst, arith, append_assoc, length-append, if◌then◌else◌}
+use Rattle.std.proofs.Common.{◌≡◌, ◌≤◌, ◌<◌, ◌^◌, inl, inr, ℕ, Bool, true, false, nat_eq, List, [], ◌∷◌, ◌++◌, length, map, take, Option, Some, None, refl, sym, ap, ◌∙◌, subst, arith, append_assoc, length-append, if◌then◌else◌}
 use Rattle.std.specs.Prelude.{MatchOption, slice_get}
 use Rattle.std.specs.List.{AllByRecursion}
 use Rattle.std.proofs.lemmas.Bool.{cases_lt}
@@ -37,15 +37,10 @@ use Rattle.headline_laws.proofs.Statements.Known.{HasEntered, entered_more}
 use Rattle.headline_laws.proofs.Story.Entered.{entered_once}
 use Rattle.headline_laws.proofs.Story.Lines.{container}
 use Rattle.headline_laws.proofs.Trees.Reading.{grows_to, opened_line}
-use Rattle.headline_laws.proofs.Trees.Still.{Led, file_of, same as issued_still, told_before}
+use Rattle.headline_laws.proofs.Trees.Still.{Led, file_of, same as issued_still, take_map, told_before}
 use Rattle.headline_laws.proofs.Contents.Accounts.{issued_told}
 use Rattle.headline_laws.proofs.Contents.Issues.{found_write}
 use Rattle.headline_laws.proofs.Contents.Written.{written}
-
-take_map : {A B : Type 0} (f : A → B) (n : ℕ) (xs : List A) → take n (map f xs) ≡ map f (take n xs)
-take_map f zero xs = refl
-take_map f (suc n) [] = refl
-take_map f (suc n) (x ∷ xs) = ap (λ ys. f x ∷ ys) (take_map f n xs)
 
 one_row : (a b : Row) (o : Option Row) → o ≡ Some a → o ≡ Some b → a ≡ b
 one_row a b o is also = cc

@@ -21,8 +21,10 @@ use Rattle.headline.specs.Files.{reader_at}
 use Rattle.headline.specs.Changes.{writing_at}
 use Rattle.headline.specs.Writers.{Writer}
 use Rattle.headline.specs.Views.{IsWriter, opened, stood}
-use Rattle.headline_laws.proofs.Contents.Bounds.{BoundedLine, First, bounded_line, opened_between, sound_first, stands_last}
+use Rattle.headline_laws.proofs.Contents.Bounds.{opened_between}
 use Rattle.headline_laws.proofs.Contents.Counted.{homes}
+use Rattle.headline_laws.proofs.Contents.LineBounds.{BoundedLine, bounded_line}
+use Rattle.headline_laws.proofs.Contents.OpenedWriter.{First, sound_first, stands_last}
 use Rattle.headline_laws.proofs.Landed.Counting.{counted_in}
 use Rattle.headline_laws.proofs.Story.Lines.{line_here}
 use Rattle.headline_laws.proofs.Trees.Old.{begins_with, is_there, landed_then, told_landed}

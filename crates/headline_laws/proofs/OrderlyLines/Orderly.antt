@@ -1,6 +1,6 @@
 -- The lines of a run are orderly.
 use Rattle.std.proofs.Common.{◌≡◌, ◌≢◌, ◌≤◌, inl, inr, ◌+◌, ◌<◌, ℕ, zero, suc, true, false, List, [], ◌∷◌, ◌++◌, map, length, Option, Some, None, refl, sym, ◌∙◌, subst, arith}
-use Rattle.std.specs.Prelude.{slice_get}
+use Rattle.std.specs.Prelude.{is_some, slice_get}
 use Rattle.std.specs.List.{AllByRecursion}
 use Rattle.std.proofs.lemmas.List.Elements.{recursion_from_All}
 use Rattle.plfs_types.specs.Counts.{HasRisen}
@@ -35,8 +35,8 @@ use Rattle.play_laws.specs.Undamaged.{AreUndamaged, IsUndamaged}
 use Rattle.play_laws.proofs.Facts.{readers_show, right_counts, right_undamaged}
 use Rattle.headline.specs.Run.{IsLine, Phased, Run, Says, Told, before, beside, own, phased, told}
 use Rattle.headline.specs.Files.{reader_at}
-use Rattle.headline.specs.Changes.{Writes, Writing, id_of, none, unsure, writer, writing_at}
-use Rattle.headline.specs.Causes.{HadIt, MayLack, WasMade, WasStopped, last_outcome}
+use Rattle.headline.specs.Changes.{Writes, Writing, none, unsure, writer, writing_at}
+use Rattle.headline.specs.Causes.{MayBeReady, MayHave, WasMade, WasStopped, last_outcome}
 use Rattle.headline.specs.Kinds.{IsOfKind}
 use Rattle.headline.specs.Headline.{IsOrderly}
 use Rattle.plain_file.proofs.Facts.{Among}
@@ -46,7 +46,7 @@ use Rattle.headline_laws.proofs.Statements.Does.{Ended, did, was_gone}
 use Rattle.headline_laws.proofs.OrderlyLines.Causes.{GoodEach, all_good, good_at, good_own, risen_between}
 use Rattle.headline_laws.proofs.Statements.Chains.{Chain, through_chains}
 use Rattle.headline_laws.proofs.OrderlyLines.Places.{actors, actors_whose, line_of, own_split, statements_phased}
-use Rattle.headline_laws.proofs.OrderlyLines.Standing.{Follow, IsAfter, Line_at, Stands, goes, halted, line_at, no_stop_in, own_follow, stop_in}
+use Rattle.headline_laws.proofs.OrderlyLines.Standing.{Follow, IsAfter, Line_at, Stands, goes, halted, line_at, may_have, no_stop_in, own_follow, some_there, stop_in}
 use Rattle.headline_laws.proofs.OrderlyLines.Numbering.{numbers_told}
 use Rattle.headline_laws.proofs.OrderlyLines.Synced.{synced_tells}
 use Rattle.headline_laws.proofs.OrderlyLines.Answering.{FileChain, OwnChain, answers_tell, each_chain, reader_actor, refreshed_tell}
@@ -200,28 +200,25 @@ wrote_of t kept e says (did lives d) at len stamp wrote = wrote_at t.statement a
 
 -- the actor goes on, and keeps this
 module _ (w : Writing) (r : Option Told) (kept : Kept) (last : Option Outcome) (stands : Stands kept w r last) where
-  lacks : kept.writer ≡ None → (v : Writing) → w ≡ v → MayLack v
+  lacks : kept.writer ≡ None → (v : Writing) → w ≡ v → MayHave false v
   lacks is none same = tt
   lacks is (unsure id) same = tt
   lacks is (writer id) same = subst IsOpen is (stands.sure id same)
 
-  is_some : {X : Type 0} (o : Option X) → IsThere o → o ≢ None
-  is_some o is_there empty = subst IsThere empty is_there
+  has_writer : IsThere kept.writer → MayHave true w
+  has_writer there = may_have w (stands.known there)
 
-  is_none : {X : Type 0} (o : Option X) → (IsThere o → ⊥) → o ≡ None
-  is_none None never = refl
-  is_none (Some x) never = absurd (never tt)
+  has_reader : IsThere kept.reader → is_some r ≡ true
+  has_reader there = some_there r (stands.reading.0 there)
 
-  has_writer : IsThere kept.writer → id_of w ≢ None
-  has_writer there = is_some (id_of w) (stands.known there)
+  none_there : {X : Type 0} (o : Option X) → (IsThere o → ⊥) → is_some o ≡ false
+  none_there None never = refl
+  none_there (Some x) never = absurd (never tt)
 
-  has_reader : IsThere kept.reader → r ≢ None
-  has_reader there = is_some r (stands.reading.0 there)
+  has_none : kept.reader ≡ None → is_some r ≡ false
+  has_none is = none_there r (λ there. subst IsThere is (stands.reading.1 there))
 
-  has_none : kept.reader ≡ None → r ≡ None
-  has_none is = is_none r (λ there. subst IsThere is (stands.reading.1 there))
-
-had : (run : Run) (t : Told) (kept : Kept) (stands : Stands kept (writing_at run t) (reader_at run t) (last_outcome (own t.actor (before run t)))) (s : Statement) → Had kept.writer kept.reader s → HadIt run t s
+had : (run : Run) (t : Told) (kept : Kept) (stands : Stands kept (writing_at run t) (reader_at run t) (last_outcome (own t.actor (before run t)))) (s : Statement) → Had kept.writer kept.reader s → MayBeReady true run t s
 had run t kept stands (Open name) is = lacks (writing_at run t) (reader_at run t) kept _ stands is (writing_at run t) refl
 had run t kept stands (Ropen name workers) is = has_none (writing_at run t) (reader_at run t) kept _ stands is
 had run t kept stands (Read at len) is = has_reader (writing_at run t) (reader_at run t) kept _ stands is
@@ -232,19 +229,19 @@ had run t kept stands Rclose is = has_reader (writing_at run t) (reader_at run t
 had run t kept stands (Write at content) is = has_writer (writing_at run t) (reader_at run t) kept _ stands is
 had run t kept stands Sync is = has_writer (writing_at run t) (reader_at run t) kept _ stands is
 had run t kept stands Close is = has_writer (writing_at run t) (reader_at run t) kept _ stands is
-had run t kept stands (Stat name) is = tt
-had run t kept stands (Flatten name) is = tt
-had run t kept stands (Recover name) is = tt
-had run t kept stands (Trunc name size) is = tt
-had run t kept stands (Rename name to) is = tt
-had run t kept stands Ls is = tt
-had run t kept stands (Arms call bytes) is = tt
+had run t kept stands (Stat name) is = refl
+had run t kept stands (Flatten name) is = refl
+had run t kept stands (Recover name) is = refl
+had run t kept stands (Trunc name size) is = refl
+had run t kept stands (Rename name to) is = refl
+had run t kept stands Ls is = refl
+had run t kept stands (Arms call bytes) is = refl
 
 module _ (run : Run) (t : Told) where
   abbrev Mine : List Told
   Mine = own t.actor (before run t)
 
-  made_had : (kept : Kept) (e : Ending) → t.outcome ≡ e.outcome → Ended kept t.statement e → IsAfter kept (writing_at run t) (reader_at run t) (last_outcome Mine) Mine → WasMade t.outcome → HadIt run t t.statement
+  made_had : (kept : Kept) (e : Ending) → t.outcome ≡ e.outcome → Ended kept t.statement e → IsAfter kept (writing_at run t) (reader_at run t) (last_outcome Mine) Mine → WasMade t.outcome → MayBeReady true run t t.statement
   made_had kept e says (was_gone is out now) after made = absurd (subst WasMade (says ∙ out) made)
   made_had kept e says (did lives d) (halted is has) made = absurd (let clash : false ≡ true = sym lives ∙ is in cc)
   made_had kept e says (did lives d) (goes is clear stands) made = had run t kept stands t.statement (d.uses (subst WasMade says made))

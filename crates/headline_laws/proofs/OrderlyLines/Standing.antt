@@ -1,6 +1,6 @@
 -- What an actor keeps, and what its lines so far say of it.
 use Rattle.std.proofs.Common.{◌≡◌, ◌≢◌, ◌⊎◌, inl, inr, ℕ, Bool, true, false, nat_eq, List, [], ◌∷◌, ◌++◌, map, Option, Some, None, refl, sym, ap, ◌∙◌, subst, if◌then◌else◌, ◌+◌}
-use Rattle.std.specs.Prelude.{⊤}
+use Rattle.std.specs.Prelude.{⊤, is_some}
 use Rattle.std.specs.List.{Any}
 use Rattle.story.specs.Performers.{told_at}
 use Rattle.writer_flow.specs.declared.handle.WriterHandle.{WriterHandle}
@@ -18,7 +18,7 @@ use Rattle.run_core.specs.Course.{own as own_statements}
 use Rattle.headline.specs.Run.{Phased, Told, beside, own}
 use Rattle.headline.specs.Files.{reader_after, reader_next}
 use Rattle.headline.specs.Changes.{Writing, id_of, in_doubt, none, unsure, writer, writing_after, writing_next}
-use Rattle.headline.specs.Causes.{last_outcome}
+use Rattle.headline.specs.Causes.{MayHave, last_outcome}
 use Rattle.plain_file.proofs.Facts.{Among}
 use Rattle.gathering.proofs.Facts.{found_any}
 use Rattle.headline_laws.proofs.Statements.Did.{ArmsSo, Did, IsOpen, IsThere, ReadsSo, StopsSo, WritesSo}
@@ -67,6 +67,16 @@ doubt_there (writer id) is = tt
 
 not_there : {X : Type 0} (o : Option X) → o ≡ None → IsThere o → ⊥
 not_there o empty is = subst IsThere empty is
+
+-- of a writer that it has, or may have
+pub may_have : (w : Writing) → IsThere (id_of w) → MayHave true w
+may_have none is = is
+may_have (unsure id) is = tt
+may_have (writer id) is = tt
+
+pub some_there : {X : Type 0} (o : Option X) → IsThere o → is_some o ≡ true
+some_there None is = absurd is
+some_there (Some x) is = refl
 
 module _ (x y : Option WriterHandle) (w : Writing) where
   sure_next : (s : Statement) (o : Outcome) → ((id : ℕ) → w ≡ writer id → IsOpen x) → WritesSo x s o y → (id : ℕ) → writing_next w s o ≡ writer id → IsOpen y

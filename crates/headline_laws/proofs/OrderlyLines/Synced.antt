@@ -13,7 +13,7 @@ use Rattle.outcomes.specs.Data.{bytes_of}
 use Rattle.story.specs.Performers.{told_at}
 use Rattle.play_laws.specs.Counting.{CountWrites, TellCounts, TellsCount, written_after}
 use Rattle.headline.specs.Run.{IsLine, Phased, Run, Says, Told, before, beside, own, phased, surely_before, told}
-use Rattle.headline.specs.Writers.{Account, account_of, cap_of, after_line, made_room, nothing, one_more, told_of, written_by}
+use Rattle.headline.specs.Writers.{Account, account, account_of, cap_of, after_line, made_room, nothing, one_more, told_of}
 use Rattle.headline.specs.Changes.{Writing, id_of, in_doubt, none, unsure, writer, writer_at, writing_after, writing_next}
 use Rattle.headline.specs.Kinds.{IsOfKind}
 use Rattle.plain_file.proofs.Facts.{Among}
@@ -196,10 +196,10 @@ line_in run t count (inr is) = is.is_line
 pub synced_tells : (run : Run) → CountWrites run.script run.lines
     → ((t : Told) → IsLine run t → IsOfKind t.statement t.outcome)
     → ((t : Told) → IsLine run t → (declared : ActorDecl) × (slice_get run.script.actors t.actor ≡ Some declared))
-    → (t : Told) (n id : ℕ) → Says run t (line.Synced n) ⊎ Says run t (line.Closed n) → writer_at run t ≡ Some id → n ≡ written_by run t id
+    → (t : Told) (n id : ℕ) → Says run t (line.Synced n) ⊎ Says run t (line.Closed n) → writer_at run t ≡ Some id → n ≡ length (account run t.actor id (before run t)).writes
 synced_tells run counts kinds declared t n id is has =
     let is_line = line_in run t n is in
     let d = declared t is_line in
     let told_so = subst (λ ns. TellCounts 0 (told_at t.actor ns run.lines)) (sym (actors_whose 0 run.script.phases)) (counts t.actor d.0 d.1) in
     let each = all_kinds (told run) (λ s at. kinds s (is_among (told run) s at)) in
-    says (written_by run t id) run t n is (number_told run t id (cap_of (slice_get run.script.actors t.actor)) each is_line told_so has)
+    says (length (account run t.actor id (before run t)).writes) run t n is (number_told run t id (cap_of (slice_get run.script.actors t.actor)) each is_line told_so has)

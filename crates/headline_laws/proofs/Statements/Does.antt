@@ -14,7 +14,7 @@ use Rattle.headline_laws.proofs.Statements.Refreshed.{refreshes_did}
 
 -- ---- each statement
 
-does_did : (stop : Option Stop) (kept : Kept) (s : Statement) → Does stop kept s (does kept stop s)
+pub does_did : (stop : Option Stop) (kept : Kept) (s : Statement) → Does stop kept s (does kept stop s)
 does_did stop kept (Open name) = opens_did stop kept name kept.writer refl
 does_did stop kept (Write at content) = writes_did stop kept at content kept.writer refl
 does_did stop kept Sync = syncs_did stop kept kept.writer refl

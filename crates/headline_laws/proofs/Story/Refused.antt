@@ -1,5 +1,6 @@
--- A statement of a reader is refused only where its actor has none, or has one already, or where there is no file.
-use Rattle.std.proofs.Common.{◌≡◌, ◌≢◌, ◌⊎◌, inl, inr, ℕ, Bool, true, false, List, [], ◌∷◌, ◌++◌, Option, Some, None, refl, sym, ◌∙◌, subst}
+-- A statement of a reader is refused only where its actor has none, or has one already, or where there is no file. What is refused as `already-open` opens what its actor has.
+use Rattle.std.proofs.Common.{◌≡◌, ◌≢◌, ◌⊎◌, inl, inr, ℕ, Bool, true, false, List, [], ◌∷◌, ◌++◌, Option, Some, None, refl, sym, ap, ◌∙◌, subst}
+use Rattle.std.specs.Prelude.{is_some}
 use Rattle.mount_model.specs.History.{Event}
 use Rattle.mount_model.specs.State.{State}
 use Rattle.gathering.specs.Moments.{IsSoundAt, Moment, moment_after}
@@ -11,8 +12,9 @@ use Rattle.script_lang.specs.declared.line.Outcome.TheVariants as line
 use Rattle.script_lang.specs.declared.line.Why.{Why}
 use Rattle.script_lang.specs.declared.line.Why.TheVariants.{AlreadyOpen, NoFile, NotOpen}
 use Rattle.script_lang.specs.declared.script.Statement.{Statement}
-use Rattle.script_lang.specs.declared.script.Statement.TheVariants.{Map, Rclose, Read, Refresh, Ropen, Verify}
+use Rattle.script_lang.specs.declared.script.Statement.TheVariants.{Close, Flatten, Ls, Map, Open, Rclose, Read, Recover, Refresh, Rename, Ropen, Stat, Stop as Arms, Sync, Trunc, Verify, Write}
 use Rattle.actor_core.specs.declared.kept.Kept.{Kept}
+use Rattle.actor_core.specs.Statements.{work_of}
 use Rattle.run_core.specs.Play.{IsRight}
 use Rattle.play_laws.specs.OneFile.{OneFile}
 use Rattle.play_laws.specs.OneWriter.{OneWriter}
@@ -20,13 +22,17 @@ use Rattle.play_laws.specs.Opening.{Stretch}
 use Rattle.play_laws.specs.Showing.{Shows}
 use Rattle.play_laws.proofs.Facts.{Keeps, Next}
 use Rattle.headline.specs.Run.{Run, Says, Told, before, own, told}
-use Rattle.headline.specs.Files.{reader_after, reader_next}
-use Rattle.headline.specs.Changes.{Writing, none, writing_after, writing_next}
+use Rattle.headline.specs.Names.{name_of}
+use Rattle.headline.specs.Files.{reader_after, reader_at, reader_next}
+use Rattle.headline.specs.Changes.{Writing, none, writing_after, writing_at, writing_next}
+use Rattle.headline.specs.Causes.{MayBeReady}
 use Rattle.headline.specs.Refusals.{HasRefusals, UsesReader}
 use Rattle.headline_laws.proofs.OrderlyLines.Places.{own_split}
-use Rattle.headline_laws.proofs.OrderlyLines.Standing.{Stands, stand_next, stopped_or}
+use Rattle.headline_laws.proofs.OrderlyLines.Standing.{Stands, may_have, stand_next, stopped_or}
+use Rattle.headline_laws.proofs.Statements.Again.{AgainBy, HasIt, statement_again}
 use Rattle.headline_laws.proofs.Statements.Did.{IsThere}
 use Rattle.headline_laws.proofs.Statements.Does.{Ended, did, was_gone}
+use Rattle.headline_laws.proofs.Statements.Hosts.{comes_so}
 use Rattle.headline_laws.proofs.Story.Lines.{ChainOf, chain_of, whole_history}
 use Rattle.headline_laws.proofs.Story.Parts.{PartOf}
 use Rattle.headline_laws.proofs.Story.Shown.{IsShown, ShownEach}
@@ -66,9 +72,9 @@ is_none : (r : Option Told) → (IsThere r → ⊥) → r ≡ None
 is_none None not = refl
 is_none (Some t) not = absurd (not tt)
 
-is_some : (r : Option Told) → IsThere r → r ≢ None
-is_some None there = absurd there
-is_some (Some t) there = λ is. let clash : Some t ≡ None = is in absurd (cc)
+some_told : (r : Option Told) → IsThere r → r ≢ None
+some_told None there = absurd there
+some_told (Some t) there = λ is. let clash : Some t ≡ None = is in absurd (cc)
 
 -- ---- a line in its part, with what the lines before it say of what its actor keeps
 
@@ -123,9 +129,20 @@ module _ (m : Moment) (sound : IsSoundAt m) (n : ℕ) (history : List Event) (bl
       where
         by : (why ≡ NoFile) ⊎ ((why ≡ AlreadyOpen) × ((file : OneFile) × (l.file ≡ Some file))) → (why ≡ NoFile) ⊎ ((why ≡ AlreadyOpen) × (reader_after r xs ≢ None))
         by (inl is) = inl is
-        by (inr (is, f)) = inr (is, is_some (reader_after r xs) ((l.stands lives).reading.0 (some_reader (moment_after m l.part.earlier) l.kept.reader f.0 l.file l.shown.had.keeps f.1)))
+        by (inr (is, f)) = inr (is, some_told (reader_after r xs) ((l.stands lives).reading.0 (some_reader (moment_after m l.part.earlier) l.kept.reader f.0 l.file l.shown.had.keeps f.1)))
+
+    -- the actor has the writer that it opens
+    its_writer : why ≡ AlreadyOpen → HasIt l.kept.writer t.statement
+    its_writer is = comes_so n (AgainBy l.kept t.statement) (work_of l.kept t.statement) l.part.mine l.part.spent l.part.e (statement_again l.kept t.statement) l.part.comes (sym l.says ∙ says ∙ ap (λ y. line.Refused y) is)
 
 -- ---- all lines
+
+not_none : {X : Type 0} (o : Option X) → o ≢ None → is_some o ≡ true
+not_none None not = absurd (not refl)
+not_none (Some x) not = refl
+
+has_name : (name : List ℕ) → Some name ≢ None
+has_name name is = cc
 
 not_there : {X : Type 0} (o : Option X) → o ≡ None → IsThere o → ⊥
 not_there o empty is = subst IsThere empty is
@@ -147,9 +164,51 @@ module _ (run : Run) (m : Moment) (end : State) (fits : FitsScript run.script) (
         armed = λ some. absurd (some c.parts.no_stop);
       })
 
+  again_told : (t : Told) → Says run t (line.Refused AlreadyOpen) → (name_of t.statement ≢ None) × MayBeReady false run t t.statement
+  again_told t says = by t.statement refl
+    where
+      n : ℕ
+      n = (chain_of run m end fits sound right t says.is_line).parts.number
+
+      l : At (chain_of run m end fits sound right t says.is_line) (own t.actor (before run t)) t
+      l = line_stands t AlreadyOpen says
+
+      has : HasIt l.kept.writer t.statement
+      has = its_writer m sound n right.history right.calls.blocks (whole_history run m end fits sound right) None none (own t.actor (before run t)) t AlreadyOpen says.says l refl
+
+      stands : Stands l.kept (writing_at run t) (reader_at run t) l.last
+      stands = l.stands (lives m sound n right.history right.calls.blocks (whole_history run m end fits sound right) None none (own t.actor (before run t)) t AlreadyOpen says.says l)
+
+      not_used : UsesReader t.statement → ⊥
+      not_used uses = (let u = refused_uses m sound n right.history right.calls.blocks (whole_history run m end fits sound right) None none (own t.actor (before run t)) t AlreadyOpen says.says l uses in let clash : AlreadyOpen ≡ NotOpen = u.0 in cc)
+
+      has_reader : (AlreadyOpen ≡ NoFile) ⊎ ((AlreadyOpen ≡ AlreadyOpen) × (reader_at run t ≢ None)) → is_some (reader_at run t) ≡ true
+      has_reader (inl no_file) = absurd (let clash : AlreadyOpen ≡ NoFile = no_file in cc)
+      has_reader (inr (same, some)) = not_none (reader_at run t) some
+
+      by : (s : Statement) → t.statement ≡ s → (name_of s ≢ None) × MayBeReady false run t s
+      by (Open name) is = (has_name name, may_have (writing_at run t) (stands.known (subst (HasIt l.kept.writer) is has)))
+      by (Ropen name workers) is = (has_name name, has_reader (refused_opens m sound n right.history right.calls.blocks (whole_history run m end fits sound right) None none (own t.actor (before run t)) t AlreadyOpen says.says l name workers is))
+      by (Read at len) is = absurd (not_used (subst UsesReader (sym is) tt))
+      by (Verify at content) is = absurd (not_used (subst UsesReader (sym is) tt))
+      by Map is = absurd (not_used (subst UsesReader (sym is) tt))
+      by Refresh is = absurd (not_used (subst UsesReader (sym is) tt))
+      by Rclose is = absurd (not_used (subst UsesReader (sym is) tt))
+      by (Write at content) is = absurd (subst (HasIt l.kept.writer) is has)
+      by Sync is = absurd (subst (HasIt l.kept.writer) is has)
+      by Close is = absurd (subst (HasIt l.kept.writer) is has)
+      by (Stat name) is = absurd (subst (HasIt l.kept.writer) is has)
+      by (Flatten name) is = absurd (subst (HasIt l.kept.writer) is has)
+      by (Recover name) is = absurd (subst (HasIt l.kept.writer) is has)
+      by (Trunc name size) is = absurd (subst (HasIt l.kept.writer) is has)
+      by (Rename name to) is = absurd (subst (HasIt l.kept.writer) is has)
+      by Ls is = absurd (subst (HasIt l.kept.writer) is has)
+      by (Arms call bytes) is = absurd (subst (HasIt l.kept.writer) is has)
+
   -- the law of this file
   pub refusals_told : HasRefusals run
   refusals_told = record {
     uses = λ t why says uses. refused_uses m sound (chain_of run m end fits sound right t says.is_line).parts.number right.history right.calls.blocks (whole_history run m end fits sound right) None none (own t.actor (before run t)) t why says.says (line_stands t why says) uses;
     opens = λ t name workers why says asked. refused_opens m sound (chain_of run m end fits sound right t says.is_line).parts.number right.history right.calls.blocks (whole_history run m end fits sound right) None none (own t.actor (before run t)) t why says.says (line_stands t why says) name workers asked;
+    again = again_told;
   }

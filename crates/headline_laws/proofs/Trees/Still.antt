@@ -1,7 +1,7 @@
 -- What the tree after has still of the tree before.
-use Rattle.std.proofs.Common.{◌≡◌, ◌≤◌, ◌+◌, inl, inr, ℕ, true, false, List, [], ◌∷◌, ◌++◌, length, map, take, drop, get_or, Option, Some, None, refl, sym, ap, ◌∙◌, subst, arith, append_assoc, length-append}
-use Rattle.std.specs.Prelude.{Ok, slice_get, codes}
-use Rattle.std.proofs.lemmas.List.{take-append-le, drop-append-le}
+use Rattle.std.proofs.Common.{◌≡◌, ◌≤◌, ◌+◌, inl, inr, ℕ, zero, suc, true, false, List, [], ◌∷◌, ◌++◌, length, map, take, drop, get_or, Option, Some, None, refl, sym, ap, ◌∙◌, subst, arith, append_assoc, length-append}
+use Rattle.std.specs.Prelude.{Ok, option_and_then, option_map, slice_get, codes}
+use Rattle.std.proofs.lemmas.List.{length-map, take-append-le, drop-append-le}
 use Rattle.plfs_types.specs.declared.names.Path.{Path}
 use Rattle.index_entry.specs.Entries.{AreEntriesOf}
 use Rattle.plain_file.specs.declared.changes.Change.{Change}
@@ -14,6 +14,7 @@ use Rattle.container_layout.specs.Paths.{path_of}
 use Rattle.container_layout.proofs.Facts.{elsewhere, first_of_folder}
 use Rattle.store_api.specs.Acts.{Acts, Stored}
 use Rattle.store_api.specs.Step.{Step}
+use Rattle.store_api.specs.Room.{file_in}
 use Rattle.store_api.specs.declared.step.Answer.TheVariants.{Made, Names}
 use Rattle.store_api.specs.declared.tree.Room.{Room}
 use Rattle.store_api.specs.declared.tree.Tree.{Tree}
@@ -47,12 +48,15 @@ use Rattle.gathering.proofs.Moments.Issuing.{step_issues_or_not}
 use Rattle.gathering.proofs.Facts.{follows, grows_after, in_a_room, in_tree, its_log, landed_at, landed_is_first, length-entries, sound_after, stands}
 use Rattle.run_core.specs.Leading.{Leads}
 use Rattle.headline.specs.Run.{Run}
-use Rattle.headline.specs.Trees.{Has, bytes_in, item_in, landed_in, landed_writes, log_in, logged_write, or_none}
+use Rattle.headline.specs.Trees.{Has, bytes_in, landed_in, landed_writes, log_in, logged_write, or_none}
 use Rattle.headline.specs.Writers.{old_writer}
 use Rattle.headline.specs.Left.{IsLeft, content_of}
 use Rattle.headline.specs.Still.{HasStill}
 
 -- ---- files of items
+
+abbrev item_in : Option Room → Item → Option (List ℕ)
+item_in room item = option_and_then (λ (r : Room). option_map (λ file. file.bytes) (file_in r (path_of item).folder (path_of item).file)) room
 
 pub file_of : (tree : Tree) (n : ℕ) (item : Item) → bytes_in tree n item ≡ file_in_tree tree n (path_of item)
 unfolding file_at
@@ -228,7 +232,7 @@ all_logged id last front (w ∷ ws) rest order full =
     let later = all_logged id w.entry.stamp (front ++ w.bytes) ws rest (subst (λ k. AreEntriesOf id w.entry.stamp k (entries_in ws)) long order.1) full.1 in
     ap (λ b. Change_of w.entry b ∷ map (logged_write log) (entries_in ws)) here ∙ ap (λ xs. written w ∷ xs) (ap (λ l. map (logged_write l) (entries_in ws)) same ∙ later)
 
-content_same : (ws : List Written) → content_of (map written ws) ≡ content ws
+pub content_same : (ws : List Written) → content_of (map written ws) ≡ content ws
 content_same [] = refl
 content_same (w ∷ ws) = ap (λ z. w.bytes ++ z) (content_same ws)
 
@@ -250,27 +254,46 @@ log_begins m s d bytes named is =
     let st = stands m s d bytes named is in
     subst (IsPrefix (content (issued_by m d))) (ap (λ h. log_bytes st.room h d.writer) (sym st.host) ∙ its_log m s d bytes st) st.writer.log
 
--- all writes that were issued have landed, and are told by the index and the log
+pub take_map : {A B : Type 0} (f : A → B) (n : ℕ) (xs : List A) → take n (map f xs) ≡ map f (take n xs)
+take_map f zero xs = refl
+take_map f (suc n) [] = refl
+take_map f (suc n) (x ∷ xs) = ap (λ ys. f x ∷ ys) (take_map f n xs)
+
+-- The index and the log tell of the first so many of the writes that were issued. The log begins with the bytes of all of them.
+pub record TellsFirst (tree : Tree) (n host id count : ℕ) (its : List Written) : Type 0 where
+  pub writes : landed_writes tree n host id ≡ take count (map written its)
+  pub rest : List ℕ
+  pub log : log_in tree n host id ≡ content its ++ rest
+
+-- all have landed
 pub record Tells (tree : Tree) (n host id : ℕ) (its : List Written) : Type 0 where
   pub writes : landed_writes tree n host id ≡ map written its
   pub rest : List ℕ
   pub log : log_in tree n host id ≡ content its ++ rest
 
-all_told : (m : Moment) (s : IsSoundAt m) (tree : Tree) (d : Dropping) (its : List Written) (bytes : List ℕ) → m.state.store.tree ≡ Some tree → IsItem (Index d.host d.writer) → index_then m d ≡ Some bytes → issued_by m d ≡ its → AreWritesOf d.writer its → landed_by m d ≡ entries_in its → Tells tree d.room d.host d.writer its
-all_told m s tree d its bytes told named is issued right landed =
+pub first_told : (m : Moment) (s : IsSoundAt m) (tree : Tree) (d : Dropping) (bytes : List ℕ) (count : ℕ) → m.state.store.tree ≡ Some tree → IsItem (Index d.host d.writer) → index_then m d ≡ Some bytes → AreWritesOf d.writer (issued_by m d) → landed_by m d ≡ take count (entries_in (issued_by m d))
+    → TellsFirst tree d.room d.host d.writer count (issued_by m d)
+first_told m s tree d bytes count told named is right landed =
+    let its : List Written = issued_by m d in
     let log : List ℕ = bytes_of (log_then m d) in
-    let begins : IsPrefix (content its) log = subst (λ ws. IsPrefix (content ws) log) issued (log_begins m s d bytes named is) in
-    let split : log ≡ content its ++ drop (length (content its)) log = prefix_rest (content its) log begins in
+    let split : log ≡ content its ++ drop (length (content its)) log = prefix_rest (content its) log (log_begins m s d bytes named is) in
     let logs : log_in tree d.room d.host d.writer ≡ log = none_or (bytes_in tree d.room (Log d.host d.writer)) ∙ ap bytes_of (file_of tree d.room (Log d.host d.writer) ∙ ap (λ o. file_told o d.room (path_of (Log d.host d.writer))) (sym told)) in
     let indices : or_none (bytes_in tree d.room (Index d.host d.writer)) ≡ bytes_of (index_then m d) = none_or (bytes_in tree d.room (Index d.host d.writer)) ∙ ap bytes_of (file_of tree d.room (Index d.host d.writer) ∙ ap (λ o. file_told o d.room (path_of (Index d.host d.writer))) (sym told)) in
+    let all : map (logged_write log) (entries_in its) ≡ map written its = ap (λ l. map (logged_write l) (entries_in its)) split ∙ all_logged d.writer 0 [] its (drop (length (content its)) log) right.in_order right.full in
     record {
       writes =
           ap (λ i. landed_in i (log_in tree d.room d.host d.writer)) indices ∙ ap (λ l. landed_in (bytes_of (index_then m d)) l) logs
-          ∙ ap (map (logged_write log)) landed ∙ ap (λ l. map (logged_write l) (entries_in its)) split
-          ∙ all_logged d.writer 0 [] its (drop (length (content its)) log) right.in_order right.full;
+          ∙ ap (map (logged_write log)) landed ∙ sym (take_map (logged_write log) count (entries_in its)) ∙ ap (take count) all;
       rest = drop (length (content its)) log;
       log = logs ∙ split;
     }
+
+all_told : (m : Moment) (s : IsSoundAt m) (tree : Tree) (d : Dropping) (its : List Written) (bytes : List ℕ) → m.state.store.tree ≡ Some tree → IsItem (Index d.host d.writer) → index_then m d ≡ Some bytes → issued_by m d ≡ its → AreWritesOf d.writer its → landed_by m d ≡ entries_in its → Tells tree d.room d.host d.writer its
+all_told m s tree d its bytes told named is issued right landed =
+    let many : ℕ = length (issued_by m d) in
+    let all : landed_by m d ≡ take many (entries_in (issued_by m d)) = landed ∙ ap entries_in (sym issued) ∙ sym (take_all (entries_in (issued_by m d)) many (omega (arith, length-entries (issued_by m d)))) in
+    let t = first_told m s tree d bytes many told named is (subst (AreWritesOf d.writer) (sym issued) right) all in
+    record { writes = t.writes ∙ take_all (map written (issued_by m d)) many (omega (arith, length-map (issued_by m d) written)) ∙ ap (map written) issued; rest = t.rest; log = t.log ∙ ap (λ ws. content ws ++ t.rest) issued }
 
 -- ---- a writer of the tree before
 

@@ -1,7 +1,9 @@
-use Rattle.std.proofs.Common.{ap, sym}
+use Rattle.std.proofs.Common.{ap, subst, sym}
 use Rattle.std.specs.Option.{option_map}
 use Rattle.mount_sound.proofs.Facts.{mounted_fine}
 use Rattle.plfs_program.specs.Ends.{Ends, ends_of}
+use Rattle.drain_copy.specs.Draining.{drain_program}
+use Rattle.drain_laws.specs.Driving.{Drives}
 use Rattle.drain_program.proofs.RunLemmas.{drained_so, not_drained_so}
 use Rattle.drain_program.proofs.TargetLemmas.{DrainLaws}
 use Rattle.drain_program.proofs.top.run.Goals as goal
@@ -18,6 +20,16 @@ returns-in-Ok g c =
       keeps = c.a_driven_drain_keeps_its_target.ensures.holds;
       copies = c.a_drain_that_ends_well_has_copied.ensures;
       faults = c.a_fault_of_a_drain_is_a_stores.ensures;
+      behind = λ number name m store happened left s h made finds drives bare. c.a_drain_reads_behind_its_target.ensures.behind 0 number name m store happened left s h bare made finds drives;
+      bare = λ number name m store happened left s h made finds drives bare. c.a_drain_reads_behind_its_target.ensures.lasts 0 number name m store happened left s h bare made finds drives;
+      kept = λ number name m store happened left s h made finds drives kept. c.a_drain_copies_what_is_kept.ensures 0 number name m store happened left s h kept made finds drives;
+      lost = λ number name m store happened left s h made finds drives drained is tree left_of. c.a_drained_target_keeps_it.ensures 0 number name m store happened drained tree s h made finds (subst (Drives 0 (drain_program name) happened) is drives) left_of;
+      shows = λ number name m store happened left s h made finds drives drained is tree left_of. c.a_drained_target_shows_the_source.ensures 0 number name m store happened drained tree s h made finds (subst (Drives 0 (drain_program name) happened) is drives) left_of;
+      rests = λ number name m store happened left s h made finds drives all. c.a_drain_without_news_copies_nothing.ensures.nothing 0 number name m store happened left s h made finds all drives;
+      none = λ number name m store happened left s h made finds drives drained is all. c.a_drain_without_news_copies_nothing.ensures.none 0 number name m store happened drained s h made finds all (subst (Drives 0 (drain_program name) happened) is drives);
+      reasons = λ number name m store happened left s h made finds drives why is. c.a_drain_ends_for_a_reason.ensures 0 number name m store happened why s h made finds (subst (Drives 0 (drain_program name) happened) is drives);
+      settled = λ number name m store happened left s h made finds drives drained is. c.a_drain_is_taken_by_one_that_went_on.ensures.none 0 number name m store happened drained s h made finds (subst (Drives 0 (drain_program name) happened) is drives);
+      opens = λ number name m store happened left s h made finds drives opens. c.a_target_shows_no_damage.ensures.lasts 0 number name m store happened left s h opens made finds drives;
     } in
     let e : Ends = ends_of (g.C.Clock.times c.args.clock) (g.O.Sink.taking c.args.out.now) (g.O.Sink.taking c.drain_mounted-status.new.out) (g.S.Store.stored c.args.store) (option_map g.S.Store.stored c.ends.result.store) in
     drained_so c.args.name e (g.D.Store.stored c.args.target) (g.D.Store.stored c.ends.result.target) c.ends.result.status laws c.requires c.in-Ok.mount c.drain_mounted-status.new.mount (g.S.Store.stored c.close.result)

@@ -1,4 +1,3 @@
-use Rattle.std.proofs.Common.{rules, ◌≡◌}
 use Rattle.shape_check.proofs.FileLemmas.{marked_wrong}
 use Rattle.shape_check.proofs.files.check_drawn.Goals as goal
 

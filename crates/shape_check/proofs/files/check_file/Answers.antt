@@ -1,4 +1,4 @@
-use Rattle.std.proofs.Common.{rules, ◌≡◌}
+use Rattle.std.proofs.Common.{rules}
 use Rattle.shape_check.proofs.FileLemmas.{items_wrong, item_fails, item_fine}
 use Rattle.shape_check.proofs.files.check_file.Goals as goal
 

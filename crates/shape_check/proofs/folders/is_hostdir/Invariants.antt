@@ -1,4 +1,4 @@
-use Rattle.std.proofs.Common.{◌-◌, ◌≡◌, ◌<◌, ◌≤◌, ℕ}
+use Rattle.std.proofs.Common.{◌-◌, ◌≡◌, ◌<◌, ℕ}
 use Rattle.container_layout.specs.Paths.{hostdir_of}
 use Rattle.shape_check.proofs.folders.is_hostdir.Given as goal
 

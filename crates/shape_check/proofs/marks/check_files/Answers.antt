@@ -1,6 +1,5 @@
-use Rattle.std.proofs.Common.{rules, ◌≡◌, ◌≤◌, length, arith}
-use Rattle.std.specs.Prelude.{slice_get, Some}
-use Rattle.shape_check.specs.Places.{OfMarks, IsFineFile}
+use Rattle.std.proofs.Common.{rules}
+use Rattle.shape_check.specs.Places.{IsFineFile}
 use Rattle.shape_check.proofs.LoopLemmas.{marks_on, one_more, all_of_them, at_hand}
 use Rattle.shape_check.proofs.Seen.{looked_on}
 use Rattle.shape_check.proofs.marks.check_files.Goals as goal

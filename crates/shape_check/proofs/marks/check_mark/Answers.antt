@@ -1,4 +1,4 @@
-use Rattle.std.proofs.Common.{rules, ◌≡◌, refl}
+use Rattle.std.proofs.Common.{rules}
 use Rattle.shape_check.proofs.MarkLemmas.{mark_wrong}
 use Rattle.shape_check.proofs.marks.check_mark.Goals as goal
 

@@ -1,5 +1,5 @@
-use Rattle.std.proofs.Common.{rules, ◌≡◌}
-use Rattle.shape_check.specs.Places.{IsMarksPlace, OfMarks, Each, IsFineTop}
+use Rattle.std.proofs.Common.{rules}
+use Rattle.shape_check.specs.Places.{IsMarksPlace, Each, IsFineTop}
 use Rattle.shape_check.proofs.LoopLemmas.{later_fails, marks_on}
 use Rattle.shape_check.proofs.MarkLemmas.{marks_checked}
 use Rattle.shape_check.proofs.Seen.{looked_on}

@@ -1,4 +1,4 @@
-use Rattle.std.proofs.Common.{rules, ◌≡◌, arith}
+use Rattle.std.proofs.Common.{rules}
 use Rattle.shape_check.proofs.IdLemmas.{drawn}
 use Rattle.shape_check.proofs.marks.is_of_mark.Goals as goal
 

@@ -1,4 +1,3 @@
-use Rattle.std.proofs.Common.{rules, ◌≡◌}
 use Rattle.shape_check.proofs.Seen.{looked_on}
 use Rattle.shape_check.proofs.ShapeLemmas.{has_needed}
 use Rattle.shape_check.proofs.shape.check_needed.Goals as goal

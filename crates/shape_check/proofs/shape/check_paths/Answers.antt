@@ -1,5 +1,5 @@
-use Rattle.std.proofs.Common.{rules, ◌≡◌, ◌≤◌, length, arith}
-use Rattle.shape_check.specs.Files.{OfPlace, IsFineItem}
+use Rattle.std.proofs.Common.{rules}
+use Rattle.shape_check.specs.Files.{IsFineItem}
 use Rattle.shape_check.proofs.LoopLemmas.{place_on, path_at_hand}
 use Rattle.shape_check.proofs.ListLemmas.{each_more, each_all}
 use Rattle.shape_check.proofs.Seen.{looked_on}

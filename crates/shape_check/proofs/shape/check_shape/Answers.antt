@@ -1,5 +1,3 @@
-use Rattle.std.proofs.Common.{rules, ◌≡◌}
-use Rattle.shape_check.proofs.LoopLemmas.{place_on}
 use Rattle.shape_check.proofs.Seen.{looked_on}
 use Rattle.shape_check.proofs.ShapeLemmas.{has_shape}
 use Rattle.shape_check.proofs.shape.check_shape.Goals as goal

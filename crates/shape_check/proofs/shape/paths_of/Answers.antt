@@ -1,4 +1,4 @@
-use Rattle.std.proofs.Common.{rules, ◌≡◌}
+use Rattle.std.proofs.Common.{rules}
 use Rattle.shape_check.proofs.ShapeLemmas.{paths_are, room_fails}
 use Rattle.shape_check.proofs.shape.paths_of.Goals as goal
 

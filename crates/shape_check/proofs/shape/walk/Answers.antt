@@ -1,9 +1,15 @@
-use Rattle.std.proofs.Common.{rules, ◌≡◌, ◌≤◌, length, arith}
+use Rattle.std.proofs.Common.{rules}
 use Rattle.shape_check.specs.Files.{IsPlaced}
-use Rattle.shape_check.proofs.LoopLemmas.{at_hand}
+use Rattle.shape_check.proofs.LoopLemmas.{at_hand, looked_same}
 use Rattle.shape_check.proofs.Seen.{looked_on}
-use Rattle.shape_check.proofs.ShapeLemmas.{fails_later, walked_more, walked_all}
+use Rattle.shape_check.proofs.ShapeLemmas.{fails_later, walked_all, walked_more, walked_none}
 use Rattle.shape_check.proofs.shape.walk.Goals as goal
+
+pub loop-top-init : goal.loop-top-init
+loop-top-init g c = record {
+  looked = looked_same (g.S.Store.stored c.args.store.now);
+  walked = rw c.new-paths.ensures (walked_none c.args.place.now (g.S.Store.stored c.args.store.now) c.args.tops.now);
+}
 
 pub loop-top-preserved : goal.loop-top-preserved
 loop-top-preserved g c =

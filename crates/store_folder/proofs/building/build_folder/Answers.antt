@@ -1,5 +1,5 @@
-use Rattle.std.proofs.Common.{◌∙◌, [], ◌∷◌, List, ℕ, Ok, refl, subst, rules}
-use Rattle.folder_calls.specs.Calls.{Makes, made_folder, synced_folder}
+use Rattle.std.proofs.Common.{◌∙◌, [], ◌∷◌, List, ℕ, refl, subst, rules}
+use Rattle.folder_calls.specs.Calls.{Makes, synced_folder}
 use Rattle.store_folder.specs.FailedBuilding.{starved, not_made}
 use Rattle.store_folder.proofs.Entering.{if_err}
 use Rattle.store_folder.proofs.FailedRooms.{folder_unsynced}

@@ -1,4 +1,4 @@
-use Rattle.std.proofs.Common.{◌∙◌, refl, rules}
+use Rattle.std.proofs.Common.{refl, rules}
 use Rattle.store_folder.specs.FailedListing.{uncalled, not_looked}
 use Rattle.store_folder.proofs.Entering.{if_err}
 use Rattle.store_folder.proofs.rooms.is_room.Goals as goal

@@ -6,6 +6,11 @@ use Rattle.folder_calls.specs.declared.reason.Reason.TheVariants.{Unsynced}
 use Rattle.folder_calls.specs.Noted.{noted, doubt_by}
 use Rattle.folder_calls.specs.Syncs.{HasFailedSync}
 use Rattle.store_folder.specs.Syncing.{refusal, is_refused, IsDoubtedFor}
+use Rattle.std.specs.Prelude.{string_bytes}
+use Rattle.store_api.specs.declared.step.Answer.{Answer}
+use Rattle.store_folder.specs.Made.{MakesStep}
+use Rattle.store_folder.proofs.Answered.{NoneFailed}
+use Rattle.store_folder.proofs.Attempted.{with_calls, MadeAmong, made_among, none_failed, same_root, unless_refused}
 use Rattle.store_folder.proofs.Doubting.{if_told, if_some, counts_more, not_refused}
 use Rattle.store_folder.proofs.store.StoreByCallsStore.act.Goals as goal
 
@@ -18,10 +23,27 @@ returns-clause-still g c =
 
 pub returns-clause-performs : goal.returns-clause-performs
 returns-clause-performs g c =
-    if_told c.attempt-end.result c.settle.result _ _ c.settle.ensures.tells (λ answer made. record { start = _; numbered = made.0; same = ((refl, refl, refl), refl, refl); uncalled = c.forget.ensures.uncalled; numbers = made.1; performs = made.2 }) c.attempt-end.ensures.performs
+    let step = step_of c.args.step.now in
+    let start = with_calls c.args.self.now.disk c.forget.new.self in
+    let later = c.attempt-end.new.disk in
+    let end = c.attempt-end.result in
+    let Made = MadeAmong g.C.Calls.log start later step end in
+    if_told end c.settle.result Made (MakesStep g.C.Calls.log c.args.self.now.disk later step) c.settle.ensures.tells (λ answer made. record { start = start; numbered = made.0; same = ((refl, refl, refl), refl, refl); uncalled = c.forget.ensures.uncalled; numbers = made.1; performs = made.2 }) (unless_refused g.C.Calls.log start later step end (refusal c.args.self.now.doubts step) Made c.attempt-end.ensures.refused (λ is. made_among g.C.Calls.log start later step end (c.attempt-end.ensures.attempted is)))
 
 pub returns-clause-well : goal.returns-clause-well
-returns-clause-well g c = if_told c.attempt-end.result c.settle.result _ _ c.settle.ensures.tells (λ answer same. same ∙ ap failed_calls c.forget.ensures.uncalled) c.attempt-end.ensures.well
+returns-clause-well g c =
+    let step = step_of c.args.step.now in
+    let start = with_calls c.args.self.now.disk c.forget.new.self in
+    let later = c.attempt-end.new.disk in
+    let end = c.attempt-end.result in
+    let Well : Answer → Type 0 = λ answer. NoneFailed (g.C.Calls.log start.calls) (g.C.Calls.log later.calls) in
+    if_told end c.settle.result Well (λ answer. NoneFailed (g.C.Calls.log c.args.self.now.disk.calls) (g.C.Calls.log later.calls)) c.settle.ensures.tells (λ answer same. same ∙ ap failed_calls c.forget.ensures.uncalled) (unless_refused g.C.Calls.log start later step end (refusal c.args.self.now.doubts step) Well c.attempt-end.ensures.refused (λ is. none_failed g.C.Calls.log start later step end (c.attempt-end.ensures.attempted is)))
+
+pub returns-clause-root : goal.returns-clause-root
+returns-clause-root g c =
+    let step = step_of c.args.step.now in
+    let start = with_calls c.args.self.now.disk c.forget.new.self in
+    ap string_bytes (same_root g.C.Calls.log start c.attempt-end.new.disk step c.attempt-end.result (refusal c.args.self.now.doubts step) _ _ c.attempt-end.ensures.still c.attempt-end.ensures.attempted)
 
 pub returns-clause-ends : goal.returns-clause-ends
 returns-clause-ends g c =

@@ -1,0 +1,4 @@
+mod Printing
+mod Telling
+mod Verdicts
+mod WordLemmas

@@ -1,0 +1,4 @@
+pub mod Course
+pub mod Lines
+pub mod Verdict
+pub mod Words

@@ -1,8 +1,0 @@
-use Rattle.flow.specs.Standing.{IsFresh}
-use Rattle.flow_tests.proofs.newest.ended.Given as goal
-
-abbrev pub invariant-loop-flow : goal.invariant-loop-flow
-invariant-loop-flow g l = IsFresh (g.F.Flow.standing l.flow)
-
-abbrev pub decreases-loop-flow : goal.decreases-loop-flow
-decreases-loop-flow g l = g.F.Flow.left l.flow

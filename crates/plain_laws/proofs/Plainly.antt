@@ -1,0 +1,139 @@
+-- A sync of an open writer leaves it as a plain machine leaves its writer, whoever calls in between.
+use Rattle.std.proofs.Common.{◌≡◌, ◌≢◌, ◌⊎◌, ◌≤◌, ◌<◌, ◌+◌, ◌-◌, ℕ, Bool, true, false, nat_eq, nat_le, nat_lt, List, [], ◌∷◌, ◌++◌, length, Option, Some, None, Result, Ok, Err, refl, sym, ap, ◌∙◌, inl, inr, subst, arith, if◌then◌else◌}
+use Rattle.std.specs.Prelude.{◌||◌, MatchOption}
+use Rattle.std.proofs.lemmas.Bool.Decides.{nat_tests}
+use Rattle.plfs_types.specs.declared.entries.Entry.{Entry}
+use Rattle.plfs_types.specs.declared.limits.TheConstants.{MAX_LOG, MAX_SIZE, MAX_STAMP}
+use Rattle.plfs_types.specs.Stamps.{next_stamp}
+use Rattle.edge_io.specs.Clock.{Ticks}
+use Rattle.mount_model.specs.declared.call.Call.TheVariants.{Flush, SyncIndex, SyncLog, Write}
+use Rattle.mount_model.specs.declared.reply.Refusal.{Refusal}
+use Rattle.mount_model.specs.declared.reply.Reply.{Reply}
+use Rattle.mount_model.specs.declared.reply.Reply.TheVariants.{Done, Flushed, Refused, Synced, Wrote}
+use Rattle.mount_model.specs.declared.row.Row.{Row}
+use Rattle.mount_model.specs.declared.row.Stage.TheVariants as stage
+use Rattle.mount_model.specs.Flushing.{index_synced, log_synced}
+use Rattle.mount_model.specs.History.{Event}
+use Rattle.mount_model.specs.Regular.{IsCounted}
+use Rattle.mount_model.specs.State.{State}
+use Rattle.mount_model.specs.Step.{Answers}
+use Rattle.mount_model.specs.Table.{only}
+use Rattle.mount_model.specs.Writing.{wrote}
+use Rattle.mount_model.proofs.Facts.{row_of_all, row_of_id}
+use Rattle.mount_sound.specs.Entries.{logged}
+use Rattle.mount_sound.specs.Issued.{written_by}
+use Rattle.mount_sound.specs.Ledger.{Written, entries_in}
+use Rattle.mount_sound.specs.Owed.{IsLawful}
+use Rattle.story.specs.Program.{ask, done}
+use Rattle.flow.specs.declared.stuck.Stuck.{Stuck}
+use Rattle.flow.specs.declared.stuck.Stuck.TheVariants as stuck
+use Rattle.flow.specs.Running.{Runs, unbroken}
+use Rattle.flow.proofs.Facts.{runs_done}
+use Rattle.gathering.specs.Moments.{Dropping, IsSoundAt, Moment, issued_by, landed, moment_after, next_moment}
+use Rattle.gathering.proofs.Facts.{sound_after}
+use Rattle.writer_flow.specs.declared.handle.WriterHandle.{WriterHandle}
+use Rattle.writer_flow.specs.declared.handle.WriterOut.{WriterOut}
+use Rattle.writer_flow.specs.Ending.{stays_with}
+use Rattle.writer_flow.specs.Handle.{flushed_of, one_more_of, synced_of}
+use Rattle.writer_flow.specs.Syncing.{flushes_and_syncs, if_log_synced, if_synced, sync_program, syncs_index}
+use Rattle.writer_flow.specs.Writing.{flush_then, if_flushed, if_wrote, write_program, writes}
+use Rattle.writer_laws.specs.Counting.{entry_count}
+use Rattle.plain_machine.specs.Machine.{PlainWriter}
+use Rattle.plain_machine.specs.Becoming.{all_landed, made_room}
+use Rattle.plain_machine.specs.Landed.{last_of}
+use Rattle.plain_machine.specs.Writers.{issue, one_more}
+use Rattle.plain_laws.specs.Calls.{AtSome}
+use Rattle.plain_laws.specs.Plainly.{KeepsPlain, MirrorsOwn, SyncsPlainly, WritesInto, WritesOne, WritesPlainly, dropping_of, plain_reason}
+use Rattle.plain_laws.specs.Served.{EndsAsItMay, EndsWell, GoesWell, HasOpen, write_reason}
+use Rattle.plain_laws.proofs.Doing.{Emptied, flush_does, index_does, log_does, not_none, number_told, write_does}
+use Rattle.plain_laws.proofs.Having.{Has, has_flushed, has_on, has_stays, has_written, its_between}
+use Rattle.plain_laws.proofs.Reaching.{StaysUnderOthers, ended, reached, some_later}
+use Rattle.plain_laws.proofs.Serving.{over, writes_well}
+
+module _ (me number : ℕ) (w : PlainWriter) where
+  abbrev D : Dropping
+  D = dropping_of number w
+
+  -- what is mirrored, where the writer has issued these writes, of which so many have landed
+  pub mirrored : (handle : WriterHandle) (row : Row) (issued : List Written) (count : ℕ) (x : Moment) → IsSoundAt x → Has me D row issued count x → row.landed ≡ count → row.floor ≡ w.floor → row.pending.capacity ≡ w.capacity → handle.writer ≡ w.id → handle.pending ≡ length row.pending.entries → handle.cap ≡ w.capacity → handle.closing ≡ false
+      → MirrorsOwn me number handle (record w { issued = issued; landed = count }) x
+  mirrored handle row issued count x sound h counted floor capacity writer pending cap fresh = record {
+    sound = sound;
+    row = row;
+    opened = h.opened;
+    room = h.room;
+    host = h.host;
+    floor = floor;
+    capacity = capacity;
+    counted = counted;
+    issued = h.issued_is;
+    landed_is = h.landed_is;
+    writer = writer;
+    pending = pending;
+    cap_is = cap;
+    fresh = fresh;
+  }
+
+  -- ---- a sync
+
+  before_index : (h : WriterHandle) (m : Moment) (row : Row) (issued : List Written) (count : ℕ) (events : List Event) (out : WriterOut) → h.writer ≡ w.id → h.cap ≡ w.capacity → h.closing ≡ false → h.pending ≡ 0 → IsSoundAt m → IsLawful m.state events → GoesWell me events → Has me D row issued count m → row.pending.entries ≡ [] → row.floor ≡ w.floor → row.pending.capacity ≡ w.capacity
+      → Runs me (syncs_index h) events out → KeepsPlain me number (record w { issued = issued; landed = length issued }) (moment_after m events) (Ok (length issued)) out
+  before_index h m row issued count events out is cap fresh empty sound lawful well has none floor capacity runs =
+      let r = reached me (Has me D row issued count) (has_stays me D row issued count) m (SyncIndex w.id) (if_synced h) events out sound lawful well has (subst (λ id. Runs me (ask (SyncIndex id) (if_synced h)) events out) is runs) in
+      subst (λ x. KeepsPlain me number (record w { issued = issued; landed = length issued }) x (Ok (length issued)) out) r.ends (elim r.served as (λ _. KeepsPlain me number (record w { issued = issued; landed = length issued }) (moment_after (next_moment r.mid r.event) r.rest) (Ok (length issued)) out) [
+        | inr (why, told, reason) ↦ not_none me w.id (only stage.Open) row r.mid.state why _ r.holds.opened.has r.holds.opened.is_open reason
+        | inl (n, told) ↦
+            let a = subst (λ x. Answers r.mid.state me (SyncIndex w.id) x r.event.after) told r.answers in
+            let next : Moment = next_moment r.mid r.event in
+            let now = index_does me w.id row r.mid.state r.event.after r.holds.opened n a in
+            let b = its_between me D row issued count r.mid r.sound r.holds in
+            let all : count ≡ length issued = omega (arith, b.issued, b.no_fewer, b.no_more, ap length none, ap length r.holds.issued_is, r.holds.landed_is) in
+            let counted : row.landed ≡ length issued = omega (arith, b.issued, ap length none, ap length r.holds.issued_is) in
+            let on : Has me D (index_synced row) issued count next = has_on me D row (index_synced row) issued count r.mid r.event r.rest (SyncIndex w.id) r.sound r.whole r.asked r.holds now refl refl refl tt in
+            let o = over me w.id (Has me D (index_synced row) issued count) (has_stays me D (index_synced row) issued count) (stays_with (synced_of n h) (Ok n)) next r.rest out on r.then_sound r.lawful (subst (λ x. Runs me (if_synced h x) r.rest out) told r.runs) in
+            let number_is : n ≡ length issued = number_told me w.id row r.mid.state r.event.after r.holds.opened n a ∙ counted in
+            let end : Has me D (index_synced row) issued (length issued) (moment_after next r.rest) = subst (λ k. Has me D (index_synced row) issued k (moment_after next r.rest)) all o.0 in
+            record {
+              handle = synced_of n h;
+              is = sym o.1 ∙ ap (λ k. stays_with (synced_of n h) (Ok k)) number_is;
+              mirrors = mirrored (synced_of n h) (index_synced row) issued (length issued) (moment_after next r.rest) (sound_after next r.rest r.lawful r.then_sound) end counted floor capacity is (empty ∙ sym (ap length none)) cap fresh;
+            }
+      ])
+
+  nothing : (es : List Entry) → length es ≡ 0 → es ≡ []
+  nothing [] e = refl
+  nothing (first ∷ rest) e = absurd (let clash : 1 ≤ 0 = omega (arith, e) in omega (arith, clash))
+
+  before_flush : (h : WriterHandle) (m : Moment) (row : Row) (issued : List Written) (count : ℕ) (events : List Event) (out : WriterOut) → h.writer ≡ w.id → h.cap ≡ w.capacity → h.closing ≡ false → IsSoundAt m → IsLawful m.state events → GoesWell me events → Has me D row issued count m → h.pending ≡ length row.pending.entries → row.floor ≡ w.floor → row.pending.capacity ≡ w.capacity
+      → Runs me (flushes_and_syncs h) events out → KeepsPlain me number (record w { issued = issued; landed = length issued }) (moment_after m events) (Ok (length issued)) out
+  before_flush h m row issued count events out is cap fresh sound lawful well has pending floor capacity runs =
+      elim (nat_eq h.pending 0) as (λ b. nat_eq h.pending 0 ≡ b → Runs me (if b then syncs_index h else ask (Flush h.writer) (if_flushed h (syncs_index (flushed_of h)))) events out → KeepsPlain me number (record w { issued = issued; landed = length issued }) (moment_after m events) (Ok (length issued)) out) [
+        | true ↦ λ t on.
+            let zero : h.pending ≡ 0 = grind (arith, nat_tests) in
+            before_index h m row issued count events out is cap fresh zero sound lawful well has (nothing row.pending.entries (sym pending ∙ zero)) floor capacity on
+        | false ↦ λ t on.
+            let r = reached me (Has me D row issued count) (has_stays me D row issued count) m (Flush w.id) (if_flushed h (syncs_index (flushed_of h))) events out sound lawful well has (subst (λ id. Runs me (ask (Flush id) (if_flushed h (syncs_index (flushed_of h)))) events out) is on) in
+            subst (λ x. KeepsPlain me number (record w { issued = issued; landed = length issued }) x (Ok (length issued)) out) r.ends (elim r.served as (λ _. KeepsPlain me number (record w { issued = issued; landed = length issued }) (moment_after (next_moment r.mid r.event) r.rest) (Ok (length issued)) out) [
+              | inr (why, told, reason) ↦ not_none me w.id (only stage.Open) row r.mid.state why _ r.holds.opened.has r.holds.opened.is_open reason
+              | inl (n, told) ↦
+                  let e = flush_does me w.id row r.mid.state r.event.after r.holds.opened n (subst (λ x. Answers r.mid.state me (Flush w.id) x r.event.after) told r.answers) in
+                  let next = has_flushed me D row e.after issued count r.mid r.event r.sound r.then_sound r.asked r.holds e.now e.room e.host e.none in
+                  before_index (flushed_of h) (next_moment r.mid r.event) e.after issued (length issued) r.rest out is cap fresh refl r.then_sound r.lawful r.well next e.none (e.floor ∙ floor) (e.capacity ∙ capacity) (subst (λ x. Runs me (if_flushed h (syncs_index (flushed_of h)) x) r.rest out) told r.runs)
+            ])
+      ] refl runs
+
+  -- where the writer is mirrored, the tree and the ledger have it so
+  pub has_it : (handle : WriterHandle) (m : Moment) (o : MirrorsOwn me number handle w m) → Has me D o.row w.issued w.landed m
+  has_it handle m o = record { opened = o.opened; room = o.room; host = o.host; issued_is = o.issued; landed_is = o.landed_is }
+
+  pub syncs_plainly : (m : Moment) (handle : WriterHandle) (events : List Event) (out : WriterOut) → IsLawful m.state events → GoesWell me events → MirrorsOwn me number handle w m → Runs me (sync_program handle) events out → SyncsPlainly m me number w events out
+  syncs_plainly m handle events out lawful well o runs =
+      let row : Row = o.row in
+      let r = reached me (Has me D row w.issued w.landed) (has_stays me D row w.issued w.landed) m (SyncLog w.id) (if_log_synced handle) events out o.sound lawful well (has_it handle m o) (subst (λ id. Runs me (ask (SyncLog id) (if_log_synced handle)) events out) o.writer runs) in
+      subst (λ x. KeepsPlain me number (all_landed w) x (Ok (length w.issued)) out) r.ends (elim r.served as (λ _. KeepsPlain me number (all_landed w) (moment_after (next_moment r.mid r.event) r.rest) (Ok (length w.issued)) out) [
+        | inr (why, told, reason) ↦ not_none me w.id (only stage.Open) row r.mid.state why _ r.holds.opened.has r.holds.opened.is_open reason
+        | inl told ↦
+            let now = log_does me w.id row r.mid.state r.event.after r.holds.opened (subst (λ x. Answers r.mid.state me (SyncLog w.id) x r.event.after) told r.answers) in
+            let on : Has me D (log_synced row) w.issued w.landed (next_moment r.mid r.event) = has_on me D row (log_synced row) w.issued w.landed r.mid r.event r.rest (SyncLog w.id) r.sound r.whole r.asked r.holds now refl refl refl tt in
+            before_flush handle (next_moment r.mid r.event) (log_synced row) w.issued w.landed r.rest out o.writer o.cap_is o.fresh r.then_sound r.lawful r.well on o.pending o.floor o.capacity (subst (λ x. Runs me (if_log_synced handle x) r.rest out) told r.runs)
+      ])

@@ -1,0 +1,9 @@
+use Rattle.plain_laws.proofs.Plainly.{syncs_plainly}
+use Rattle.plain_laws.proofs.WritingPlainly.{writes_plainly}
+use Rattle.plain_laws.proofs.laws.writers_are_plain.Goals as goal
+
+pub returns-clause-syncs : goal.returns-clause-syncs
+returns-clause-syncs c = λ m me number w. syncs_plainly me number w m
+
+pub returns-clause-writes : goal.returns-clause-writes
+returns-clause-writes c = λ m me number w. writes_plainly me number w m

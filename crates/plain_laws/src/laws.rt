@@ -1,0 +1,52 @@
+//! The laws of statements that come to their ends.
+ghost use Rattle.std.specs.Prelude.{◌≡◌, ℕ, List, Ok, Result, false, length};
+ghost use Rattle.flow.specs.declared.stuck.Stuck.{Stuck};
+ghost use Rattle.flow.specs.Running.{Runs};
+ghost use Rattle.gathering.specs.Moments.{IsSoundAt, Moment};
+ghost use Rattle.mount_model.specs.declared.row.Row.{Row};
+ghost use Rattle.mount_model.specs.History.{Event};
+ghost use Rattle.mount_model.specs.Paths.{Name};
+ghost use Rattle.mount_sound.specs.Owed.{IsLawful};
+ghost use Rattle.plain_laws.specs.Opens.{OpensOrNot};
+ghost use Rattle.plain_laws.specs.Plainly.{MirrorsOwn, SyncsPlainly, WritesPlainly};
+ghost use Rattle.plain_machine.specs.Machine.{PlainWriter};
+ghost use Rattle.plain_laws.specs.Served.{ClosesWell, EndsAsItMay, EndsWell, GoesWell, HasOpen};
+ghost use Rattle.plain_laws.specs.Tops.{TruncatesAbove};
+ghost use Rattle.trunc_rename.specs.Truncating.{truncate_program};
+ghost use Rattle.writer_flow.specs.Closing.{close_program};
+ghost use Rattle.writer_flow.specs.declared.handle.WriterHandle.{WriterHandle};
+ghost use Rattle.writer_flow.specs.declared.handle.WriterOut.{WriterOut};
+ghost use Rattle.writer_flow.specs.Opening.{open_program};
+ghost use Rattle.writer_flow.specs.Syncing.{sync_program};
+ghost use Rattle.writer_flow.specs.Writing.{write_program};
+
+/// A law: an open writer is served. A sync and a close end well, and a close puts its metadata dropping and leaves. A write ends well, unless it would end too far or no stamp is left, which
+/// alone are reasons to refuse it. Its caller met no fault and had memory, and its handle tells of its buffer. Others may call whatever they may.
+pub fn open_writers_are_served()
+    ensures syncs { (m : Moment) (me : ℕ) (handle : WriterHandle) (row : Row) (events : List Event) (out : WriterOut) → IsSoundAt m → IsLawful m.state events → GoesWell me events → HasOpen me handle.writer row m.state
+        → handle.pending ≡ length row.pending.entries → Runs me (sync_program handle) events out → EndsWell out.result }
+    ensures writes { (m : Moment) (me : ℕ) (handle : WriterHandle) (row : Row) (at : ℕ) (block : List ℕ) (events : List Event) (out : WriterOut) → IsSoundAt m → IsLawful m.state events → GoesWell me events → HasOpen me handle.writer row m.state
+        → handle.pending ≡ length row.pending.entries → handle.cap ≡ row.pending.capacity → Runs me (write_program handle at block) events out → EndsAsItMay row at (length block) out.result }
+    ensures closes { (m : Moment) (me : ℕ) (handle : WriterHandle) (row : Row) (events : List Event) (out : WriterOut) → IsSoundAt m → IsLawful m.state events → GoesWell me events → HasOpen me handle.writer row m.state
+        → handle.pending ≡ length row.pending.entries → handle.closing ≡ false → Runs me (close_program handle) events out → ClosesWell me handle.writer events out }
+{}
+
+/// A law: an opening ends with an open writer, or no serial was left, or the container that it found or made let nobody in. Its caller met no fault and had
+/// memory. So another writer that is open is no reason to refuse it.
+pub fn openings_are_served()
+    ensures { (m : Moment) (me : ℕ) (name : Name) (host cap : ℕ) (events : List Event) (out : Result WriterHandle Stuck) → IsSoundAt m → IsLawful m.state events → GoesWell me events → Runs me (open_program name host cap) events out → OpensOrNot m me name cap events out }
+{}
+
+/// A law: a truncate that is made has the next stamp above the greatest in its container, by the clock's time as it was made. That greatest stamp is the one of a
+/// truncate or of an entry that has landed, or 0. Its caller met no fault and had memory.
+pub fn truncates_take_the_next_stamp()
+    ensures { (m : Moment) (me : ℕ) (name : Name) (size : ℕ) (events : List Event) (stamp : ℕ) → IsSoundAt m → IsLawful m.state events → GoesWell me events → Runs me (truncate_program name size) events (Ok stamp) → TruncatesAbove m me name events stamp }
+{}
+
+/// A law: a writer goes on as one of a plain machine. Where an open writer is that of the machine, by its writes and by how many have landed, a sync leaves it as the
+/// machine's sync does. A write does as well: it has the machine's stamp, or its refusal. Its caller met no fault and had memory. Others may call whatever they may.
+pub fn writers_are_plain()
+    ensures syncs { (m : Moment) (me number : ℕ) (w : PlainWriter) (handle : WriterHandle) (events : List Event) (out : WriterOut) → IsLawful m.state events → GoesWell me events → MirrorsOwn me number handle w m → Runs me (sync_program handle) events out → SyncsPlainly m me number w events out }
+    ensures writes { (m : Moment) (me number : ℕ) (w : PlainWriter) (handle : WriterHandle) (at : ℕ) (block : List ℕ) (events : List Event) (out : WriterOut) → IsLawful m.state events → GoesWell me events → MirrorsOwn me number handle w m
+        → Runs me (write_program handle at block) events out → WritesPlainly m me number w at block events out }
+{}

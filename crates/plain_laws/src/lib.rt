@@ -1,0 +1,10 @@
+//! What statements come to where nothing fails, whatever others call in between.
+//!
+//! It owns the laws that an open writer is served, and when not. There is no code in it.
+#![tactic(auto)]
+
+mod laws;
+
+pub use laws::{
+    open_writers_are_served, openings_are_served, truncates_take_the_next_stamp, writers_are_plain,
+};

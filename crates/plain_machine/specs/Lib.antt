@@ -1,0 +1,13 @@
+pub mod Machine
+pub mod Finding
+pub mod Landed
+pub mod Becoming
+pub mod Cases
+pub mod Writers
+pub mod Readers
+pub mod ByName
+pub mod Statements
+pub mod Running
+pub mod Saying
+pub mod Examples
+pub mod MoreExamples
