@@ -166,8 +166,9 @@ def truncate_at_an_entry(chance, root):
 
 def second_truncate(chance, root):
     path = one_of(chance, root, "truncs")
-    stamp, size = path.name.split(".")
-    path.with_name(f"{stamp}.{int(size) + 1}").touch()
+    stamp, _, size = path.name.partition(".")
+    if size.isdigit():
+        path.with_name(f"{stamp}.{int(size) + 1}").touch()
 
 
 def remove_folder(chance, root):

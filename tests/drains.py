@@ -11,8 +11,8 @@ from locks import IN_USE, Held
 from trial import Skipped, WORK, check, listed, same, size_limit, true
 
 NO_FILE = "0 refused no-file\n"
-# So many drains are killed where the machine lets it happen, in so many rounds at most.
-KILLED, ROUNDS = 60, 120
+# So many drains are killed where the machine lets it happen and no other number is asked for, in twice so many rounds at most.
+KILLED = 60
 # Writers and writes of a container that takes a drain some time.
 WRITERS, WRITES, LENGTH = 3, 40, 3000
 
@@ -128,9 +128,9 @@ def behind_kills_of_a_drain_at_random_moments_the_next_one_copies_the_rest(trial
     spent = time.monotonic()
     drains(trial, target_of(trial), None)
     spent = time.monotonic() - spent
-    killed = 0
-    for turn in range(ROUNDS):
-        if killed == KILLED:
+    killed, most = 0, trial.kills or KILLED
+    for turn in range(2 * most):
+        if killed == most:
             break
         target = target_of(trial, f"target{turn}")
         end = time.monotonic() + trial.random.random() * spent

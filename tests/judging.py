@@ -75,6 +75,7 @@ WRONG = {
     "a reader already": ("23 reader .*", "23 refused already-open", "refused"),
     "a writer already": (r"7 open \d+", "7 refused already-open", "refused"),
     "a truncate already": ("18 truncated .*", "18 refused already-open", "refused"),
+    "a truncate below what had landed": (r"18 truncated \d+", "18 truncated 1", "truncated"),
     "no stamp left": ("4 wrote .*", "4 refused stamps-spent", "refused"),
     "too far within the limit": ("8 wrote .*", "8 refused too-far", "refused"),
     "a stop that none armed": ("24 read .*", "24 stopped", "stopped"),

@@ -8,8 +8,8 @@ from faults import UNSYNCED, WORKS, below, numbered, read_back
 from trial import SECONDS, WORK, check, same, size_limit, true
 
 WRITES = 100
-# So many runs are killed where the machine lets it happen, in so many rounds at most.
-KILLED, ROUNDS = 20, 40
+# So many runs are killed where the machine lets it happen and no other number is asked for, in twice so many rounds at most.
+KILLED = 20
 STOPPED = 16
 
 # A run: each write has so many bytes of its own, and every tenth is followed by a sync.
@@ -90,9 +90,9 @@ def is_read_back(trial, counts, turn, width, writer, log, index):
 @check
 def after_kills_at_random_writes_all_that_had_landed_is_read_back(trial):
     trial.ends(0, "actor a\na open f\na close\n")
-    counts, killed = [], 0
-    for turn in range(ROUNDS):
-        if killed == KILLED:
+    counts, killed, most = [], 0, trial.kills or KILLED
+    for turn in range(2 * most):
+        if killed == most:
             break
         place = writer, log, index = places(trial)
         least = trial.random.randrange(8 * WRITES)
@@ -129,8 +129,8 @@ def after_kills_while_containers_are_made_each_is_whole_or_absent_and_little_is_
     spent = time.monotonic()
     trial.ends(0, WORK.replace("open f", "open e"))
     spent = time.monotonic() - spent
-    killed = turns = 0
-    while turns < ROUNDS + KILLED and killed < KILLED:
+    killed, turns, most = 0, 0, trial.kills or KILLED
+    while turns < 3 * most and killed < most:
         killed += is_killed_while_making(trial, f"c{turns}", trial.random.random() * spent)
         turns += 1
     true("no run was killed", killed)

@@ -185,6 +185,11 @@ class Container:
         if drawn is not None and not (drawn % 2**32 >= 1 and drawn // 2**32 in self.marks):
             self.shape.append(self.complain("unmarked", place))
 
+    def draws_of(self, names):
+        """Whether an id is of one of these marks, at which a look fails."""
+        items = [items_of(*path) for path in self.files]
+        return any(item and id_of(item) is not None and str(id_of(item) // 2**32) in names for item in items)
+
     def all_items(self, *kinds):
         for folder, name in self.files:
             item = items_of(folder, name)
@@ -196,7 +201,7 @@ class Container:
         for item in self.all_items("open", "index", "meta"):
             host, writer = item[-2:]
             if self.owners.setdefault(writer, host) != host:
-                self.shape.append(self.complain("two-hosts", writer))
+                self.shape.append(self.complain("two-hosts", str(writer)))
         sizes = {}
         for _, stamp, size in self.all_items("trunc"):
             if sizes.setdefault(stamp, size) != size:
@@ -288,11 +293,11 @@ def path_of(folder, name):
 
 
 def marks_of(path):
-    """The numbers of the marks, what is complained of their room, and whether a look at it fails."""
-    complaints, marks, fails = [], set(), False
+    """The numbers of the marks, what is complained of their room, and the names of its entries at which a look fails."""
+    complaints, marks, fails = [], set(), set()
     for entry in path.iterdir():
         if entry.is_symlink():
-            fails = True
+            fails.add(entry.name)
         elif entry.is_dir() and entry.name != "mounts":
             complaints.append(("foreign-folder", ".plfs", escaped(entry.name), "-"))
         elif entry.is_file():
@@ -301,7 +306,7 @@ def marks_of(path):
         return marks, [*complaints, ("no-folder", ".plfs", "mounts", "-")], fails
     for entry in (path / "mounts").iterdir():
         if entry.is_symlink() or not entry.is_file():
-            fails = True
+            fails.add(entry.name)
         elif entry.read_bytes() or not 1 <= (number(entry.name) or 0) < 2**32:
             complaints.append(("no-mark", ".plfs", f"mounts/{escaped(entry.name)}", "-"))
         else:
@@ -312,7 +317,7 @@ def marks_of(path):
 def judged(root):
     """Of each room, by its name in byte order: what may be complained of its shape, and of each of its items in order; and the rooms at which a look fails."""
     root, rooms, fails = pathlib.Path(root), {}, set()
-    marks = set()
+    marks, failed = set(), set()
     if (root / ".plfs").is_dir():
         marks, complaints, failed = marks_of(root / ".plfs")
         rooms[".plfs"] = (complaints, [])
@@ -323,7 +328,7 @@ def judged(root):
             container = Container(path, marks)
             container.look()
             rooms[path.name] = (container.shape, container.items)
-            if container.fails:
+            if container.fails or container.draws_of(failed):
                 fails.add(path.name)
     return dict(sorted(rooms.items(), key=lambda it: it[0].encode())), fails
 
@@ -345,19 +350,21 @@ def disagreement(root, status, text):
         return "a line is of no such form"
     if (status, failed) not in ((7, False), (4, True)):
         return "status and last line don't go together"
-    if failed and not fails or not failed and fails:
+    silent = [name for name in rooms if name in fails and not any(complaint[1] == name for complaint in told)]
+    if failed and not silent or not failed and silent:
         return "a look fails, or none does"
     names = [complaint[1] for complaint in told]
     if names != sorted(names, key=str.encode):
         return "the rooms are out of order"
     for name, (shape, items) in rooms.items():
         here = [complaint for complaint in told if complaint[1] == name]
-        if failed and (name in fails or name.encode() >= min(fails, key=str.encode).encode()):
+        if failed and name.encode() >= silent[0].encode():
             if here:
                 return f"lines of {name} come behind a fault"
             continue
         wrong = [item for item in items if item]
-        if shape:
+        # Where a look at a container fails, it isn't made once its shape is complained of.
+        if shape or name in fails:
             if len(here) != 1 or here[0] not in shape:
                 return f"{name} has other complaints: {shape}"
         elif len(here) != len(wrong) or any(complaint not in item for complaint, item in zip(here, wrong)):

@@ -68,15 +68,17 @@ def listed(folder):
 
 
 class Trial:
-    """One check's folder, its empty ROOT in it, the program, the library of preload.c, and a source of random numbers."""
+    """One check's folder, its empty ROOT in it, the program, the library of preload.c, a source of random numbers, and how many kills are
+    asked for, if that is said."""
 
-    def __init__(self, program, library, top, folder, random):
+    def __init__(self, program, library, top, folder, random, kills=None):
         self.program = str(program)
         self.library = library
         self.top = pathlib.Path(top)
         self.folder = pathlib.Path(folder)
         self.root = self.folder / "root"
         self.random = random
+        self.kills = kills
         self.scripts = 0
         self.root.mkdir()
 

@@ -123,17 +123,21 @@ pub record IsNextStamp (run : Run) (story : Story) (t : Told) (at len id stamp :
 
 -- ---- truncates
 
--- The container was truncated: the truncate stands from then on, with a stamp above all that had landed before, and below all that is written after it.
+-- A truncate stands from its line on, alone under its stamp. This is above all that had landed before, and below all that is written after it.
+pub record Cuts (run : Run) (story : Story) (t : Told) (size stamp : ℕ) : Type 0 where
+  pub stands : Has run.after (story.of t) (TruncItem stamp size)
+  pub above : (w : Writer) → IsWriter run story (story.of t) (before run t) (so_far run t) w → All (λ v. stamp_of v < stamp) (take w.least w.writes)
+  pub alone : (other : ℕ) → IsItem (TruncItem stamp other) → Has run.after (story.of t) (TruncItem stamp other) → other ≡ size
+  pub below : (s o : Told) (place len other id : ℕ) → IsLine run s → surely_before run t s ≡ true → s.outcome ≡ Wrote place len (Some other) → writer_at run s ≡ Some id → IsLine run o → o.outcome ≡ Opened id → story.of o ≡ story.of t → stamp < other
+
+-- The container was truncated.
 pub record TruncatesFile (run : Run) (story : Story) (t : Told) (stamp : ℕ) : Type 0 where
   pub name : List ℕ
   pub size : ℕ
   pub asked : t.statement ≡ Truncates name size
   pub finds : Named run story t
-  pub stands : Has run.after (story.of t) (TruncItem stamp size)
+  pub cuts : Cuts run story t size stamp
   pub is : IsStamp run (IsStampIn run (story.of t)) 0 stamp
-  pub above : (w : Writer) → IsWriter run story (story.of t) (before run t) (so_far run t) w → All (λ v. stamp_of v < stamp) (take w.least w.writes)
-  pub below : (s o : Told) (place len other id : ℕ) → IsLine run s → surely_before run t s ≡ true → s.outcome ≡ Wrote place len (Some other) → writer_at run s ≡ Some id → IsLine run o → o.outcome ≡ Opened id → story.of o ≡ story.of t → stamp < other
-  pub alone : (other : ℕ) → Has run.after (story.of t) (TruncItem stamp other) → other ≡ size
 
 -- ---- who holds it
 

@@ -8,6 +8,7 @@ pub mod Cuts
 pub mod Entering
 pub mod FirstOpen
 pub mod Issues
+pub mod Least
 pub mod LineBounds
 pub mod OpenedWriter
 pub mod Unwritten

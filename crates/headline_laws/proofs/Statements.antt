@@ -7,4 +7,6 @@ pub mod Ends
 pub mod Handles
 pub mod Hosts
 pub mod Known
+pub mod Living
+pub mod LivingLines
 pub mod Refreshed

@@ -4,6 +4,7 @@ pub mod Attributed
 pub mod Entered
 pub mod Lines
 pub mod Named
+pub mod OneOpener
 pub mod Opened
 pub mod Ordered
 pub mod Parts

@@ -1,9 +1,14 @@
 -- What the tree after has, and what readers show of the tree before.
+pub mod Flattened
 pub mod Fresh
 pub mod Homes
+pub mod Kept
 pub mod Left
+pub mod Marked
 pub mod Old
 pub mod Openings
+pub mod Printed
 pub mod Reading
 pub mod Still
+pub mod Truncated
 pub mod WriterStands

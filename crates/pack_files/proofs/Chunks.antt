@@ -1,5 +1,5 @@
 -- The chunks of a scan.
-use Rattle.std.proofs.Common.{◌≡◌, ℕ, suc, false, List, Result, Ok, Err, refl, ap, ◌∙◌}
+use Rattle.std.proofs.Common.{◌≡◌, ℕ, suc, false, Result, Ok, Err, refl, ◌∙◌}
 use Rattle.std.specs.Prelude.{IfOk}
 use Rattle.plfs_types.specs.declared.memory.NoMemory.{NoMemory}
 use Rattle.mount_model.specs.declared.call.Call.{Call}

@@ -1,12 +1,11 @@
 -- The piece that has a byte is the first that ends past it.
-use Rattle.std.proofs.Common.{◌≡◌, ℕ, zero, suc, ◌+◌, ◌-◌, ◌≤◌, ◌<◌, max, min, nat_le, true, false, List, [], ◌∷◌, length, take, drop, length-drop, Option, Some, None, refl, sym, ap, ◌∙◌, inl, inr, arith}
+use Rattle.std.proofs.Common.{◌≡◌, ℕ, zero, suc, ◌+◌, ◌-◌, ◌≤◌, ◌<◌, max, min, nat_le, true, false, List, [], ◌∷◌, length, take, drop, length-drop, Some, None, refl, sym, ap, ◌∙◌, inl, inr, arith}
 use Rattle.std.proofs.Math.Seq.{take-length}
 use Rattle.std.proofs.lemmas.Bool.{cases_lt, cond-false}
 use Rattle.std.proofs.lemmas.Bool.Decides.{nat_tests}
-use Rattle.plfs_types.specs.declared.entries.Key.{Key}
 use Rattle.plain_file.specs.declared.pieces.Piece.{Piece}
 use Rattle.plain_file.specs.Runs.{AreRuns, EndsPast}
-use Rattle.plain_file.specs.Sources.{Source, has_byte, source_at, source_in}
+use Rattle.plain_file.specs.Sources.{has_byte, source_at, source_in}
 use Rattle.plain_file.proofs.Facts.{has-before, source_at-before, source_at-here, source_at-past}
 use Rattle.read_plan.specs.Ranges.{cut_to_range, pieces_in_range}
 use Rattle.read_plan.proofs.Facts.{pieces_in-met, pieces_in-missed}

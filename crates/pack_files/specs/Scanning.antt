@@ -1,5 +1,5 @@
 -- The calls of a scan: those of a read of each chunk of the region, up to the end of its units.
-use Rattle.std.specs.Prelude.{ℕ, zero, suc, ◌+◌, ◌-◌, ◌*◌, ◌^◌, min, max, Bool, if◌then◌else◌, List, [], length, map, Option, Some, None, Result, Ok, Err}
+use Rattle.std.specs.Prelude.{ℕ, zero, suc, ◌+◌, ◌-◌, ◌*◌, ◌^◌, min, max, if◌then◌else◌, List, [], length, map, Option, Some, None, Result, Ok, Err}
 use Rattle.std.specs.Int.{div_ceil}
 use Rattle.plfs_types.specs.declared.entries.Key.{Key}
 use Rattle.plain_file.specs.declared.pieces.Piece.{Piece}
@@ -12,8 +12,6 @@ use Rattle.story.specs.Program.{Program, done, followed_by}
 use Rattle.index_reader.specs.declared.opened.OpenReader.{OpenReader}
 use Rattle.index_reader.specs.Reading.{read_program}
 use Rattle.unit_format.specs.declared.units.TheConstants.{REGION_SIZE}
-use Rattle.unit_format.specs.declared.scanner.Placed.{Placed}
-use Rattle.unit_format.specs.declared.scanner.Scanned.{Scanned}
 use Rattle.unit_format.specs.declared.scanner.Scanner.{Scanner}
 use Rattle.unit_format.specs.declared.finding.Unit.{Unit as Found}
 use Rattle.unit_format.specs.declared.finding.Region.{Region}
@@ -32,12 +30,12 @@ key_of (Some s) = record { stamp = s.stamp; writer = s.writer }
 abbrev pub key_at : List Piece → ℕ → Key
 key_at pieces place = key_of (source_at pieces place)
 
--- the unit of a file has the key of its first byte
-abbrev pub unit_of : List Piece → Placed → Found
-unit_of pieces f = record { name = f.name; at = f.at; len = f.len; key = key_at pieces (f.at - (16 + length f.name)) }
+-- the unit with the key of its first byte
+abbrev pub unit_of : List Piece → Found → Found
+unit_of pieces u = record { name = u.name; at = u.at; len = u.len; key = key_at pieces (u.at - (16 + length u.name)) }
 
-abbrev pub units_of : List Piece → List Placed → List Found
-units_of pieces files = map (unit_of pieces) files
+abbrev pub units_of : List Piece → List Found → List Found
+units_of pieces units = map (unit_of pieces) units
 
 -- ---- the calls
 
@@ -50,8 +48,8 @@ further here = min (here + chunk_size) (2 ^ 64 - 1)
 abbrev pub Scans : Type 0
 Scans = Program Call Reply (Result Region ScanStuck)
 
-abbrev pub told_as : List Piece → Result Scanned ℕ → Result Region ScanStuck
-told_as pieces (Ok s) = Ok (record { units = units_of pieces s.files; end = s.end })
+abbrev pub told_as : List Piece → Result Region ℕ → Result Region ScanStuck
+told_as pieces (Ok r) = Ok (record { units = units_of pieces r.units; end = r.end })
 told_as pieces (Err place) = Err (Bad place)
 
 -- what a scan comes to

@@ -1,14 +1,13 @@
 //! The keys of units.
-ghost use Rattle.std.specs.Prelude.{◌≡◌, IfOk};
+ghost use Rattle.std.specs.Prelude.{◌≡◌};
 ghost use Rattle.plain_file.specs.Runs.{AreRuns};
 ghost use Rattle.pack_files.specs.Keys.{first_key as first_key_of};
 ghost use Rattle.pack_files.specs.Scanning.{key_at as key_of_place, unit_of, units_of};
 
-use plain_file::{Piece, Pieces};
-use plfs_types::{Key, NoMemory, Sequence};
+use plain_file::Piece;
+use plfs_types::Key;
 use read_plan::first_past;
-use std::alloc::Global;
-use unit_format::{Placed, PlacedList, Unit, UnitList};
+use unit_format::Unit;
 
 /// The key of the first piece, where that has this byte, or else zeros.
 fn first_key(pieces: &[Piece], place: u64) -> Key
@@ -36,31 +35,26 @@ fn key_at(pieces: &[Piece], place: u64) -> Key
     first_key(&pieces[first..], place)
 }
 
-fn with_key(pieces: &[Piece], file: Placed) -> Unit
+/// The unit with the key of the write that shows its first byte.
+fn with_key(pieces: &[Piece], unit: Unit) -> Unit
     requires { AreRuns pieces.now }
-    ensures { result ≡ unit_of pieces.now file }
+    ensures { result ≡ unit_of pieces.now unit }
 {
-    let head = 16 + file.name.name().bytes().len() as u64;
+    let head = 16 + unit.name.name().bytes().len() as u64;
     Unit {
-        name: file.name,
-        at: file.at,
-        len: file.len,
-        key: key_at(pieces, file.at.saturating_sub(head)),
+        name: unit.name,
+        at: unit.at,
+        len: unit.len,
+        key: key_at(pieces, unit.at.saturating_sub(head)),
     }
 }
 
-/// The files with the keys of their units.
-pub(crate) fn with_keys(
-    alloc: Global,
-    pieces: &Pieces,
-    files: &PlacedList,
-) -> Result<UnitList, NoMemory>
-    ensures { IfOk result (λ units. units ≡ units_of pieces.now files.now) }
+/// Gives the units their keys, where they stand.
+pub(crate) fn set_keys(pieces: &[Piece], units: &mut [Unit])
+    requires { AreRuns pieces.now }
+    ensures { units.new ≡ units_of pieces.now units.old }
 {
-    let pieces = pieces.as_slice();
-    let mut units = Vec::new(alloc);
-    for file in files.as_slice() {
-        units.push(with_key(pieces, *file))?;
+    for place in 0..units.len() {
+        units[place] = with_key(pieces, units[place]);
     }
-    Ok(Sequence::from_vec(units))
 }

@@ -6,14 +6,14 @@ ghost use Rattle.mount_model.specs.Step.{OwedBy};
 ghost use Rattle.pack_files.specs.Scanning.{scans, after_read, told as told_of, further as place_after, calls_in};
 ghost use Rattle.pack_files.specs.Stages.{stage_standing, stage_left, chunks_left, is_underway};
 
-use crate::keys::with_keys;
+use crate::keys::set_keys;
 use crate::scan::ScanStuck;
 use flow::{Flow, Stuck};
 use index_reader::{OpenReader, Reading};
 use mount_model::{Call, Reply};
 use plfs_types::{Bytes, NoMemory};
 use std::alloc::Global;
-use unit_format::{Region, Scanned, Scanner};
+use unit_format::{Region, Scanner, UnitList};
 
 /// How many bytes are read at a time.
 pub(crate) const CHUNK: u64 = 1 << 20;
@@ -39,20 +39,17 @@ fn further(here: u64) -> u64
 }
 
 /// What was scanned, with the keys of the units.
-fn told(
-    alloc: Global,
-    reader: &OpenReader,
-    scanner: Scanner,
-) -> Result<Result<Region, ScanStuck>, NoMemory>
-    ensures { IfOk result (λ told. told ≡ told_of reader.now.pieces scanner) }
+fn told(reader: &OpenReader, scanner: Scanner) -> Result<Region, ScanStuck>
+    ensures { result ≡ told_of reader.now.pieces scanner }
 {
     match scanner.finish() {
-        Err(place) => Ok(Err(ScanStuck::Bad { place })),
-        Ok(scanned) => {
-            let Scanned { files, end } = scanned;
-            let units = with_keys(alloc, reader.pieces(), &files);
-            drop(files);
-            Ok(Ok(Region { units: units?, end }))
+        Err(place) => Err(ScanStuck::Bad { place }),
+        Ok(region) => {
+            let Region { units, end } = region;
+            let mut units = units.into_vec();
+            set_keys(reader.pieces().as_slice(), units.as_mut_slice());
+            let units = UnitList::from_vec(units);
+            Ok(Region { units, end })
         }
     }
 }
@@ -70,7 +67,7 @@ pub(crate) fn begin(
     ensures few { IfOk result (λ stage. chunks_left stage ≤ chunks) }
 {
     if chunks == 0 || scanner.is_settled() {
-        return Ok(Stage::Ended(told(alloc, reader, scanner)?));
+        return Ok(Stage::Ended(told(reader, scanner)));
     }
     let reading = match Reading::new(alloc, reader, here, CHUNK) {
         Ok(reading) => reading,
@@ -107,7 +104,9 @@ fn go_on(
             Ok(Stage::Ended(Err(ScanStuck::Stuck(why))))
         }
         Ok(bytes) => {
-            if let Err(why) = scanner.take(bytes.as_slice()) {
+            let taken = scanner.take(bytes.as_slice());
+            drop(bytes);
+            if let Err(why) = taken {
                 drop(scanner);
                 return Err(why);
             }

@@ -19,20 +19,20 @@ use Rattle.store_laws.specs.Outcomes.{MadeOrNot}
 use Rattle.store_laws.specs.Says.{WhyNoRoomMade}
 use Rattle.store_laws.specs.There.{LacksRoom}
 use Rattle.store_laws.proofs.Facts.{acts_told, added_room, make_room_told}
-use Rattle.mount_model.specs.declared.call.Call.TheVariants.{Enter, Floor, MakeContainer, MakeHostdir, MakeIndex}
+use Rattle.mount_model.specs.declared.call.Call.TheVariants.{Enter, Floor, MakeContainer, MakeHostdir, MakeIndex, MakeLog}
 use Rattle.mount_model.specs.declared.reply.Refusal.{Refusal}
 use Rattle.mount_model.specs.declared.reply.Refusal.TheVariants as refusal
 use Rattle.mount_model.specs.declared.reply.Reply.TheVariants.{Done, Entered, Floored, Room}
 use Rattle.mount_model.specs.declared.row.Row.{Row}
 use Rattle.mount_model.specs.declared.row.Stage.{Stage}
 use Rattle.mount_model.specs.declared.row.Stage.TheVariants as stage
-use Rattle.mount_model.specs.Building.{build_outcome, hostdir_step, index_step}
+use Rattle.mount_model.specs.Building.{build_outcome, hostdir_step, index_step, log_step}
 use Rattle.mount_model.specs.Entering.{EntersAs, draw_check, enter_outcome, entered, next_id, serial_check}
 use Rattle.mount_model.specs.Finding.{make_outcome}
 use Rattle.mount_model.specs.Flooring.{FloorOutcome, FloorsRow, floored}
 use Rattle.mount_model.specs.History.{Event}
 use Rattle.mount_model.specs.Making.{MakesAct, Refuses, Told, or_reason}
-use Rattle.mount_model.specs.Paths.{Name, access_path, index_path, marks_folder, new_files, new_folders}
+use Rattle.mount_model.specs.Paths.{Name, access_path, index_path, marks_folder, new_files, new_folders, log_path}
 use Rattle.mount_model.specs.Regular.{IsDrawn}
 use Rattle.mount_model.specs.State.{State, Table, put}
 use Rattle.mount_model.specs.Step.{Answers}
@@ -191,3 +191,8 @@ module _ (me w : ℕ) (row : Row) (old new : State) (h : HasRow me w row old) wh
   index_made_does at a =
       let d = its_row me w (only stage.Housed) row old Done new (λ r. MakesAct (index_step r) (build_outcome stage.Indexed (hostdir_of r.host) (index_path r.host r.id).file r old.table) old Done new) h at a in
       put_row me w row (at_stage stage.Indexed row) old new h refl refl (ap (λ (x : State). x.table) d.after ∙ build_made stage.Indexed (hostdir_of row.host) (index_path row.host row.id).file row old.table d.told d.answered)
+
+  pub log_made_does : only stage.Indexed row.stage ≡ true → Answers old me (MakeLog w) Done new → HasRow me w (at_stage stage.Open row) new
+  log_made_does at a =
+      let d = its_row me w (only stage.Indexed) row old Done new (λ r. MakesAct (log_step r) (build_outcome stage.Open (hostdir_of r.host) (log_path r.host r.id).file r old.table) old Done new) h at a in
+      put_row me w row (at_stage stage.Open row) old new h refl refl (ap (λ (x : State). x.table) d.after ∙ build_made stage.Open (hostdir_of row.host) (log_path row.host row.id).file row old.table d.told d.answered)

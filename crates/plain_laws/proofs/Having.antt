@@ -1,26 +1,21 @@
 -- What the tree and the ledger have of a caller's open writer, from call to call.
-use Rattle.std.proofs.Common.{◌≡◌, ◌≢◌, ◌≤◌, ◌+◌, ℕ, Bool, true, false, nat_eq, List, [], ◌∷◌, ◌++◌, length, length-append, Option, Some, None, refl, sym, ap, ◌∙◌, subst, arith, if◌then◌else◌}
-use Rattle.std.specs.Prelude.{◌&&◌, ◌==◌}
+use Rattle.std.proofs.Common.{◌≡◌, ◌≤◌, ℕ, true, nat_eq, List, [], ◌∷◌, ◌++◌, length, length-append, refl, sym, ap, ◌∙◌, subst, arith}
 use Rattle.std.proofs.lemmas.List.{append-nil}
 use Rattle.std.proofs.lemmas.Bool.Decides.{nat_tests}
 use Rattle.mount_model.specs.declared.call.Ask.{Ask}
 use Rattle.mount_model.specs.declared.call.Call.{Call}
 use Rattle.mount_model.specs.declared.call.Call.TheVariants.{Flush, Write}
-use Rattle.mount_model.specs.declared.reply.Reply.{Reply}
 use Rattle.mount_model.specs.declared.reply.Reply.TheVariants.{Wrote}
 use Rattle.mount_model.specs.declared.row.Row.{Row}
 use Rattle.mount_model.specs.History.{Event}
-use Rattle.mount_model.specs.Table.{row_of}
 use Rattle.mount_model.proofs.Facts.{row_of_id}
 use Rattle.mount_sound.specs.Issued.{issued_after, noted_by, with_write, written_by}
 use Rattle.mount_sound.specs.Ledger.{Ledger, Written}
 use Rattle.mount_sound.specs.Owed.{IsLawful}
 use Rattle.flow.specs.Running.{unbroken}
 use Rattle.gathering.specs.Bounds.{SparesIndex}
-use Rattle.gathering.specs.Moments.{Dropping, IsSoundAt, Moment, issued_by, landed, moment_after, next_moment}
+use Rattle.gathering.specs.Moments.{Dropping, IsSoundAt, Moment, issued_by, landed, next_moment}
 use Rattle.gathering.proofs.Facts.{grows_after, sound_after}
-use Rattle.writer_laws.specs.Counting.{entry_count}
-use Rattle.writer_laws.specs.Knowing.{HasRow}
 use Rattle.plain_laws.specs.Served.{HasOpen}
 use Rattle.plain_laws.proofs.Between.{IsBetween, between}
 use Rattle.plain_laws.proofs.Doing.{open_stays}

@@ -1,54 +1,38 @@
--- A sync of an open writer leaves it as a plain machine leaves its writer, whoever calls in between.
-use Rattle.std.proofs.Common.{◌≡◌, ◌≢◌, ◌⊎◌, ◌≤◌, ◌<◌, ◌+◌, ◌-◌, ℕ, Bool, true, false, nat_eq, nat_le, nat_lt, List, [], ◌∷◌, ◌++◌, length, Option, Some, None, Result, Ok, Err, refl, sym, ap, ◌∙◌, inl, inr, subst, arith, if◌then◌else◌}
-use Rattle.std.specs.Prelude.{◌||◌, MatchOption}
+-- A sync and a close of an open writer leave it as a plain machine leaves its writer, whoever calls in between.
+use Rattle.std.proofs.Common.{◌≡◌, ◌≤◌, ℕ, true, false, nat_eq, List, [], ◌∷◌, ◌++◌, length, Result, Ok, refl, sym, ap, ◌∙◌, inl, inr, subst, arith, if◌then◌else◌}
 use Rattle.std.proofs.lemmas.Bool.Decides.{nat_tests}
 use Rattle.plfs_types.specs.declared.entries.Entry.{Entry}
-use Rattle.plfs_types.specs.declared.limits.TheConstants.{MAX_LOG, MAX_SIZE, MAX_STAMP}
-use Rattle.plfs_types.specs.Stamps.{next_stamp}
-use Rattle.edge_io.specs.Clock.{Ticks}
-use Rattle.mount_model.specs.declared.call.Call.TheVariants.{Flush, SyncIndex, SyncLog, Write}
-use Rattle.mount_model.specs.declared.reply.Refusal.{Refusal}
-use Rattle.mount_model.specs.declared.reply.Reply.{Reply}
-use Rattle.mount_model.specs.declared.reply.Reply.TheVariants.{Done, Flushed, Refused, Synced, Wrote}
+use Rattle.writer_flow.specs.Closing.{after_sync, close_from, close_program}
+use Rattle.mount_model.specs.declared.call.Call.TheVariants.{Flush, SyncIndex, SyncLog, Exit, PutMeta}
+use Rattle.mount_model.specs.declared.reply.Reply.TheVariants.{Done}
 use Rattle.mount_model.specs.declared.row.Row.{Row}
 use Rattle.mount_model.specs.declared.row.Stage.TheVariants as stage
 use Rattle.mount_model.specs.Flushing.{index_synced, log_synced}
 use Rattle.mount_model.specs.History.{Event}
-use Rattle.mount_model.specs.Regular.{IsCounted}
-use Rattle.mount_model.specs.State.{State}
 use Rattle.mount_model.specs.Step.{Answers}
 use Rattle.mount_model.specs.Table.{only}
-use Rattle.mount_model.specs.Writing.{wrote}
-use Rattle.mount_model.proofs.Facts.{row_of_all, row_of_id}
-use Rattle.mount_sound.specs.Entries.{logged}
-use Rattle.mount_sound.specs.Issued.{written_by}
-use Rattle.mount_sound.specs.Ledger.{Written, entries_in}
+use Rattle.mount_sound.specs.Ledger.{Written}
 use Rattle.mount_sound.specs.Owed.{IsLawful}
-use Rattle.story.specs.Program.{ask, done}
+use Rattle.story.specs.Program.{ask}
 use Rattle.flow.specs.declared.stuck.Stuck.{Stuck}
-use Rattle.flow.specs.declared.stuck.Stuck.TheVariants as stuck
-use Rattle.flow.specs.Running.{Runs, unbroken}
-use Rattle.flow.proofs.Facts.{runs_done}
-use Rattle.gathering.specs.Moments.{Dropping, IsSoundAt, Moment, issued_by, landed, moment_after, next_moment}
-use Rattle.gathering.proofs.Facts.{sound_after}
+use Rattle.flow.specs.Running.{Runs}
+use Rattle.flow.proofs.Facts.{runs_in_two}
+use Rattle.gathering.specs.Moments.{Dropping, IsSoundAt, Moment, moment_after, next_moment}
+use Rattle.gathering.proofs.Facts.{sound_after, legal_first, legal_rest}
 use Rattle.writer_flow.specs.declared.handle.WriterHandle.{WriterHandle}
 use Rattle.writer_flow.specs.declared.handle.WriterOut.{WriterOut}
-use Rattle.writer_flow.specs.Ending.{stays_with}
-use Rattle.writer_flow.specs.Handle.{flushed_of, one_more_of, synced_of}
+use Rattle.writer_flow.specs.Ending.{stays_with, gone_with}
+use Rattle.writer_flow.specs.Handle.{flushed_of, synced_of}
 use Rattle.writer_flow.specs.Syncing.{flushes_and_syncs, if_log_synced, if_synced, sync_program, syncs_index}
-use Rattle.writer_flow.specs.Writing.{flush_then, if_flushed, if_wrote, write_program, writes}
-use Rattle.writer_laws.specs.Counting.{entry_count}
+use Rattle.writer_flow.specs.Writing.{if_flushed}
 use Rattle.plain_machine.specs.Machine.{PlainWriter}
-use Rattle.plain_machine.specs.Becoming.{all_landed, made_room}
-use Rattle.plain_machine.specs.Landed.{last_of}
-use Rattle.plain_machine.specs.Writers.{issue, one_more}
-use Rattle.plain_laws.specs.Calls.{AtSome}
-use Rattle.plain_laws.specs.Plainly.{KeepsPlain, MirrorsOwn, SyncsPlainly, WritesInto, WritesOne, WritesPlainly, dropping_of, plain_reason}
-use Rattle.plain_laws.specs.Served.{EndsAsItMay, EndsWell, GoesWell, HasOpen, write_reason}
-use Rattle.plain_laws.proofs.Doing.{Emptied, flush_does, index_does, log_does, not_none, number_told, write_does}
-use Rattle.plain_laws.proofs.Having.{Has, has_flushed, has_on, has_stays, has_written, its_between}
-use Rattle.plain_laws.proofs.Reaching.{StaysUnderOthers, ended, reached, some_later}
-use Rattle.plain_laws.proofs.Serving.{over, writes_well}
+use Rattle.plain_machine.specs.Becoming.{all_landed}
+use Rattle.plain_laws.specs.Plainly.{KeepsPlain, MirrorsOwn, SyncsPlainly, dropping_of, ClosesPlainly}
+use Rattle.plain_laws.specs.Served.{GoesWell}
+use Rattle.plain_laws.proofs.Doing.{flush_does, index_does, log_does, not_none, number_told}
+use Rattle.plain_laws.proofs.Having.{Has, has_flushed, has_on, has_stays, its_between}
+use Rattle.plain_laws.proofs.Reaching.{reached}
+use Rattle.plain_laws.proofs.Serving.{over, before_put, called_second, syncs_so, well_first, well_rest}
 
 module _ (me number : ℕ) (w : PlainWriter) where
   abbrev D : Dropping
@@ -137,3 +121,23 @@ module _ (me number : ℕ) (w : PlainWriter) where
             let on : Has me D (log_synced row) w.issued w.landed (next_moment r.mid r.event) = has_on me D row (log_synced row) w.issued w.landed r.mid r.event r.rest (SyncLog w.id) r.sound r.whole r.asked r.holds now refl refl refl tt in
             before_flush handle (next_moment r.mid r.event) (log_synced row) w.issued w.landed r.rest out o.writer o.cap_is o.fresh r.then_sound r.lawful r.well on o.pending o.floor o.capacity (subst (λ x. Runs me (if_log_synced handle x) r.rest out) told r.runs)
       ])
+
+  pub closes_plainly : (m : Moment) (handle : WriterHandle) (events : List Event) (out : WriterOut) → IsLawful m.state events → GoesWell me events → MirrorsOwn me number handle w m → Runs me (close_program handle) events out → ClosesPlainly me w events out
+  closes_plainly m handle events out lawful well o runs =
+      let two = runs_in_two me (sync_program handle) after_sync events out (subst (λ b. Runs me (close_from b handle) events out) o.fresh runs) in
+      let whole : IsLawful m.state (two.first ++ two.rest) = subst (IsLawful m.state) two.all lawful in
+      let went : GoesWell me (two.first ++ two.rest) = subst (GoesWell me) two.all well in
+      let first : IsLawful m.state two.first = legal_first m two.first two.rest whole in
+      let s = syncs_so me w.id handle m o.row two.first two.value o.writer o.sound first (well_first me two.first two.rest went) o.opened o.pending two.runs in
+      let k = syncs_plainly m handle two.first two.value first (well_first me two.first two.rest went) o two.runs in
+      let count : s.number ≡ length w.issued = same_ok s.number (length w.issued) (ap (λ (x : WriterOut). x.result) (sym s.is ∙ k.is)) in
+      let p = before_put me w.id s.handle (moment_after m two.first) s.after two.rest out (s.same ∙ o.writer) (sound_after m two.first first o.sound) (legal_rest m two.first two.rest whole) (well_rest me two.first two.rest went) s.now s.none s.log_kept s.index_kept
+      (subst (λ (x : WriterOut). Runs me (after_sync x) two.rest out) s.is two.then_runs) in
+      record {
+        is = p.is ∙ ap (λ n. gone_with (Ok n)) (s.tells ∙ count);
+        told_of = called_second me (PutMeta w.id) Done two.first two.rest events two.all p.told_of;
+        left = called_second me (Exit w.id) Done two.first two.rest events two.all p.left;
+      }
+    where
+      same_ok : (a b : ℕ) → ◌≡◌ {A = Result ℕ Stuck} (Ok a) (Ok b) → a ≡ b
+      same_ok a b e = cc

@@ -58,6 +58,7 @@ module _ (me w : ℕ) where
     pub handle : WriterHandle
     pub is : out ≡ stays_with handle (Ok number)
     pub same : handle.writer ≡ first.writer
+    pub tells : handle.landed ≡ number
     pub after : Row
     pub now : HasOpen me w after end.state
     pub none : after.pending.entries ≡ []
@@ -78,6 +79,7 @@ module _ (me w : ℕ) where
               handle = synced_of n h;
               is = sym o.1;
               same = of_first;
+              tells = refl;
               after = index_synced row;
               now = o.0;
               none = none;
@@ -229,12 +231,12 @@ module _ (me w : ℕ) where
         ]
       ]
 
-  record Puts (h : WriterHandle) (events : List Event) (out : WriterOut) : Type 0 where
-    is : out ≡ gone_with (Ok h.landed)
-    told_of : HasCalled me (PutMeta w) Done events
-    left : HasCalled me (Exit w) Done events
+  pub record Puts (h : WriterHandle) (events : List Event) (out : WriterOut) : Type 0 where
+    pub is : out ≡ gone_with (Ok h.landed)
+    pub told_of : HasCalled me (PutMeta w) Done events
+    pub left : HasCalled me (Exit w) Done events
 
-  before_put : (h : WriterHandle) (m : Moment) (row : Row) (events : List Event) (out : WriterOut) → h.writer ≡ w → IsSoundAt m → IsLawful m.state events → GoesWell me events → HasOpen me w row m.state → row.pending.entries ≡ [] → row.log_mark ≡ row.stored → row.index_mark ≡ row.landed
+  pub before_put : (h : WriterHandle) (m : Moment) (row : Row) (events : List Event) (out : WriterOut) → h.writer ≡ w → IsSoundAt m → IsLawful m.state events → GoesWell me events → HasOpen me w row m.state → row.pending.entries ≡ [] → row.log_mark ≡ row.stored → row.index_mark ≡ row.landed
       → Runs me (puts_meta h) events out → Puts h events out
   before_put h m row events out is sound lawful well opened none log index runs =
       let may : may_close row.stage ≡ true = rw opened.is_open refl in
@@ -259,16 +261,16 @@ module _ (me w : ℕ) where
       ]
 
 -- the events of both parts go well
-well_first : (me : ℕ) (first rest : List Event) → GoesWell me (first ++ rest) → GoesWell me first
+pub well_first : (me : ℕ) (first rest : List Event) → GoesWell me (first ++ rest) → GoesWell me first
 well_first me [] rest well = tt
 well_first me (e ∷ first) rest well = (well.0, well_first me first rest well.1)
 
-well_rest : (me : ℕ) (first rest : List Event) → GoesWell me (first ++ rest) → GoesWell me rest
+pub well_rest : (me : ℕ) (first rest : List Event) → GoesWell me (first ++ rest) → GoesWell me rest
 well_rest me [] rest well = well
 well_rest me (e ∷ first) rest well = well_rest me first rest well.1
 
 -- a call of the second part is one of all
-called_second : (me : ℕ) (call : Call) (reply : Reply) (first rest events : List Event) → events ≡ first ++ rest → HasCalled me call reply rest → HasCalled me call reply events
+pub called_second : (me : ℕ) (call : Call) (reply : Reply) (first rest events : List Event) → events ≡ first ++ rest → HasCalled me call reply rest → HasCalled me call reply events
 called_second me call reply first rest events split c = record {
   before = first ++ c.before;
   event = c.event;

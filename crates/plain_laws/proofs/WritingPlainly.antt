@@ -1,17 +1,16 @@
 -- A write of an open writer leaves it as a plain machine leaves its writer, whoever calls in between.
-use Rattle.std.proofs.Common.{◌≡◌, ◌≢◌, ◌⊎◌, ◌≤◌, ◌<◌, ◌+◌, ◌-◌, ℕ, Bool, true, false, nat_eq, nat_le, nat_lt, List, [], ◌∷◌, ◌++◌, length, length-append, Option, Some, None, Result, Ok, Err, refl, sym, ap, ◌∙◌, inl, inr, subst, arith, if◌then◌else◌}
-use Rattle.std.specs.Prelude.{◌||◌, MatchOption}
+use Rattle.std.proofs.Common.{◌≡◌, ◌≤◌, ◌<◌, ◌+◌, ◌-◌, ℕ, true, false, nat_le, List, [], ◌∷◌, ◌++◌, length, length-append, Some, None, Result, Ok, Err, refl, sym, ap, ◌∙◌, inl, inr, subst, arith, if◌then◌else◌}
+use Rattle.std.specs.Prelude.{MatchOption}
 use Rattle.std.proofs.lemmas.Bool.Decides.{nat_tests}
 use Rattle.plfs_types.specs.Stamps.{next_stamp}
 use Rattle.edge_io.specs.Clock.{Ticks}
 use Rattle.mount_model.specs.declared.call.Call.TheVariants.{Flush, Write}
 use Rattle.mount_model.specs.declared.reply.Refusal.{Refusal}
-use Rattle.mount_model.specs.declared.reply.Reply.TheVariants.{Flushed, Refused, Wrote}
+use Rattle.mount_model.specs.declared.reply.Reply.TheVariants.{Refused}
 use Rattle.mount_model.specs.declared.row.Row.{Row}
 use Rattle.mount_model.specs.declared.row.Stage.TheVariants as stage
 use Rattle.mount_model.specs.History.{Event}
 use Rattle.mount_model.specs.Regular.{IsCounted}
-use Rattle.mount_model.specs.State.{State}
 use Rattle.mount_model.specs.Step.{Answers}
 use Rattle.mount_model.specs.Table.{only}
 use Rattle.mount_model.specs.Writing.{entry_of, write_check, wrote}
@@ -20,26 +19,24 @@ use Rattle.mount_sound.specs.Entries.{logged}
 use Rattle.mount_sound.specs.Issued.{issued_after, written_by}
 use Rattle.mount_sound.specs.Ledger.{Written, entries_in}
 use Rattle.mount_sound.specs.Owed.{IsLawful}
-use Rattle.story.specs.Program.{ask, done}
+use Rattle.story.specs.Program.{ask}
 use Rattle.flow.specs.declared.stuck.Stuck.{Stuck}
 use Rattle.flow.specs.declared.stuck.Stuck.TheVariants as stuck
 use Rattle.flow.specs.Running.{Runs}
-use Rattle.gathering.specs.Moments.{Dropping, IsSoundAt, Moment, issued_by, landed, moment_after, next_moment}
+use Rattle.gathering.specs.Moments.{Dropping, IsSoundAt, Moment, issued_by, moment_after, next_moment}
 use Rattle.gathering.proofs.Facts.{sound_after}
 use Rattle.writer_flow.specs.declared.handle.WriterHandle.{WriterHandle}
 use Rattle.writer_flow.specs.declared.handle.WriterOut.{WriterOut}
 use Rattle.writer_flow.specs.Ending.{stays_with}
 use Rattle.writer_flow.specs.Handle.{flushed_of, one_more_of}
 use Rattle.writer_flow.specs.Writing.{flush_then, if_flushed, if_wrote, write_program, writes}
-use Rattle.writer_laws.specs.Counting.{entry_count}
 use Rattle.plain_machine.specs.Machine.{PlainWriter}
-use Rattle.plain_machine.specs.Becoming.{all_landed, made_room}
+use Rattle.plain_machine.specs.Becoming.{all_landed}
 use Rattle.plain_machine.specs.Landed.{last_of}
 use Rattle.plain_machine.specs.Writers.{issue, one_more}
 use Rattle.plain_laws.specs.Calls.{AtSome}
 use Rattle.plain_laws.specs.Plainly.{KeepsPlain, MirrorsOwn, WritesInto, WritesOne, WritesPlainly, dropping_of, plain_reason}
 use Rattle.plain_laws.specs.Served.{EndsWell, GoesWell, HasOpen, write_reason}
-use Rattle.plain_laws.proofs.Between.{IsBetween}
 use Rattle.plain_laws.proofs.Doing.{flush_does, found, not_none, refused_same, write_does}
 use Rattle.plain_laws.proofs.Having.{Has, has_flushed, has_on, has_stays, has_written, its_between}
 use Rattle.plain_laws.proofs.Plainly.{has_it, mirrored}

@@ -1,5 +1,5 @@
 pub mod Calls
 pub mod Served
+pub mod Plainly
 pub mod Opens
 pub mod Tops
-pub mod Plainly

@@ -8,8 +8,9 @@ use Rattle.mount_model.specs.History.{Event}
 use Rattle.mount_model.specs.Paths.{Name, openhosts}
 use Rattle.flow.specs.declared.stuck.Stuck.{Stuck}
 use Rattle.flow.specs.declared.stuck.Stuck.TheVariants as stuck
-use Rattle.gathering.specs.Moments.{Moment}
+use Rattle.gathering.specs.Moments.{Moment, moment_after}
 use Rattle.plain_laws.specs.Calls.{AtSome, HasCalled}
+use Rattle.plain_laws.specs.Plainly.{MirrorsOwn, new_writer}
 use Rattle.refusal_laws.specs.Reasons.{Shows}
 use Rattle.writer_flow.specs.declared.handle.WriterHandle.{WriterHandle}
 use Rattle.writer_flow.specs.Handle.{opened_of}
@@ -22,8 +23,9 @@ IsSpent moment = 2 ^ 32 - 1 ≤ moment.state.serial
 abbrev pub WasShut : ℕ → Moment → Type 0
 WasShut room moment = Shows moment.state (λ tree. LacksFolder tree room openhosts)
 
--- The writer is open. Or no serial was left, or the container that was found or made under this name let nobody in.
-pub data OpensOrNot (start : Moment) (caller : ℕ) (name : Name) (capacity : ℕ) (events : List Event) (result : Result WriterHandle Stuck) : Type 0 where
-  opened : (writer : ℕ) → result ≡ Ok (opened_of writer capacity) → OpensOrNot start caller name capacity events result
-  spent : result ≡ Err (stuck.Refused IdsSpent) → AtSome start events IsSpent → OpensOrNot start caller name capacity events result
-  shut : result ≡ Err (stuck.Refused Held) → (room : ℕ) → HasCalled caller (MakeContainer name) (Room room) events → AtSome start events (WasShut room) → OpensOrNot start caller name capacity events result
+-- The writer is open in the container that was found or made under this name, and is a new one of a plain machine. Or no serial was left, or the container let
+-- nobody in.
+pub data OpensOrNot (start : Moment) (caller : ℕ) (name : Name) (host capacity : ℕ) (events : List Event) (result : Result WriterHandle Stuck) : Type 0 where
+  opened : (writer room floor : ℕ) → result ≡ Ok (opened_of writer capacity) → HasCalled caller (MakeContainer name) (Room room) events → MirrorsOwn caller room (opened_of writer capacity) (new_writer writer host capacity floor) (moment_after start events) → OpensOrNot start caller name host capacity events result
+  spent : result ≡ Err (stuck.Refused IdsSpent) → AtSome start events IsSpent → OpensOrNot start caller name host capacity events result
+  shut : result ≡ Err (stuck.Refused Held) → (room : ℕ) → HasCalled caller (MakeContainer name) (Room room) events → AtSome start events (WasShut room) → OpensOrNot start caller name host capacity events result

@@ -1,5 +1,5 @@
 -- A writer of the mount that is one of a plain machine, and what machines leave of it.
-use Rattle.std.specs.Prelude.{◌≡◌, ◌+◌, ℕ, ◌||◌, nat_le, nat_lt, false, List, length, Option, Some, None, Result, Ok, Err, MatchOption, if◌then◌else◌}
+use Rattle.std.specs.Prelude.{◌≡◌, ◌+◌, ℕ, ◌||◌, nat_le, nat_lt, false, List, length, Option, Some, None, Result, Ok, Err, MatchOption, if◌then◌else◌, true, []}
 use Rattle.plfs_types.specs.declared.limits.TheConstants.{MAX_LOG, MAX_SIZE, MAX_STAMP}
 use Rattle.plfs_types.specs.Stamps.{next_stamp}
 use Rattle.edge_io.specs.Clock.{Ticks}
@@ -79,3 +79,13 @@ WritesPlainly start me number w at block events out = WritesInto start me number
 -- as it syncs
 abbrev pub SyncsPlainly : Moment → ℕ → ℕ → PlainWriter → List Event → WriterOut → Type 0
 SyncsPlainly start me number w events out = KeepsPlain me number (all_landed w) (moment_after start events) (Ok (length w.issued)) out
+
+-- as it closes: the line has the number of its writes, the metadata dropping was made, and the writer left the open ones
+pub record ClosesPlainly (me : ℕ) (w : PlainWriter) (events : List Event) (out : WriterOut) : Type 0 where
+  pub is : out ≡ gone_with (Ok (length w.issued))
+  pub told_of : HasCalled me (PutMeta w.id) Done events
+  pub left : HasCalled me (Exit w.id) Done events
+
+-- a writer of a plain machine that was opened now, above the stamp of this floor
+abbrev pub new_writer : ℕ → ℕ → ℕ → ℕ → PlainWriter
+new_writer id host capacity floor = record { id = id; host = host; capacity = capacity; floor = floor; is_open = true; is_owned = true; issued = []; landed = 0 }

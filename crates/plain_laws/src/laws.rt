@@ -8,7 +8,7 @@ ghost use Rattle.mount_model.specs.History.{Event};
 ghost use Rattle.mount_model.specs.Paths.{Name};
 ghost use Rattle.mount_sound.specs.Owed.{IsLawful};
 ghost use Rattle.plain_laws.specs.Opens.{OpensOrNot};
-ghost use Rattle.plain_laws.specs.Plainly.{MirrorsOwn, SyncsPlainly, WritesPlainly};
+ghost use Rattle.plain_laws.specs.Plainly.{ClosesPlainly, MirrorsOwn, SyncsPlainly, WritesPlainly};
 ghost use Rattle.plain_machine.specs.Machine.{PlainWriter};
 ghost use Rattle.plain_laws.specs.Served.{ClosesWell, EndsAsItMay, EndsWell, GoesWell, HasOpen};
 ghost use Rattle.plain_laws.specs.Tops.{TruncatesAbove};
@@ -31,10 +31,10 @@ pub fn open_writers_are_served()
         → handle.pending ≡ length row.pending.entries → handle.closing ≡ false → Runs me (close_program handle) events out → ClosesWell me handle.writer events out }
 {}
 
-/// A law: an opening ends with an open writer, or no serial was left, or the container that it found or made let nobody in. Its caller met no fault and had
-/// memory. So another writer that is open is no reason to refuse it.
+/// A law: an opening ends with an open writer, or no serial was left, or the container that it found or made let nobody in. The writer is a new one of a plain
+/// machine. Its caller met no fault and had memory. So another writer that is open is no reason to refuse it.
 pub fn openings_are_served()
-    ensures { (m : Moment) (me : ℕ) (name : Name) (host cap : ℕ) (events : List Event) (out : Result WriterHandle Stuck) → IsSoundAt m → IsLawful m.state events → GoesWell me events → Runs me (open_program name host cap) events out → OpensOrNot m me name cap events out }
+    ensures { (m : Moment) (me : ℕ) (name : Name) (host cap : ℕ) (events : List Event) (out : Result WriterHandle Stuck) → IsSoundAt m → IsLawful m.state events → GoesWell me events → Runs me (open_program name host cap) events out → OpensOrNot m me name host cap events out }
 {}
 
 /// A law: a truncate that is made has the next stamp above the greatest in its container, by the clock's time as it was made. That greatest stamp is the one of a
@@ -44,9 +44,11 @@ pub fn truncates_take_the_next_stamp()
 {}
 
 /// A law: a writer goes on as one of a plain machine. Where an open writer is that of the machine, by its writes and by how many have landed, a sync leaves it as the
-/// machine's sync does. A write does as well: it has the machine's stamp, or its refusal. Its caller met no fault and had memory. Others may call whatever they may.
+/// machine's sync does. A write does as well: it has the machine's stamp, or its refusal. A close tells the number of its writes, and leaves. Its caller met no
+/// fault and had memory. Others may call whatever they may.
 pub fn writers_are_plain()
     ensures syncs { (m : Moment) (me number : ℕ) (w : PlainWriter) (handle : WriterHandle) (events : List Event) (out : WriterOut) → IsLawful m.state events → GoesWell me events → MirrorsOwn me number handle w m → Runs me (sync_program handle) events out → SyncsPlainly m me number w events out }
     ensures writes { (m : Moment) (me number : ℕ) (w : PlainWriter) (handle : WriterHandle) (at : ℕ) (block : List ℕ) (events : List Event) (out : WriterOut) → IsLawful m.state events → GoesWell me events → MirrorsOwn me number handle w m
         → Runs me (write_program handle at block) events out → WritesPlainly m me number w at block events out }
+    ensures closes { (m : Moment) (me number : ℕ) (w : PlainWriter) (handle : WriterHandle) (events : List Event) (out : WriterOut) → IsLawful m.state events → GoesWell me events → MirrorsOwn me number handle w m → Runs me (close_program handle) events out → ClosesPlainly me w events out }
 {}

@@ -57,6 +57,7 @@ fn pack_files<S: Store + Drop, C: Clock + Drop, O: Sink>(
 }
 
 // Ends where the input has this fault.
+#[inline(never)]
 fn end_faulty<S: Store, O: Sink>(
     alloc: Global,
     line: u64,

@@ -17,7 +17,6 @@ use Rattle.read_plan.specs.Plan.{plan_of}
 use Rattle.index_reader.specs.declared.opened.OpenReader.{OpenReader}
 use Rattle.index_reader.specs.Reading.{read_program}
 use Rattle.unit_format.specs.declared.units.TheConstants.{REGION_SIZE}
-use Rattle.unit_format.specs.declared.scanner.Placed.{Placed}
 use Rattle.unit_format.specs.declared.scanner.Part.{Part}
 use Rattle.unit_format.specs.declared.scanner.Part.TheVariants.{Count, Size, Name, Content, Over, Bad}
 use Rattle.unit_format.specs.declared.scanner.Scanner.{Scanner}
@@ -25,29 +24,30 @@ use Rattle.unit_format.specs.declared.finding.Unit.{Unit as Found}
 use Rattle.unit_format.specs.declared.finding.Region.{Region}
 use Rattle.unit_format.specs.Alike.{StandApart}
 use Rattle.unit_format.specs.Names.{name_of}
+use Rattle.unit_format.specs.Units.{unseen_unit}
 use Rattle.unit_format.specs.Scanning.{begins_at, expects, is_settled, after_count, after_size, after_file, after_name, number_of, sizes_fit, judged, judged_as, kept, less_more, fed, eaten, ends_region}
 use Rattle.pack_files.specs.declared.scan.ScanStuck.TheVariants.{Stuck}
 use Rattle.pack_files.specs.Scanning.{unit_of, units_of, Scans, told, told_as, scans, scan_program, further, chunk_size, read_then, region_end}
 
 -- ---- files, one behind the other
 
-abbrev Behind : List Placed → Type 0
+abbrev Behind : List Found → Type 0
 Behind [] = Unit {0}
-Behind (f ∷ files) = AllByRecursion (λ (g : Placed). f.at < g.at) files × Behind files
+Behind (f ∷ files) = AllByRecursion (λ (g : Found). f.at < g.at) files × Behind files
 
 -- none is past this place
-abbrev Until : ℕ → List Placed → Type 0
-Until place files = AllByRecursion (λ (f : Placed). f.at ≤ place) files
+abbrev Until : ℕ → List Found → Type 0
+Until place files = AllByRecursion (λ (f : Found). f.at ≤ place) files
 
-behind_more : (files : List Placed) (f : Placed) (place : ℕ) → Behind files → Until place files → place < f.at → Behind (files ++ f ∷ [])
+behind_more : (files : List Found) (f : Found) (place : ℕ) → Behind files → Until place files → place < f.at → Behind (files ++ f ∷ [])
 behind_more [] f place b u less = (tt, tt)
 behind_more (g ∷ files) f place b u less = (further_all files b.0, behind_more files f place b.1 u.1 less)
   where
-    further_all : (files : List Placed) → AllByRecursion (λ (h : Placed). g.at < h.at) files → AllByRecursion (λ (h : Placed). g.at < h.at) (files ++ f ∷ [])
+    further_all : (files : List Found) → AllByRecursion (λ (h : Found). g.at < h.at) files → AllByRecursion (λ (h : Found). g.at < h.at) (files ++ f ∷ [])
     further_all [] all = (omega (arith, u.0, less), tt)
     further_all (h ∷ hs) all = (all.0, further_all hs all.1)
 
-until_more : (files : List Placed) (f : Placed) (place next : ℕ) → Until place files → place ≤ next → f.at ≤ next → Until next (files ++ f ∷ [])
+until_more : (files : List Found) (f : Found) (place next : ℕ) → Until place files → place ≤ next → f.at ≤ next → Until next (files ++ f ∷ [])
 until_more [] f place next u more here = (here, tt)
 until_more (g ∷ files) f place next u more here = (omega (arith, u.0, more), until_more files f place next u.1 more here)
 
@@ -58,8 +58,8 @@ PartFits (Name at len) place end = (place < at) × (at + len ≤ end)
 PartFits other place end = Unit {0}
 
 record Fits (s : Scanner) : Type 0 where
-  behind : Behind s.files
-  until : Until s.place s.files
+  behind : Behind s.units
+  until : Until s.place s.units
   room : s.end < 2 ^ 64
   part : PartFits s.part s.place s.end
 
@@ -82,18 +82,18 @@ size_fits s name content f =
     if_fits (sizes_fit s.place s.end name content) (expects s (Name (s.place + 16 + name) content) (name - 1)) (expects s Bad 0)
     (λ e. expects_fits s (Name (s.place + 16 + name) content) (name - 1) f (past_start s.place s.end name content e)) (λ e. expects_fits s Bad 0 f tt)
 
-file_fits : (s : Scanner) (file : Placed) (next : ℕ) → Fits s → s.place < file.at → file.at ≤ next → Fits (after_file s file next)
+file_fits : (s : Scanner) (file : Found) (next : ℕ) → Fits s → s.place < file.at → file.at ≤ next → Fits (after_file s file next)
 file_fits s file next f past here =
-    let behind = behind_more s.files file s.place f.behind f.until past in
-    let until = until_more s.files file s.place next f.until (omega (arith, past, here)) here in
-    if_fits (file.len == 0) (begins_at s.stop s.end next (s.files ++ file ∷ [])) (record s { place = next; part = Content; more = file.len - 1; got = []; files = s.files ++ file ∷ [] })
+    let behind = behind_more s.units file s.place f.behind f.until past in
+    let until = until_more s.units file s.place next f.until (omega (arith, past, here)) here in
+    if_fits (file.len == 0) (begins_at s.stop s.end next (s.units ++ file ∷ [])) (record s { place = next; part = Content; more = file.len - 1; got = []; units = s.units ++ file ∷ [] })
     (λ e. record { behind = behind; until = until; room = f.room; part = tt }) (λ e. record { behind = behind; until = until; room = f.room; part = tt })
 
 name_fits : (s : Scanner) (name : Option (List ℕ)) (at len : ℕ) → Fits s → s.place < at → at + len ≤ s.end → Fits (after_name s name at len)
 name_fits s None at len f past fits = expects_fits s Bad 0 f tt
 name_fits s (Some name) at len f past fits =
     let room = f.room in
-    file_fits s (record { name = name; at = at; len = len }) (min (at + len) (2 ^ 64 - 1)) f past (grind (arith, room, fits))
+    file_fits s (unseen_unit name at len) (min (at + len) (2 ^ 64 - 1)) f past (grind (arith, room, fits))
 
 judged_fits : (s : Scanner) (part : Part) → s.part ≡ part → Fits s → Fits (judged_as part s)
 judged_fits s Count is f = count_fits s (number_of s.got) f
@@ -121,17 +121,17 @@ eaten_fits s (b ∷ bytes) f = eaten_fits (fed s b) bytes (fed_fits s b f)
 
 -- ---- the units are so too
 
-all_past : (pieces : List Piece) (n : ℕ) (files : List Placed) → AllByRecursion (λ (f : Placed). n < f.at) files → All (λ (u : Found). n < u.at) (units_of pieces files)
+all_past : (pieces : List Piece) (n : ℕ) (files : List Found) → AllByRecursion (λ (f : Found). n < f.at) files → All (λ (u : Found). n < u.at) (units_of pieces files)
 all_past pieces n [] all = All-nil (λ (u : Found). n < u.at)
 all_past pieces n (f ∷ files) all = All-cons (λ (u : Found). n < u.at) (unit_of pieces f) (units_of pieces files) all.0 (all_past pieces n files all.1)
 
-units_apart : (pieces : List Piece) (files : List Placed) → Behind files → StandApart (units_of pieces files)
+units_apart : (pieces : List Piece) (files : List Found) → Behind files → StandApart (units_of pieces files)
 units_apart pieces [] b = tt
 units_apart pieces (f ∷ files) b = (all_past pieces f.at files b.0, units_apart pieces files b.1)
 
 told_apart : (pieces : List Piece) (s : Scanner) (r : Region) → Fits s → told pieces s ≡ Ok r → StandApart r.units
-told_apart pieces s r f is = elim (ends_region s.part s) as (λ c. told_as pieces (if c then Ok (record { files = s.files; end = s.place }) else Err s.place) ≡ Ok r → StandApart r.units) [
-  | true ↦ λ e. (let same : record { units = units_of pieces s.files; end = s.place } ≡ r = cc in subst (λ (q : Region). StandApart q.units) same (units_apart pieces s.files f.behind))
+told_apart pieces s r f is = elim (ends_region s.part s) as (λ c. told_as pieces (if c then Ok (record { units = s.units; end = s.place }) else Err s.place) ≡ Ok r → StandApart r.units) [
+  | true ↦ λ e. (let same : record { units = units_of pieces s.units; end = s.place } ≡ r = cc in subst (λ (q : Region). StandApart q.units) same (units_apart pieces s.units f.behind))
   | false ↦ λ e. absurd (cc)
 ] is
 

@@ -1,26 +1,25 @@
 -- What a scan makes of the bytes at a unit's place.
-use Rattle.std.proofs.Common.{◌≡◌, ℕ, zero, suc, ◌+◌, ◌-◌, ◌<◌, ◌≤◌, ◌^◌, min, nat_le, nat_lt, nat_eq, Bool, true, false, List, [], ◌∷◌, ◌++◌, length, take, drop, replicate, Option, Some, None, Result, Ok, Err, refl, sym, ap, subst, ◌∙◌, inl, inr, ◌⊎◌, arith}
-use Rattle.std.specs.Prelude.{◌==◌, ◌&&◌, ◌||◌, ◌≢◌, if◌then◌else◌}
+use Rattle.std.proofs.Common.{◌≡◌, ℕ, ◌+◌, ◌-◌, ◌<◌, ◌≤◌, ◌^◌, min, nat_le, nat_lt, nat_eq, true, false, List, [], ◌∷◌, ◌++◌, length, take, drop, replicate, Option, Some, None, Result, Ok, Err, refl, sym, ap, subst, ◌∙◌, inl, inr, arith}
+use Rattle.std.specs.Prelude.{◌==◌, ◌&&◌, ◌||◌, ◌≢◌}
 use Rattle.std.specs.List.{AllByRecursion, list_all}
 use Rattle.std.specs.Int.{w64, to_le_bytes, from_le_bytes}
 use Rattle.std.proofs.lemmas.Bool.{and_from, and_parts, cases_Bool, cases_lt, cases_eq, false≢true}
 use Rattle.std.proofs.lemmas.Bool.Decides.{nat_tests}
-use Rattle.std.proofs.lemmas.List.{append-nil, append_assoc, take-take, take_all, take_at, drop_at, drop-drop, length-take-le, length-append, length-drop}
+use Rattle.std.proofs.lemmas.List.{append_assoc, take-take, take_all, take_at, drop_at, drop-drop, length-take-le, length-drop}
 use Rattle.index_entry.specs.Records.{IsBytes}
 use Rattle.index_entry.specs.Spelling.{number_in}
-use Rattle.index_entry.proofs.Facts.{IsBytes-drop, number_back}
+use Rattle.index_entry.proofs.Facts.{number_back}
 use Rattle.plfs_types.specs.Names.{IsLogicalName, is_logical}
 use Rattle.plfs_types.proofs.NameTests.{passes_rule, rule_passes}
 use Rattle.unit_format.specs.declared.units.TheConstants.{MAX_CONTENT}
-use Rattle.unit_format.specs.declared.scanner.Placed.{Placed}
-use Rattle.unit_format.specs.declared.scanner.Part.{Part}
-use Rattle.unit_format.specs.declared.scanner.Part.TheVariants.{Count, Size, Name, Content, Over, Bad}
-use Rattle.unit_format.specs.declared.scanner.Scanned.{Scanned}
+use Rattle.unit_format.specs.declared.finding.Unit.{Unit as Found}
+use Rattle.unit_format.specs.declared.finding.Region.{Region}
+use Rattle.unit_format.specs.declared.scanner.Part.TheVariants.{Size, Name, Content, Over, Bad}
 use Rattle.unit_format.specs.declared.scanner.Scanner.{Scanner}
 use Rattle.unit_format.specs.Names.{name_of}
-use Rattle.unit_format.specs.Units.{SmallFile, IsSmallFile, unit_spelling, unit_size}
-use Rattle.unit_format.specs.Regions.{IsOver, BeginsUnit}
-use Rattle.unit_format.specs.Scanning.{number_of, begins_at, expects, after_count, after_size, after_file, after_name, sizes_fit, eaten, finished, judged, ends_region}
+use Rattle.unit_format.specs.Units.{unit_size, unseen_unit}
+use Rattle.unit_format.specs.Regions.{IsOver, BeginsUnit, placed_at}
+use Rattle.unit_format.specs.Scanning.{number_of, begins_at, expects, after_count, after_size, after_file, after_name, sizes_fit, eaten, finished}
 use Rattle.unit_format.proofs.Eating.{with_got, eaten_part, eaten_short, eaten_settled}
 use Rattle.unit_format.proofs.Spelled.{ReadsAs, read_again, file_in, spelled_so}
 
@@ -98,8 +97,8 @@ fit_of place end n d passed =
 
 -- ---- part by part
 
-pub begins_over : (stop end place : ℕ) (files : List Placed) (bytes : List ℕ) → 8 ≤ length bytes → number_in 0 bytes ≡ 0
-    → finished (eaten (begins_at stop end place files) bytes) ≡ Ok (record { files = files; end = place })
+pub begins_over : (stop end place : ℕ) (files : List Found) (bytes : List ℕ) → 8 ≤ length bytes → number_in 0 bytes ≡ 0
+    → finished (eaten (begins_at stop end place files) bytes) ≡ Ok (record { units = files; end = place })
 begins_over stop end place files bytes long none =
     let number : number_of (take 8 bytes) ≡ 0 = first_number bytes long ∙ none in
     let one : eaten (begins_at stop end place files) bytes ≡ eaten (after_count (with_got (begins_at stop end place files) 0 (take 8 bytes)) (number_of (take 8 bytes))) (drop 8 bytes) =
@@ -108,7 +107,7 @@ begins_over stop end place files bytes long none =
     one ∙ ap (λ (n : ℕ). eaten (after_count (with_got (begins_at stop end place files) 0 (take 8 bytes)) n) (drop 8 bytes)) number in
     ap finished (two ∙ eaten_settled (expects (begins_at stop end place files) Over 0) (drop 8 bytes) refl)
 
-begins_size : (stop end place : ℕ) (files : List Placed) (bytes : List ℕ) → 8 ≤ length bytes → number_in 0 bytes ≢ 0
+begins_size : (stop end place : ℕ) (files : List Found) (bytes : List ℕ) → 8 ≤ length bytes → number_in 0 bytes ≢ 0
     → eaten (begins_at stop end place files) bytes ≡ eaten (expects (begins_at stop end place files) (Size (number_in 0 bytes)) 7) (drop 8 bytes)
 begins_size stop end place files bytes long some =
     let test : nat_eq (number_in 0 bytes) 0 ≡ false = grind (arith, nat_tests, some) in
@@ -119,7 +118,7 @@ begins_size stop end place files bytes long some =
     one ∙ ap (λ (n : ℕ). eaten (after_count (with_got (begins_at stop end place files) 0 (take 8 bytes)) n) (drop 8 bytes)) (first_number bytes long)
     ∙ ap (λ (t : Scanner). eaten t (drop 8 bytes)) two
 
-size_part : (stop end place n : ℕ) (files : List Placed) (bytes : List ℕ) → 16 ≤ length bytes
+size_part : (stop end place n : ℕ) (files : List Found) (bytes : List ℕ) → 16 ≤ length bytes
     → eaten (expects (begins_at stop end place files) (Size n) 7) (drop 8 bytes)
     ≡ eaten (after_size (begins_at stop end place files) n (number_in 8 bytes)) (drop 16 bytes)
 size_part stop end place n files bytes long =
@@ -130,7 +129,7 @@ size_part stop end place n files bytes long =
     one ∙ ap (λ (d : ℕ). eaten (after_size (begins_at stop end place files) n d) (drop 8 (drop 8 bytes))) (first_number (drop 8 bytes) eight)
     ∙ ap (eaten (after_size (begins_at stop end place files) n (number_in 8 bytes))) (drop-drop 8 8 bytes)
 
-name_part : (stop end place at d n : ℕ) (files : List Placed) (bytes : List ℕ) → 1 ≤ n → n ≤ length bytes
+name_part : (stop end place at d n : ℕ) (files : List Found) (bytes : List ℕ) → 1 ≤ n → n ≤ length bytes
     → eaten (expects (begins_at stop end place files) (Name at d) (n - 1)) bytes
     ≡ eaten (after_name (begins_at stop end place files) (name_of (take n bytes)) at d) (drop n bytes)
 name_part stop end place at d n files bytes some long =
@@ -138,15 +137,15 @@ name_part stop end place at d n files bytes some long =
     eaten_part (expects (begins_at stop end place files) (Name at d) (n - 1)) bytes refl (omega arith)
     ∙ ap (λ (k : ℕ). eaten (after_name (begins_at stop end place files) (name_of (take k bytes)) at d) (drop k bytes)) again
 
-content_part : (stop end place d : ℕ) (files : List Placed) (bytes : List ℕ) → 1 ≤ d → d ≤ length bytes
-    → eaten (record { stop = stop; end = end; place = place; part = Content; more = d - 1; got = []; files = files }) bytes
+content_part : (stop end place d : ℕ) (files : List Found) (bytes : List ℕ) → 1 ≤ d → d ≤ length bytes
+    → eaten (record { stop = stop; end = end; place = place; part = Content; more = d - 1; got = []; units = files }) bytes
     ≡ eaten (begins_at stop end place files) (drop d bytes)
 content_part stop end place d files bytes some long =
     let again : d - 1 + 1 ≡ d = omega arith in
-    eaten_part (record { stop = stop; end = end; place = place; part = Content; more = d - 1; got = []; files = files }) bytes refl (omega arith)
+    eaten_part (record { stop = stop; end = end; place = place; part = Content; more = d - 1; got = []; units = files }) bytes refl (omega arith)
     ∙ ap (λ (k : ℕ). eaten (begins_at stop end place files) (drop k bytes)) again
 
-file_part : (stop end place next : ℕ) (files : List Placed) (file : Placed) (bytes : List ℕ) → file.len ≤ length bytes
+file_part : (stop end place next : ℕ) (files : List Found) (file : Found) (bytes : List ℕ) → file.len ≤ length bytes
     → eaten (after_file (begins_at stop end place files) file next) bytes ≡ eaten (begins_at stop end next (files ++ file ∷ [])) (drop file.len bytes)
 file_part stop end place next files file bytes long = elim (cases_eq file.len 0) [
   | inl none ↦
@@ -158,7 +157,7 @@ file_part stop end place next files file bytes long = elim (cases_eq file.len 0)
 ]
 
 -- where the lengths fit, the name is judged
-sized : (stop end place : ℕ) (files : List Placed) (bytes : List ℕ) → 16 ≤ length bytes → Fit place end (number_in 0 bytes) (number_in 8 bytes)
+sized : (stop end place : ℕ) (files : List Found) (bytes : List ℕ) → 16 ≤ length bytes → Fit place end (number_in 0 bytes) (number_in 8 bytes)
     → place + length bytes ≡ end
     → eaten (begins_at stop end place files) bytes
     ≡ eaten (after_name (begins_at stop end place files) (name_of (take (number_in 0 bytes) (drop 16 bytes))) (place + 16 + number_in 0 bytes) (number_in 8 bytes)) (drop (number_in 0 bytes) (drop 16 bytes))
@@ -175,15 +174,15 @@ sized stop end place files bytes long fit ends =
     ∙ name_part stop end place (place + 16 + n) d n files (drop 16 bytes) fit.some (omega (arith, fit.within, fit.some, body_long, ends))
 
 -- a whole unit is taken in
-unit_part : (stop end place : ℕ) (files : List Placed) (bytes : List ℕ) → 16 ≤ length bytes → Fit place end (number_in 0 bytes) (number_in 8 bytes)
+unit_part : (stop end place : ℕ) (files : List Found) (bytes : List ℕ) → 16 ≤ length bytes → Fit place end (number_in 0 bytes) (number_in 8 bytes)
     → place + length bytes ≡ end → end < 2 ^ 64 → is_logical (take (number_in 0 bytes) (drop 16 bytes)) ≡ true
     → eaten (begins_at stop end place files) bytes
-    ≡ eaten (begins_at stop end (place + 16 + number_in 0 bytes + number_in 8 bytes) (files ++ record { name = take (number_in 0 bytes) (drop 16 bytes); at = place + 16 + number_in 0 bytes; len = number_in 8 bytes } ∷ []))
+    ≡ eaten (begins_at stop end (place + 16 + number_in 0 bytes + number_in 8 bytes) (files ++ unseen_unit (take (number_in 0 bytes) (drop 16 bytes)) (place + 16 + number_in 0 bytes) (number_in 8 bytes) ∷ []))
     (drop (number_in 8 bytes) (drop (number_in 0 bytes) (drop 16 bytes)))
 unit_part stop end place files bytes long fit ends fits logical =
     let n = number_in 0 bytes in
     let d = number_in 8 bytes in
-    let file : Placed = record { name = take n (drop 16 bytes); at = place + 16 + n; len = d } in
+    let file : Found = unseen_unit (take n (drop 16 bytes)) (place + 16 + n) d in
     let body_long : length (drop 16 bytes) ≡ length bytes - 16 = length-drop 16 bytes in
     let tail_long : length (drop n (drop 16 bytes)) ≡ length (drop 16 bytes) - n = length-drop n (drop 16 bytes) in
     let named : name_of (take n (drop 16 bytes)) ≡ Some (take n (drop 16 bytes)) = rw logical refl in
@@ -229,8 +228,8 @@ front_of place end bytes u =
 -- ---- the three ways
 
 -- No further unit begins, or one stands in front, or the place is told as bad.
-pub data Front (place stop : ℕ) (bytes : List ℕ) (files : List Placed) (told : Result Scanned ℕ) : Type 0 where
-  over : IsOver (stop - place) bytes → told ≡ Ok (record { files = files; end = place }) → Front place stop bytes files told
+pub data Front (place stop : ℕ) (bytes : List ℕ) (files : List Found) (told : Result Region ℕ) : Type 0 where
+  over : IsOver (stop - place) bytes → told ≡ Ok (record { units = files; end = place }) → Front place stop bytes files told
   unit : (IsOver (stop - place) bytes → ⊥) → BeginsUnit bytes → Front place stop bytes files told
   bad : (IsOver (stop - place) bytes → ⊥) → (BeginsUnit bytes → ⊥) → told ≡ Err place → Front place stop bytes files told
 
@@ -256,14 +255,14 @@ over_passes left bytes few (inr zeros) = elim (cases_Bool (nat_lt left 8)) [
       rw far (all_pass bytes all)
 ]
 
-front_few : (stop end place : ℕ) (files : List Placed) (bytes : List ℕ) → length bytes < 8
+front_few : (stop end place : ℕ) (files : List Found) (bytes : List ℕ) → length bytes < 8
     → Front place stop bytes files (finished (eaten (begins_at stop end place files) bytes))
 front_few stop end place files bytes few =
     let got : eaten (begins_at stop end place files) bytes ≡ with_got (begins_at stop end place files) (7 - length bytes) bytes =
     eaten_short (begins_at stop end place files) bytes refl (omega arith) in
     elim (cases_Bool (nat_lt (stop - place) 8 || list_all (λ b. b == 0) bytes)) [
       | inl passed ↦
-          let told : finished (with_got (begins_at stop end place files) (7 - length bytes) bytes) ≡ Ok (record { files = files; end = place }) = rw passed refl in
+          let told : finished (with_got (begins_at stop end place files) (7 - length bytes) bytes) ≡ Ok (record { units = files; end = place }) = rw passed refl in
           over (over_test (stop - place) bytes few passed) (ap finished got ∙ told)
       | inr not_passed ↦
           let told : finished (with_got (begins_at stop end place files) (7 - length bytes) bytes) ≡ Err place = rw not_passed refl in
@@ -274,7 +273,7 @@ goes_on : (stop end place : ℕ) (bytes : List ℕ) → 8 ≤ length bytes → p
 goes_on stop end place bytes long ends within some (inl near) = omega arith
 goes_on stop end place bytes long ends within some (inr zeros) = some (zeros_number bytes long zeros)
 
-front_sized : (stop end place : ℕ) (files : List Placed) (bytes : List ℕ) → IsBytes bytes → 16 ≤ length bytes → place + length bytes ≡ end → end ≤ stop → end < 2 ^ 64
+front_sized : (stop end place : ℕ) (files : List Found) (bytes : List ℕ) → IsBytes bytes → 16 ≤ length bytes → place + length bytes ≡ end → end ≤ stop → end < 2 ^ 64
     → number_in 0 bytes ≢ 0 → Front place stop bytes files (finished (eaten (begins_at stop end place files) bytes))
 front_sized stop end place files bytes are long ends within fits some =
     let n = number_in 0 bytes in
@@ -316,7 +315,7 @@ front_sized stop end place files bytes are long ends within fits some =
       ]
     ]
 
-front_many : (stop end place : ℕ) (files : List Placed) (bytes : List ℕ) → IsBytes bytes → 8 ≤ length bytes → place + length bytes ≡ end → end ≤ stop → end < 2 ^ 64
+front_many : (stop end place : ℕ) (files : List Found) (bytes : List ℕ) → IsBytes bytes → 8 ≤ length bytes → place + length bytes ≡ end → end ≤ stop → end < 2 ^ 64
     → Front place stop bytes files (finished (eaten (begins_at stop end place files) bytes))
 front_many stop end place files bytes are long ends within fits = elim (cases_eq (number_in 0 bytes) 0) [
   | inl none ↦ over (inr (number_zeros bytes are long none)) (begins_over stop end place files bytes long none)
@@ -332,7 +331,7 @@ front_many stop end place files bytes are long ends within fits = elim (cases_eq
   ]
 ]
 
-pub front : (stop end place : ℕ) (files : List Placed) (bytes : List ℕ) → IsBytes bytes → place + length bytes ≡ end → end ≤ stop → end < 2 ^ 64
+pub front : (stop end place : ℕ) (files : List Found) (bytes : List ℕ) → IsBytes bytes → place + length bytes ≡ end → end ≤ stop → end < 2 ^ 64
     → Front place stop bytes files (finished (eaten (begins_at stop end place files) bytes))
 front stop end place files bytes are ends within fits = elim (cases_lt (length bytes) 8) [
   | inl few ↦ front_few stop end place files bytes few
@@ -340,9 +339,9 @@ front stop end place files bytes are ends within fits = elim (cases_lt (length b
 ]
 
 -- a unit in front is taken in
-pub takes_unit : (stop end place : ℕ) (files : List Placed) (bytes : List ℕ) (u : BeginsUnit bytes) → place + length bytes ≡ end → end < 2 ^ 64
+pub takes_unit : (stop end place : ℕ) (files : List Found) (bytes : List ℕ) (u : BeginsUnit bytes) → place + length bytes ≡ end → end < 2 ^ 64
     → eaten (begins_at stop end place files) bytes
-    ≡ eaten (begins_at stop end (place + unit_size u.file) (files ++ record { name = u.file.name; at = place + 16 + length u.file.name; len = length u.file.content } ∷ [])) u.rest
+    ≡ eaten (begins_at stop end (place + unit_size u.file) (files ++ placed_at place u.file ∷ [])) u.rest
 takes_unit stop end place files bytes u ends fits =
     let has = front_of place end bytes u in
     let n = number_in 0 bytes in
@@ -352,7 +351,7 @@ takes_unit stop end place files bytes u ends fits =
     ∙ ap (drop d) (drop_at u.file.name (u.file.content ++ u.rest) n (sym has.reads.name))
     ∙ drop_at u.file.content u.rest d (sym has.reads.content) in
     let next : place + 16 + n + d ≡ place + unit_size u.file = omega (arith, has.reads.name, has.reads.content) in
-    let B : ℕ → List ℕ → ℕ → ℕ → List ℕ → Scanner = λ k name at len rest. eaten (begins_at stop end k (files ++ record { name = name; at = at; len = len } ∷ [])) rest in
+    let B : ℕ → List ℕ → ℕ → ℕ → List ℕ → Scanner = λ k name at len rest. eaten (begins_at stop end k (files ++ unseen_unit name at len ∷ [])) rest in
     unit_part stop end place files bytes has.long (has.fit ends) ends fits has.logical
     ∙ ap (λ (k : ℕ). B k (take n (drop 16 bytes)) (place + 16 + n) d (drop d (drop n (drop 16 bytes)))) next
     ∙ ap (λ (name : List ℕ). B (place + unit_size u.file) name (place + 16 + n) d (drop d (drop n (drop 16 bytes)))) has.named

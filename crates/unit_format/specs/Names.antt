@@ -1,5 +1,5 @@
 -- The logical name that bytes are.
-use Rattle.std.specs.Prelude.{ℕ, true, false, if◌then◌else◌, List, Option, Some, None}
+use Rattle.std.specs.Prelude.{ℕ, if◌then◌else◌, List, Option, Some, None}
 use Rattle.plfs_types.specs.Names.{is_logical}
 
 -- the logical name that the bytes are

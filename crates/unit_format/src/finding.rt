@@ -4,7 +4,8 @@ ghost use Rattle.unit_format.specs.Finding.{IsOlder, ComesBefore, HasNone, IsNew
 
 use plfs_types::{Key, LogicalName, Sequence};
 
-/// A unit: its file's content is `len` bytes from `at` on, and its key is that of the write that shows its first byte.
+/// A unit: its file's content is `len` bytes from `at` on, and its key is that of the write that shows its first byte, or
+/// zeros as long as that is not known.
 #[derive(Clone, Copy)]
 pub struct Unit {
     pub name: LogicalName,

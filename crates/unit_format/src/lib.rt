@@ -15,6 +15,6 @@ mod units;
 pub use finding::{Region, RegionList, Unit, UnitList, find};
 pub use laws::others_change_nothing;
 pub use names::name_in;
-pub use scanner::{Placed, PlacedList, Scanned, Scanner};
+pub use scanner::Scanner;
 pub use scanning::scan;
 pub use units::{MAX_CONTENT, REGION_SIZE, REGIONS, unit_bytes};

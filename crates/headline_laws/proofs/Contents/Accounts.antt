@@ -336,7 +336,7 @@ module _ (run : Run) (m : Moment) (end : State) (fits : FitsScript run.script) (
   All = whole_history run m end fits sound right
 
   -- who entered as a writer writes by it, and nobody else does
-  entered_writes : (n id : ℕ) (d : Dropping) → d.writer ≡ id → HasEntered n right.history d → (pre : List Event) (e : Event) (post : List Event) → right.history ≡ pre ++ e ∷ post → IsWrite id e → (e.caller ≡ n) × IsRowIn (moment_after m pre).state d.room id
+  pub entered_writes : (n id : ℕ) (d : Dropping) → d.writer ≡ id → HasEntered n right.history d → (pre : List Event) (e : Event) (post : List Event) → right.history ≡ pre ++ e ∷ post → IsWrite id e → (e.caller ≡ n) × IsRowIn (moment_after m pre).state d.room id
   entered_writes n id d d_id entered pre e post is w =
       let v = written run m end fits sound right pre e post id is w in
       let all : right.history ≡ v.done ++ (v.first ++ e ∷ post) = is ∙ ap (λ z. z ++ e ∷ post) v.before_is ∙ append_assoc v.done v.first (e ∷ post) in

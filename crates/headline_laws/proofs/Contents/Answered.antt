@@ -50,7 +50,8 @@ use Rattle.headline_laws.proofs.Statements.Does.{Ended, did, was_gone}
 use Rattle.headline_laws.proofs.Story.Attributed.{head_of, tail_of}
 use Rattle.headline_laws.proofs.Story.Lines.{AnyLine, LineOn, container, line_here, line_on, whole_history}
 use Rattle.headline_laws.proofs.Story.Shown.{ShownEach}
-use Rattle.headline_laws.proofs.Trees.Reading.{ReaderLine, ids_rise, last_tree, reader_line}
+use Rattle.headline_laws.proofs.Trees.Printed.{ids_rise}
+use Rattle.headline_laws.proofs.Trees.Reading.{ReaderLine, last_tree, reader_line}
 use Rattle.headline_laws.proofs.Trees.Still.{file_of}
 use Rattle.headline_laws.proofs.Contents.Above.{IsBelow, later_above}
 use Rattle.headline_laws.proofs.Contents.Counted.{Begin, HasSeen, IsSeen, all_seen, homes, sound_begin}

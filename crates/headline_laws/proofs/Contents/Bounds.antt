@@ -1,5 +1,5 @@
 -- Each count of a reader's line lies between what the lines make sure to have landed and what they allow.
-use Rattle.std.proofs.Common.{◌≡◌, ◌⊎◌, ◌≤◌, ◌<◌, ◌+◌, inl, inr, ℕ, Bool, true, false, nat_eq, List, [], ◌∷◌, ◌++◌, length, Option, Some, None, refl, sym, ap, ◌∙◌, subst, arith, append_assoc, length-append}
+use Rattle.std.proofs.Common.{◌≡◌, ◌⊎◌, ◌≤◌, ◌+◌, inl, inr, ℕ, Bool, true, false, nat_eq, List, [], ◌∷◌, ◌++◌, length, Option, Some, None, refl, sym, ap, ◌∙◌, subst, arith, append_assoc, length-append}
 use Rattle.std.specs.Prelude.{slice_get}
 use Rattle.std.specs.List.{AllByRecursion}
 use Rattle.std.proofs.lemmas.Bool.Decides.{nat_tests}
@@ -19,25 +19,26 @@ use Rattle.script_lang.specs.declared.line.Outcome.TheVariants as line
 use Rattle.actor_core.specs.Statements.{work_of}
 use Rattle.run_core.specs.Play.{IsRight}
 use Rattle.play_laws.proofs.Facts.{Next}
-use Rattle.headline.specs.Run.{Run, Says, Told, before, own, so_far, surely_before, told}
+use Rattle.headline.specs.Run.{Run, Says, Told, before, own, so_far, told}
 use Rattle.headline.specs.Files.{reader_after, reader_at, reader_next}
 use Rattle.headline.specs.Changes.{Writing, none as no_writing, writing_after, writing_at, writing_next}
 use Rattle.headline.specs.Writers.{Account, account, account_of, cap_of, nothing, told_of}
 use Rattle.headline_laws.proofs.Landed.Beginning.{LineAt, line_at}
 use Rattle.headline_laws.proofs.Landed.Bounded.{Keeps, idle_keeps, line_keeps}
 use Rattle.headline_laws.proofs.Landed.Counting.{counted_in}
-use Rattle.headline_laws.proofs.Landed.Folded.{Through, UpTo, least_landed, most_landed, up_to}
+use Rattle.headline_laws.proofs.Landed.Folded.{Through, UpTo, most_landed, up_to}
 use Rattle.headline_laws.proofs.OrderlyLines.Answering.{among_own}
 use Rattle.headline_laws.proofs.OrderlyLines.Places.{own_split}
 use Rattle.headline_laws.proofs.Statements.Hosts.{SameHost, comes_so, declared_of, statement_host}
 use Rattle.headline_laws.proofs.Statements.Known.{HasEntered, Known, entered_more, known_waits}
 use Rattle.headline_laws.proofs.Story.Attributed.{either_part, head_of, tail_of}
 use Rattle.headline_laws.proofs.Story.Lines.{AnyLine, ChainOf, HasRooms, chain_of, line_here, nothing_known, whole_history}
-use Rattle.headline_laws.proofs.Story.Ordered.{Front, all_own, begun_are, begun_first, begun_own, begun_phases, ended_are, ended_first, ended_phases, has_begun}
-use Rattle.headline_laws.proofs.Story.Parts.{begins, begins_rise, idles_long}
+use Rattle.headline_laws.proofs.Story.Ordered.{Front, all_own, begun_are, begun_first, begun_own, begun_phases, has_begun}
+use Rattle.headline_laws.proofs.Story.Parts.{begins, begins_rise}
 use Rattle.headline_laws.proofs.Story.Shown.{ShownEach}
 use Rattle.headline_laws.proofs.Contents.FirstOpen.{FirstOpen, OpensNot, account_more, all_first, all_rest, first_open, none_told}
 use Rattle.headline_laws.proofs.Contents.OpenedWriter.{Behind as Behind_of, Chain as Chain_of, First as First_of, Home as Home_of, Opening as Opening_of, account_is as account_is_of, chain_as as chain_as_of, go as go_of, its as its_of, none_before as none_before_of, opening, sound_first as sound_first_of, started as started_of}
+use Rattle.headline_laws.proofs.Contents.Least.{least_holds}
 use Rattle.headline_laws.proofs.Contents.LineBounds.{BoundedLine as BoundedLine_of, bounded_line as bounded_line_of}
 
 module _ (run : Run) (times : Option (List ℕ)) (mount : Stored) (start end : State) (fits : FitsScript run.script) (mounted : IsMounted 0 times mount start) (tells : mount.tree ≡ Some run.before) (sound : IsSoundTree run.before)
@@ -107,24 +108,15 @@ module _ (run : Run) (times : Option (List ℕ)) (mount : Stored) (start end : S
         abbrev Cap : ℕ
         Cap = cap_of (slice_get run.script.actors actor)
 
-        abbrev Low : List Told → Type 0
-        Low ts = (account_of id Cap (nothing false) ts).least ≤ counted_in id cut
-
         abbrev High : List Told → Type 0
         High ts = counted_in id cut ≤ (account_of id Cap (nothing false) ts).most
 
         -- where no line has opened it
-        low_none : (ts : List Told) → AllByRecursion (OpensNot id) ts → Low ts
-        low_none ts none = subst (λ (a : Account). a.least ≤ counted_in id cut) (sym (none_told id Cap ts none)) (omega arith)
-
         high_none : (ts : List Told) → AllByRecursion (OpensNot id) ts → counted_in id cut ≤ 0 → High ts
         high_none ts none zero_is = subst (λ (a : Account). counted_in id cut ≤ a.most) (sym (none_told id Cap ts none)) zero_is
 
         -- where one has
         module _ (phase : ℕ) (post : List Told) (done : List Event) (b : Opening actor c id phase post done) where
-          low_some : (pre : List Told) (q : Told) (u : List Told) → q.outcome ≡ line.Opened id → (account_of b.d.writer b.cap (nothing true) u).least ≤ counted_in b.d.writer cut → Low (pre ++ q ∷ u)
-          low_some pre q u says low = subst (λ (a : Account). a.least ≤ counted_in id cut) (sym (account_is phase post done b pre q u says)) (subst (λ k. (account_of b.d.writer b.cap (nothing true) u).least ≤ counted_in k cut) b.its_id low)
-
           high_some : (pre : List Told) (q : Told) (u : List Told) → q.outcome ≡ line.Opened id → counted_in b.d.writer cut ≤ (account_of b.d.writer b.cap (nothing true) u).most → High (pre ++ q ∷ u)
           high_some pre q u says high = subst (λ (a : Account). counted_in id cut ≤ a.most) (sym (account_is phase post done b pre q u says)) (subst (λ k. counted_in k cut ≤ (account_of b.d.writer b.cap (nothing true) u).most) b.its_id high)
 
@@ -151,29 +143,6 @@ module _ (run : Run) (times : Option (List ℕ)) (mount : Stored) (start end : S
 
           its_long : length its_end ≡ length l.line.part.earlier + length l.line.part.mine
           its_long = length-append l.line.part.earlier l.line.part.mine
-
-          apart_low : Low (own actor (before run t))
-          apart_low = subst Low (sym (ended_are run free t actor)) (by (either_part f.front f.rest fo.pre fo.o fo.post (sym f.is ∙ fo.is)))
-            where
-              f : Front (λ (s : Told). surely_before run s t) (own actor (told run))
-              f = ended_first run free t actor
-
-              behind : (u : List Told) → f.front ≡ fo.pre ++ fo.o ∷ u → Through First sound_first n right.history right.calls.blocks Whole (length run.after.rooms) b.cap b.d Home (b.earlier ++ b.mine) b.reader b.writing (nothing true) u f.rest → Low (fo.pre ++ fo.o ∷ u)
-              behind u front_is T =
-                  let early = all_rest (λ (s : Told). s.phase < t.phase) fo.pre (fo.o ∷ u) (subst (AllByRecursion (λ (s : Told). s.phase < t.phase)) front_is (ended_phases run free t actor f.front apart (all_own run free t actor f.front f.rest f.is).0 f.good)) in
-                  let its_phase = early.0 in
-                  let rise = begins_rise right.calls.blocks (fo.o.phase + 1) t.phase (omega (arith, its_phase)) in
-                  let long = length-append b.earlier b.mine in
-                  let begun = b.within in
-                  let short = T.within t.phase (omega (arith, rise, long, begun)) early.1 in
-                  let late = l.line.part.from_phase in
-                  let low = line_is.low T.from T.later T.is (omega (arith, short, late)) in
-                  let least = least_landed n b.d b.cap (moment_after First T.from) T.kept (account_of b.d.writer b.cap (nothing true) u) T.keeps in
-                  low_some fo.o.phase fo.post [] b fo.pre fo.o u fo.says (omega (arith, low, least))
-
-              by : ((u : List Told) × (f.front ≡ fo.pre ++ fo.o ∷ u) × (fo.post ≡ u ++ f.rest)) ⊎ ((u : List Told) × (fo.pre ≡ f.front ++ u) × (f.rest ≡ u ++ fo.o ∷ fo.post)) → Low f.front
-              by (inl (u, front_is, post_is)) = subst Low (sym front_is) (behind u front_is (go fo.o.phase fo.post [] b u f.rest post_is))
-              by (inr (u, pre_is, rest_is)) = low_none f.front (all_first (OpensNot id) f.front u (subst (AllByRecursion (OpensNot id)) pre_is fo.none))
 
           apart_high : High (own actor (so_far run t))
           apart_high = subst High (sym (begun_are run free t actor)) (by (either_part f.front f.rest fo.pre fo.o fo.post (sym f.is ∙ fo.is)))
@@ -224,8 +193,8 @@ module _ (run : Run) (times : Option (List ℕ)) (mount : Stored) (start end : S
         opens_not : OpensNot id t
         opens_not is = let clash : line.Reader size cut truncs ≡ line.Opened id = sym says.says ∙ is in absurd (cc)
 
-        abbrev Both : List Told → Type 0
-        Both ts = Low t.actor c ts × High t.actor c (ts ++ t ∷ [])
+        abbrev HighIt : List Told → Type 0
+        HighIt ts = High t.actor c (ts ++ t ∷ [])
 
         both_none : (ts : List Told) (x : Told) → AllByRecursion (OpensNot id) ts → OpensNot id x → AllByRecursion (OpensNot id) (ts ++ x ∷ [])
         both_none [] x none one = (one, tt)
@@ -239,14 +208,11 @@ module _ (run : Run) (times : Option (List ℕ)) (mount : Stored) (start end : S
           abbrev acc_own : Account
           acc_own = account_of b_own.d.writer b_own.cap (nothing true) u
 
-          own_some : Through First sound_first c.parts.number right.history right.calls.blocks Whole (length run.after.rooms) b_own.cap b_own.d Home (b_own.earlier ++ b_own.mine) b_own.reader b_own.writing (nothing true) u (t ∷ rest) → Both (fo.pre ++ fo.o ∷ u)
+          own_some : Through First sound_first c.parts.number right.history right.calls.blocks Whole (length run.after.rooms) b_own.cap b_own.d Home (b_own.earlier ++ b_own.mine) b_own.reader b_own.writing (nothing true) u (t ∷ rest) → HighIt (fo.pre ++ fo.o ∷ u)
           own_some T = from T.more T.rooms_are
             where
-              from : (each : ShownEach First sound_first c.parts.number right.history right.calls.blocks Whole T.from T.kept T.file T.writer (t ∷ rest)) → HasRooms First sound_first c.parts.number right.history right.calls.blocks Whole (length run.after.rooms) Home T.from T.kept T.file T.writer (t ∷ rest) each → Both (fo.pre ++ fo.o ∷ u)
-              from (p, told_so, idle, s, more) rooms_are = (
-                low_some t.actor c fo.o.phase fo.post [] b_own fo.pre fo.o u fo.says (let low = line_is.low T.from T.later T.is (idles_long c.parts.number right.history right.calls.blocks T.from p.earlier idle) in let least = least_landed c.parts.number b_own.d b_own.cap (moment_after First T.from) T.kept acc_own T.keeps in omega (arith, low, least)),
-                subst (High t.actor c) (sym (append_assoc fo.pre (fo.o ∷ u) (t ∷ []))) (high_some t.actor c fo.o.phase fo.post [] b_own fo.pre fo.o (u ++ t ∷ []) fo.says (subst (λ (a : Account). counted_in b_own.d.writer cut ≤ a.most) (sym (account_more b_own.d.writer b_own.cap (nothing true) u t)) (let high = line_is.high (p.earlier ++ p.mine) p.later split_so (let long = length-append p.earlier p.mine in omega (arith, long)) in let most = most_landed c.parts.number b_own.d b_own.cap (moment_after First (p.earlier ++ p.mine)) p.e.kept (told_of b_own.d.writer b_own.cap acc_own t.statement t.outcome) keeps in omega (arith, high, most)))),
-              )
+              from : (each : ShownEach First sound_first c.parts.number right.history right.calls.blocks Whole T.from T.kept T.file T.writer (t ∷ rest)) → HasRooms First sound_first c.parts.number right.history right.calls.blocks Whole (length run.after.rooms) Home T.from T.kept T.file T.writer (t ∷ rest) each → HighIt (fo.pre ++ fo.o ∷ u)
+              from (p, told_so, idle, s, more) rooms_are = subst (High t.actor c) (sym (append_assoc fo.pre (fo.o ∷ u) (t ∷ []))) (high_some t.actor c fo.o.phase fo.post [] b_own fo.pre fo.o (u ++ t ∷ []) fo.says (subst (λ (a : Account). counted_in b_own.d.writer cut ≤ a.most) (sym (account_more b_own.d.writer b_own.cap (nothing true) u t)) (let high = line_is.high (p.earlier ++ p.mine) p.later split_so (let long = length-append p.earlier p.mine in omega (arith, long)) in let most = most_landed c.parts.number b_own.d b_own.cap (moment_after First (p.earlier ++ p.mine)) p.e.kept (told_of b_own.d.writer b_own.cap acc_own t.statement t.outcome) keeps in omega (arith, high, most))))
                 where
                   its_d : ItsDropping b_own.d
                   its_d = its t.actor c fo.o.phase fo.post [] b_own
@@ -280,7 +246,7 @@ module _ (run : Run) (times : Option (List ℕ)) (mount : Stored) (start end : S
                       (idle_keeps First sound_first c.parts.number right.history right.calls.blocks Whole b_own.cap b_own.d T.from p.earlier (p.mine ++ p.later) T.kept acc_own p.split idle T.keeps)
 
         -- it is opened behind the line
-        own_none : (u : List Told) → fo.pre ≡ Earlier ++ u → t ∷ rest ≡ u ++ fo.o ∷ fo.post → Both Earlier
+        own_none : (u : List Told) → fo.pre ≡ Earlier ++ u → t ∷ rest ≡ u ++ fo.o ∷ fo.post → HighIt Earlier
         own_none [] pre_is rest_is = absurd (opens_not (ap (λ (z : Told). z.outcome) (head_of t fo.o rest fo.post rest_is) ∙ fo.says))
         own_none (y ∷ u) pre_is rest_is = by (chain_as t.actor c (Earlier ++ t ∷ rest) split)
           where
@@ -290,11 +256,11 @@ module _ (run : Run) (times : Option (List ℕ)) (mount : Stored) (start end : S
             later_is : rest ≡ u ++ fo.o ∷ fo.post
             later_is = tail_of t y rest (u ++ fo.o ∷ fo.post) rest_is
 
-            by : Chain t.actor c (Earlier ++ t ∷ rest) → Both Earlier
+            by : Chain t.actor c (Earlier ++ t ∷ rest) → HighIt Earlier
             by (each, rooms_are) = at_line (line_at First sound_first c.parts.number right.history right.calls.blocks Whole (length run.after.rooms) Home Earlier t rest [] c.parts.kept None None None no_writing each rooms_are (nothing_known run First end fits sound_first right c.parts.number))
               where
-                at_line : LineAt First sound_first c.parts.number right.history right.calls.blocks Whole (length run.after.rooms) Home [] c.parts.kept None no_writing Earlier t rest → Both Earlier
-                at_line l = (low_none t.actor c Earlier none, high_none t.actor c (Earlier ++ t ∷ []) (both_none Earlier t none opens_not) (opened_then (then_opening (subst Behind_it later_is (l.more, l.rooms_are)))))
+                at_line : LineAt First sound_first c.parts.number right.history right.calls.blocks Whole (length run.after.rooms) Home [] c.parts.kept None no_writing Earlier t rest → HighIt Earlier
+                at_line l = high_none t.actor c (Earlier ++ t ∷ []) (both_none Earlier t none opens_not) (opened_then (then_opening (subst Behind_it later_is (l.more, l.rooms_are))))
                   where
                     ends : List Event
                     ends = l.part.earlier ++ l.part.mine
@@ -323,38 +289,36 @@ module _ (run : Run) (times : Option (List ℕ)) (mount : Stored) (start end : S
                         let zero_is = none_before t.actor c fo.o.phase fo.post ends b ends l.part.later split_so b.behind in
                         subst (λ k. counted_in k cut ≤ 0) b.its_id (omega (arith, high, zero_is))
 
-        own_both : Both Earlier
-        own_both = by (either_part Earlier (t ∷ rest) fo.pre fo.o fo.post (sym split ∙ fo.is))
+        own_high : HighIt Earlier
+        own_high = by (either_part Earlier (t ∷ rest) fo.pre fo.o fo.post (sym split ∙ fo.is))
           where
-            by : ((u : List Told) × (Earlier ≡ fo.pre ++ fo.o ∷ u) × (fo.post ≡ u ++ t ∷ rest)) ⊎ ((u : List Told) × (fo.pre ≡ Earlier ++ u) × (t ∷ rest ≡ u ++ fo.o ∷ fo.post)) → Both Earlier
-            by (inl (u, earlier_is, post_is)) = subst Both (sym earlier_is) (own_some u post_is (go t.actor c fo.o.phase fo.post [] (started t.actor c fo.pre fo.o fo.post fo.is fo.says) u (t ∷ rest) post_is))
+            by : ((u : List Told) × (Earlier ≡ fo.pre ++ fo.o ∷ u) × (fo.post ≡ u ++ t ∷ rest)) ⊎ ((u : List Told) × (fo.pre ≡ Earlier ++ u) × (t ∷ rest ≡ u ++ fo.o ∷ fo.post)) → HighIt Earlier
+            by (inl (u, earlier_is, post_is)) = subst HighIt (sym earlier_is) (own_some u post_is (go t.actor c fo.o.phase fo.post [] (started t.actor c fo.pre fo.o fo.post fo.is fo.says) u (t ∷ rest) post_is))
             by (inr (u, pre_is, rest_is)) = own_none u pre_is rest_is
 
       -- ---- of any actor
 
-      abbrev Told_of : ℕ → Type 0
-      Told_of actor = ((account run actor id (before run t)).least ≤ counted_in id cut) × (counted_in id cut ≤ (account run actor id (so_far run t)).most)
+      abbrev At_most : ℕ → Type 0
+      At_most actor = counted_in id cut ≤ (account run actor id (so_far run t)).most
 
-      -- The law of this file: it lies between what is sure and what may be.
-      pub opened_between : run.in_order ≡ false → Says run t (line.Reader size cut truncs) → Told_of o.actor
-      opened_between free says = by (nat_eq o.actor t.actor) refl
+      most_counted : run.in_order ≡ false → Says run t (line.Reader size cut truncs) → At_most o.actor
+      most_counted free says = by (nat_eq o.actor t.actor) refl
         where
           there : Among o (own o.actor (told run))
           there = among_own (told run) o (among (told run) o opened.is_line)
 
-          by_own : o.actor ≡ t.actor → Told_of t.actor
+          by_own : o.actor ≡ t.actor → At_most t.actor
           by_own same =
               let split = own_split run t (among (told run) t says.is_line) in
               let c = chain_of run First end fits sound_first right t says.is_line in
               let fo = first_open id (own t.actor (told run)) o (subst (λ a. Among o (own a (told run))) same there) opened.says in
-              let both = own_both free says c fo split.rest split.is in
-              (both.0, subst (High t.actor c) (sym (begun_own run free t split.rest split.is)) both.1)
+              subst (High t.actor c) (sym (begun_own run free t split.rest split.is)) (own_high free says c fo split.rest split.is)
 
-          by_other : (o.actor ≡ t.actor → ⊥) → Told_of o.actor
+          by_other : (o.actor ≡ t.actor → ⊥) → At_most o.actor
           by_other apart =
               let c = chain_of run First end fits sound_first right o opened.is_line in
               let fo = first_open id (own o.actor (told run)) o there opened.says in
-              (apart_low o.actor c free apart says fo, apart_high o.actor c free apart says fo)
+              apart_high o.actor c free apart says fo
 
           same_actor : nat_eq o.actor t.actor ≡ true → o.actor ≡ t.actor
           same_actor is = grind (arith, nat_tests)
@@ -362,6 +326,13 @@ module _ (run : Run) (times : Option (List ℕ)) (mount : Stored) (start end : S
           other_actor : nat_eq o.actor t.actor ≡ false → o.actor ≡ t.actor → ⊥
           other_actor off is = let on : nat_eq o.actor t.actor ≡ true = grind (arith, nat_tests) in let clash : true ≡ false = sym on ∙ off in absurd (cc)
 
-          by : (x : Bool) → nat_eq o.actor t.actor ≡ x → Told_of o.actor
-          by true is = subst Told_of (sym (same_actor is)) (by_own (same_actor is))
+          by : (x : Bool) → nat_eq o.actor t.actor ≡ x → At_most o.actor
+          by true is = subst At_most (sym (same_actor is)) (by_own (same_actor is))
           by false off = by_other (other_actor off)
+
+      -- The law of this file: it lies between what is sure and what may be.
+      pub opened_between : run.in_order ≡ false → Says run t (line.Reader size cut truncs) → ((account run o.actor id (before run t)).least ≤ counted_in id cut) × At_most o.actor
+      opened_between free says = (
+        least_holds run times mount start end fits mounted tells sound right left (λ w many. many ≤ counted_in w cut) (λ w fewer many le all. omega (arith, le, all)) (λ w. omega arith) t says.is_line (λ r w l d stood home_is x xs is short. (bounded_line r w l says.says d stood home_is).low x xs is short) o id opened home free,
+        most_counted free says,
+      )

@@ -30,6 +30,7 @@ use Rattle.headline_laws.proofs.Contents.Counted.{Begin, sound_begin}
 use Rattle.headline_laws.proofs.Contents.Entering.{entered_behind, new_there}
 use Rattle.headline_laws.proofs.Landed.Beginning.{LineAt, begun_line, line_at}
 use Rattle.headline_laws.proofs.Landed.Folded.{Through, through}
+use Rattle.headline_laws.proofs.Statements.LivingLines.{line_opens, opened_alive}
 use Rattle.headline_laws.proofs.Landed.Machines.{KeepsTo}
 use Rattle.headline_laws.proofs.Statements.Hosts.{declared_of}
 use Rattle.headline_laws.proofs.Statements.Known.{HasEntered, Known, entered_more}
@@ -37,6 +38,7 @@ use Rattle.headline_laws.proofs.Story.Entered.{entered_once}
 use Rattle.headline_laws.proofs.Story.Lines.{ChainOf, HasRooms, container, nothing_known, whole_history}
 use Rattle.headline_laws.proofs.Story.Parts.{begins}
 use Rattle.headline_laws.proofs.Story.Shown.{ShownEach}
+use Rattle.headline_laws.proofs.Trees.Openings.{IsOpenNow}
 use Rattle.headline_laws.proofs.Trees.Reading.{fronts, grows_to, lawful_to, opened_line}
 use Rattle.headline_laws.proofs.Trees.WriterStands.{LineStands, line_stands}
 
@@ -125,6 +127,9 @@ module _ (run : Run) (times : Option (List ℕ)) (mount : Stored) (start end : S
     pub its_id : d.writer ≡ id
     pub entered_in : HasEntered c.parts.number mine d
     pub keeps : KeepsTo c.parts.number d cap (moment_after First (earlier ++ mine)) kept (nothing true)
+    -- the actor goes on, and the table has it open
+    pub alive : kept.gone ≡ false
+    pub open_now : IsOpenNow c.parts.number d.writer (moment_after First (earlier ++ mine)).state
 
   pub opening : (actor : ℕ) (c : ChainOf run First end fits sound_first right actor) (id : ℕ) (xs : List Told) (o : Told) (post : List Told) (done : List Event) (kept : Kept) (file : Option OneFile) (writer : Option OneWriter) (r : Option Told) (w : Writing)
       → (each : ShownEach First sound_first c.parts.number right.history right.calls.blocks Whole done kept file writer (xs ++ o ∷ post)) → HasRooms First sound_first c.parts.number right.history right.calls.blocks Whole (length run.after.rooms) Home done kept file writer (xs ++ o ∷ post) each
@@ -157,6 +162,8 @@ module _ (run : Run) (times : Option (List ℕ)) (mount : Stored) (start end : S
             its_id = b.its_id;
             entered_in = b.entered;
             keeps = b.keeps;
+            alive = opened_alive First c.parts.number right.history right.calls.blocks Whole id l.kept o l.part l.says says;
+            open_now = subst (λ k. IsOpenNow c.parts.number k (moment_after First (l.part.earlier ++ l.part.mine)).state) (sym b.its_id) (line_opens First c.parts.number right.history right.calls.blocks Whole id l.kept o l.part l.says says);
           }
 
   module _ (actor : ℕ) (c : ChainOf run First end fits sound_first right actor) where

@@ -225,7 +225,7 @@ made_there n pre e post its = subst (Among e) (sym (entries_both n pre (e ∷ po
     behind [] = inl refl
     behind (x ∷ xs) = inr (behind xs)
 
-own_of : (n : ℕ) (events : List Event) (e : Event) → Among e (made_by n events) → e.caller ≡ n
+pub own_of : (n : ℕ) (events : List Event) (e : Event) → Among e (made_by n events) → e.caller ≡ n
 own_of n [] e at = absurd at
 own_of n (x ∷ events) e at = by (nat_eq x.caller n) refl at (λ later. own_of n events e later)
   where

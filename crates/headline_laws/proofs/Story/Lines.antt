@@ -1,5 +1,5 @@
 -- The chain of each actor's lines, and of each line the container that it speaks of.
-use Rattle.std.proofs.Common.{◌≡◌, ◌≤◌, ◌<◌, ◌+◌, ◌||◌, inl, inr, ℕ, true, false, nat_eq, nat_lt, List, [], ◌∷◌, ◌++◌, length, map, Option, Some, None, refl, sym, ap, ◌∙◌, subst, arith, length-append, if◌then◌else◌}
+use Rattle.std.proofs.Common.{◌≡◌, ◌≤◌, ◌<◌, ◌+◌, ◌||◌, inl, inr, ℕ, true, false, nat_eq, nat_lt, List, [], ◌∷◌, ◌++◌, length, map, Option, Some, None, refl, sym, ap, ◌∙◌, subst, arith, length-append, if◌then◌else◌, append_assoc}
 use Rattle.std.specs.Prelude.{⊤, slice_get}
 use Rattle.std.specs.List.{AllByRecursion}
 use Rattle.std.proofs.lemmas.Bool.Decides.{nat_tests}
@@ -147,15 +147,16 @@ module _ (m : Moment) (sound : IsSoundAt m) (n : ℕ) (history : List Event) (bl
       (l.0, omega (arith, long, behind, far), l.2)
 
   -- of two lines of the actor the part of the later one lies behind
-  pub record TwoLines (of : Told → ℕ) (r : Option Told) (w : Writing) (s t : Told) : Type 0 where
+  pub record TwoLines (of : Told → ℕ) (r : Option Told) (w : Writing) (s : Told) (mid : List Told) (t : Told) : Type 0 where
     pub one : ShownLine of r w s
     pub reader_then : Option Told
     pub writing_then : Writing
+    pub writing_is : writing_then ≡ writing_after (writing_next w s.statement s.outcome) mid
     pub other : ShownLine of reader_then writing_then t
     pub behind : length one.part.earlier + length one.part.mine ≤ length other.part.earlier
 
   pub shown_two : (of : Told → ℕ) (ts : List Told) (s : Told) (mid : List Told) (t : Told) (rest : List Told) (done : List Event) (kept : Kept) (file : Option OneFile) (writer : Option OneWriter) (r : Option Told) (w : Writing) (each : ShownEach m sound n history blocks whole done kept file writer (ts ++ s ∷ (mid ++ t ∷ rest)))
-      → HasRooms of done kept file writer (ts ++ s ∷ (mid ++ t ∷ rest)) each → Known of n done r w file writer → TwoLines of (reader_after r ts) (writing_after w ts) s t
+      → HasRooms of done kept file writer (ts ++ s ∷ (mid ++ t ∷ rest)) each → Known of n done r w file writer → TwoLines of (reader_after r ts) (writing_after w ts) s mid t
   shown_two of [] s mid t rest done kept file writer r w (p, says, idle, h, more) rooms_are k =
       let before : Known of n p.earlier r w file writer = subst (λ es. Known of n es r w file writer) (sym idle.is) (known_waits of n done idle.idle r w file writer k) in
       let after = known_next of m n p.earlier h.front h.rest r w s file h.new writer h.new_writer h.shows h.writes (reads_in of m n (record { before = p.earlier; events = h.front }) nothing file h.new h.new_writer s s.statement s.outcome h.shows rooms_are.0) before in
@@ -166,6 +167,7 @@ module _ (m : Moment) (sound : IsSoundAt m) (n : ℕ) (history : List Event) (bl
         one = record { kept = kept; file = file; writer = writer; part = p; says = says; shown = h; known = before; here = rooms_are.0 };
         reader_then = reader_after (reader_next r s s.outcome) mid;
         writing_then = writing_after (writing_next w s.statement s.outcome) mid;
+        writing_is = refl;
         other = l.0;
         behind = omega (arith, long, far);
       }
@@ -173,6 +175,33 @@ module _ (m : Moment) (sound : IsSoundAt m) (n : ℕ) (history : List Event) (bl
       let before : Known of n p.earlier r w file writer = subst (λ es. Known of n es r w file writer) (sym idle.is) (known_waits of n done idle.idle r w file writer k) in
       let after = known_next of m n p.earlier h.front h.rest r w q file h.new writer h.new_writer h.shows h.writes (reads_in of m n (record { before = p.earlier; events = h.front }) nothing file h.new h.new_writer q q.statement q.outcome h.shows rooms_are.0) before in
       shown_two of ts s mid t rest (p.earlier ++ p.mine) p.e.kept h.new h.new_writer (reader_next r q q.outcome) (writing_next w q.statement q.outcome) more rooms_are.1 (subst (λ es. Known of n (p.earlier ++ es) (reader_next r q q.outcome) (writing_next w q.statement q.outcome) h.new h.new_writer) (sym h.split) after)
+
+same_head : (a b : Told) (xs ys : List Told) → a ∷ xs ≡ b ∷ ys → a ≡ b
+same_head a b xs ys same = cc
+
+same_tail : (a b : Told) (xs ys : List Told) → a ∷ xs ≡ b ∷ ys → xs ≡ ys
+same_tail a b xs ys same = cc
+
+among_there : (t : Told) (us vs : List Told) → Among t (us ++ t ∷ vs)
+among_there t [] vs = inl refl
+among_there t (u ∷ us) vs = inr (among_there t us vs)
+
+-- of lines that rise one stands once
+front_once : (place : ℕ) (xs ys us vs : List Told) (t : Told) → Rise place (xs ++ t ∷ ys) → xs ++ t ∷ ys ≡ us ++ t ∷ vs → xs ≡ us
+front_once place [] ys [] vs t rise is = refl
+front_once place [] ys (u ∷ us) vs t rise is =
+    let late : t.place + 1 ≤ t.place = among_later (t.place + 1) ys t rise.1 (subst (Among t) (sym (same_tail t u ys (us ++ t ∷ vs) is)) (among_there t us vs)) in
+    absurd (omega (arith, late))
+front_once place (x ∷ xs) ys [] vs t rise is =
+    let late : x.place + 1 ≤ t.place = among_later (x.place + 1) (xs ++ t ∷ ys) t rise.1 (among_there t xs ys) in
+    let places : x.place ≡ t.place = ap (λ (z : Told). z.place) (same_head x t (xs ++ t ∷ ys) vs is) in
+    absurd (omega (arith, late, places))
+front_once place (x ∷ xs) ys (u ∷ us) vs t rise is =
+    ap (λ z. z ∷ xs) (same_head x u (xs ++ t ∷ ys) (us ++ t ∷ vs) is) ∙ ap (λ zs. u ∷ zs) (front_once (x.place + 1) xs ys us vs t rise.1 (same_tail x u (xs ++ t ∷ ys) (us ++ t ∷ vs) is))
+
+pub writing_append : (v : Writing) (xs : List Told) (t : Told) (ts : List Told) → writing_after v (xs ++ t ∷ ts) ≡ writing_after (writing_next (writing_after v xs) t.statement t.outcome) ts
+writing_append v [] t ts = refl
+writing_append v (x ∷ xs) t ts = writing_append (writing_next v x.statement x.outcome) xs t ts
 
 -- ---- all actors
 
@@ -260,6 +289,7 @@ module _ (run : Run) (m : Moment) (end : State) (fits : FitsScript run.script) (
     pub one : AnyLine (reader_at run s) (writing_at run s) s
     pub reader_then : Option Told
     pub writing_then : Writing
+    pub writing_is : writing_then ≡ writing_at run t
     pub other : AnyLine reader_then writing_then t
     pub behind : length one.line.part.earlier + length one.line.part.mine ≤ length other.line.part.earlier
 
@@ -287,11 +317,16 @@ module _ (run : Run) (m : Moment) (end : State) (fits : FitsScript run.script) (
       let h = halves t split.rest later in
       let all : own s.actor (told run) ≡ own s.actor (before run s) ++ s ∷ (h.front ++ t ∷ h.rest) = split.is ∙ ap (λ z. own s.actor (before run s) ++ s ∷ z) h.is in
       let chain : ChainIs c (own s.actor (before run s) ++ s ∷ (h.front ++ t ∷ h.rest)) = subst (ChainIs c) all (c.each, c.rooms_are) in
+      let its = own_split run t (among (told run) t is_t) in
+      let first : own s.actor (before run s) ++ s ∷ h.front ≡ own t.actor (before run t) =
+      front_once 0 (own s.actor (before run s) ++ s ∷ h.front) h.rest (own t.actor (before run t)) its.rest t (subst (Rise 0) (all ∙ sym (append_assoc (own s.actor (before run s)) (s ∷ h.front) (t ∷ h.rest))) rise)
+      (append_assoc (own s.actor (before run s)) (s ∷ h.front) (t ∷ h.rest) ∙ sym all ∙ ap (λ a. own a (told run)) (sym same) ∙ its.is) in
       let two = shown_two m sound c.parts.number right.history right.calls.blocks whole_history Nothing container (own s.actor (before run s)) s h.front t h.rest [] c.parts.kept None None None none chain.0 chain.1 (nothing_known c.parts.number) in
       record {
         one = record { number = c.parts.number; line = two.one };
         reader_then = two.reader_then;
         writing_then = two.writing_then;
+        writing_is = two.writing_is ∙ sym (writing_append none (own s.actor (before run s)) s h.front) ∙ ap (writing_after none) first;
         other = record { number = c.parts.number; line = two.other };
         behind = two.behind;
       }
@@ -302,7 +337,7 @@ module _ (run : Run) (m : Moment) (end : State) (fits : FitsScript run.script) (
       let k = line_here t is_t in
       let p : LinePart l.number right.history right.calls.blocks s = record { kept = l.line.kept; part = l.line.part; says = l.line.says } in
       let q : LinePart k.number right.history right.calls.blocks t = record { kept = k.line.kept; part = k.line.part; says = k.line.says } in
-      record { one = l; reader_then = reader_at run t; writing_then = writing_at run t; other = k; behind = phases_apart l.number k.number right.history right.calls.blocks s t p q sooner }
+      record { one = l; reader_then = reader_at run t; writing_then = writing_at run t; writing_is = refl; other = k; behind = phases_apart l.number k.number right.history right.calls.blocks s t p q sooner }
 
   -- a line that is surely before another is so
   pub two_here : run.in_order ≡ false → (s t : Told) → IsLine run s → IsLine run t → surely_before run s t ≡ true → TwoHere s t

@@ -30,7 +30,7 @@ use Rattle.headline_laws.proofs.Trees.Still.{TellsFirst, content_same, first_tol
 module _ (run : Run) (times : Option (List ℕ)) (mount : Stored) (start end : State) (fits : FitsScript run.script) (mounted : IsMounted 0 times mount start) (tells : mount.tree ≡ Some run.before) (sound : IsSoundTree run.before)
     (right : IsRight run.script start run.lines end) (left : end.store.tree ≡ Some run.after) where
   -- the first writes of a dropping that stands in the end
-  tells_first : (d : Dropping) → Stood (Last run times mount start end fits mounted tells sound right left) d
+  pub tells_first : (d : Dropping) → Stood (Last run times mount start end fits mounted tells sound right left) d
       → TellsFirst run.after d.room d.host d.writer (landed (Last run times mount start end fits mounted tells sound right left) d) ((Last run times mount start end fits mounted tells sound right left).issued d.room d.writer)
   tells_first d s =
       let last = sound_last run times mount start end fits mounted tells sound right left in

@@ -1,7 +1,6 @@
 -- What a reader's line shows of that which was told before.
-use Rattle.std.proofs.Common.{◌≡◌, ◌≤◌, ◌<◌, ◌+◌, ◌⊎◌, inl, inr, ℕ, Bool, true, false, nat_eq, List, [], ◌∷◌, ◌++◌, length, map, Option, Some, None, refl, sym, ap, ◌∙◌, subst, arith, append_assoc, length-append, if◌then◌else◌}
+use Rattle.std.proofs.Common.{◌≡◌, ◌≤◌, ◌+◌, ◌⊎◌, inl, inr, ℕ, true, false, List, [], ◌∷◌, ◌++◌, length, map, Option, Some, None, refl, sym, ap, ◌∙◌, subst, arith, append_assoc, length-append}
 use Rattle.std.specs.List.{All, AllByRecursion, Any}
-use Rattle.std.proofs.lemmas.Bool.Decides.{nat_tests}
 use Rattle.std.proofs.lemmas.List.{append-nil}
 use Rattle.std.proofs.lemmas.List.Elements.{All-from_recursion, recursion_from_All}
 use Rattle.plfs_types.specs.declared.entries.Trunc.{Trunc}
@@ -15,7 +14,6 @@ use Rattle.mount_sound.specs.Growing.{Stays}
 use Rattle.mount_sound.specs.Owed.{IsLawful}
 use Rattle.gathering.specs.Bounds.{IsSyncedIn}
 use Rattle.gathering.specs.Gathering.{Gathered, IsAdmissible}
-use Rattle.gathering.specs.Listing.{StampsRise}
 use Rattle.gathering.specs.Moments.{Dropping, Grows, HadItem, HadTrunc, IsSoundAt, Moment, Stood, file_told, moment_after}
 use Rattle.gathering.specs.View.{WritersRise}
 use Rattle.gathering.proofs.Facts.{All-weaker, any_found, follows, found_any, grows_after, legal_first, legal_rest, moment-append, sound_after}
@@ -25,7 +23,6 @@ use Rattle.script_lang.specs.declared.line.Outcome.TheVariants as line
 use Rattle.script_lang.specs.declared.script.Statement.{Statement}
 use Rattle.script_lang.specs.declared.script.Statement.TheVariants.{Close, Flatten, Ls, Map, Open, Read, Recover, Refresh, Rename, Rclose, Ropen, Stat, Stop as Arms, Sync, Trunc as Truncate, Verify, Write}
 use Rattle.run_core.specs.Play.{IsRight}
-use Rattle.play_laws.specs.Changing.{TruncatesFile}
 use Rattle.play_laws.specs.OneFile.{OneFile, printed_cut}
 use Rattle.play_laws.specs.OneWriter.{OneWriter}
 use Rattle.play_laws.specs.Opening.{SeesOneFile, Stretch}
@@ -42,6 +39,8 @@ use Rattle.headline_laws.proofs.OrderlyLines.Answering.{printed_there}
 use Rattle.headline_laws.proofs.Story.Entered.{entered_once}
 use Rattle.headline_laws.proofs.Statements.Known.{HasEntered, IsNotOpened, entered_more, opens_entered, ReadsIn, writer_step}
 use Rattle.headline_laws.proofs.Story.Lines.{AnyLine, TwoHere, container, line_here, reads_in, room_of, two_here}
+use Rattle.headline_laws.proofs.Trees.Marked.{made_trunc}
+use Rattle.headline_laws.proofs.Trees.Printed.{IsCounted, ids_rise, printed_all, stamps_rise}
 use Rattle.headline_laws.proofs.Trees.Still.{file_of}
 
 -- ---- places in a history
@@ -138,76 +137,12 @@ module _ (m : Moment) (n : ℕ) (before front : List Event) (count : ℕ) where
   closed_so (Write at content) (Some it) new shows = absurd shows.0
   closed_so s old new shows = absurd shows.0
 
--- ---- a line of a truncate
-
--- the truncate stands from a front of its statement's events on
-record MadeTrunc (m : Moment) (before front : List Event) (stamp size room : ℕ) : Type 0 where
-  pub upto : List Event
-  pub later : List Event
-  pub split : front ≡ upto ++ later
-  pub stands : HadTrunc (moment_after m (before ++ upto)) room stamp size
-
-made_of : (m : Moment) (n : ℕ) (before front : List Event) (name : List ℕ) (size stamp : ℕ) (f : TruncatesFile m n (record { before = before; events = front }) name size stamp) → MadeTrunc m before front stamp size f.change.room
-made_of m n before front name size stamp f =
-    let c = f.change in
-    let held : List Event = c.earlier ++ (c.finding ∷ c.between ++ (c.holding ∷ c.more)) in
-    let split : front ≡ (held ++ c.changing ∷ []) ++ c.later =
-    f.made.split ∙ ap (λ z. c.earlier ++ z) (sym (append_assoc (c.finding ∷ c.between) (c.holding ∷ c.more) (c.changing ∷ c.later)))
-    ∙ sym (append_assoc c.earlier (c.finding ∷ c.between ++ (c.holding ∷ c.more)) (c.changing ∷ c.later))
-    ∙ sym (append_assoc held (c.changing ∷ []) c.later) in
-    let once : moment_after m (before ++ (held ++ c.changing ∷ [])) ≡ moment_after (moment_after m (before ++ held)) (c.changing ∷ []) =
-    ap (moment_after m) (sym (append_assoc before held (c.changing ∷ []))) ∙ moment-append m (before ++ held) (c.changing ∷ []) in
-    record { upto = held ++ c.changing ∷ []; later = c.later; split = split; stands = subst (λ x. HadTrunc x c.room stamp size) (sym once) f.truncated.stands }
-
-made_trunc : (m : Moment) (n : ℕ) (before front : List Event) (nothing : ℕ) (old new : Option OneFile) (w : Option OneWriter) (name : List ℕ) (size stamp : ℕ) (s : Statement) (o : Outcome) → s ≡ Truncate name size → o ≡ line.Truncated stamp → (shows : Shows m n (record { before = before; events = front }) old s o new)
-    → MadeTrunc m before front stamp size (room_of m n (record { before = before; events = front }) nothing old new w s o shows)
-made_trunc m n before front nothing old new w name size stamp (Truncate name2 size2) (line.Truncated stamp2) is says shows =
-    let stamps : stamp2 ≡ stamp = cc in
-    let sizes : size2 ≡ size = cc in
-    subst (λ x. MadeTrunc m before front stamp x shows.1.change.room) sizes (subst (λ x. MadeTrunc m before front x size2 shows.1.change.room) stamps (made_of m n before front name2 size2 stamp2 shows.1))
-made_trunc m n before front nothing old new w name size stamp s o is says shows = absurd (cc)
+-- ---- a line of an opening
 
 -- the container of an opening is that of its writer
 opened_room : (m : Moment) (n : ℕ) (stretch : Stretch) (nothing : ℕ) (old new : Option OneFile) (w : Option OneWriter) (id : ℕ) (s : Statement) (o : Outcome) → o ≡ line.Opened id → (shows : Shows m n stretch old s o new) (it : OneWriter) → w ≡ Some it → room_of m n stretch nothing old new w s o shows ≡ it.dropping.room
 opened_room m n stretch nothing old new w id s (line.Opened other) says shows it has = ap (λ (x : Option OneWriter). room_of m n stretch nothing old new x s (line.Opened other) shows) has
 opened_room m n stretch nothing old new w id s o says shows it has = absurd (cc)
-
--- ---- printed counts
-
-abbrev IsCounted : (WriterCount → Type 0) → Gathered → Type 0
-IsCounted Good g = 1 ≤ g.count → Good (record { writer = g.dropping.writer; count = g.count })
-
-printed_all : (Good : WriterCount → Type 0) (cut : List Gathered) → AllByRecursion (IsCounted Good) cut → AllByRecursion Good (printed_cut cut)
-printed_all Good [] all = tt
-printed_all Good (g ∷ cut) all = by_count (nat_eq g.count 0) refl (printed_all Good cut all.1)
-  where
-    by_count : (b : Bool) → nat_eq g.count 0 ≡ b → AllByRecursion Good (printed_cut cut) → AllByRecursion Good (if b then printed_cut cut else record { writer = g.dropping.writer; count = g.count } ∷ printed_cut cut)
-    by_count true is rest = rest
-    by_count false is rest = (all.0 (let some : 1 ≤ g.count = grind (arith, nat_tests) in some), rest)
-
-later_ids : (id : ℕ) (cut : List Gathered) → AllByRecursion (λ (h : Gathered). id < h.dropping.writer) cut → AllByRecursion (λ (later : ℕ). id < later) (map (λ (c : WriterCount). c.writer) (printed_cut cut))
-later_ids id [] all = tt
-later_ids id (g ∷ cut) all = by_count (nat_eq g.count 0) (later_ids id cut all.1)
-  where
-    by_count : (b : Bool) → AllByRecursion (λ (later : ℕ). id < later) (map (λ (c : WriterCount). c.writer) (printed_cut cut)) → AllByRecursion (λ (later : ℕ). id < later) (map (λ (c : WriterCount). c.writer) (if b then printed_cut cut else record { writer = g.dropping.writer; count = g.count } ∷ printed_cut cut))
-    by_count true rest = rest
-    by_count false rest = (all.0, rest)
-
-pub ids_rise : (room : ℕ) (cut : List Gathered) → WritersRise room cut → IdsRise (map (λ (c : WriterCount). c.writer) (printed_cut cut))
-ids_rise room [] rise = tt
-ids_rise room (g ∷ cut) rise = by_count (nat_eq g.count 0) (ids_rise room cut rise.2)
-  where
-    by_count : (b : Bool) → IdsRise (map (λ (c : WriterCount). c.writer) (printed_cut cut)) → IdsRise (map (λ (c : WriterCount). c.writer) (if b then printed_cut cut else record { writer = g.dropping.writer; count = g.count } ∷ printed_cut cut))
-    by_count true rest = rest
-    by_count false rest = (later_ids g.dropping.writer cut rise.1, rest)
-
-later_stamps : (stamp : ℕ) (ts : List Trunc) → AllByRecursion (λ (later : Trunc). stamp < later.stamp) ts → AllByRecursion (λ (later : ℕ). stamp < later) (map (λ (u : Trunc). u.stamp) ts)
-later_stamps stamp [] all = tt
-later_stamps stamp (t ∷ ts) all = (all.0, later_stamps stamp ts all.1)
-
-stamps_rise : (ts : List Trunc) → StampsRise ts → IdsRise (map (λ (u : Trunc). u.stamp) ts)
-stamps_rise [] rise = tt
-stamps_rise (t ∷ ts) rise = (later_stamps t.stamp ts rise.0, stamps_rise ts rise.1)
 
 -- ---- the fields
 
@@ -372,11 +307,12 @@ module _ (run : Run) (m : Moment) (end : State) (fits : FitsScript run.script) (
       let h = l.shown in
       let z = reader_line two.reader_then two.writing_then t two.other size cut truncs says.says in
       let made = made_trunc m two.one.number p.earlier h.front (length run.after.rooms) l.file h.new h.new_writer name many stamp s.statement s.outcome asked told.says h.shows in
-      let b = before_it s t two made.upto made.later made.split in
-      let there : (p.earlier ++ made.upto) ++ (b.0 ++ z.upto) ≡ two.other.line.part.earlier ++ z.upto = sym (append_assoc (p.earlier ++ made.upto) b.0 z.upto) ∙ ap (λ es. es ++ z.upto) (sym b.1) in
-      let grows = grows_to (p.earlier ++ made.upto) (b.0 ++ z.upto) z.rest (z.split ∙ ap (λ es. es ++ z.rest) (sym there)) in
+      let upto : List Event = made.until ++ made.marking ∷ [] in
+      let b = before_it s t two upto made.later made.split in
+      let there : (p.earlier ++ upto) ++ (b.0 ++ z.upto) ≡ two.other.line.part.earlier ++ z.upto = sym (append_assoc (p.earlier ++ upto) b.0 z.upto) ∙ ap (λ es. es ++ z.upto) (sym b.1) in
+      let grows = grows_to (p.earlier ++ upto) (b.0 ++ z.upto) z.rest (z.split ∙ ap (λ es. es ++ z.rest) (sym there)) in
       let room : _ ≡ z.so.file.room = sym l.here ∙ same ∙ z.in_room in
-      let had : HadTrunc (moment_after m ((p.earlier ++ made.upto) ++ (b.0 ++ z.upto))) z.so.file.room stamp many = subst (λ k. HadTrunc (moment_after m ((p.earlier ++ made.upto) ++ (b.0 ++ z.upto))) k stamp many) room (grows.stands _ (TruncItem stamp many) tt made.stands) in
+      let had : HadTrunc (moment_after m ((p.earlier ++ upto) ++ (b.0 ++ z.upto))) z.so.file.room stamp many = subst (λ k. HadTrunc (moment_after m ((p.earlier ++ upto) ++ (b.0 ++ z.upto))) k stamp many) room (grows.stands _ (TruncItem stamp many) tt made.stands) in
       subst (λ ts. IsAmong (record { stamp = stamp; size = many }) ts) (sym z.so.tells.truncates)
       (z.so.sees.view.all_truncs.all (record { stamp = stamp; size = many }) (subst (λ x. HadTrunc x z.so.file.room stamp many) (ap (moment_after m) there ∙ sym z.moment) had))
 
@@ -393,7 +329,7 @@ module _ (run : Run) (m : Moment) (end : State) (fits : FitsScript run.script) (
     pub last_item : (room : ℕ) (item : Item) → HadItem (moment_after m right.history) room item → Has run.after room item
     last_item room item last = (last.bytes, file_of run.after room item ∙ ap (λ o. file_told o room (path_of item)) (sym last_tree) ∙ last.there)
 
-    stands_after : (c rest : List Event) (room : ℕ) (item : Item) → right.history ≡ c ++ rest → Stays item → HadItem (moment_after m c) room item → Has run.after room item
+    pub stands_after : (c rest : List Event) (room : ℕ) (item : Item) → right.history ≡ c ++ rest → Stays item → HadItem (moment_after m c) room item → Has run.after room item
     stands_after c rest room item is stays had =
         let grows = grows_to c rest [] (is ∙ sym (append-nil (c ++ rest))) in
         let last : HadItem (moment_after m right.history) room item = subst (λ es. HadItem (moment_after m es) room item) (sym is) (grows.stands room item stays had) in

@@ -35,7 +35,6 @@ use Rattle.writer_flow.specs.Opening.{open_program}
 use Rattle.writer_flow.specs.Syncing.{sync_program}
 use Rattle.unit_format.specs.declared.finding.Region.{Region}
 use Rattle.unit_format.specs.declared.finding.Unit.{Unit as Found}
-use Rattle.unit_format.specs.declared.scanner.Scanned.{Scanned}
 use Rattle.unit_format.specs.declared.scanner.Scanner.{Scanner}
 use Rattle.unit_format.specs.declared.units.TheConstants.{MAX_CONTENT, REGION_SIZE}
 use Rattle.unit_format.specs.Scanning.{begins_at, eaten, finished, is_settled}
@@ -158,7 +157,7 @@ stuck_caused {A} program start why told end ends makes same bad = elim (made_so 
 abbrev NoFaultTold : {R : Type 0} → Result R ScanStuck → Type 0
 NoFaultTold told = TellsFault told → ⊥
 
-told_ends : (pieces : List Piece) (result : Result Scanned ℕ) → NoFaultTold (told_as pieces result)
+told_ends : (pieces : List Piece) (result : Result Region ℕ) → NoFaultTold (told_as pieces result)
 told_ends pieces (Ok s) bad = cc
 told_ends pieces (Err place) bad = cc
 

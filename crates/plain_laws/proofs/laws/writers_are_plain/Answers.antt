@@ -1,4 +1,4 @@
-use Rattle.plain_laws.proofs.Plainly.{syncs_plainly}
+use Rattle.plain_laws.proofs.Plainly.{closes_plainly, syncs_plainly}
 use Rattle.plain_laws.proofs.WritingPlainly.{writes_plainly}
 use Rattle.plain_laws.proofs.laws.writers_are_plain.Goals as goal
 
@@ -7,3 +7,6 @@ returns-clause-syncs c = λ m me number w. syncs_plainly me number w m
 
 pub returns-clause-writes : goal.returns-clause-writes
 returns-clause-writes c = λ m me number w. writes_plainly me number w m
+
+pub returns-clause-closes : goal.returns-clause-closes
+returns-clause-closes c = λ m me number w. closes_plainly me number w m

@@ -1,4 +1,4 @@
-use Rattle.std.proofs.Common.{◌≡◌, ◌∙◌, ap, sym}
+use Rattle.std.proofs.Common.{◌∙◌, ap, sym}
 use Rattle.flow.specs.Standing.{rest_of}
 use Rattle.index_reader.specs.ReadingStages.{read_standing}
 use Rattle.pack_files.specs.declared.reading.Stage.{Stage}
