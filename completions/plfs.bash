@@ -2,7 +2,7 @@
 _plfs() {
     local word=${COMP_WORDS[COMP_CWORD]} place=$COMP_CWORD i verbs
     case ${COMP_WORDS[0]##*/} in
-    plfs_copy) verbs='put get' ;;
+    plfs_copy) verbs='put get import' ;;
     plfs_check) verbs='' ;;
     *) verbs='run play gen cat stat map flatten trunc rename recover ls migrate pack unpack names drain' ;;
     esac

@@ -19,4 +19,4 @@ for program in plfs plfs_copy plfs_check
     complete -c $program -n '__plfs_is_word 1' -l version -d 'the version'
 end
 complete -c plfs -n '__plfs_is_word 2' -a 'run play gen cat stat map flatten trunc rename recover ls migrate pack unpack names drain'
-complete -c plfs_copy -n '__plfs_is_word 2' -a 'put get'
+complete -c plfs_copy -n '__plfs_is_word 2' -a 'put get import'

@@ -12,7 +12,7 @@ _plfs() {
         ;;
     3)
         case ${words[1]:t} in
-        plfs_copy) compadd -- put get ;;
+        plfs_copy) compadd -- put get import ;;
         plfs_check) ;;
         *) compadd -- run play gen cat stat map flatten trunc rename recover ls migrate pack unpack names drain ;;
         esac

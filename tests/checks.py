@@ -8,19 +8,27 @@ import os
 import pathlib
 import pty
 import random
+import resource
 import shutil
 import subprocess
 import sys
 import tempfile
 
+from damages import damaged, kept_of
 from kills import killed_when, marks, places, size_of, writing
-from soundness import disagreement, is_sound, judged, marks_of, spelled
+from soundness import disagreement, is_sound, spelled
 from trial import SECONDS, Trial, check, listed, same, true
 
 USAGE = "usage: plfs_check ROOT [NAME]\n"
 # So many damaged folders in the gate.
-DAMAGED = 36
+DAMAGED = 48
+# The address space that a check of a damaged folder may have. One that read a hole of many GB wouldn't end within it.
+MOST_MEMORY = 2**30
 KILLS = 6
+
+
+def memory_limit(most):
+    resource.setrlimit(resource.RLIMIT_AS, (most, most))
 
 
 def checked(trial, *words, root=None, limits=(), **how):
@@ -78,184 +86,18 @@ def made(trial):
     true("the folder isn't sound for the judge", is_sound(trial.root))
 
 
-def files_below(root, *starts):
-    """The files whose paths in their container begin so, in order."""
-    found = []
-    for at, _, names in os.walk(root):
-        for name in names:
-            path = pathlib.Path(at, name)
-            inner = "/".join(path.relative_to(root).parts[1:])
-            if not starts or inner.startswith(starts):
-                found.append(path)
-    return sorted(found)
-
-
-def one_of(chance, root, *starts):
-    return chance.choice(files_below(root, *starts))
-
-
-def change_byte(chance, root):
-    """Another value for a byte of an index, or of a flattened or packed one."""
-    path = one_of(chance, root, "hostdir.", "flats")
-    data = bytearray(path.read_bytes())
-    if data:
-        place = chance.randrange(len(data))
-        data[place] ^= chance.randrange(1, 256)
-        path.write_bytes(data)
-
-
-def change_number(chance, root):
-    """Another number in an entry of an index."""
-    path = one_of(chance, root, "hostdir.1/index.", "hostdir.2/index.", "hostdir.0/index.", "hostdir.7/index.")
-    data = bytearray(path.read_bytes())
-    if len(data) >= 40:
-        place = 8 * chance.randrange(len(data) // 8)
-        number = int.from_bytes(data[place : place + 8], "little") + chance.choice((-1, 1, 40, 2**40, 2**63))
-        data[place : place + 8] = spelled([number % 2**64])
-        path.write_bytes(data)
-
-
-def cut_file(chance, root):
-    path = one_of(chance, root, "hostdir.", "flats")
-    size = path.stat().st_size
-    if size:
-        os.truncate(path, chance.randrange(size))
-
-
-def lengthen_file(chance, root):
-    path = one_of(chance, root)
-    with open(path, "ab") as file:
-        file.write(chance.randbytes(chance.choice((1, 17, 40, 80))))
-
-
-def remove_file(chance, root):
-    one_of(chance, root).unlink()
-
-
-def add_file(chance, root):
-    """A file of any name, or one that may be an item's."""
-    folders = [path for path in root.glob("*/*") if path.is_dir()] + [path for path in root.iterdir() if path.is_dir()]
-    writer = chance.choice((4294967297, 4294967298, 8589934593, 99 * 2**32 + 1, 2**32))
-    host = chance.choice((0, 1, 2, 7, 34))
-    names = ("dog", "6 0", "ä", f"{host}.{writer}", f"{writer}", f"tmp.{writer}", f"index.{host}.{writer}", f"log.{host}.{writer}", f"index2.{host}.{writer}", f"tmp2.{host}.{writer}",
-             f"10.10.5.{host}.{writer}", f"0.0.0.{host}.{writer}", "5.0", "7.0", "07", "access", "12")
-    path = chance.choice(folders) / chance.choice(names)
-    if not path.exists():
-        path.write_bytes(chance.choice((b"", b"", b"x", bytes(40))))
-
-
-def rename_file(chance, root):
-    path = one_of(chance, root, "metadata", "truncs", "openhosts", "hostdir.")
-    parts = path.name.split(".")
-    place = chance.randrange(len(parts))
-    parts[place] = str(int(parts[place]) + chance.choice((1, 2, 32))) if parts[place].isdigit() else chance.choice(("log", "index", "index2", "x"))
-    to = path.with_name(".".join(parts))
-    if not to.exists():
-        path.rename(to)
-
-
-def truncate_at_an_entry(chance, root):
-    """A truncate with the stamp of an entry, beside it, or of another truncate."""
-    path = one_of(chance, root, "hostdir.1/index.", "hostdir.2/index.", "hostdir.0/index.", "hostdir.7/index.")
-    data = path.read_bytes()
-    if len(data) >= 40:
-        place = 40 * chance.randrange(len(data) // 40) + 24
-        stamp = int.from_bytes(data[place : place + 8], "little") + chance.choice((-1, 0, 1))
-        (path.parent.parent / "truncs" / f"{stamp}.{chance.randrange(30)}").touch()
-
-
-def second_truncate(chance, root):
-    path = one_of(chance, root, "truncs")
-    stamp, _, size = path.name.partition(".")
-    if size.isdigit():
-        path.with_name(f"{stamp}.{int(size) + 1}").touch()
-
-
-def remove_folder(chance, root):
-    shutil.rmtree(chance.choice([path for path in root.glob("*/*") if path.is_dir()]))
-
-
-def add_folder(chance, root):
-    room = chance.choice([path for path in root.iterdir() if path.is_dir()])
-    (room / chance.choice(("hostdir.32", "hostdir.31", "hostdir.01", "more", "a b", "mounts", "metadata"))).mkdir(exist_ok=True)
-
-
-def folder_in_a_files_place(chance, root):
-    path = one_of(chance, root)
-    path.unlink()
-    path.mkdir()
-
-
-def file_in_a_folders_place(chance, root):
-    path = chance.choice([path for path in root.glob("*/*") if path.is_dir()])
-    shutil.rmtree(path)
-    path.touch()
-
-
-def remove_mark(chance, root):
-    one_of(chance, root / ".plfs", "").unlink()
-
-
-def add_container(chance, root):
-    """A folder that is none of a container, or a copy of one under another name."""
-    name = root / chance.choice(("i", "j.k", "a b", ".new.0"))
-    if chance.random() < 0.5:
-        name.mkdir(exist_ok=True)
-    elif not name.exists():
-        shutil.copytree(root / "f", name)
-
-
-def swap_files(chance, root):
-    first, other = one_of(chance, root, "hostdir."), one_of(chance, root, "hostdir.", "flats")
-    data = first.read_bytes()
-    first.write_bytes(other.read_bytes())
-    other.write_bytes(data)
-
-
-def one_entry_more(chance, root):
-    """An entry more, right by itself, whose bytes are in the log or aren't."""
-    path = one_of(chance, root, "hostdir.1/index.", "hostdir.2/index.", "hostdir.0/index.", "hostdir.7/index.")
-    data = path.read_bytes()
-    if len(data) >= 40 and len(data) % 40 == 0:
-        last = [int.from_bytes(data[at : at + 8], "little") for at in range(len(data) - 40, len(data), 8)]
-        path.write_bytes(data + spelled([chance.randrange(50), 4, last[2] + last[1], last[3] + 1, last[4]]))
-        if chance.random() < 0.5:
-            log = path.with_name(path.name.replace("index", "log"))
-            with open(log, "ab") as file:
-                file.write(b"more")
-
-
-DAMAGES = [change_byte, change_number, change_number, cut_file, lengthen_file, remove_file, add_file, add_file, rename_file, truncate_at_an_entry, second_truncate, remove_folder, add_folder,
-           folder_in_a_files_place, file_in_a_folders_place, remove_mark, add_container, swap_files, one_entry_more]
-
-
-def damaged(trial, kept, chance, turn):
-    """A copy of the good folder with one to three damages, and their names."""
-    root = trial.folder / f"damaged{turn}"
-    shutil.copytree(kept, root)
-    names = []
-    # Each kind comes in turn, and others by chance.
-    for damage in [DAMAGES[turn % len(DAMAGES)], *chance.choices(DAMAGES, k=chance.choice((0, 0, 0, 1, 2)))]:
-        try:
-            damage(chance, root)
-            names.append(damage.__name__)
-        except (IndexError, FileNotFoundError, NotADirectoryError, IsADirectoryError):
-            pass
-    return root, names
-
-
 def agreeing(trial, count, chance):
     """Tries so many damaged folders: how often the verdict was that the folder is sound, and each disagreement."""
     made(trial)
     sound, wrong, kinds = 0, [], set()
     for turn in range(count):
         root, names = damaged(trial, trial.root, chance, turn)
-        before = listed(root)
-        status, out, err = checked(trial, root=root)
+        before = kept_of(root)
+        status, out, err = checked(trial, root=root, limits=[(memory_limit, MOST_MEMORY)])
         sound += status == 0
         kinds |= {line.split(" ")[1] for line in out.splitlines() if line.startswith("broken ")}
         why = disagreement(root, status, out)
-        if listed(root) != before:
+        if kept_of(root) != before:
             why += " and the folder was changed"
         if why:
             wrong.append(f"{names}: {why}; status {status}, {out!r}, {err!r}")
@@ -296,6 +138,21 @@ def one_container_alone_is_checked_where_it_is_named(trial):
 
 
 @check
+def what_else_lies_in_the_folder_is_not_looked_at_but_for_its_name(trial):
+    made(trial)
+    (trial.root / "note").write_text("x")
+    (trial.root / ".other").mkdir()
+    (trial.root / "a b").mkdir()
+    (trial.root / "link").symlink_to(trial.root / "f")
+    same("what is told", checked(trial)[:2], (0, "sound\n"))
+    for name in (b"x" * 97, b"\xff\xfe"):
+        path = os.path.join(os.fsencode(trial.root), name)
+        os.mknod(path)
+        same(f"beside {name}", checked(trial)[:2], (4, "0 fault\n"))
+        os.remove(path)
+
+
+@check
 def words_that_are_no_command_of_plfs_check_print_its_usage_line(trial):
     for words in (("f", "g"), ("",), (".plfs",), ("-f",), ("f/g",), ("x" * 65,)):
         same(f"{words}", checked(trial, *words)[:2], (2, USAGE))
@@ -331,13 +188,26 @@ def a_log_of_more_than_2_to_the_56_bytes_is_too_long(trial):
     same("the judge", disagreement(trial.root, *checked(trial)[:2]), "")
 
 
+def shown(terminal):
+    """All that a terminal shows whose other end is closed. One read may give a part of it."""
+    gone = b""
+    while True:
+        try:
+            more = os.read(terminal, 2**12)
+        except OSError:
+            return gone
+        if not more:
+            return gone
+        gone += more
+
+
 @check
 def a_check_tells_on_a_terminal_alone_how_far_it_is(trial):
     made(trial)
     near, far = pty.openpty()
     same("what is printed", checked(trial, stderr=far)[:2], (0, "sound\n"))
     os.close(far)
-    same("what a terminal shows", os.read(near, 2**12), b"".join(b"%d of 4\x1b[K\r" % done for done in range(4)) + b"\x1b[K")
+    same("what a terminal shows", shown(near), b"".join(b"%d of 4\x1b[K\r" % done for done in range(4)) + b"\x1b[K")
     os.close(near)
     same("standard error elsewhere", checked(trial)[2], "")
 

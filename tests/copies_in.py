@@ -10,9 +10,11 @@ import time
 
 from trial import SECONDS, Skipped, check, ignore, listed, masked, same, size_limit, true
 
-USAGE = "usage: plfs_copy ROOT put NAME [HOST] [--over]|get NAME\n"
+USAGE = "usage: plfs_copy ROOT put NAME [HOST] [--over] [--from FILE..]|get NAME|import DIR [HOST] [--over]\n"
 # The bytes of one write.
 BLOCK = 2**24
+# The most bytes that one read asks of the input.
+PART = 2**17
 # A copy of a gigabyte may take so long.
 LONG = 300
 GIGABYTE = 2**30
@@ -155,7 +157,8 @@ def the_host_of_the_writer_is_the_one_that_is_said(trial):
 @check
 def words_that_are_no_command_of_plfs_copy_print_its_usage_line(trial):
     for words in ("", "put", "get", "put f 4294967296", "put f 07", "put f -1", "put f over", "put f 1 2", "put f --over 1", "put f 1 --over 2", "put .f", "put -f", "put f/g", f"put {65 * 'f'}",
-                  "get f g", "get .f", "cat f", "play", "put f 1 over", "PUT f"):
+                  "get f g", "get .f", "cat f", "play", "put f 1 over", "PUT f", "put f --from", "get f --from in", "put --from in", "import", "import d e", "import d 07", "import d --over 1",
+                  "import d --from in", "import d --from", "export", "import d --over --over"):
         refused(trial, USAGE, *words.split(), status=2)
     same("without any word", run(trial, root=""), (2, USAGE.encode(), ""))
     trial.is_untouched()
@@ -182,7 +185,7 @@ def without_standard_input_nothing_is_put(trial):
 def an_input_that_fails_in_its_middle_is_status_5_and_what_came_before_is_kept(trial):
     content = trial.random.randbytes(BLOCK + 100_000)
     (trial.folder / "in").write_bytes(content)
-    for call, kept in (("1", 0), ("3", BLOCK + 100_000)):
+    for call, kept in (("1", 0), ("3", 2 * PART), (f"{BLOCK // PART + 2}", BLOCK + 100_000)):
         name = f"f{call}"
         with open(trial.folder / "in", "rb") as file:
             status, out, err = run(trial, "put", name, stdin=file, **trial.watch([f"fail EIO read {call} */in"]))
@@ -227,7 +230,7 @@ def a_put_that_is_killed_leaves_a_front_that_recover_mends(trial):
     content = trial.random.randbytes(6 * BLOCK + 17)
     (trial.folder / "in").write_bytes(content)
     killed = 0
-    for turn in range(KILLS):
+    for turn in range(trial.kills or KILLS):
         name = f"f{turn}"
         with open(trial.folder / "in", "rb") as file:
             started = start(trial, "put", name, stdin=file)

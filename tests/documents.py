@@ -327,7 +327,7 @@ def told_commands(top):
     script = (top / "plfs").read_text()
     synopsis = plain(section((top / "docs" / "plfs.1").read_text(), "SYNOPSIS"))
     helped = re.search(r"^usage:.*?\n\n", script, re.M | re.S)[0]
-    course = (top / "crates/plfs_program/specs/Course.antt").read_text()
+    course = (top / "crates/program_ends/specs/Usage.antt").read_text()
     usage = re.search(r'usage: plfs ROOT ([^"\\]*)', course)[1]
     usage += re.search(r'b"(\|[^"\\]*)', (top / "crates/plfs/src/telling.rt").read_text())[1]
     table = readme.split("\n## Commands\n")[1].split("\n## ")[0]

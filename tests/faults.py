@@ -124,7 +124,7 @@ def each_failed_call_of_a_command_is_told_as_a_fault_with_its_reason(trial):
 @check
 def a_failed_read_while_a_file_is_written_out_is_status_4_and_says_why(trial):
     trial.ends(0, WORK)
-    ended, _ = trial.watched("", "fail EIO read 2 *", words=("cat", "f"))
+    ended, _ = trial.watched("", f"fail EIO read 2 {trial.root}*", words=("cat", "f"))
     same("the end", (ended.status, ended.out), (4, ""))
     true(f"the reason is {ended.err!r}", re.search(r"/f/hostdir\.0/log\.0\.\d+: read: Input/output error", ended.err))
 

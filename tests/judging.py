@@ -62,8 +62,12 @@ WRONG = {
     "a piece": (r"25 map 0\+2", "25 map 0+1", "reader"),
     "an attribute": (r"26 stat 3 ", "26 stat 4 ", "stat"),
     "a share": (r"26 stat (\d+) 6 by (\d+):4", r"26 stat \1 6 by \2:3", "stat"),
+    "stored bytes": ("26 stat 3 6 ", "26 stat 3 7 ", "stat"),
+    "a truncate of a stat left out": (r"26 stat (.*) trunc .*", r"26 stat \1 trunc -", "stat"),
     "a number of pieces": (r"27 flattened (\d+) 2", r"27 flattened \1 3", "flattened"),
     "a name too many": ("28 ls f", "28 ls f,g", "listed"),
+    "a name too few": ("28 ls f", "28 ls -", "listed"),
+    "a name twice": ("28 ls f", "28 ls f,f", "listed"),
     "a writer alive": ("29 recovered - alive - ", "29 recovered - alive 4294967297 ", "recovered"),
     "a hold": ("hold no", "hold yes", "recovered"),
     "a rename that was none": ("30 renamed", "30 refused exists", "names"),
@@ -197,10 +201,11 @@ def the_judge_refuses_a_tree_that_lost_something(trial):
 
 @check
 def the_judge_refuses_a_tree_with_another_content(trial):
-    """A writer's log that lost its bytes, one whose last write is gone from its index, and an index under another host."""
+    """A writer's log that lost its bytes, one whose last write is gone from its index, metadata that tell another end or stamp, and an index under another host."""
     lines, before, after = accepted(trial, PLANTED, "play", trial.root)
     changes = {
         "left": [("hostdir.0/log.", lambda at, data: (at, b"")), ("hostdir.0/index.", lambda at, data: (at, data[:-40]))],
+        "closed": [("metadata/", lambda at, data: ((at[0], f"9{at[1]}"), data)), ("metadata/", lambda at, data: ((at[0], re.sub(r"\.\d+(\.\d+\.\d+)$", r".1\1", at[1])), data))],
         "indices": [("hostdir.0/index.", lambda at, data: ((at[0], at[1].replace("index.0", "index.32")), data))],
     }
     for what, wrong in changes.items():
@@ -208,6 +213,15 @@ def the_judge_refuses_a_tree_with_another_content(trial):
             other = [room._replace(files=dict(change(at, data) if "/".join(at).startswith(path) else (at, data) for at, data in room.files.items())) for room in after]
             found = judge.judged(PLANTED, lines, before, other, "play")
             true(f"the judge finds {found} in a tree with another {path}", any(re.match(rf"{what}\b", one) for one in found))
+
+
+@check
+def the_judge_refuses_a_closed_writer_that_is_open(trial):
+    lines, before, after = accepted(trial, PLANTED, "play", trial.root)
+    writer = re.search(r"(?m)^3 open (\d+)$", lines)[1]
+    other = [room._replace(files={**room.files, ("openhosts", f"0.{writer}"): b""}) if room.name != judge.MARKS else room for room in after]
+    found = judge.judged(PLANTED, lines, before, other, "play")
+    true(f"the judge finds {found} where a closed writer has its entry still", any(re.match(r"closed\b", one) for one in found))
 
 
 @check

@@ -67,6 +67,26 @@ def the_manual_is_well_formed_and_has_each_status_and_word(trial):
     same("what man says of it", subprocess.run(words, **how).stderr, "")
 
 
+@check
+def the_manual_of_plfs_copy_its_help_and_completions_have_the_words_of_its_usage_line(trial):
+    usage = subprocess.run(["plfs_copy"], executable=trial.program, stdout=subprocess.PIPE, text=True, timeout=20).stdout
+    true(f"the usage line is {usage!r}", usage.startswith("usage: plfs_copy ROOT "))
+    known = [it.split()[0] for it in usage.removeprefix("usage: plfs_copy ROOT ").split("|")]
+    text = (trial.top / "docs" / "plfs_copy.1").read_text()
+    for status in range(8):
+        true(f"the manual lacks the status {status}", re.search(rf"^\.B {status}$", text.partition('.SH "EXIT STATUS"')[2], re.M))
+    helped = subprocess.run([trial.top / "plfs_copy", "--help"], stdout=subprocess.PIPE, text=True, timeout=20).stdout
+    for word in known:
+        true(f"--help lacks {word}", f"plfs_copy ROOT {word} " in helped)
+        true(f"the manual lacks {word}", re.search(rf"^\.B {word}$", text.partition("DESCRIPTION")[0], re.M))
+    for shell in ("bash", "zsh", "fish"):
+        true(f"plfs.{shell} has other words", " ".join(known) in (trial.top / "completions" / f"plfs.{shell}").read_text())
+    if shutil.which("man"):
+        how = {"stdout": subprocess.DEVNULL, "stderr": subprocess.PIPE, "text": True}
+        words = ["man", "--warnings", "-E", "UTF-8", "-l", "-Tutf8", "-Z", str(trial.top / "docs" / "plfs_copy.1")]
+        same("what man says of it", subprocess.run(words, **how).stderr, "")
+
+
 def commands(trial):
     """The commands of the usage line, in its order."""
     usage = trial.run("", words=()).out

@@ -1,6 +1,7 @@
 """Whether a folder is sound, judged by the page docs/FORMATS.md alone: what may be complained of each container, and of each
 of its items. It knows nothing of the program; small files and few entries are enough for it."""
 
+import os
 import pathlib
 import re
 
@@ -9,6 +10,10 @@ ENTRY = 40
 FOLDERS = {"openhosts", "metadata", "truncs", "flats", *(f"hostdir.{number}" for number in range(32))}
 NEEDED = ("metadata", "truncs", "flats")
 LOGICAL = re.compile(rb"[A-Za-z0-9_][A-Za-z0-9_.-]{0,63}\Z")
+# A longer name is none that a listing can tell.
+MAX_NAME = 96
+# So many bytes of a file are looked at: of a longer one the judge knows only how long it is.
+MOST = 2**22
 
 
 class Failed(Exception):
@@ -55,6 +60,27 @@ def items_of(folder, name):
     if word not in kinds or not found or not host_is(found[0]) or found[1] >= 2**64:
         return None
     return (kinds[word], found[1]) if word == "tmp2" else (kinds[word], *found)
+
+
+def is_told(name):
+    """Whether a listing can tell the name: one in UTF-8 that isn't too long. At another one the listing fails."""
+    told = os.fsencode(name)
+    try:
+        told.decode("utf-8")
+    except UnicodeDecodeError:
+        return False
+    return len(told) <= MAX_NAME
+
+
+def is_plain(path):
+    """Whether it is a file that can be opened, as each is whose length is asked."""
+    return path.is_file() and not path.is_symlink() and os.access(path, os.R_OK | os.W_OK)
+
+
+def bytes_of(path):
+    """The first bytes of a file."""
+    with open(path, "rb") as file:
+        return file.read(MOST)
 
 
 def id_of(item):
@@ -133,7 +159,7 @@ class Container:
 
     def __init__(self, path, marks):
         self.path, self.name, self.marks = path, path.name, marks
-        self.shape, self.items, self.files = [], [], {}
+        self.shape, self.items, self.files, self.sizes = [], [], {}, {}
         self.fails = False
 
     def data(self, folder, name):
@@ -144,14 +170,12 @@ class Container:
 
     def look(self):
         """Fills in what is complained of its shape, and of each item."""
-        for entry in sorted(self.path.iterdir(), key=lambda it: it.name.encode()):
-            if entry.is_symlink():
-                self.fails = True
-            elif entry.is_dir():
+        self.fails |= not all(is_told(name) for name in os.listdir(self.path))
+        for entry in sorted(self.path.iterdir(), key=lambda it: os.fsencode(it.name)):
+            if entry.is_dir() and not entry.is_symlink():
                 self.look_into(entry)
             else:
-                self.files["", entry.name] = entry.read_bytes()
-                self.judge_file("", entry.name)
+                self.add_file("", entry)
         for folder in NEEDED:
             if not (self.path / folder).is_dir():
                 self.shape.append(self.complain("no-folder", folder))
@@ -159,20 +183,26 @@ class Container:
             self.shape.append(self.complain("no-access", "access"))
         self.judge_owners()
         if not self.shape:
-            for folder, name in sorted(self.files, key=lambda it: (it[0].encode(), it[1].encode())):
+            for folder, name in sorted(self.files, key=lambda it: (os.fsencode(it[0]), os.fsencode(it[1]))):
                 if folder:
                     self.items.append(self.judge_item(folder, name))
 
     def look_into(self, folder):
+        self.fails |= not all(is_told(name) for name in os.listdir(folder))
         if folder.name not in FOLDERS:
             self.shape.append(self.complain("foreign-folder", escaped(folder.name)))
             return
         for entry in folder.iterdir():
-            if entry.is_symlink() or not entry.is_file():
-                self.fails = True
-                continue
-            self.files[folder.name, entry.name] = entry.read_bytes()
-            self.judge_file(folder.name, entry.name)
+            self.add_file(folder.name, entry)
+
+    def add_file(self, folder, entry):
+        """Takes a file down. At what is no plain file that may be read and written a look fails."""
+        if not is_plain(entry):
+            self.fails = True
+            return
+        self.files[folder, entry.name] = bytes_of(entry)
+        self.sizes[folder, entry.name] = entry.stat().st_size
+        self.judge_file(folder, entry.name)
 
     def judge_file(self, folder, name):
         item, place = items_of(folder, name), path_of(folder, name)
@@ -213,8 +243,8 @@ class Container:
         index = self.data(folder, f"index.{host}.{writer}")
         entries = entries_of(index)
         wrong = first_misfit(entries, writer)
-        landed = landed_of(entries, len(self.data(folder, f"log.{host}.{writer}")))
-        return f"{folder}/index.{host}.{writer}", len(index), landed, wrong
+        landed = landed_of(entries, self.sizes.get((folder, f"log.{host}.{writer}"), 0))
+        return f"{folder}/index.{host}.{writer}", self.sizes.get((folder, f"index.{host}.{writer}"), 0), landed, wrong
 
     def beside(self, place, landed):
         """A complaint for each truncate that is between two of the entries, or has the stamp of one."""
@@ -285,7 +315,7 @@ class Container:
 
 def escaped(name):
     keep = b"ABCDEFGHIJKLMNOPQRSTUVWXYZabcdefghijklmnopqrstuvwxyz0123456789_-."
-    return "".join(chr(byte) if byte in keep else f"%{byte:02X}" for byte in name.encode())
+    return "".join(chr(byte) if byte in keep else f"%{byte:02X}" for byte in os.fsencode(name))
 
 
 def path_of(folder, name):
@@ -296,18 +326,21 @@ def marks_of(path):
     """The numbers of the marks, what is complained of their room, and the names of its entries at which a look fails."""
     complaints, marks, fails = [], set(), set()
     for entry in path.iterdir():
-        if entry.is_symlink():
+        if entry.is_symlink() or not (entry.is_dir() or entry.is_file()) or not is_told(entry.name):
             fails.add(entry.name)
         elif entry.is_dir() and entry.name != "mounts":
             complaints.append(("foreign-folder", ".plfs", escaped(entry.name), "-"))
+            fails |= {name for name in os.listdir(entry) if not is_told(name)}
+        elif not entry.is_dir() and not is_plain(entry):
+            fails.add(entry.name)
         elif entry.is_file():
             complaints.append(("no-mark", ".plfs", escaped(entry.name), "-"))
     if not (path / "mounts").is_dir():
         return marks, [*complaints, ("no-folder", ".plfs", "mounts", "-")], fails
     for entry in (path / "mounts").iterdir():
-        if entry.is_symlink() or not entry.is_file():
+        if not is_plain(entry) or not is_told(entry.name):
             fails.add(entry.name)
-        elif entry.read_bytes() or not 1 <= (number(entry.name) or 0) < 2**32:
+        elif entry.stat().st_size or not 1 <= (number(entry.name) or 0) < 2**32:
             complaints.append(("no-mark", ".plfs", f"mounts/{escaped(entry.name)}", "-"))
         else:
             marks.add(int(entry.name))
@@ -324,13 +357,13 @@ def judged(root):
         if failed:
             fails.add(".plfs")
     for path in root.iterdir():
-        if path.is_dir() and not path.is_symlink() and LOGICAL.match(path.name.encode()):
+        if path.is_dir() and not path.is_symlink() and LOGICAL.match(os.fsencode(path.name)):
             container = Container(path, marks)
             container.look()
             rooms[path.name] = (container.shape, container.items)
             if container.fails or container.draws_of(failed):
                 fails.add(path.name)
-    return dict(sorted(rooms.items(), key=lambda it: it[0].encode())), fails
+    return dict(sorted(rooms.items(), key=lambda it: os.fsencode(it[0]))), fails
 
 
 def is_sound(root):

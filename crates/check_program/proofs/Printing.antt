@@ -4,8 +4,8 @@ use Rattle.std.specs.Prelude.{OnOk}
 use Rattle.std.proofs.lemmas.List.Concat.{flat_map-append}
 use Rattle.edge_io.specs.Sink.{Taking, TakesOn}
 use Rattle.shape_check.specs.declared.finding.Complaint.{Complaint}
-use Rattle.plfs_program.specs.Migrating.{IsReported}
-use Rattle.plfs_program.specs.Output.{IsPrinted}
+use Rattle.program_ends.specs.Reported.{IsReported}
+use Rattle.program_ends.specs.Output.{IsPrinted}
 use Rattle.check_program.specs.Lines.{IsUnsaid, are_some, complaint_line, complaint_lines}
 
 -- ---- what was reported with status 0

@@ -17,8 +17,8 @@ use Rattle.tree_check.specs.Complaining.{AreToldOf, IsToldOf}
 use Rattle.tree_check.specs.Halting.{Halts}
 use Rattle.tree_check.specs.Rooms.{HasRooms, IsNamed}
 use Rattle.tree_check.proofs.Facts.{listed_there}
-use Rattle.plfs_program.specs.Migrating.{IsReported}
-use Rattle.plfs_program.specs.Output.{IsPrinted}
+use Rattle.program_ends.specs.Reported.{IsReported}
+use Rattle.program_ends.specs.Output.{IsPrinted}
 use Rattle.check_program.specs.declared.words.CheckCommand.{CheckCommand}
 use Rattle.check_program.specs.declared.words.CheckCommand.TheVariants.{All, One}
 use Rattle.check_program.specs.Course.{AreAsked, AreThere, BreaksOff, BreaksOffBehind, ChecksOn, ChecksRooms, IsHalted, OfTold, SaysRoom, SaysRooms, broken, checked, first_asked, halted, sound, stopped, unlisted, marks_untold, unsaid}

@@ -20,11 +20,11 @@ use Rattle.shape_check.specs.Rightness.{complaint_of}
 use Rattle.shape_check.specs.Seeing.{IsSeen}
 use Rattle.tree_check.specs.declared.halting.Halt.{Halt}
 use Rattle.tree_check.specs.declared.halting.Halt.TheVariants.{Fault, NoMemory, Untold}
-use Rattle.tree_check.specs.Complaining.{AreToldOf, IsRightOf}
+use Rattle.tree_check.specs.Complaining.{AreToldOf, IsRightIn, IsRightOf}
 use Rattle.tree_check.specs.Rooms.{IsRightRoom}
 use Rattle.tree_check.proofs.Facts.{bytes_kept, listable_kept, names_there, rooms_checked, seen_kept}
-use Rattle.plfs_program.specs.Ends.{Ends}
-use Rattle.plfs_program.specs.Migrating.{IsReported}
+use Rattle.program_ends.specs.Ends.{Ends}
+use Rattle.program_ends.specs.Reported.{IsReported}
 use Rattle.check_program.specs.declared.words.CheckCommand.{CheckCommand}
 use Rattle.check_program.specs.declared.words.CheckCommand.TheVariants.{All, One}
 use Rattle.check_program.specs.Course.{AreAsked, AreThere, BreaksOff, CheckCourse, ChecksOn, ChecksRooms, IsHalted, OfTold, absent, broken, checked, checks, first_asked, halted, sound, stopped, unlisted, marks_untold, unsaid, usage}
@@ -52,9 +52,13 @@ right_both : (tree : Tree) (a b : List Complaint) → AllByRecursion (IsRightOf 
 right_both tree [] b all more = more
 right_both tree (c ∷ a) b all more = (all.0, right_both tree a b all.1 more)
 
+right_alone : (tree : Tree) (name : Name) (found : List Complaint) → AllByRecursion (IsRightIn tree name) found → AllByRecursion (IsRightOf tree) found
+right_alone tree name [] all = tt
+right_alone tree name (c ∷ found) all = (all.0.0, right_alone tree name found all.1)
+
 pub all_right : (tree : Tree) (names : List Name) (found : List Complaint) → AreToldOf tree names found → AllByRecursion (IsRightOf tree) found
 all_right tree [] found told = subst (AllByRecursion (IsRightOf tree)) (sym told) tt
-all_right tree (n ∷ names) found told = subst (AllByRecursion (IsRightOf tree)) (sym told.2) (right_both tree told.0 told.1 told.3.right (all_right tree names told.1 told.4))
+all_right tree (n ∷ names) found told = subst (AllByRecursion (IsRightOf tree)) (sym told.2) (right_both tree told.0 told.1 (right_alone tree n told.0 told.3.right) (all_right tree names told.1 told.4))
 
 listed_first : (name : Name) → is_listed name (name ∷ []) ≡ true
 listed_first name = ap (λ (b : Bool). b || false) (name_refl name)

@@ -13,9 +13,9 @@ use Rattle.shape_check.specs.Seeing.{IsSeen, IsLookedAt}
 use Rattle.tree_check.specs.declared.halting.Halt.{Halt}
 use Rattle.tree_check.specs.Complaining.{AreToldOf, IsToldOf}
 use Rattle.tree_check.specs.Halting.{Halts}
-use Rattle.plfs_program.specs.Ends.{Ends, IsSaid, IsUntouched}
-use Rattle.plfs_program.specs.Migrating.{IsReported}
-use Rattle.plfs_program.specs.Output.{IsPrinted}
+use Rattle.program_ends.specs.Ends.{Ends, IsSaid, IsUntouched}
+use Rattle.program_ends.specs.Reported.{IsReported}
+use Rattle.program_ends.specs.Output.{IsPrinted}
 use Rattle.check_program.specs.declared.words.CheckCommand.{CheckCommand}
 use Rattle.check_program.specs.declared.words.CheckCommand.TheVariants.{All, One}
 use Rattle.check_program.specs.Lines.{IsUnsaid, are_some, complaint_lines, halt_status, halt_text, no_file_line, sound_line, usage_line}

@@ -3,13 +3,14 @@ use Rattle.std.specs.Prelude.{◌≡◌, ◌⊎◌, ℕ, Bool, true, false, List
 use Rattle.std.specs.List.{flat_map}
 use Rattle.std.specs.Fmt.{decimal}
 use Rattle.edge_io.specs.Sink.{Taking}
-use Rattle.mount_model.specs.Paths.{Name, marks_name}
+use Rattle.mount_model.specs.Paths.{Name}
 use Rattle.report_text.specs.Items.{escaped, place_text}
 use Rattle.shape_check.specs.declared.finding.Complaint.{Complaint}
 use Rattle.shape_check.specs.declared.finding.Complaint.TheVariants as kind
+use Rattle.shape_check.specs.Rightness.{room_of}
 use Rattle.tree_check.specs.declared.halting.Halt.{Halt}
 use Rattle.tree_check.specs.declared.halting.Halt.TheVariants.{Fault, NoMemory, Untold}
-use Rattle.plfs_program.specs.Output.{IsCutOff}
+use Rattle.program_ends.specs.Output.{IsCutOff}
 
 -- ---- one complaint
 
@@ -31,26 +32,6 @@ kind_word (kind.Unsettled room path) = codes "unsettled"
 kind_word (kind.Between room path stamp) = codes "between"
 kind_word (kind.TwoTruncates room stamp) = codes "two-truncates"
 kind_word (kind.WrongIndex room path) = codes "wrong-index"
-
--- the room that it is of
-abbrev pub room_of : Complaint → Name
-room_of (kind.RoomName room) = room
-room_of (kind.NoFolder room folder) = room
-room_of (kind.NoAccess room) = room
-room_of (kind.ForeignFolder room folder) = room
-room_of (kind.Foreign room path) = room
-room_of (kind.NoMark path) = marks_name
-room_of (kind.Filled room path) = room
-room_of (kind.Unmarked room path) = room
-room_of (kind.TwoHosts room writer) = room
-room_of (kind.Entry room path place) = room
-room_of (kind.LongLog room path) = room
-room_of (kind.Unaccounted room path) = room
-room_of (kind.Untrue room path) = room
-room_of (kind.Unsettled room path) = room
-room_of (kind.Between room path stamp) = room
-room_of (kind.TwoTruncates room stamp) = room
-room_of (kind.WrongIndex room path) = room
 
 -- a name as one word, which is a dash where it is empty
 abbrev pub name_word : Name → List ℕ

@@ -4,7 +4,7 @@ use Rattle.plfs_types.specs.Counts.{HasRisen}
 use Rattle.store_api.specs.declared.tree.Tree.{Tree}
 use Rattle.store_api.specs.Acts.{Stored}
 use Rattle.tree_laws.specs.Listable.{IsListable}
-use Rattle.plfs_program.specs.Ends.{Ends}
+use Rattle.program_ends.specs.Ends.{Ends}
 
 -- the store tells this tree, which listings show whole
 pub record Tells (stored : Stored) (tree : Tree) : Type 0 where

@@ -2,10 +2,11 @@
 ghost use Rattle.std.specs.Prelude.{◌≡◌, ◌<◌, ◌++◌, IfOk, OnOk, slice_index};
 ghost use Rattle.hex.specs.Hex.{upper_digits};
 ghost use Rattle.report_text.specs.Items.{escaped, escaped_byte, place_text};
-ghost use Rattle.check_program.specs.Lines.{complaint_line, complaint_lines, item_word, kind_word as kind_word_of, line_head, line_tail, name_word, place_word, room_of, unreadable_line as unreadable_text};
+ghost use Rattle.shape_check.specs.Rightness.{room_of};
+ghost use Rattle.check_program.specs.Lines.{complaint_line, complaint_lines, item_word, kind_word as kind_word_of, line_head, line_tail, name_word, place_word, unreadable_line as unreadable_text};
 
-use plfs_program::push_number;
 use plfs_types::{Name, NoMemory, Path};
+use program_ends::push_number;
 use shape_check::marks_name;
 use std::alloc::Global;
 use tree_check::Complaint;

@@ -1,11 +1,11 @@
 //! What is said of a room.
-ghost use Rattle.plfs_program.specs.Migrating.{IsReported};
+ghost use Rattle.program_ends.specs.Reported.{IsReported};
 ghost use Rattle.check_program.specs.Lines.{complaint_lines, halt_status, halt_text, unreadable_line as unreadable_text};
 
 use crate::lines::{lines_of, unreadable_line};
 use edge_io::Sink;
-use plfs_program::say_text;
 use plfs_types::Name;
+use program_ends::say_text;
 use std::alloc::Global;
 use tree_check::{Complaint, Halt};
 

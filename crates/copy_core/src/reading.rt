@@ -1,11 +1,14 @@
 //! A source, read block by block.
-ghost use Rattle.std.specs.Prelude.{◌≡◌, ◌≤◌, length, take, vec_len, IfOk, OnErr};
+ghost use Rattle.std.specs.Prelude.{◌≡◌, ◌≤◌, ◌+◌, [], ◌++◌, length, vec_len, vec_capacity, IfOk, OnErr};
 ghost use Rattle.plfs_types.specs.declared.bytes.TheConstants.{MAX_BLOCK as BLOCK};
 ghost use Rattle.copy_core.specs.Reading.{HasFilled};
 
 use edge_io::Source;
 use plfs_types::{Bytes, MAX_BLOCK, NoMemory};
 use std::alloc::{AllocError, Global};
+
+/// How many bytes are asked of a source at once. They stay in a processor's cache until the block has them.
+const PART: usize = 1 << 17;
 
 /// How the reading of a block ended.
 #[derive(Clone, Copy)]
@@ -18,13 +21,6 @@ pub(crate) enum Ending {
     Failed,
 }
 
-/// How many bytes were read, and how that ended.
-#[derive(Clone, Copy)]
-struct Filled {
-    count: usize,
-    ending: Ending,
-}
-
 /// A block of a source, which may be short or empty where the source ended or failed.
 #[derive(Drop)]
 pub(crate) struct Piece {
@@ -32,39 +28,50 @@ pub(crate) struct Piece {
     pub(crate) ending: Ending,
 }
 
-/// Reads until `into` is full, or the source ends or fails. The bytes stand in the first bytes of `into`.
-fn fill<I: Source>(input: &mut I, into: &mut [u8]) -> Filled
-    requires { length into.old ≡ BLOCK }
-    ensures within { result.count ≤ length into.new }
-    ensures filled { HasFilled (take result.count into.new) result.ending (I.given input.old) (I.given input.new) }
+/// Adds these bytes, for which there is room.
+fn add(bytes: &mut Vec<u8>, more: &[u8])
+    requires room { vec_len bytes.old + length more.now ≤ vec_capacity bytes.old }
+    ensures added { bytes.new.items ≡ bytes.old.items ++ more.now }
+    ensures kept { vec_capacity bytes.old ≤ vec_capacity bytes.new }
 {
-    let mut count = 0;
-    while count < into.len() {
-        let Ok(more) = input.read(&mut into[count..]) else {
-            return Filled {
-                count,
-                ending: Ending::Failed,
-            };
+    if bytes.extend_from_slice(more).is_err() {
+        unreachable!();
+    }
+}
+
+/// Reads until there is a block of bytes, or the source ends or fails. The bytes go through `part`.
+fn fill<I: Source>(input: &mut I, part: &mut [u8], bytes: &mut Vec<u8>) -> Ending
+    requires part { length part.old ≡ PART }
+    requires empty { bytes.old.items ≡ [] }
+    requires room { BLOCK ≤ vec_capacity bytes.old }
+    ensures filled { HasFilled bytes.new.items result (I.given input.old) (I.given input.new) }
+{
+    while bytes.len() < MAX_BLOCK {
+        let room = PART.min(MAX_BLOCK - bytes.len());
+        let Ok(more) = input.read(&mut part[..room]) else {
+            return Ending::Failed;
         };
         if more == 0 {
-            return Filled {
-                count,
-                ending: Ending::AtEnd,
-            };
+            return Ending::AtEnd;
         }
-        count += more;
+        add(bytes, &part[..more]);
     }
-    Filled {
-        count,
-        ending: Ending::Full,
-    }
+    Ending::Full
 }
 
 /// Room for the bytes of a block.
 fn room(alloc: Global) -> Result<Vec<u8>, AllocError>
-    ensures { IfOk result (λ bytes. vec_len bytes ≡ BLOCK) }
+    ensures empty { IfOk result (λ bytes. bytes.items ≡ []) }
+    ensures room { IfOk result (λ bytes. BLOCK ≤ vec_capacity bytes) }
 {
-    vec![in alloc; 0; MAX_BLOCK]
+    Vec::with_capacity(alloc, MAX_BLOCK)
+}
+
+/// A part that bytes go through.
+fn part(alloc: Global) -> Result<Vec<u8>, AllocError>
+    ensures { IfOk result (λ bytes. vec_len bytes ≡ PART) }
+{
+    vec![in alloc; 0; PART]
 }
 
 /// Reads the next block of the source: as many bytes as a block can have, or those up to its end or to a read that failed. Where memory
@@ -74,10 +81,10 @@ pub(crate) fn read_block<I: Source>(alloc: Global, input: &mut I) -> Result<Piec
     ensures unread { OnErr result (I.given input.new ≡ I.given input.old) }
 {
     let mut bytes = room(alloc)?;
-    let filled = fill(input, &mut bytes);
-    bytes.truncate(filled.count);
+    let mut part = part(alloc)?;
+    let ending = fill(input, &mut part, &mut bytes);
     Ok(Piece {
         bytes: Bytes::from_vec(bytes),
-        ending: filled.ending,
+        ending,
     })
 }

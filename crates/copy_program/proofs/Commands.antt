@@ -1,5 +1,6 @@
 -- Words that are a command, and words that are none.
-use Rattle.std.proofs.Common.{◌≡◌, ℕ, ◌≤◌, Bool, List, [], ◌∷◌, length, drop, get_or, Option, refl, sym, ap, ◌∙◌, subst, arith, codes}
+use Rattle.std.proofs.Common.{◌≡◌, ℕ, ◌≤◌, ◌-◌, Bool, List, [], ◌∷◌, length, take, drop, get_or, Option, refl, sym, ap, ◌∙◌, subst, arith, codes}
+use Rattle.std.proofs.lemmas.List.{take_all}
 use Rattle.std.specs.Prelude.{IfNone, IfSome}
 use Rattle.copy_program.specs.declared.words.CopyCommand.{CopyCommand}
 use Rattle.copy_program.specs.declared.words.CopyCommand.TheVariants.{Put, Get}
@@ -22,6 +23,12 @@ pub words_behind : (words : List (List ℕ)) (first second : List ℕ) → 2 ≤
 words_behind [] first second some is other = absurd (omega (arith, some))
 words_behind (w ∷ []) first second some is other = absurd (omega (arith, some))
 words_behind (w ∷ v ∷ words) first second some is other = ap (λ (x : List ℕ). x ∷ v ∷ words) (sym is) ∙ ap (λ (y : List ℕ). first ∷ y ∷ words) (sym other)
+
+-- what stands behind two words
+pub rest_words : (words : List (List ℕ)) (first second : List ℕ) (rest : List (List ℕ)) → words ≡ first ∷ second ∷ rest → take (length words - 2) (drop 2 words) ≡ rest
+rest_words words first second rest is =
+    let count : length (first ∷ second ∷ rest) - 2 ≡ length rest = omega arith in
+    ap (λ (ws : List (List ℕ)). take (length ws - 2) (drop 2 ws)) is ∙ ap (λ (n : ℕ). take n rest) count ∙ take_all (length rest) rest (omega arith)
 
 -- ---- the same words by another name
 

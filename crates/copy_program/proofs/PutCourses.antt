@@ -21,15 +21,14 @@ use Rattle.script_lang.specs.declared.line.Outcome.{Outcome}
 use Rattle.report_text.specs.Text.{text_of}
 use Rattle.run_core.specs.Leading.{GoesOn}
 use Rattle.pack_puts.specs.Calling.{HasCalled}
-use Rattle.plfs_program.specs.Calling.{broke_off as unmounted_left, ran}
-use Rattle.plfs_program.specs.Ends.{Ends}
-use Rattle.plfs_program.specs.Migrating.{IsReported}
-use Rattle.plfs_program.specs.Mounting.{unmounted_of}
-use Rattle.plfs_program.specs.Outcomes.{status_of}
-use Rattle.plfs_program.specs.Output.{IsPrinted, IsCutOff}
-use Rattle.plfs_program.specs.Playing.{IsStoreLeft}
-use Rattle.plfs_program.specs.SoundTrees.{LeavesSoundTree, TellsSoundTree}
-use Rattle.plfs_program.proofs.Facts.{FailingLeavesSound, SaidUnmounted, all_leave_sound, was_run}
+use Rattle.program_ends.specs.Leaving.{broke_off as unmounted_left, ran, IsStoreLeft}
+use Rattle.program_ends.specs.Ends.{Ends}
+use Rattle.program_ends.specs.Reported.{IsReported}
+use Rattle.program_ends.specs.Mounting.{unmounted_of}
+use Rattle.program_ends.specs.Outcomes.{status_of}
+use Rattle.program_ends.specs.Output.{IsPrinted, IsCutOff}
+use Rattle.program_ends.specs.SoundTrees.{LeavesSoundTree, TellsSoundTree}
+use Rattle.program_ends.proofs.Facts.{FailingLeavesSound, SaidUnmounted, all_leave_sound, was_run}
 use Rattle.copy_program.specs.Seen.{IsSeen}
 use Rattle.copy_program.specs.Putting.{HasBegunToPut, IsEndOf, IsPutAs, PutCourse, PutEnd, PutsOn, broke_off, cut_off, end_of, ended_so, exhausted, mounted, printed, put_status, put_text, unmounted}
 

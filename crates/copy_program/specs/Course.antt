@@ -3,14 +3,14 @@ use Rattle.std.specs.Prelude.{◌≡◌, ℕ, Bool, List, [], ◌∷◌, codes}
 use Rattle.edge_io.specs.Source.{Given}
 use Rattle.plfs_program.specs.Commands.{IsBuiltCommand}
 use Rattle.plfs_program.specs.Course.{Course}
-use Rattle.plfs_program.specs.Ends.{Ends, IsSaid, IsUntouched}
+use Rattle.program_ends.specs.Ends.{Ends, IsSaid, IsUntouched}
 use Rattle.copy_program.specs.declared.words.CopyCommand.{CopyCommand}
 use Rattle.copy_program.specs.declared.words.CopyCommand.TheVariants.{Put, Get}
 use Rattle.copy_program.specs.Putting.{PutCourse}
 use Rattle.copy_program.specs.Words.{IsCopyCommand}
 
 abbrev pub usage_line : List ℕ
-usage_line = codes "usage: plfs_copy ROOT put NAME [HOST] [--over]|get NAME\n"
+usage_line = codes "usage: plfs_copy ROOT put NAME [HOST] [--over] [--from FILE..]|get NAME|import DIR [HOST] [--over]\n"
 
 -- what becomes of `cat` with this name
 abbrev pub GetCourse : List ℕ → Given → Given → Ends → ℕ → Type 0

@@ -1,4 +1,5 @@
 pub mod Course
+pub mod Importing
 pub mod Putting
 pub mod Seen
 pub mod Words

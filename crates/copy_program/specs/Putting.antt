@@ -14,13 +14,13 @@ use Rattle.copy_core.specs.Copying.{BeginsToCopy, Copies}
 use Rattle.outcomes.specs.Outcomes.{stuck_outcome}
 use Rattle.script_lang.specs.declared.line.Outcome.{Outcome}
 use Rattle.report_text.specs.Text.{text_of}
-use Rattle.plfs_program.specs.Ends.{Ends}
-use Rattle.plfs_program.specs.Migrating.{IsReported, line_zero}
-use Rattle.plfs_program.specs.Mounting.{unmounted_of}
-use Rattle.plfs_program.specs.Outcomes.{status_of}
-use Rattle.plfs_program.specs.Output.{IsPrinted, IsCutOff}
-use Rattle.plfs_program.specs.Playing.{IsStoreLeft}
-use Rattle.plfs_program.specs.SoundTrees.{TellsSoundTree}
+use Rattle.program_ends.specs.Ends.{Ends}
+use Rattle.program_ends.specs.Reported.{IsReported, line_zero}
+use Rattle.program_ends.specs.Mounting.{unmounted_of}
+use Rattle.program_ends.specs.Outcomes.{status_of}
+use Rattle.program_ends.specs.Output.{IsPrinted, IsCutOff}
+use Rattle.program_ends.specs.Leaving.{IsStoreLeft}
+use Rattle.program_ends.specs.SoundTrees.{TellsSoundTree}
 use Rattle.copy_program.specs.Seen.{IsSeen}
 
 -- ---- what is said

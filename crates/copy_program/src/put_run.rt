@@ -1,14 +1,14 @@
 //! The whole of a run that puts a source into a file: mount, work, output, status.
 ghost use Rattle.std.specs.Prelude.{option_map};
-ghost use Rattle.plfs_program.specs.Ends.{ends_of};
+ghost use Rattle.program_ends.specs.Ends.{ends_of};
 ghost use Rattle.copy_program.specs.Putting.{PutCourse};
 
 use crate::putting::put_mounted;
 use copying_laws::{a_copied_source_is_kept, later_readers_see_a_copied_source};
 use edge_io::{Clock, Sink, Source};
 use mount_core::Mount;
-use plfs_program::{Ended, ends, say_unmounted};
 use plfs_types::LogicalName;
+use program_ends::{Ended, ends, say_unmounted};
 use std::alloc::Global;
 use store_api::Store;
 

@@ -1,7 +1,7 @@
 //! A source is put into a file, and one line says how many bytes were.
 ghost use Rattle.std.specs.Prelude.{◌≡◌, Ok, IfOk};
 ghost use Rattle.mount_sound.specs.Sound.{IsFine};
-ghost use Rattle.plfs_program.specs.Migrating.{IsReported};
+ghost use Rattle.program_ends.specs.Reported.{IsReported};
 ghost use Rattle.copy_program.specs.Putting.{PutsOn, end_of, put_line as line_of, put_status as status_of, put_text as text_of};
 
 use copy_core::{Copied, copy};
@@ -9,8 +9,8 @@ use edge_io::{Clock, Sink, Source};
 use flow::Stuck;
 use mount_core::Mount;
 use outcomes::stuck_outcome;
-use plfs_program::{push_number, say_line, say_text};
 use plfs_types::{LogicalName, NoMemory};
+use program_ends::{push_number, say_line, say_text};
 use script_lang::Line;
 use std::alloc::Global;
 use store_api::Store;
@@ -70,7 +70,8 @@ pub(crate) fn put_mounted<S: Store + Drop, C: Clock + Drop, I: Source, O: Sink>(
     out: &mut O,
 ) -> u8
     requires { IsFine mount.old }
-    ensures { PutsOn name host over mount.old (I.given input.old) (O.taking out.old) mount.new (I.given input.new) (O.taking out.new) result }
+    ensures puts { PutsOn name host over mount.old (I.given input.old) (O.taking out.old) mount.new (I.given input.new) (O.taking out.new) result }
+    ensures fine { IsFine mount.new }
 {
     let Ok(told) = copy(alloc, mount, name, host, over, input) else {
         return 3;

@@ -1,8 +1,8 @@
 //! The whole of a run: words, mount, work, output, status.
 ghost use Rattle.std.specs.Prelude.{◌≡◌, ◌∷◌, [], ℕ, List, Option, IfOk, codes, option_map};
 ghost use Rattle.edge_io.specs.Source.{Given};
-ghost use Rattle.plfs_program.specs.Ends.{ends_of};
-ghost use Rattle.plfs_program.specs.SoundTrees.{LeavesSoundTree, TellsSoundTree};
+ghost use Rattle.program_ends.specs.Ends.{ends_of};
+ghost use Rattle.program_ends.specs.SoundTrees.{LeavesSoundTree, TellsSoundTree};
 ghost use Rattle.copy_program.specs.Course.{CopyCourse, GetCourse};
 ghost use Rattle.copy_program.specs.Words.{IsCopyCommand};
 ghost use Rattle.copy_program.specs.declared.words.CopyCommand.{CopyCommand as Asked};
@@ -11,14 +11,16 @@ use crate::put_run::put;
 use crate::words::CopyCommand;
 use edge_io::{Clock, Sink, Source};
 use mount_sound::a_failed_mounting_leaves_a_sound_tree;
-use plfs_program::{Ended, ends, say, single};
+use plfs_program::single;
 use plfs_types::{LogicalName, NoMemory, Word};
+use program_ends::{Ended, ends, say};
 use std::alloc::Global;
 use std::str;
 use store_api::Store;
 
 /// The usage line, which words outside the grammar print, with its line feed.
-pub const USAGE: &[u8] = b"usage: plfs_copy ROOT put NAME [HOST] [--over]|get NAME\n";
+pub const USAGE: &[u8] =
+    b"usage: plfs_copy ROOT put NAME [HOST] [--over] [--from FILE..]|get NAME|import DIR [HOST] [--over]\n";
 
 /// The words of the command that writes a file out. The bytes of a name are text.
 fn cat_words(alloc: Global, name: LogicalName) -> Result<Vec<Word>, NoMemory>

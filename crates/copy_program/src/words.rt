@@ -1,8 +1,9 @@
 //! The words of `plfs_copy`.
 ghost use Rattle.std.specs.Prelude.{◌≡◌, ◌<◌, ◌^◌, ◌↔◌, ◌∷◌, [], ℕ, Bool, IfNone, IfSome, IsTrue, codes};
 ghost use Rattle.std.specs.Fmt.{decimal};
-ghost use Rattle.copy_program.specs.Words.{AreOptions, IsCopyCommand};
+ghost use Rattle.copy_program.specs.Words.{AreOptions, IsCopyCommand, IsImportCommand};
 ghost use Rattle.copy_program.specs.declared.words.CopyCommand.{CopyCommand as Asked};
+ghost use Rattle.copy_program.specs.declared.words.ImportCommand.{ImportCommand as ImportAsked};
 
 use plfs_types::{LogicalName, Word, read_decimal};
 
@@ -19,6 +20,14 @@ pub enum CopyCommand {
     Get {
         name: LogicalName,
     },
+}
+
+/// A command that puts each file of a folder into the file of its name: of which host the writers are, and whether a file that is there
+/// is written over.
+#[derive(Clone, Copy)]
+pub struct ImportCommand {
+    pub host: u32,
+    pub over: bool,
 }
 
 /// Of which host the writer is, and whether a file may be written over.
@@ -158,6 +167,35 @@ impl CopyCommand {
         };
         match LogicalName::read(name.as_bytes()) {
             Some(name) => command_of(verb, name, options),
+            None => None,
+        }
+    }
+}
+
+/// Whether a word is the verb that puts the files of a folder.
+fn is_import(word: &Word) -> bool
+    ensures { IsTrue result ↔ (word.now ≡ codes "import") }
+{
+    word.as_bytes() == b"import".as_slice()
+}
+
+impl ImportCommand {
+    /// The command that these words are, or None exactly where they are none. The folder is the second word.
+    pub fn read(words: &[Word]) -> Option<ImportCommand>
+        ensures found { IfSome result (IsImportCommand words.now) }
+        ensures none { IfNone result ((command : ImportAsked) → IsImportCommand words.now command → ⊥) }
+    {
+        let [verb, _, options @ ..] = words else {
+            return None;
+        };
+        if !is_import(verb) {
+            return None;
+        }
+        match options_of(options) {
+            Some(o) => Some(ImportCommand {
+                host: o.host,
+                over: o.over,
+            }),
             None => None,
         }
     }

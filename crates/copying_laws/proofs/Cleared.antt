@@ -29,7 +29,7 @@ use Rattle.gathering.proofs.Facts.{follows, in_a_room, in_tree, legal_first, leg
 use Rattle.gathering.proofs.Moments.Bounds.{trunc_stays, truncs_above}
 use Rattle.gathering.proofs.Moments.Stepping.{IsAboveThen}
 use Rattle.play_laws.specs.Changing.{Change, IsFreeName, IssuesAbove, TruncatesFile}
-use Rattle.play_laws.specs.Opening.{IsRoomNamed}
+use Rattle.reader_laws.specs.Naming.{IsRoomNamed}
 use Rattle.play_laws.specs.Refusing.{FindsNone}
 use Rattle.packing_laws.proofs.Facts.{Comes, IsMade, Reaches, is_made}
 use Rattle.copy_core.specs.Clearing.{Clears, cleared_as, cleared_behind, free_as, free_program}

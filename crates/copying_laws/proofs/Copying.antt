@@ -22,7 +22,7 @@ use Rattle.writer_flow.specs.Syncing.{sync_program}
 use Rattle.writer_flow.specs.Writing.{write_program}
 use Rattle.gathering.specs.Moments.{Dropping, IsSoundAt, Moment, issued_by, moment_after, next_moment}
 use Rattle.gathering.proofs.Facts.{follows, sound_after}
-use Rattle.play_laws.specs.Opening.{IsRoomNamed}
+use Rattle.reader_laws.specs.Naming.{IsRoomNamed}
 use Rattle.pack_puts.specs.Settling.{Closes, Settles}
 use Rattle.packing_laws.specs.Lasting.{KeepsWrites}
 use Rattle.packing_laws.proofs.Facts.{Adds, Comes, HasWritten, IsMade, KeptLaw, Named, Opens, Reaches, adds, comes_both, comes_none, is_made, keeps_later, made_reaches, opens as opens_writer, reaches_on, synced_keeps, writer_named}

@@ -7,7 +7,7 @@ use Rattle.mount_model.specs.State.{State}
 use Rattle.mount_sound.specs.Ledger.{Written}
 use Rattle.mount_sound.specs.Owed.{IsLawful}
 use Rattle.gathering.specs.Moments.{Dropping, Moment, moment_after}
-use Rattle.play_laws.specs.Opening.{IsRoomNamed}
+use Rattle.reader_laws.specs.Naming.{IsRoomNamed}
 use Rattle.packing_laws.specs.Lasting.{KeepsWrites}
 use Rattle.copy_core.specs.declared.copying.Copied.{Copied}
 use Rattle.copy_core.specs.Blocks.{AreBlocks, joined}

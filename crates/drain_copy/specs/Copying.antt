@@ -2,7 +2,7 @@
 use Rattle.std.specs.Prelude.{ℕ, zero, suc, ◌+◌, ◌-◌, ◌*◌, ◌/◌, ◌%◌, ◌^◌, ◌&&◌, nat_le, nat_lt, min, Bool, if◌then◌else◌, List, [], ◌∷◌, length, take, drop, Result, Ok, Err, Option, Some, None}
 use Rattle.plfs_types.specs.declared.entries.Entry.{Entry}
 use Rattle.plfs_types.specs.declared.entries.Trunc.{Trunc}
-use Rattle.plfs_types.specs.declared.limits.TheConstants.{ENTRIES_A_READ, ENTRY_SIZE, MAX_PIECE, MAX_SIZE, MAX_STAMP}
+use Rattle.plfs_types.specs.declared.limits.TheConstants.{ENTRIES_A_READ, ENTRY_SIZE, MAX_SIZE, MAX_STAMP}
 use Rattle.plfs_types.specs.declared.names.Path.{Path}
 use Rattle.container_layout.specs.Paths.{hostdir_of}
 use Rattle.store_api.specs.Step.{create, make_folder, sync, write_at}
@@ -13,6 +13,7 @@ use Rattle.mount_model.specs.declared.call.Look.TheVariants.{Read}
 use Rattle.mount_model.specs.declared.reply.Reply.{Reply}
 use Rattle.mount_model.specs.Paths.{index_path, log_path, open_path, trunc_path, truncs}
 use Rattle.drain_copy.specs.declared.outcome.Drained.{Drained}
+use Rattle.drain_copy.specs.declared.parts.TheConstants.{LOG_PART}
 use Rattle.drain_copy.specs.declared.outcome.DrainStuck.{DrainStuck}
 use Rattle.drain_copy.specs.declared.outcome.DrainStuck.TheVariants.{Source}
 use Rattle.drain_copy.specs.declared.plan.Copying.{Copying}
@@ -96,15 +97,15 @@ syncs_log next c = acts (sync c.to (log_of c.due).folder (log_of c.due).file) (�
 abbrev pub copies_log : DrainsOn → ℕ → Copying → ℕ → DrainsOn
 copies_log next zero c left = syncs_log next c
 copies_log next (suc n) c left = calls
-    (Look c.from (Read (log_of c.due) (c.due.bytes - left) (min left MAX_PIECE)))
+    (Look c.from (Read (log_of c.due) (c.due.bytes - left) (min left LOG_PART)))
     (λ reply. on_good
     (λ bytes. acts
     (write_at c.to (log_of c.due).folder (log_of c.due).file (c.due.bytes - left) bytes)
-    (λ told. on_good (λ made. copies_log next n c (left - min left MAX_PIECE)) (told_well (log_of c.due) made_now told)))
-    (part_told (log_of c.due) (c.due.bytes - left) (min left MAX_PIECE) reply))
+    (λ told. on_good (λ made. copies_log next n c (left - min left LOG_PART)) (told_well (log_of c.due) made_now told)))
+    (part_told (log_of c.due) (c.due.bytes - left) (min left LOG_PART) reply))
 
 abbrev pub copies_bytes : DrainsOn → Copying → DrainsOn
-copies_bytes next c = copies_log next (parts_of MAX_PIECE (c.due.bytes - c.due.log)) c (c.due.bytes - c.due.log)
+copies_bytes next c = copies_log next (parts_of LOG_PART (c.due.bytes - c.due.log)) c (c.due.bytes - c.due.log)
 
 -- its log is made
 abbrev pub makes_log : DrainsOn → Copying → DrainsOn

@@ -1,6 +1,6 @@
 -- Where the stages of a drain stand in its program: what follows the reply or the answer that is to come.
 use Rattle.std.specs.Prelude.{ℕ, ◌-◌, min, List, [], Result}
-use Rattle.plfs_types.specs.declared.limits.TheConstants.{ENTRIES_A_READ, MAX_PIECE}
+use Rattle.plfs_types.specs.declared.limits.TheConstants.{ENTRIES_A_READ}
 use Rattle.container_layout.specs.Paths.{hostdir_of}
 use Rattle.index_entry.specs.Spelling.{spelling_all}
 use Rattle.store_api.specs.Step.{Step, create, make_folder, sync, write_at}
@@ -11,6 +11,7 @@ use Rattle.mount_model.specs.Step.{OwedBy}
 use Rattle.drain_read.specs.Stages.{container_rest, held_rest}
 use Rattle.drain_copy.specs.declared.plan.Copying.{Copying}
 use Rattle.drain_copy.specs.declared.outcome.DrainStuck.{DrainStuck}
+use Rattle.drain_copy.specs.declared.parts.TheConstants.{LOG_PART}
 use Rattle.drain_copy.specs.declared.plan.Due.{Due}
 use Rattle.drain_copy.specs.declared.stages.Making.{Making}
 use Rattle.drain_copy.specs.declared.stages.Making.TheVariants.{Entry, Hostdir, Index, Log, LogKept, IndexKept}
@@ -79,7 +80,7 @@ log_program p = copies_log (goes_ahead p.work) p.parts p.work.copying p.left
 
 -- what follows a part of its log
 abbrev pub log_behind : LogPart → DrainsOn
-log_behind p = copies_log (goes_ahead p.work) p.parts p.work.copying (p.left - min p.left MAX_PIECE)
+log_behind p = copies_log (goes_ahead p.work) p.parts p.work.copying (p.left - min p.left LOG_PART)
 
 abbrev pub log_written : LogPart → Told → DrainsOn
 log_written p told = on_good (λ made. log_behind p) (told_well (log_of p.work.copying.due) made_now told)
@@ -107,7 +108,7 @@ source_rest (source.Finding name held) reply = on_good (gathers name held) (foun
 source_rest (source.Gathering name held read) reply = at_source (container_rest read reply) (if_gathered name held)
 source_rest (source.SyncingLog s) reply = on_good (λ done. syncs_second s.job.from s.owner (job_after s)) (kept reply)
 source_rest (source.SyncingIndex s) reply = on_good (λ done. job_after s) (kept reply)
-source_rest (source.ReadingLog p) reply = on_good (log_writes p) (part_told (log_of p.work.copying.due) (p.work.copying.due.bytes - p.left) (min p.left MAX_PIECE) reply)
+source_rest (source.ReadingLog p) reply = on_good (log_writes p) (part_told (log_of p.work.copying.due) (p.work.copying.due.bytes - p.left) (min p.left LOG_PART) reply)
 
 abbrev pub target_rest : TargetStage → Told → DrainsOn
 target_rest (target.Finding name) told = on_good (reads_target name) (told_well (folder_alone []) sought told)

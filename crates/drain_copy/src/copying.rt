@@ -6,16 +6,14 @@ ghost use Rattle.drain_copy.specs.Copying.{copies, copies_bytes, entry_of as ent
 ghost use Rattle.drain_copy.specs.Stages.{entries_program, goes_ahead, log_program, log_writes, making_next, making_program, making_step as making_step_of, making_told, part_spelling, source_rest, target_rest, turn_program, IsOwedTurn};
 
 use crate::outcome::{DrainStuck, Drained};
-use crate::parts::{entries_part, entry_place, parts_of, spelled};
+use crate::parts::{LOG_PART, entries_part, entry_place, parts_of, spelled};
 use crate::plan::{Copying, Due};
 use crate::stages::{Making, SourceStage, TargetStage, Turn};
 use crate::telling::{folder_alone, is_entry_made, is_made, is_made_now, part_told};
 use crate::work::{Ahead, EntriesPart, LogPart, Work};
 use container_layout::{Item, hostdir, print, truncs};
 use mount_model::{Call, Look, Reply};
-use plfs_types::{
-    Bytes, ENTRIES_A_READ, MAX_PIECE, MAX_SIZE, MAX_STAMP, NoMemory, Path, Queue, Trunc,
-};
+use plfs_types::{Bytes, ENTRIES_A_READ, MAX_SIZE, MAX_STAMP, NoMemory, Path, Queue, Trunc};
 use std::alloc::Global;
 use store_api::{Answer, OwnedStep, Trouble};
 
@@ -224,7 +222,7 @@ fn log_on(part: LogPart) -> Turn
         look: Look::Read {
             path,
             at,
-            len: left.min(MAX_PIECE),
+            len: left.min(LOG_PART),
         },
     };
     let rest = LogPart {
@@ -242,7 +240,7 @@ fn copy_bytes(work: Work) -> Turn
     ensures owed { IsOwedTurn result }
 {
     let left = work.copying.due.bytes.saturating_sub(work.copying.due.log);
-    let parts = parts_of(MAX_PIECE, left);
+    let parts = parts_of(LOG_PART, left);
     log_on(LogPart { work, parts, left })
 }
 
@@ -271,7 +269,7 @@ pub(crate) fn after_log_read(part: LogPart, reply: Reply) -> Turn
 {
     let path = log_of(&part.work.copying.due);
     let at = part.work.copying.due.bytes - part.left;
-    match part_told(&path, at, part.left.min(MAX_PIECE), reply) {
+    match part_told(&path, at, part.left.min(LOG_PART), reply) {
         Ok(bytes) => write_log(part, bytes),
         Err(why) => {
             drop(part);
@@ -291,7 +289,7 @@ pub(crate) fn after_log_write(part: LogPart, told: Result<Answer, Trouble>) -> T
     match made {
         Ok(()) => {
             let LogPart { work, parts, left } = part;
-            let left = left - left.min(MAX_PIECE);
+            let left = left - left.min(LOG_PART);
             log_on(LogPart { work, parts, left })
         }
         Err(why) => {

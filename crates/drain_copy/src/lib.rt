@@ -19,4 +19,5 @@ mod work;
 
 pub use drain::Drain;
 pub use outcome::{DrainStuck, Drained};
+pub use parts::LOG_PART;
 pub use points::DrainNext;

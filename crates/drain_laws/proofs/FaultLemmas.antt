@@ -1,16 +1,13 @@
--- A drain ends in a fault only where one of its stores failed.
-use Rattle.std.proofs.Common.{◌≡◌, ◌≢◌, ℕ, zero, suc, ◌+◌, ◌-◌, ◌≤◌, nat_lt, min, length, Bool, true, false, List, [], ◌∷◌, Option, Some, None, refl, ap, sym, ◌∙◌, ◌⊎◌, inl, inr, subst, arith}
+-- A drain ends in a fault of its source, or of its target, only where that one failed.
+use Rattle.std.proofs.Common.{◌≡◌, ◌≢◌, ℕ, zero, suc, ◌+◌, ◌-◌, nat_lt, min, length, Bool, true, false, List, [], ◌∷◌, Option, Some, None, refl, sym, ◌∙◌, inl, inr, subst}
 use Rattle.std.specs.Prelude.{Result, Ok, Err, if◌then◌else◌}
-use Rattle.std.specs.List.{AllByRecursion}
 use Rattle.std.proofs.lemmas.Bool.{cases_Bool, cond-true, cond-false}
-use Rattle.plfs_types.specs.Counts.{HasRisen}
 use Rattle.plfs_types.specs.declared.entries.Trunc.{Trunc}
-use Rattle.plfs_types.specs.declared.limits.TheConstants.{ENTRIES_A_READ, MAX_PIECE}
+use Rattle.plfs_types.specs.declared.limits.TheConstants.{ENTRIES_A_READ}
 use Rattle.plfs_types.specs.declared.names.Path.{Path}
 use Rattle.store_api.specs.declared.step.Answer.{Answer}
 use Rattle.store_api.specs.declared.step.Answer.TheVariants.{NoFolder}
 use Rattle.store_api.specs.declared.store.Trouble.TheVariants.{Fault as ToldFault, NoMemory as ToldNoMemory}
-use Rattle.store_api.specs.Acts.{Acts, Stored}
 use Rattle.store_api.specs.Step.{write_at}
 use Rattle.container_layout.specs.Paths.{hostdir_of}
 use Rattle.mount_model.specs.declared.call.Call.{Call}
@@ -20,15 +17,12 @@ use Rattle.mount_model.specs.declared.call.Look.TheVariants.{Read}
 use Rattle.mount_model.specs.declared.reply.Refusal.{Refusal}
 use Rattle.mount_model.specs.declared.reply.Reply.{Reply}
 use Rattle.mount_model.specs.declared.reply.Reply.TheVariants as reply_of
-use Rattle.mount_model.specs.History.{Event}
-use Rattle.mount_model.specs.Paths.{Name, mark_path}
-use Rattle.mount_model.specs.Replies.{FitsAsk, FitsCall, IsTrouble, damaged, fault, no_memory, refused}
-use Rattle.mount_model.proofs.Facts.{step_causes, step_fits}
+use Rattle.mount_model.specs.Paths.{Name, mark_path, openhosts}
+use Rattle.mount_model.specs.Replies.{FitsCall, IsTrouble, damaged, fault, no_memory, refused}
 use Rattle.flow.specs.declared.stuck.Stuck.{Stuck}
 use Rattle.flow.specs.declared.stuck.Stuck.TheVariants as stuck
-use Rattle.flow.specs.Replies.{Tries, bytes_in, damage, failure, trouble}
+use Rattle.flow.specs.Replies.{Tries, bytes_in, damage, failure, room_in, trouble}
 use Rattle.story.specs.Program.{AsksOnly, done, ask}
-use Rattle.gathering.specs.Moments.{Moment, next_moment}
 use Rattle.drain_read.specs.declared.held.Held.{Held}
 use Rattle.drain_read.specs.declared.read.Contained.{Contained}
 use Rattle.drain_read.specs.declared.read.WriterRead.{WriterRead}
@@ -36,7 +30,8 @@ use Rattle.drain_read.specs.Holding.{held_program}
 use Rattle.drain_read.specs.Reading.{contained_program}
 use Rattle.drain_copy.specs.declared.outcome.Drained.{Drained}
 use Rattle.drain_copy.specs.declared.outcome.DrainStuck.{DrainStuck}
-use Rattle.drain_copy.specs.declared.outcome.DrainStuck.TheVariants.{Source, Taken}
+use Rattle.drain_copy.specs.declared.outcome.DrainStuck.TheVariants.{Source, Taken, TargetDamaged, TargetFault}
+use Rattle.drain_copy.specs.declared.parts.TheConstants.{LOG_PART}
 use Rattle.drain_copy.specs.declared.plan.Copying.{Copying}
 use Rattle.drain_copy.specs.declared.plan.Due.{Due}
 use Rattle.drain_copy.specs.declared.plan.Job.{Job}
@@ -45,10 +40,7 @@ use Rattle.drain_copy.specs.Asking.{Told, acts, at_source as on_source, at_targe
 use Rattle.drain_copy.specs.Copying.{copies, copies_bytes, copies_log, copies_writer, entry_of, given_part, index_of, log_of, makes_hostdir, makes_index, makes_log, part_told, parts_of, puts_truncs, trunc_file, writes_entries, writes_index}
 use Rattle.drain_copy.specs.Draining.{copies_to, drain_program, finds_source, gathers, if_gathered, if_held, job_of, known_at, makes_all_marks, makes_marks, makes_marks_room, reads_target, syncs, syncs_second, unless_taken}
 use Rattle.drain_copy.specs.Planning.{count_there, is_taken, mounts_of, nothing_held, owners_of, taken}
-use Rattle.drain_copy.specs.Telling.{DrainsOn, Outcome, entry_made, folder_alone, found_room, kept, made_now, made_or_old, on_good, or_damaged, roomed, sought, told_well}
-use Rattle.drain_sound.specs.Draining.{Act, Happening, at_source, at_target, source_after, target_after}
-use Rattle.drain_laws.specs.Driving.{AreMade, Drives}
-use Rattle.drain_laws.specs.Faults.{EndsInFault, WasServed}
+use Rattle.drain_copy.specs.Telling.{DrainsOn, Outcome, done_in, entry_made, folder_alone, found_room, kept, made_now, made_or_old, on_good, or_damaged, or_stuck, roomed, sought, stuck_there, told_well}
 use Rattle.drain_laws.proofs.FineLemmas.{EndsFine, IsFineOn, contained_fine, held_fine}
 use Rattle.drain_laws.proofs.LooksLemmas.{contained_only}
 
@@ -91,47 +83,78 @@ good_there : (answer : Answer) → GoodThere (look_reply (Ok answer))
 good_there NoFolder = tt
 good_there answer = tt
 
-abbrev Here : {X : Type 0} → Result X Stuck → Type 0
-Here out = EndsFine GoodHere FineHere (λ folder file place. tt) troubled_here out
-
-abbrev There : {X : Type 0} → Result X Stuck → Type 0
-There out = EndsFine GoodThere FineThere (λ folder file place. tt) troubled_there out
-
 -- ---- programs that end in no fault
 
--- Where neither store fails and memory isn't refused, it doesn't end in a fault.
-abbrev NeverFaults : DrainsOn → Type 0
-NeverFaults (ends outcome) = EndsInFault outcome → ⊥
-NeverFaults (calls call k) = (reply : Reply) → FitsCall call reply → reply ≢ reply_of.Fault → reply ≢ reply_of.NoMemory → NeverFaults (k reply)
-NeverFaults (acts step k) = (answer : Answer) → NeverFaults (k (Ok answer))
+-- the source failed, where that is asked of, or else the target
+abbrev pub EndsInFaultOf : Bool → Outcome → Type 0
+EndsInFaultOf true (Err (Source stuck.Fault)) = Unit {0}
+EndsInFaultOf false (Err TargetFault) = Unit {0}
+EndsInFaultOf is_source outcome = ⊥
 
-abbrev NoFault : {X : Type 0} → Result X DrainStuck → Type 0
-NoFault (Ok x) = Unit {0}
-NoFault (Err why) = EndsInFault (Err why) → ⊥
+-- a reply of the source, and what the target told, where only the failures of the other store are left out
+abbrev pub Serves : Bool → Reply → Type 0
+Serves true reply = reply ≢ reply_of.Fault
+Serves false reply = Unit {0}
 
-never_on : {X : Type 0} (next : X → DrainsOn) (r : Result X DrainStuck) → NoFault r → ((x : X) → NeverFaults (next x)) → NeverFaults (on_good next r)
-never_on next (Ok x) none goes = goes x
-never_on next (Err why) none goes = none
+abbrev pub ServesThere : Bool → Told → Type 0
+ServesThere true told = Unit {0}
+ServesThere false told = told ≢ Err ToldFault
 
-no_damage : {X : Type 0} (path : Path) (o : Option X) → NoFault (or_damaged path o)
-no_damage path None = λ bad. bad
-no_damage path (Some x) = tt
+-- Where the source doesn't fail, or else the target, and memory isn't refused, it doesn't end in a fault of that one.
+abbrev pub NeverFaults : Bool → DrainsOn → Type 0
+NeverFaults b (ends outcome) = EndsInFaultOf b outcome → ⊥
+NeverFaults b (calls call k) = (reply : Reply) → FitsCall call reply → Serves b reply → reply ≢ reply_of.NoMemory → NeverFaults b (k reply)
+NeverFaults b (acts step k) = (told : Told) → ServesThere b told → told ≢ Err ToldNoMemory → NeverFaults b (k told)
 
--- an answer that isn't wanted is damage
-never_told : {X : Type 0} (path : Path) (good : Answer → Option X) (next : X → DrainsOn) (answer : Answer) → ((x : X) → NeverFaults (next x)) → NeverFaults (on_good next (told_well path good (Ok answer)))
-never_told path good next answer goes = never_on next (or_damaged path (good answer)) (no_damage path (good answer)) goes
+abbrev NoFault : {X : Type 0} → Bool → Result X DrainStuck → Type 0
+NoFault b (Ok x) = Unit {0}
+NoFault b (Err why) = EndsInFaultOf b (Err why) → ⊥
 
-no_entry : (path : Path) (answer : Answer) → NoFault (entry_made path (Ok answer))
-no_entry path NoFolder = λ bad. bad
-no_entry path answer = no_damage path (made_or_old answer)
+never_on : {X : Type 0} (b : Bool) (next : X → DrainsOn) (r : Result X DrainStuck) → NoFault b r → ((x : X) → NeverFaults b (next x)) → NeverFaults b (on_good next r)
+never_on b next (Ok x) none goes = goes x
+never_on b next (Err why) none goes = none
+
+-- damage is no fault
+no_hurt : (b : Bool) (folder file : Name) (place : ℕ) → EndsInFaultOf b (Err (TargetDamaged folder file place)) → ⊥
+no_hurt true folder file place bad = bad
+no_hurt false folder file place bad = bad
+
+no_damage : {X : Type 0} (b : Bool) (path : Path) (o : Option X) → NoFault b (or_damaged path o)
+no_damage b path None = no_hurt b path.folder path.file 0
+no_damage b path (Some x) = tt
+
+-- so is an answer that isn't wanted
+told_so : {X : Type 0} (b : Bool) (path : Path) (good : Answer → Option X) (told : Told) → ServesThere b told → told ≢ Err ToldNoMemory → NoFault b (told_well path good told)
+told_so b path good (Ok answer) served had = no_damage b path (good answer)
+told_so true path good (Err ToldFault) served had = λ bad. bad
+told_so false path good (Err ToldFault) served had = absurd (served refl)
+told_so b path good (Err ToldNoMemory) served had = absurd (had refl)
+
+never_told : {X : Type 0} (b : Bool) (path : Path) (good : Answer → Option X) (next : X → DrainsOn) → ((x : X) → NeverFaults b (next x)) → (told : Told) → ServesThere b told → told ≢ Err ToldNoMemory → NeverFaults b (on_good next (told_well path good told))
+never_told b path good next goes told served had = never_on b next (told_well path good told) (told_so b path good told served had) goes
+
+no_entry : (b : Bool) (path : Path) (told : Told) → ServesThere b told → told ≢ Err ToldNoMemory → NoFault b (entry_made path told)
+no_entry b path (Ok NoFolder) served had = no_hurt b openhosts [] 0
+no_entry b path (Ok answer) served had = told_so b path made_or_old (Ok answer) served had
+no_entry b path (Err why) served had = told_so b path made_or_old (Err why) served had
 
 -- ---- what the source replies
 
-failed_here : {may : Refusal → Type 0} (reply : Reply) → IsTrouble may reply → reply ≢ reply_of.Fault → reply ≢ reply_of.NoMemory → EndsInFault (Err (Source (failure reply))) → ⊥
-failed_here reply (refused why m is) good had bad = subst (λ r. EndsInFault (Err (Source (failure r)))) is bad
-failed_here reply (damaged folder file is) good had bad = subst (λ r. EndsInFault (Err (Source (failure r)))) is bad
-failed_here reply (fault is) good had bad = good is
-failed_here reply (no_memory is) good had bad = had is
+-- a trouble of the source is no fault of the target, and it is none of the source where that served
+source_fine : (b : Bool) (why : Stuck) → (b ≡ true → FineHere why) → EndsInFaultOf b (Err (Source why)) → ⊥
+source_fine true why fine bad = none why (fine refl) bad
+  where
+    none : (why : Stuck) → FineHere why → EndsInFaultOf true (Err (Source why)) → ⊥
+    none stuck.Fault fine bad = fine
+    none (stuck.Refused why) fine bad = bad
+    none (stuck.Damaged folder file place) fine bad = bad
+source_fine false why fine bad = bad
+
+failed_fine : {may : Refusal → Type 0} (reply : Reply) → IsTrouble may reply → reply ≢ reply_of.Fault → reply ≢ reply_of.NoMemory → FineHere (failure reply)
+failed_fine reply (refused why m is) good had = subst (λ r. FineHere (failure r)) (sym is) tt
+failed_fine reply (damaged folder file is) good had = subst (λ r. FineHere (failure r)) (sym is) tt
+failed_fine reply (fault is) good had = absurd (good is)
+failed_fine reply (no_memory is) good had = absurd (had is)
 
 looked_well : (room : ℕ) (sight : Sight) (reply : Reply) → FitsCall (Look room sight) reply → reply ≢ reply_of.Fault → reply ≢ reply_of.NoMemory → GoodHere reply
 looked_well room sight reply (inl answer) good had = subst GoodHere (sym answer.2) tt
@@ -140,91 +163,105 @@ looked_well room sight reply (inr (damaged folder file is)) good had = subst Goo
 looked_well room sight reply (inr (fault is)) good had = absurd (good is)
 looked_well room sight reply (inr (no_memory is)) good had = absurd (had is)
 
-found_well : (name : Name) (reply : Reply) → FitsCall (Find name) reply → reply ≢ reply_of.Fault → reply ≢ reply_of.NoMemory → NoFault (found_room reply)
-found_well name reply (inl answer) good had = subst (λ r. NoFault (found_room r)) (sym answer.1) tt
-found_well name reply (inr (refused why m is)) good had = subst (λ r. NoFault (found_room r)) (sym is) (λ bad. bad)
-found_well name reply (inr (damaged folder file is)) good had = subst (λ r. NoFault (found_room r)) (sym is) (λ bad. bad)
-found_well name reply (inr (fault is)) good had = absurd (good is)
-found_well name reply (inr (no_memory is)) good had = absurd (had is)
+never_so : false ≡ true → ⊥
+never_so e = cc
 
-kept_well : (room host writer : ℕ) (log : Bool) (reply : Reply) → FitsCall (SyncDropping room host writer log) reply → reply ≢ reply_of.Fault → reply ≢ reply_of.NoMemory → NoFault (kept reply)
-kept_well room host writer log reply (inl is) good had = subst (λ r. NoFault (kept r)) (sym is) tt
-kept_well room host writer log reply (inr (refused why m is)) good had = subst (λ r. NoFault (kept r)) (sym is) (λ bad. bad)
-kept_well room host writer log reply (inr (damaged folder file is)) good had = subst (λ r. NoFault (kept r)) (sym is) (λ bad. bad)
-kept_well room host writer log reply (inr (fault is)) good had = absurd (good is)
-kept_well room host writer log reply (inr (no_memory is)) good had = absurd (had is)
+-- where the source is judged, it served
+serves : (b : Bool) (reply : Reply) → Serves b reply → b ≡ true → reply ≢ reply_of.Fault
+serves true reply served is = served
+serves false reply served is = absurd (never_so is)
 
-source_fine : (why : Stuck) → FineHere why → EndsInFault (Err (Source why)) → ⊥
-source_fine stuck.Fault fine bad = fine
-source_fine (stuck.Refused why) fine bad = bad
-source_fine (stuck.Damaged folder file place) fine bad = bad
+found_well : (b : Bool) (name : Name) (reply : Reply) → FitsCall (Find name) reply → Serves b reply → reply ≢ reply_of.NoMemory → NoFault b (found_room reply)
+found_well b name reply (inl answer) good had = subst (λ r. NoFault b (found_room r)) (sym answer.1) tt
+found_well b name reply (inr bad) good had = not_there (room_in reply)
+  where
+    not_there : (o : Option ℕ) → NoFault b (or_stuck o (failure reply))
+    not_there None = source_fine b (failure reply) (λ is. failed_fine reply bad (serves b reply good is) had)
+    not_there (Some room) = tt
 
-no_short : (path : Path) (at len : ℕ) (bytes : List ℕ) (b : Bool) → NoFault (if b then Err (Source (damage path (at + length bytes))) else Ok bytes)
-no_short path at len bytes true = λ bad. bad
-no_short path at len bytes false = tt
+kept_well : (b : Bool) (room host writer : ℕ) (log : Bool) (reply : Reply) → FitsCall (SyncDropping room host writer log) reply → Serves b reply → reply ≢ reply_of.NoMemory → NoFault b (kept reply)
+kept_well b room host writer log reply (inl is) good had = subst (λ r. NoFault b (kept r)) (sym is) tt
+kept_well b room host writer log reply (inr bad) good had = not_done (done_in reply)
+  where
+    not_done : (o : Option (Unit {0})) → NoFault b (or_stuck o (failure reply))
+    not_done None = source_fine b (failure reply) (λ is. failed_fine reply bad (serves b reply good is) had)
+    not_done (Some made) = tt
 
-part_well : (path : Path) (at len : ℕ) (reply : Reply) (o : Option (List ℕ)) → GoodHere reply → NoFault (given_part path at len reply o)
-part_well path at len reply None good = source_fine (trouble path reply) (troubled_here path reply good)
-part_well path at len reply (Some bytes) good = no_short path at len bytes (nat_lt (length bytes) len)
+no_short : (b : Bool) (path : Path) (at len : ℕ) (bytes : List ℕ) (test : Bool) → NoFault b (if test then Err (Source (damage path (at + length bytes))) else Ok bytes)
+no_short b path at len bytes true = source_fine b (damage path (at + length bytes)) (λ is. tt)
+no_short b path at len bytes false = tt
+
+part_well : (b : Bool) (path : Path) (at len : ℕ) (reply : Reply) (o : Option (List ℕ)) → (b ≡ true → GoodHere reply) → NoFault b (given_part path at len reply o)
+part_well b path at len reply None good = source_fine b (trouble path reply) (λ is. troubled_here path reply (good is))
+part_well b path at len reply (Some bytes) good = no_short b path at len bytes (nat_lt (length bytes) len)
 
 -- ---- copying
 
-truncs_never : (to : ℕ) (ts : List Trunc) (drained : Drained) → NeverFaults (puts_truncs to ts drained)
-truncs_never to [] drained = λ bad. bad
-truncs_never to (t ∷ ts) drained = λ answer. never_told (trunc_file t) made_or_old (λ made. puts_truncs to ts drained) answer (λ made. truncs_never to ts drained)
+module _ (b : Bool) where
+  -- one that is through ends in none
+  never_end : (to : ℕ) (drained : Drained) → NeverFaults b (puts_truncs to [] drained)
+  never_end to drained = by_side b
+    where
+      by_side : (b : Bool) → EndsInFaultOf b (Ok drained) → ⊥
+      by_side true bad = bad
+      by_side false bad = bad
 
-module _ (next : DrainsOn) (goes : NeverFaults next) (c : Copying) where
-  index_never : (n left : ℕ) → NeverFaults (writes_index next n c left)
-  index_never zero left = λ answer. never_told (index_of c.due) made_now (λ made. next) answer (λ made. goes)
-  index_never (suc n) left = λ answer. never_told (index_of c.due) made_now (λ made. writes_index next n c (left - min left ENTRIES_A_READ)) answer (λ made. index_never n (left - min left ENTRIES_A_READ))
+  truncs_never : (to : ℕ) (ts : List Trunc) (drained : Drained) → NeverFaults b (puts_truncs to ts drained)
+  truncs_never to [] drained = never_end to drained
+  truncs_never to (t ∷ ts) drained = never_told b (trunc_file t) made_or_old (λ made. puts_truncs to ts drained) (λ made. truncs_never to ts drained)
 
-  entries_never : NeverFaults (writes_entries next c)
-  entries_never = index_never (parts_of ENTRIES_A_READ (length c.due.entries)) (length c.due.entries)
+  module _ (next : DrainsOn) (goes : NeverFaults b next) (c : Copying) where
+    index_never : (n left : ℕ) → NeverFaults b (writes_index next n c left)
+    index_never zero left = never_told b (index_of c.due) made_now (λ made. next) (λ made. goes)
+    index_never (suc n) left = never_told b (index_of c.due) made_now (λ made. writes_index next n c (left - min left ENTRIES_A_READ)) (λ made. index_never n (left - min left ENTRIES_A_READ))
 
-  abbrev writes_part : ℕ → ℕ → List ℕ → DrainsOn
-  writes_part n left bytes = acts (write_at c.to (log_of c.due).folder (log_of c.due).file (c.due.bytes - left) bytes) (λ told. on_good (λ made. copies_log next n c (left - min left MAX_PIECE)) (told_well (log_of c.due) made_now told))
+    entries_never : NeverFaults b (writes_entries next c)
+    entries_never = index_never (parts_of ENTRIES_A_READ (length c.due.entries)) (length c.due.entries)
 
-  written : (n left : ℕ) (bytes : List ℕ) → NeverFaults (copies_log next n c (left - min left MAX_PIECE)) → NeverFaults (writes_part n left bytes)
-  written n left bytes more = λ answer. never_told (log_of c.due) made_now (λ made. copies_log next n c (left - min left MAX_PIECE)) answer (λ made. more)
+    abbrev writes_part : ℕ → ℕ → List ℕ → DrainsOn
+    writes_part n left bytes = acts (write_at c.to (log_of c.due).folder (log_of c.due).file (c.due.bytes - left) bytes) (λ told. on_good (λ made. copies_log next n c (left - min left LOG_PART)) (told_well (log_of c.due) made_now told))
 
-  log_never : (n left : ℕ) → NeverFaults (copies_log next n c left)
-  log_never zero left = λ answer. never_told (log_of c.due) made_now (λ made. writes_entries next c) answer (λ made. entries_never)
-  log_never (suc n) left = λ reply fits good had. never_on (writes_part n left) (part_told (log_of c.due) (c.due.bytes - left) (min left MAX_PIECE) reply)
-      (part_well (log_of c.due) (c.due.bytes - left) (min left MAX_PIECE) reply (bytes_in reply) (looked_well c.from (Read (log_of c.due) (c.due.bytes - left) (min left MAX_PIECE)) reply fits good had))
-      (λ bytes. written n left bytes (log_never n (left - min left MAX_PIECE)))
+    written : (n left : ℕ) (bytes : List ℕ) → NeverFaults b (copies_log next n c (left - min left LOG_PART)) → NeverFaults b (writes_part n left bytes)
+    written n left bytes more = never_told b (log_of c.due) made_now (λ made. copies_log next n c (left - min left LOG_PART)) (λ made. more)
 
-  bytes_never : NeverFaults (copies_bytes next c)
-  bytes_never = log_never (parts_of MAX_PIECE (c.due.bytes - c.due.log)) (c.due.bytes - c.due.log)
+    log_never : (n left : ℕ) → NeverFaults b (copies_log next n c left)
+    log_never zero left = never_told b (log_of c.due) made_now (λ made. writes_entries next c) (λ made. entries_never)
+    log_never (suc n) left = λ reply fits good had. never_on b (writes_part n left) (part_told (log_of c.due) (c.due.bytes - left) (min left LOG_PART) reply)
+        (part_well b (log_of c.due) (c.due.bytes - left) (min left LOG_PART) reply (bytes_in reply) (λ is. looked_well c.from (Read (log_of c.due) (c.due.bytes - left) (min left LOG_PART)) reply fits (serves b reply good is) had))
+        (λ bytes. written n left bytes (log_never n (left - min left LOG_PART)))
 
-  log_made : NeverFaults (makes_log next c)
-  log_made = λ answer. never_told (log_of c.due) made_or_old (λ made. copies_bytes next c) answer (λ made. bytes_never)
+    bytes_never : NeverFaults b (copies_bytes next c)
+    bytes_never = log_never (parts_of LOG_PART (c.due.bytes - c.due.log)) (c.due.bytes - c.due.log)
 
-  index_made : NeverFaults (makes_index next c)
-  index_made = λ answer. never_told (index_of c.due) made_or_old (λ made. makes_log next c) answer (λ made. log_made)
+    log_made : NeverFaults b (makes_log next c)
+    log_made = never_told b (log_of c.due) made_or_old (λ made. copies_bytes next c) (λ made. bytes_never)
 
-  host_made : NeverFaults (makes_hostdir next c)
-  host_made = λ answer. never_told (folder_alone (hostdir_of c.due.host)) made_or_old (λ made. makes_index next c) answer (λ made. index_made)
+    index_made : NeverFaults b (makes_index next c)
+    index_made = never_told b (index_of c.due) made_or_old (λ made. makes_log next c) (λ made. log_made)
 
-  writer_never : NeverFaults (copies_writer next c)
-  writer_never = λ answer. never_on (λ made. makes_hostdir next c) (entry_made (entry_of c.due) (Ok answer)) (no_entry (entry_of c.due) answer) (λ made. host_made)
+    host_made : NeverFaults b (makes_hostdir next c)
+    host_made = never_told b (folder_alone (hostdir_of c.due.host)) made_or_old (λ made. makes_index next c) (λ made. index_made)
 
-copies_never : (from to : ℕ) (ts : List Trunc) (drained : Drained) (dues : List Due) → NeverFaults (copies from to ts drained dues)
-copies_never from to ts drained [] = truncs_never to ts drained
-copies_never from to ts drained (due ∷ dues) = writer_never (copies from to ts drained dues) (copies_never from to ts drained dues) (record { from = from; to = to; due = due })
+    writer_never : NeverFaults b (copies_writer next c)
+    writer_never = λ told served had. never_on b (λ made. makes_hostdir next c) (entry_made (entry_of c.due) told) (no_entry b (entry_of c.due) told served had) (λ made. host_made)
 
-marks_never : (job : Job) (marks : ℕ) (ms : List ℕ) → NeverFaults (makes_marks job marks ms)
-marks_never job marks [] = λ answer. never_told (folder_alone []) roomed (copies_to job) answer (λ to. copies_never job.from to job.truncs job.drained job.dues)
-marks_never job marks (m ∷ ms) = λ answer. never_told (mark_path m) made_or_old (λ made. makes_marks job marks ms) answer (λ made. marks_never job marks ms)
+  copies_never : (from to : ℕ) (ts : List Trunc) (drained : Drained) (dues : List Due) → NeverFaults b (copies from to ts drained dues)
+  copies_never from to ts drained [] = truncs_never to ts drained
+  copies_never from to ts drained (due ∷ dues) = writer_never (copies from to ts drained dues) (copies_never from to ts drained dues) (record { from = from; to = to; due = due })
 
-makes_never : (job : Job) (mounts : List ℕ) → NeverFaults (makes_marks_room job mounts)
-makes_never job mounts = λ answer. never_told (folder_alone []) roomed (makes_all_marks job mounts) answer (λ marks. marks_never job marks mounts)
+  marks_never : (job : Job) (marks : ℕ) (ms : List ℕ) → NeverFaults b (makes_marks job marks ms)
+  marks_never job marks [] = never_told b (folder_alone []) roomed (copies_to job) (λ to. copies_never job.from to job.truncs job.drained job.dues)
+  marks_never job marks (m ∷ ms) = never_told b (mark_path m) made_or_old (λ made. makes_marks job marks ms) (λ made. marks_never job marks ms)
 
-second_never : (room : ℕ) (o : Owner) (next : DrainsOn) → NeverFaults next → NeverFaults (syncs_second room o next)
-second_never room o next goes = λ reply fits good had. never_on (λ made. next) (kept reply) (kept_well room o.host o.writer false reply fits good had) (λ made. goes)
+  makes_never : (job : Job) (mounts : List ℕ) → NeverFaults b (makes_marks_room job mounts)
+  makes_never job mounts = never_told b (folder_alone []) roomed (makes_all_marks job mounts) (λ marks. marks_never job marks mounts)
 
-syncs_never : (room : ℕ) (os : List Owner) (next : DrainsOn) → NeverFaults next → NeverFaults (syncs room os next)
-syncs_never room [] next goes = goes
-syncs_never room (o ∷ os) next goes = λ reply fits good had. never_on (λ made. syncs_second room o (syncs room os next)) (kept reply) (kept_well room o.host o.writer true reply fits good had) (λ made. second_never room o (syncs room os next) (syncs_never room os next goes))
+  second_never : (room : ℕ) (o : Owner) (next : DrainsOn) → NeverFaults b next → NeverFaults b (syncs_second room o next)
+  second_never room o next goes = λ reply fits good had. never_on b (λ made. next) (kept reply) (kept_well b room o.host o.writer false reply fits good had) (λ made. goes)
+
+  syncs_never : (room : ℕ) (os : List Owner) (next : DrainsOn) → NeverFaults b next → NeverFaults b (syncs room os next)
+  syncs_never room [] next goes = goes
+  syncs_never room (o ∷ os) next goes = λ reply fits good had. never_on b (λ made. syncs_second room o (syncs room os next)) (kept reply) (kept_well b room o.host o.writer true reply fits good had) (λ made. second_never room o (syncs room os next) (syncs_never room os next goes))
 
 -- ---- reading
 
@@ -232,142 +269,116 @@ abbrev IsRoomLook : Call → Type 0
 IsRoomLook (Look room sight) = Unit {0}
 IsRoomLook call = ⊥
 
-good_look : (call : Call) (reply : Reply) → IsRoomLook call → FitsCall call reply → reply ≢ reply_of.Fault → reply ≢ reply_of.NoMemory → GoodHere reply
-good_look (Look room sight) reply is fits good had = looked_well room sight reply fits good had
-good_look call reply is fits good had = absurd is
+-- the replies that are judged at the side that is told of, and the troubles there
+abbrev Heard : Bool → Reply → Type 0
+Heard true reply = GoodHere reply
+Heard false reply = Unit {0}
 
-source_never : {X : Type 0} (p : Tries X) (next : Result X Stuck → DrainsOn) → AsksOnly IsRoomLook p → IsFineOn GoodHere FineHere (λ folder file place. tt) troubled_here p → ((out : Result X Stuck) → Here out → NeverFaults (next out)) → NeverFaults (on_source p next)
-source_never (done out) next only fine goes = goes out fine
-source_never (ask q k) next only fine goes = λ reply fits good had. source_never (k reply) next (only.1 reply) (fine reply (good_look q reply only.0 fits good had)) goes
+abbrev MayMeet : Bool → Stuck → Type 0
+MayMeet true why = FineHere why
+MayMeet false why = Unit {0}
 
-target_never : {X : Type 0} (p : Tries X) (next : Result X Stuck → DrainsOn) → IsFineOn GoodThere FineThere (λ folder file place. tt) troubled_there p → ((out : Result X Stuck) → There out → NeverFaults (next out)) → NeverFaults (on_target p next)
-target_never (done out) next fine goes = goes out fine
-target_never (ask q k) next fine goes = λ answer. target_never (k (look_reply (Ok answer))) next (fine (look_reply (Ok answer)) (good_there answer)) goes
+heard_hurt : (b : Bool) (folder file : Name) (place : ℕ) → MayMeet b (stuck.Damaged folder file place)
+heard_hurt true folder file place = tt
+heard_hurt false folder file place = tt
 
--- ---- a drain
+heard_trouble : (b : Bool) (path : Path) (reply : Reply) → Heard b reply → MayMeet b (trouble path reply)
+heard_trouble true path reply good = troubled_here path reply good
+heard_trouble false path reply good = tt
 
-taken_never : (held : Held) (ws : List WriterRead) (why : DrainStuck) → taken held ws ≡ Some why → EndsInFault (Err why) → ⊥
-taken_never held [] why is bad = cc
-taken_never held (w ∷ ws) why is bad = elim (cases_Bool (is_taken held w)) as (λ _. ⊥) [
-  | inl there ↦
-      let both : Some (Taken w.writer (count_there held w.writer) w.cover.count) ≡ Some why = sym (cond-true (is_taken held w) (Some (Taken w.writer (count_there held w.writer) w.cover.count)) (taken held ws) there) ∙ is in
-      let same : Taken w.writer (count_there held w.writer) w.cover.count ≡ why = cc in
-      subst (λ d. EndsInFault (Err d)) (sym same) bad
-  | inr free ↦ taken_never held ws why (sym (cond-false (is_taken held w) (Some (Taken w.writer (count_there held w.writer) w.cover.count)) (taken held ws) free) ∙ is) bad
-]
+abbrev HeardThere : Bool → Reply → Type 0
+HeardThere true reply = Unit {0}
+HeardThere false reply = GoodThere reply
 
-gathers_never : (name : Name) (held : Held) (room : ℕ) → NeverFaults (gathers name held room)
-gathers_never name held room =
-    source_never (contained_program (known_at held room)) (if_gathered name held) (contained_only IsRoomLook (λ n sight. tt) (known_at held room))
-    (contained_fine GoodHere FineHere (λ folder file place. tt) troubled_here (known_at held room)) by_out
-  where
-    by_taken : (contained : Contained) (o : Option DrainStuck) → taken held contained.writers ≡ o → NeverFaults (unless_taken o (syncs contained.room (owners_of contained.writers) (makes_marks_room (job_of name held contained) (mounts_of contained.writers))))
-    by_taken contained None is = syncs_never contained.room (owners_of contained.writers) (makes_marks_room (job_of name held contained) (mounts_of contained.writers)) (makes_never (job_of name held contained) (mounts_of contained.writers))
-    by_taken contained (Some why) is = taken_never held contained.writers why is
+abbrev MayMeetThere : Bool → Stuck → Type 0
+MayMeetThere true why = Unit {0}
+MayMeetThere false why = FineThere why
 
-    by_out : (out : Result Contained Stuck) → Here out → NeverFaults (if_gathered name held out)
-    by_out (Err why) fine = source_fine why fine
-    by_out (Ok contained) fine = by_taken contained (taken held contained.writers) refl
+there_hurt : (b : Bool) (folder file : Name) (place : ℕ) → MayMeetThere b (stuck.Damaged folder file place)
+there_hurt true folder file place = tt
+there_hurt false folder file place = tt
 
-finds_never : (name : Name) (held : Held) → NeverFaults (finds_source name held)
-finds_never name held = λ reply fits good had. never_on (gathers name held) (found_room reply) (found_well name reply fits good had) (λ room. gathers_never name held room)
+there_trouble : (b : Bool) (path : Path) (reply : Reply) → HeardThere b reply → MayMeetThere b (trouble path reply)
+there_trouble true path reply good = tt
+there_trouble false path reply good = troubled_there path reply good
 
-drain_never : (name : Name) → NeverFaults (drain_program name)
-drain_never name = λ answer. never_told (folder_alone []) sought (reads_target name) answer by_found
-  where
-    by_held : (out : Result Held Stuck) → There out → NeverFaults (if_held name out)
-    by_held (Err (stuck.Damaged folder file place)) fine = λ bad. bad
-    by_held (Err stuck.Fault) fine = absurd fine
-    by_held (Err (stuck.Refused why)) fine = absurd fine
-    by_held (Ok held) fine = finds_never name held
+good_look : (b : Bool) (call : Call) (reply : Reply) → IsRoomLook call → FitsCall call reply → Serves b reply → reply ≢ reply_of.NoMemory → Heard b reply
+good_look true (Look room sight) reply is fits good had = looked_well room sight reply fits good had
+good_look true call reply is fits good had = absurd is
+good_look false call reply is fits good had = tt
 
-    by_found : (found : Option ℕ) → NeverFaults (reads_target name found)
-    by_found None = finds_never name nothing_held
-    by_found (Some room) = target_never (held_program room) (if_held name) (held_fine GoodThere FineThere (λ folder file place. tt) troubled_there room) by_held
+look_told : (b : Bool) (told : Told) → ServesThere b told → told ≢ Err ToldNoMemory → HeardThere b (look_reply told)
+look_told true told served had = tt
+look_told false (Ok answer) served had = good_there answer
+look_told false (Err ToldFault) served had = absurd (served refl)
+look_told false (Err ToldNoMemory) served had = absurd (had refl)
 
--- ---- the counts
+module _ (b : Bool) where
+  abbrev Here : {X : Type 0} → Result X Stuck → Type 0
+  Here out = EndsFine (Heard b) (MayMeet b) (heard_hurt b) (heard_trouble b) out
 
-risen_before : (a b c : ℕ) → a ≤ b → HasRisen b c → HasRisen a c
-risen_before a b c le (inl lt) = inl (omega (arith, le, lt))
-risen_before a b c le (inr most) = inr most
+  abbrev There : {X : Type 0} → Result X Stuck → Type 0
+  There out = EndsFine (HeardThere b) (MayMeetThere b) (there_hurt b) (there_trouble b) out
 
-risen_after : (a b c : ℕ) → HasRisen a b → b ≤ c → HasRisen a c
-risen_after a b c (inl lt) le = inl (omega (arith, lt, le))
-risen_after a b c (inr most) le = inr (omega (arith, le, most))
+  source_never : {X : Type 0} (p : Tries X) (next : Result X Stuck → DrainsOn) → AsksOnly IsRoomLook p → IsFineOn (Heard b) (MayMeet b) (heard_hurt b) (heard_trouble b) p → ((out : Result X Stuck) → Here out → NeverFaults b (next out)) → NeverFaults b (on_source p next)
+  source_never (done out) next only fine goes = goes out fine
+  source_never (ask q k) next only fine goes = λ reply fits good had. source_never (k reply) next (only.1 reply) (fine reply (good_look b q reply only.0 fits good had)) goes
 
-source_grows : (m : Moment) (store : Stored) (happened : List Happening) → AreMade m store happened → m.state.store.faults ≤ (source_after m happened).state.store.faults
-source_grows m store [] made = omega arith
-source_grows m store (at_source e ∷ rest) made = (let here = (step_causes m.state e.after e.caller e.ask e.reply made.0.1).never_falls in omega (arith, here, source_grows (next_moment m e) store rest made.1))
-source_grows m store (at_target a ∷ rest) made = source_grows m a.after rest made.1
+  target_never : {X : Type 0} (p : Tries X) (next : Result X Stuck → DrainsOn) → IsFineOn (HeardThere b) (MayMeetThere b) (there_hurt b) (there_trouble b) p → ((out : Result X Stuck) → There out → NeverFaults b (next out)) → NeverFaults b (on_target p next)
+  target_never (done out) next fine goes = goes out fine
+  target_never (ask q k) next fine goes = λ told served had. target_never (k (look_reply told)) next (fine (look_reply told) (look_told b told served had)) goes
 
-no_fewer : (a : Act) (store : Stored) (told : Told) → Acts a.step store a.after told → store.faults ≤ a.after.faults
-no_fewer a store (Ok answer) acted = omega (arith, acted.faults)
-no_fewer a store (Err ToldFault) acted = acted.faults
-no_fewer a store (Err ToldNoMemory) acted = (let same : a.after.faults ≡ store.faults = ap (λ (s : Stored). s.faults) acted in omega (arith, same))
+  -- ---- a drain
 
-target_grows : (m : Moment) (store : Stored) (happened : List Happening) → AreMade m store happened → store.faults ≤ (target_after store happened).faults
-target_grows m store [] made = omega arith
-target_grows m store (at_source e ∷ rest) made = target_grows (next_moment m e) store rest made.1
-target_grows m store (at_target a ∷ rest) made = omega (arith, no_fewer a store a.answer made.0, target_grows m a.after rest made.1)
-
-abbrev Risen : Moment → Stored → List Happening → Type 0
-Risen m store happened = HasRisen m.state.store.faults (source_after m happened).state.store.faults ⊎ HasRisen store.faults (target_after store happened).faults
-
-fault_or : (reply : Reply) → (reply ≡ reply_of.Fault) ⊎ (reply ≢ reply_of.Fault)
-fault_or reply_of.Fault = inl refl
-fault_or reply_of.Greeted = inr (λ e. cc)
-fault_or (reply_of.Room room) = inr (λ e. cc)
-fault_or (reply_of.Rooms names) = inr (λ e. cc)
-fault_or (reply_of.Looked told) = inr (λ e. cc)
-fault_or (reply_of.Entered writer) = inr (λ e. cc)
-fault_or (reply_of.Floored floor) = inr (λ e. cc)
-fault_or reply_of.Done = inr (λ e. cc)
-fault_or (reply_of.Wrote stamp) = inr (λ e. cc)
-fault_or (reply_of.Flushed landed) = inr (λ e. cc)
-fault_or (reply_of.Synced landed) = inr (λ e. cc)
-fault_or (reply_of.Holding holder) = inr (λ e. cc)
-fault_or (reply_of.Marked stamp) = inr (λ e. cc)
-fault_or (reply_of.Started flat) = inr (λ e. cc)
-fault_or (reply_of.Mended made) = inr (λ e. cc)
-fault_or reply_of.Stopped = inr (λ e. cc)
-fault_or (reply_of.Refused why) = inr (λ e. cc)
-fault_or (reply_of.Damaged folder file) = inr (λ e. cc)
-fault_or reply_of.NoMemory = inr (λ e. cc)
-
-module _ (caller : ℕ) (outcome : Outcome) (bad : EndsInFault outcome) where
-  pub risen : (p : DrainsOn) (m : Moment) (store : Stored) (happened : List Happening) → NeverFaults p → AreMade m store happened → AllByRecursion (WasServed caller) happened → Drives caller p happened (ends outcome) → Risen m store happened
-  risen p m store [] never made served drives = absurd ((subst NeverFaults (sym drives) never) bad)
-  risen p m store (at_source e ∷ rest) never made served (inl (other, drives)) = source_later m store e rest made (risen p (next_moment m e) store rest never made.1 served.1 drives)
+  taken_never : (held : Held) (ws : List WriterRead) (why : DrainStuck) → taken held ws ≡ Some why → EndsInFaultOf b (Err why) → ⊥
+  taken_never held [] why is bad = cc
+  taken_never held (w ∷ ws) why is bad = elim (cases_Bool (is_taken held w)) as (λ _. ⊥) [
+    | inl there ↦
+        let both : Some (Taken w.writer (count_there held w.writer) w.cover.count) ≡ Some why = sym (cond-true (is_taken held w) (Some (Taken w.writer (count_there held w.writer) w.cover.count)) (taken held ws) there) ∙ is in
+        let same : Taken w.writer (count_there held w.writer) w.cover.count ≡ why = cc in
+        no_taken b w.writer (count_there held w.writer) w.cover.count (subst (λ d. EndsInFaultOf b (Err d)) (sym same) bad)
+    | inr free ↦ taken_never held ws why (sym (cond-false (is_taken held w) (Some (Taken w.writer (count_there held w.writer) w.cover.count)) (taken held ws) free) ∙ is) bad
+  ]
     where
-      source_later : (m : Moment) (store : Stored) (e : Event) (rest : List Happening) → AreMade m store (at_source e ∷ rest) → Risen (next_moment m e) store rest → Risen m store (at_source e ∷ rest)
-      source_later m store e rest made (inl r) = inl (risen_before m.state.store.faults e.after.store.faults _ (step_causes m.state e.after e.caller e.ask e.reply made.0.1).never_falls r)
-      source_later m store e rest made (inr r) = inr r
-  risen (ends out) m store (at_source e ∷ rest) never made served (inr (own, (next, is, drives))) = absurd is
-  risen (acts step k) m store (at_source e ∷ rest) never made served (inr (own, (next, is, drives))) = absurd is
-  risen (calls call k) m store (at_source e ∷ rest) never made served (inr (own, (next, is, drives))) =
-      let causes = step_causes m.state e.after e.caller e.ask e.reply made.0.1 in
-      elim (fault_or e.reply) as (λ _. Risen m store (at_source e ∷ rest)) [
-        | inl told ↦ inl (risen_after m.state.store.faults e.after.store.faults _ (causes.cause told) (source_grows (next_moment m e) store rest made.1))
-        | inr good ↦
-            let fits : FitsCall call e.reply = subst (λ a. FitsAsk a e.reply) is.0 (step_fits m.state e.after e.caller e.ask e.reply made.0.1) in
-            let goes : NeverFaults next = subst NeverFaults (sym is.1) (never e.reply fits good (served.0 own)) in
-            elim (risen next (next_moment m e) store rest goes made.1 served.1 drives) as (λ _. Risen m store (at_source e ∷ rest)) [
-              | inl r ↦ inl (risen_before m.state.store.faults e.after.store.faults _ causes.never_falls r)
-              | inr r ↦ inr r
-            ]
-      ]
-  risen (ends out) m store (at_target a ∷ rest) never made served (next, is, drives) = absurd is
-  risen (calls call k) m store (at_target a ∷ rest) never made served (next, is, drives) = absurd is
-  risen (acts step k) m store (at_target a ∷ rest) never made served (next, is, drives) = by_told a.answer refl made.0 (λ goes. risen next m a.after rest goes made.1 served.1 drives)
+      no_taken : (b : Bool) (writer there here : ℕ) → EndsInFaultOf b (Err (Taken writer there here)) → ⊥
+      no_taken true writer there here bad = bad
+      no_taken false writer there here bad = bad
+
+  gathers_never : (name : Name) (held : Held) (room : ℕ) → NeverFaults b (gathers name held room)
+  gathers_never name held room =
+      source_never (contained_program (known_at held room)) (if_gathered name held) (contained_only IsRoomLook (λ n sight. tt) (known_at held room))
+      (contained_fine (Heard b) (MayMeet b) (heard_hurt b) (heard_trouble b) (known_at held room)) by_out
     where
-      later : Risen m a.after rest → Risen m store (at_target a ∷ rest)
-      later (inl r) = inl r
-      later (inr r) = inr (risen_before store.faults a.after.faults _ (no_fewer a store a.answer made.0) r)
+      by_taken : (contained : Contained) (o : Option DrainStuck) → taken held contained.writers ≡ o → NeverFaults b (unless_taken o (syncs contained.room (owners_of contained.writers) (makes_marks_room (job_of name held contained) (mounts_of contained.writers))))
+      by_taken contained None is = syncs_never b contained.room (owners_of contained.writers) (makes_marks_room (job_of name held contained) (mounts_of contained.writers)) (makes_never b (job_of name held contained) (mounts_of contained.writers))
+      by_taken contained (Some why) is = taken_never held contained.writers why is
 
-      by_told : (told : Told) → a.answer ≡ told → Acts a.step store a.after told → (NeverFaults next → Risen m a.after rest) → Risen m store (at_target a ∷ rest)
-      by_told (Ok answer) is_so acted more = later (more (subst NeverFaults (sym (is.1 ∙ ap k is_so)) (never answer)))
-      by_told (Err ToldFault) is_so acted more = inr (risen_after store.faults a.after.faults _ acted.cause (target_grows m a.after rest made.1))
-      by_told (Err ToldNoMemory) is_so acted more = absurd (served.0 is_so)
+      told_fine : (b : Bool) (why : Stuck) → MayMeet b why → b ≡ true → FineHere why
+      told_fine true why fine is = fine
+      told_fine false why fine is = absurd (never_so is)
 
-pub fault_risen : (caller : ℕ) (name : Name) (m : Moment) (store : Stored) (happened : List Happening) (outcome : Outcome) → AreMade m store happened → AllByRecursion (WasServed caller) happened → Drives caller (drain_program name) happened (ends outcome) → EndsInFault outcome → Risen m store happened
-fault_risen caller name m store happened outcome made served drives bad = risen caller outcome bad (drain_program name) m store happened (drain_never name) made served drives
+      by_out : (out : Result Contained Stuck) → Here out → NeverFaults b (if_gathered name held out)
+      by_out (Err why) fine = source_fine b why (told_fine b why fine)
+      by_out (Ok contained) fine = by_taken contained (taken held contained.writers) refl
+
+  finds_never : (name : Name) (held : Held) → NeverFaults b (finds_source name held)
+  finds_never name held = λ reply fits good had. never_on b (gathers name held) (found_room reply) (found_well b name reply fits good had) (λ room. gathers_never name held room)
+
+  pub drain_never : (name : Name) → NeverFaults b (drain_program name)
+  drain_never name = never_told b (folder_alone []) sought (reads_target name) by_found
+    where
+      not_there : (b : Bool) (why : Stuck) → MayMeetThere b why → EndsInFaultOf b (Err (stuck_there why)) → ⊥
+      not_there true stuck.Fault fine bad = bad
+      not_there true (stuck.Damaged folder file place) fine bad = bad
+      not_there true (stuck.Refused why) fine bad = bad
+      not_there false (stuck.Damaged folder file place) fine bad = bad
+      not_there false stuck.Fault fine bad = fine
+      not_there false (stuck.Refused why) fine bad = fine
+
+      by_held : (out : Result Held Stuck) → There out → NeverFaults b (if_held name out)
+      by_held (Err why) fine = not_there b why fine
+      by_held (Ok held) fine = finds_never name held
+
+      by_found : (found : Option ℕ) → NeverFaults b (reads_target name found)
+      by_found None = finds_never name nothing_held
+      by_found (Some room) = target_never (held_program room) (if_held name) (held_fine (HeardThere b) (MayMeetThere b) (there_hurt b) (there_trouble b) room) by_held

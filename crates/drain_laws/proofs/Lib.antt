@@ -8,3 +8,4 @@ mod FineLemmas
 mod LooksLemmas
 mod Planning
 mod Reading
+mod RisenLemmas

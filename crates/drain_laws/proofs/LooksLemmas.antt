@@ -2,7 +2,7 @@
 use Rattle.std.proofs.Common.{ℕ, zero, suc, ◌-◌, ◌*◌, ◌/◌, nat_le, nat_lt, Bool, true, false, min, List, [], ◌∷◌, ◌++◌, length, Option, Some, None}
 use Rattle.std.specs.Prelude.{Result, Ok, Err, if◌then◌else◌}
 use Rattle.plfs_types.specs.declared.entries.Trunc.{Trunc}
-use Rattle.plfs_types.specs.declared.limits.TheConstants.{ENTRIES_A_READ, MAX_PIECE}
+use Rattle.plfs_types.specs.declared.limits.TheConstants.{ENTRIES_A_READ}
 use Rattle.container_layout.specs.Paths.{hostdir_of}
 use Rattle.store_api.specs.Step.{write_at}
 use Rattle.mount_model.specs.declared.call.Call.{Call}
@@ -33,6 +33,7 @@ use Rattle.drain_read.specs.declared.read.WriterRead.{WriterRead}
 use Rattle.drain_read.specs.Reading.{contained_program, contains, read_as, reads_all, reads_listed}
 use Rattle.drain_copy.specs.declared.outcome.Drained.{Drained}
 use Rattle.drain_copy.specs.declared.outcome.DrainStuck.{DrainStuck}
+use Rattle.drain_copy.specs.declared.parts.TheConstants.{LOG_PART}
 use Rattle.drain_copy.specs.declared.plan.Copying.{Copying}
 use Rattle.drain_copy.specs.declared.plan.Due.{Due}
 use Rattle.drain_copy.specs.declared.plan.Job.{Job}
@@ -139,20 +140,20 @@ module _ (these : Call → Type 0) (looks : (room : ℕ) (sight : Sight) → the
     entries_only = index_only (parts_of ENTRIES_A_READ (length c.due.entries)) (length c.due.entries)
 
     abbrev writes_part : ℕ → ℕ → List ℕ → DrainsOn
-    writes_part n left bytes = acts (write_at c.to (log_of c.due).folder (log_of c.due).file (c.due.bytes - left) bytes) (λ told. on_good (λ made. copies_log next n c (left - min left MAX_PIECE)) (told_well (log_of c.due) made_now told))
+    writes_part n left bytes = acts (write_at c.to (log_of c.due).folder (log_of c.due).file (c.due.bytes - left) bytes) (λ told. on_good (λ made. copies_log next n c (left - min left LOG_PART)) (told_well (log_of c.due) made_now told))
 
-    written : (n left : ℕ) (bytes : List ℕ) → CallsOnly these (copies_log next n c (left - min left MAX_PIECE)) → CallsOnly these (writes_part n left bytes)
-    written n left bytes more = λ told. only_on (λ made. copies_log next n c (left - min left MAX_PIECE)) (told_well (log_of c.due) made_now told) (λ made. more)
+    written : (n left : ℕ) (bytes : List ℕ) → CallsOnly these (copies_log next n c (left - min left LOG_PART)) → CallsOnly these (writes_part n left bytes)
+    written n left bytes more = λ told. only_on (λ made. copies_log next n c (left - min left LOG_PART)) (told_well (log_of c.due) made_now told) (λ made. more)
 
     copied_only : (n left : ℕ) → CallsOnly these (copies_log next n c left)
     copied_only zero left = λ told. only_on (λ made. writes_entries next c) (told_well (log_of c.due) made_now told) (λ made. entries_only)
     copied_only (suc n) left = (
       looks c.from _,
-      λ reply. only_on (writes_part n left) (part_told (log_of c.due) (c.due.bytes - left) (min left MAX_PIECE) reply) (λ bytes. written n left bytes (copied_only n (left - min left MAX_PIECE))),
+      λ reply. only_on (writes_part n left) (part_told (log_of c.due) (c.due.bytes - left) (min left LOG_PART) reply) (λ bytes. written n left bytes (copied_only n (left - min left LOG_PART))),
     )
 
     bytes_only : CallsOnly these (copies_bytes next c)
-    bytes_only = copied_only (parts_of MAX_PIECE (c.due.bytes - c.due.log)) (c.due.bytes - c.due.log)
+    bytes_only = copied_only (parts_of LOG_PART (c.due.bytes - c.due.log)) (c.due.bytes - c.due.log)
 
     log_made : CallsOnly these (makes_log next c)
     log_made = λ told. only_on (λ made. copies_bytes next c) (told_well (log_of c.due) made_or_old told) (λ made. bytes_only)

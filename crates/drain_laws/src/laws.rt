@@ -7,10 +7,11 @@ ghost use Rattle.store_api.specs.Acts.{Stored};
 ghost use Rattle.mount_model.specs.Paths.{Name};
 ghost use Rattle.mount_model.specs.State.{State};
 ghost use Rattle.mount_sound.specs.Sound.{IsFine};
+ghost use Rattle.flow.specs.declared.stuck.Stuck.TheVariants.{Fault};
 ghost use Rattle.gathering.specs.Moments.{Moment, IsSoundAt};
 ghost use Rattle.drain_copy.specs.declared.outcome.Drained.{Drained};
 ghost use Rattle.drain_copy.specs.declared.outcome.DrainStuck.{DrainStuck};
-ghost use Rattle.drain_copy.specs.declared.outcome.DrainStuck.TheVariants.{Taken, TargetDamaged};
+ghost use Rattle.drain_copy.specs.declared.outcome.DrainStuck.TheVariants.{Source, Taken, TargetDamaged, TargetFault};
 ghost use Rattle.drain_copy.specs.Asking.{ends};
 ghost use Rattle.drain_copy.specs.Draining.{drain_program};
 ghost use Rattle.drain_copy.specs.Planning.{nothing_drained};
@@ -39,6 +40,15 @@ pub fn a_drain_is_always_allowed()
 pub fn a_fault_of_a_drain_is_a_stores()
     ensures { (caller : ℕ) (name : Name) (source : Moment) (store : Stored) (happened : List Happening) (outcome : Outcome) → AreMade source store happened → AllByRecursion (WasServed caller) happened → Drives caller (drain_program name) happened (ends outcome) → EndsInFault outcome
         → HasRisen source.state.store.faults (source_after source happened).state.store.faults ⊎ HasRisen store.faults (target_after store happened).faults }
+{}
+
+/// A law: it ends in a fault of its source only where the source's count rose meanwhile, and in one of its target only where the
+/// target's did. So a fault of the target is told only where an act there answered that.
+pub fn a_fault_is_told_of_the_store_that_failed()
+    ensures source { (caller : ℕ) (name : Name) (source : Moment) (store : Stored) (happened : List Happening) → AreMade source store happened → AllByRecursion (WasServed caller) happened → Drives caller (drain_program name) happened (ends (Err (Source Fault)))
+        → HasRisen source.state.store.faults (source_after source happened).state.store.faults }
+    ensures target { (caller : ℕ) (name : Name) (source : Moment) (store : Stored) (happened : List Happening) → AreMade source store happened → AllByRecursion (WasServed caller) happened → Drives caller (drain_program name) happened (ends (Err TargetFault))
+        → HasRisen store.faults (target_after store happened).faults }
 {}
 
 /// A law: who drives a drain over a target asks it for steps of a drain alone, whatever is replied and told, wherever it ends and

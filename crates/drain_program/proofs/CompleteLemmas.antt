@@ -22,9 +22,9 @@ use Rattle.outcomes.specs.Outcomes.{stuck_outcome}
 use Rattle.script_lang.specs.declared.line.Outcome.{Outcome}
 use Rattle.script_lang.specs.declared.line.Outcome.TheVariants.{Damaged, Fault, Refused}
 use Rattle.script_lang.specs.declared.line.Why.TheVariants.{MountsSpent}
-use Rattle.plfs_program.specs.Complete.{IsDone}
-use Rattle.plfs_program.specs.Ends.{Ends}
-use Rattle.plfs_program.specs.Mounting.{AreWhy, listed_marks, unmounted_of}
+use Rattle.program_ends.specs.Outcomes.{IsDone}
+use Rattle.program_ends.specs.Ends.{Ends}
+use Rattle.program_ends.specs.Mounting.{AreWhy, listed_marks, unmounted_of}
 use Rattle.drain_copy.specs.declared.outcome.DrainStuck.{DrainStuck}
 use Rattle.drain_copy.specs.Asking.{ends}
 use Rattle.drain_sound.specs.Draining.{Happening, at_source, at_target}

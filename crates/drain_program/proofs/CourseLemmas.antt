@@ -20,11 +20,11 @@ use Rattle.run_core.specs.Leading.{GoesOn}
 use Rattle.script_lang.specs.declared.line.Outcome.{Outcome}
 use Rattle.script_lang.specs.declared.line.Outcome.TheVariants.{Damaged, Fault, Refused}
 use Rattle.script_lang.specs.declared.line.Why.TheVariants.{MountsSpent}
-use Rattle.plfs_program.specs.Calling.{broke_off as not_mounted, ran}
-use Rattle.plfs_program.specs.Ends.{Ends}
-use Rattle.plfs_program.specs.Mounting.{unmounted_of}
-use Rattle.plfs_program.specs.SoundTrees.{LeavesSoundTree, TellsSoundTree}
-use Rattle.plfs_program.proofs.Facts.{FailingLeavesSound, all_leave_sound, was_run}
+use Rattle.program_ends.specs.Leaving.{broke_off as not_mounted, ran}
+use Rattle.program_ends.specs.Ends.{Ends}
+use Rattle.program_ends.specs.Mounting.{unmounted_of}
+use Rattle.program_ends.specs.SoundTrees.{LeavesSoundTree, TellsSoundTree}
+use Rattle.program_ends.proofs.Facts.{FailingLeavesSound, all_leave_sound, was_run}
 use Rattle.drain_copy.specs.declared.outcome.Drained.{Drained}
 use Rattle.drain_copy.specs.declared.outcome.DrainStuck.{DrainStuck}
 use Rattle.drain_copy.specs.declared.outcome.DrainStuck.TheVariants.{Source, Taken, TargetDamaged, TargetFault}

@@ -25,7 +25,7 @@ use Rattle.mount_model.specs.Paths.{marks_folder, marks_name}
 use Rattle.mount_shape.specs.Container.{IsContainer}
 use Rattle.mount_shape.specs.Marks.{IsMarksRoom, IsOfMark}
 use Rattle.mount_sound.specs.Sound.{IsSoundTree}
-use Rattle.plfs_program.specs.Mounting.{AreDamagedAt, listed_in, listed_marks, listed_or_none}
+use Rattle.program_ends.specs.Mounting.{AreDamagedAt, listed_in, listed_marks, listed_or_none}
 
 -- ---- the room of the marks
 

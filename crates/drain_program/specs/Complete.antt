@@ -6,8 +6,8 @@ use Rattle.store_api.specs.Acts.{Stored}
 use Rattle.mount_model.specs.Mounting.{IsMounted}
 use Rattle.mount_model.specs.Paths.{Name}
 use Rattle.gathering.specs.Moments.{IsSoundAt, Moment}
-use Rattle.plfs_program.specs.Ends.{Ends}
-use Rattle.plfs_program.specs.Mounting.{AreSpent, listed_marks}
+use Rattle.program_ends.specs.Ends.{Ends}
+use Rattle.program_ends.specs.Mounting.{AreSpent, listed_marks}
 use Rattle.drain_sound.specs.Draining.{Happening}
 use Rattle.drain_laws.specs.Ending.{IsTaken}
 use Rattle.drain_program.specs.Targets.{LacksContainer}

@@ -11,11 +11,11 @@ use Rattle.mount_model.specs.Paths.{Name}
 use Rattle.mount_model.specs.State.{State}
 use Rattle.script_lang.specs.declared.line.Outcome.{Outcome}
 use Rattle.script_lang.specs.declared.line.Outcome.TheVariants.{Fault}
-use Rattle.plfs_program.specs.Course.{usage_line}
-use Rattle.plfs_program.specs.Ends.{Ends, IsSaid, IsUntouched}
-use Rattle.plfs_program.specs.Migrating.{IsReported}
-use Rattle.plfs_program.specs.Mounting.{unmounted_of}
-use Rattle.plfs_program.specs.Output.{IsCutOff, IsPrinted}
+use Rattle.program_ends.specs.Usage.{usage_line}
+use Rattle.program_ends.specs.Ends.{Ends, IsSaid, IsUntouched}
+use Rattle.program_ends.specs.Reported.{IsReported}
+use Rattle.program_ends.specs.Mounting.{unmounted_of}
+use Rattle.program_ends.specs.Output.{IsCutOff, IsPrinted}
 use Rattle.drain_copy.specs.declared.outcome.Drained.{Drained}
 use Rattle.drain_copy.specs.declared.outcome.DrainStuck.{DrainStuck}
 use Rattle.drain_copy.specs.Asking.{ends}

@@ -5,8 +5,8 @@ use Rattle.script_lang.specs.declared.line.Outcome.{Outcome}
 use Rattle.script_lang.specs.declared.line.Outcome.TheVariants.{Damaged, Fault}
 use Rattle.report_text.specs.Text.{text_of}
 use Rattle.outcomes.specs.Outcomes.{stuck_outcome}
-use Rattle.plfs_program.specs.Migrating.{line_zero}
-use Rattle.plfs_program.specs.Outcomes.{status_of}
+use Rattle.program_ends.specs.Reported.{line_zero}
+use Rattle.program_ends.specs.Outcomes.{status_of}
 use Rattle.drain_copy.specs.declared.outcome.Drained.{Drained}
 use Rattle.drain_copy.specs.declared.outcome.DrainStuck.{DrainStuck}
 use Rattle.drain_copy.specs.declared.outcome.DrainStuck.TheVariants.{Source, Taken, TargetDamaged, TargetFault}

@@ -2,7 +2,7 @@
 ghost use Rattle.std.specs.Prelude.{◌≡◌, ◌∷◌, [], Err, IfOk};
 ghost use Rattle.mount_sound.specs.Sound.{IsFine};
 ghost use Rattle.report_text.specs.Text.{HaveText};
-ghost use Rattle.plfs_program.specs.Migrating.{IsReported, line_zero};
+ghost use Rattle.program_ends.specs.Reported.{IsReported, line_zero};
 ghost use Rattle.drain_program.specs.Course.{DrainsOver};
 ghost use Rattle.drain_program.specs.Reporting.{drain_status as status_of, drain_text as text_of, drained_line as drained_line_of, had, report_of, taken_line as taken_line_of, went_on, wrote};
 
@@ -11,8 +11,8 @@ use drain_copy::{DrainStuck, Drained};
 use edge_io::{Clock, Sink};
 use mount_core::Mount;
 use outcomes::stuck_outcome;
-use plfs_program::{push_number, say_line, say_text};
 use plfs_types::{LogicalName, NoMemory};
+use program_ends::{push_number, say_line, say_text};
 use script_lang::{Line, Outcome};
 use std::alloc::Global;
 use store_api::Store;

@@ -5,9 +5,9 @@ ghost use Rattle.plfs_types.specs.Names.{IsLogicalName};
 ghost use Rattle.store_api.specs.declared.tree.Tree.{Tree};
 ghost use Rattle.store_api.specs.Acts.{Stored};
 ghost use Rattle.mount_model.specs.Paths.{Name};
-ghost use Rattle.plfs_program.specs.Complete.{IsDone};
-ghost use Rattle.plfs_program.specs.Ends.{ends_of};
-ghost use Rattle.plfs_program.specs.SoundTrees.{LeavesSoundTree, TellsSoundTree};
+ghost use Rattle.program_ends.specs.Outcomes.{IsDone};
+ghost use Rattle.program_ends.specs.Ends.{ends_of};
+ghost use Rattle.program_ends.specs.SoundTrees.{LeavesSoundTree, TellsSoundTree};
 ghost use Rattle.drain_laws.specs.Ending.{HasOpenhosts};
 ghost use Rattle.drain_laws.specs.Keeping.{IsLeftOf};
 ghost use Rattle.drain_program.specs.Complete.{HadNoTrouble, WhyRefused};
@@ -30,8 +30,8 @@ use drain_sound::{
 use edge_io::{Clock, Sink};
 use mount_core::Mount;
 use mount_sound::a_failed_mounting_leaves_a_sound_tree;
-use plfs_program::{USAGE, marks_are_why, say, say_unmounted};
 use plfs_types::{LogicalName, Word};
+use program_ends::{USAGE, marks_are_why, say, say_unmounted};
 use std::alloc::Global;
 use store_api::Store;
 

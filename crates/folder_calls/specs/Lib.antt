@@ -2,6 +2,7 @@ pub mod Doubts
 pub mod Calls
 pub mod Syncs
 pub mod Keys
+pub mod Limits
 pub mod Kinds
 pub mod Noted
 pub mod OpenFiles

@@ -1,5 +1,5 @@
 //! The files that are open: those that were used last, each with its length.
-ghost use Rattle.std.specs.Prelude.{◌≡◌, ◌⊎◌, [], length, true, None, Some, IfOk, IfErr, if◌then◌else◌};
+ghost use Rattle.std.specs.Prelude.{◌≡◌, ◌⊎◌, [], length, max, true, None, Some, IfOk, IfErr, if◌then◌else◌};
 ghost use Rattle.std.specs.List.{IsDistinct};
 ghost use Rattle.std.specs.Map.{keys_of, remove_entry};
 ghost use Rattle.lru.specs.LruCache.{lru_cache, put_entries};
@@ -13,9 +13,6 @@ use plfs_types::Name;
 use std::alloc::Global;
 use std::hash::{Hash, Hasher};
 use std::num::NonZeroUsize;
-
-/// The most files that are open between two acts.
-const MOST_OPEN: usize = 256;
 
 /// A file by the number of its room, its folder, which is empty at the top, and its name.
 /// A room's number stays as it is renamed, and so does the key.
@@ -71,12 +68,12 @@ pub struct OpenFiles<F> {
 }
 
 impl<F: Drop> OpenFiles<F> {
-    /// No open file.
-    pub fn new(alloc: Global) -> Result<Self, Failure>
-        ensures empty { IfOk result (λ none. none.files ≡ lru_cache [] MOST_OPEN) }
+    /// No open file, and place for so many of them between two acts, for one at least.
+    pub fn new(alloc: Global, most: u64) -> Result<Self, Failure>
+        ensures empty { IfOk result (λ none. none.files ≡ lru_cache [] (max most 1)) }
         ensures memory { IfErr result (λ failure. failure ≡ Failure.NoMemory) }
     {
-        let most = NonZeroUsize::new(MOST_OPEN).unwrap_or(NonZeroUsize::MIN);
+        let most = NonZeroUsize::new(most as usize).unwrap_or(NonZeroUsize::MIN);
         Ok(OpenFiles {
             files: LruCache::sparse(alloc, most)?,
         })

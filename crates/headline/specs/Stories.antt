@@ -1,32 +1,40 @@
 -- A story that fits a run: which container each line speaks of.
-use Rattle.std.specs.Prelude.{ℕ}
+use Rattle.std.specs.Prelude.{◌≡◌, ℕ, Some}
 use Rattle.container_layout.specs.declared.items.Item.TheVariants.{OpenHost}
-use Rattle.headline.specs.Run.{IsLine, Run, Told, told}
+use Rattle.script_lang.specs.declared.line.Outcome.TheVariants.{Closed}
+use Rattle.headline.specs.Run.{IsLine, Run, Says, Told, told}
 use Rattle.headline.specs.Trees.{Has}
 use Rattle.headline.specs.Writers.{Writer}
 use Rattle.headline.specs.Names.{Story}
 use Rattle.headline.specs.Views.{IsWriter}
-use Rattle.headline.specs.Left.{IsLeft, StaysOpen}
+use Rattle.headline.specs.Changes.{writer_at}
+use Rattle.headline.specs.Left.{HasLeft, IsLeft, StaysOpen}
 use Rattle.headline.specs.Opened.{HasOpened}
 use Rattle.headline.specs.Contents.{HasContents}
 use Rattle.headline.specs.Refusals.{HasRefusals}
 use Rattle.headline.specs.Readers.{HasNames, HasOld, HasReaders}
+use Rattle.headline.specs.Stats.{HasStats}
 use Rattle.headline.specs.Truncated.{HasTruncated}
 use Rattle.headline.specs.Flattened.{HasFlattened}
+use Rattle.headline.specs.Listed.{HasListed}
 
 -- The containers that it says have the names by which the lines speak of them, and the files of the writers that lines opened. Their readers see what was told
--- before, and what the tree before had: each one plain file, of the first writes that the lines tell of each writer. Refusals of a reader's
--- statements have their causes. The tree after has the first writes of each writer, as many as the lines allow, and all of its bytes.
--- A writer that its actor has at the end is open there still. A truncate cuts all that had landed, and nothing that is written after it.
--- What was flattened stands.
+-- before, and what the tree before had: each one plain file, of the first writes that the lines tell of each writer. What is told of a file is that of
+-- such a plain file. Refusals of a reader's statements have their causes. The tree after has the first writes of each writer, as many as the lines allow,
+-- and all of its bytes. A writer that was closed has left, with metadata of all that it wrote. One that its actor has at the end is open there still.
+-- A truncate cuts all that had landed, and nothing that is written after it.
+-- What was flattened stands. No name is missing of those that are listed.
 pub record Fits (run : Run) (story : Story) : Type 0 where
   pub names : HasNames run story
   pub opened : HasOpened run story
   pub readers : HasReaders run story
   pub old : HasOld run story
   pub contents : HasContents run story
+  pub stats : HasStats run story
   pub truncated : HasTruncated run story
   pub flattened : HasFlattened run story
+  pub listed : HasListed run
   pub refusals : HasRefusals run
   pub left : (n : ℕ) (w : Writer) → IsWriter run story n (told run) (told run) w → IsLeft run n w
+  pub closed : (t : Told) (count n : ℕ) (w : Writer) → Says run t (Closed count) → writer_at run t ≡ Some w.id → IsWriter run story n (told run) (told run) w → HasLeft run n w
   pub kept : (t : Told) (n : ℕ) (w : Writer) → IsLine run t → StaysOpen run t w.id → IsWriter run story n (told run) (told run) w → Has run.after n (OpenHost w.host w.id)

@@ -1,6 +1,7 @@
 -- What the file of a reader's line consists of: the first writes of each writer, as the lines tell them.
 pub mod Above
 pub mod Accounts
+pub mod Amounts
 pub mod Answered
 pub mod Bounds
 pub mod Counted
@@ -11,6 +12,8 @@ pub mod Issues
 pub mod Least
 pub mod LineBounds
 pub mod OpenedWriter
+pub mod Shares
+pub mod Stats
 pub mod Unwritten
 pub mod WriterLine
 pub mod Written

@@ -8,6 +8,7 @@ pub mod Counting
 pub mod Cuts
 pub mod Folded
 pub mod Lasting
+pub mod Gone
 pub mod Leaving
 pub mod Machines
 pub mod Numbers

@@ -1,4 +1,5 @@
 -- The lines of a run are orderly.
+pub mod AnswerSteps
 pub mod Answering
 pub mod Causes
 pub mod Numbering

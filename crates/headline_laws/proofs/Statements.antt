@@ -2,6 +2,7 @@
 pub mod Again
 pub mod Chains
 pub mod Did
+pub mod DidByName
 pub mod Does
 pub mod Ends
 pub mod Handles

@@ -3,6 +3,7 @@ pub mod Apart
 pub mod Attributed
 pub mod Entered
 pub mod Lines
+pub mod Listing
 pub mod Named
 pub mod OneOpener
 pub mod Opened

@@ -5,7 +5,6 @@ use Rattle.plfs_types.specs.declared.entries.Trunc.{Trunc}
 use Rattle.turn_object.specs.Callers.{made_by}
 use Rattle.mount_model.specs.History.{Event, state_after}
 use Rattle.mount_model.specs.Paths.{Name}
-use Rattle.mount_model.specs.State.{State}
 use Rattle.mount_sound.specs.Owed.{IsLawful}
 use Rattle.mount_sound.proofs.Facts.{lawful_first}
 use Rattle.flow.specs.declared.stuck.Stuck.{Stuck}
@@ -25,9 +24,9 @@ use Rattle.reader_laws.specs.Failing.{FailsByStore, FailsOrLacks}
 use Rattle.reader_laws.specs.Opened.{HasOpenedIn}
 use Rattle.reader_laws.specs.Opening.{Lists, shares_of}
 use Rattle.reader_laws.proofs.Facts.{fails_first, fails_rest, listing_fails, shares_fail, truncates_fail}
-use Rattle.play_laws.proofs.Facts.{ReadAll, ShareFailed, alone_opened, dealt_listed, read_alone, runs_more}
 use Rattle.opening_flow.specs.Opening.{opening_program, opens, reads_as}
 use Rattle.opening_laws.specs.Ending.{OpeningEnds}
+use Rattle.sharing_laws.proofs.Facts.{ReadAll, ShareFailed, alone_opened, dealt_listed, read_alone, runs_more}
 
 abbrev all_read : Listing → List Share → List Trunc → AllRead
 all_read listing shares truncs = record { listed = listing; shares = shares; truncs = truncs }

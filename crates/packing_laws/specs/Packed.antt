@@ -7,7 +7,7 @@ use Rattle.mount_sound.specs.Ledger.{Written}
 use Rattle.mount_sound.specs.Owed.{IsLawful}
 use Rattle.unit_format.specs.Units.{unit_size, unit_spelling}
 use Rattle.gathering.specs.Moments.{Dropping, Moment, moment_after}
-use Rattle.play_laws.specs.Opening.{IsRoomNamed}
+use Rattle.reader_laws.specs.Naming.{IsRoomNamed}
 use Rattle.pack_input.specs.declared.files.NamedFile.{NamedFile}
 use Rattle.pack_laws.specs.Scanned.{region_start, region_stop}
 use Rattle.pack_puts.specs.Putting.{small_file}

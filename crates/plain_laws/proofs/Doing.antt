@@ -182,6 +182,14 @@ module _ (me w : ℕ) where
           total = omega arith;
         }
 
+    -- it doesn't ask the clock
+    pub flush_times : (n : ℕ) → Answers old me (Flush w) (Flushed n) new → new.times ≡ old.times
+    flush_times n a = same row.pending.entries (its_row (only stage.Open) row old (Flushed n) new (λ r. FlushesRow r r.pending.entries old (Flushed n) new) h.has h.is_open a)
+      where
+        same : (es : List Entry) → FlushesRow row es old (Flushed n) new → new.times ≡ old.times
+        same [] f = ap (λ (s : State). s.times) f.1
+        same (first ∷ rest) m = ap (λ (s : State). s.times) m.after
+
     -- what a write leaves: its entry waits
     pub record WroteOne (at : ℕ) (block : List ℕ) (stamp : ℕ) : Type 0 where
       pub time : ℕ
@@ -189,6 +197,7 @@ module _ (me w : ℕ) where
       pub ticks : Ticks old.times times time
       pub is : stamp ≡ stamp_at time row
       pub now : HasOpen me w (wrote stamp row at (length block)) new
+      pub left : new.times ≡ times
 
     pub write_does : (at : ℕ) (block : List ℕ) (stamp : ℕ) → Answers old me (Write w at block) (Wrote stamp) new → WroteOne at block stamp
     write_does at block stamp a =
@@ -203,6 +212,7 @@ module _ (me w : ℕ) where
                 ticks = x.ticks;
                 is = made.1;
                 now = subst (λ n. HasOpen me w (wrote n row at (length block)) new) (sym made.1) (record { has = put_row row (wrote (stamp_at x.time row) row at (length block)) old new h.has refl refl (ap (λ (s : State). s.table) x.makes.after ∙ made.0); is_open = h.is_open });
+                left = ap (λ (s : State). s.times) x.makes.after;
               }
         ]
 

@@ -98,7 +98,7 @@ made_there m me name room event s s2 a =
     ]
 
 module _ (m : Moment) (s : IsSoundAt m) (room : ℕ) (had : IsContainerAt room m) where
-  its_room : (r : RoomThere) × (slice_get s.shape.tree.rooms room ≡ Some r) × (file_at r access_path ≡ Some had.bytes)
+  pub its_room : (r : RoomThere) × (slice_get s.shape.tree.rooms room ≡ Some r) × (file_at r access_path ≡ Some had.bytes)
   its_room = in_a_room (slice_get s.shape.tree.rooms room) access_path had.bytes (in_tree m s room access_path had.bytes had.there)
 
   pub has_room : LacksRoom s.shape.tree room → ⊥
@@ -107,7 +107,7 @@ module _ (m : Moment) (s : IsSoundAt m) (room : ℕ) (had : IsContainerAt room m
   no_mark : [] ≡ marks_folder → ⊥
   no_mark clash = elsewhere (ap (λ (l : List ℕ). get_or l 0 0) clash) refl
 
-  not_marks : room ≡ m.state.marks → ⊥
+  pub not_marks : room ≡ m.state.marks → ⊥
   not_marks same =
       let both : Some its_room.0 ≡ Some s.shape.marks = sym its_room.1 ∙ ap (λ n. slice_get s.shape.tree.rooms n) same ∙ s.shape.has_marks in
       let one : its_room.0 ≡ s.shape.marks = cc in
@@ -129,7 +129,7 @@ module _ (m : Moment) (s : IsSoundAt m) (room : ℕ) (had : IsContainerAt room m
 undrawn : (mount serial last id next : ℕ) → serial ≤ last → id ≡ mount * 2 ^ 32 + serial → next ≡ mount * 2 ^ 32 + (last + 1) → nat_eq id next ≡ false
 undrawn mount serial last id next l e f = let away : id ≡ next → ⊥ = λ s. omega arith in grind (arith, nat_tests)
 
-never_drawn : (old : State) (rows : List Row) → All (λ (row : Row). IsDrawn old row.id) rows → row_of (next_id old) rows ≡ None
+pub never_drawn : (old : State) (rows : List Row) → All (λ (row : Row). IsDrawn old row.id) rows → row_of (next_id old) rows ≡ None
 never_drawn old [] a = refl
 never_drawn old (r ∷ rows) a =
     let d : IsDrawn old r.id = All-head (λ (row : Row). IsDrawn old row.id) r rows a in

@@ -10,3 +10,4 @@ mod Sparing
 mod Having
 mod Plainly
 mod WritingPlainly
+mod Steps

@@ -63,7 +63,7 @@ module _ (me w cap : ℕ) where
         | inr (why, told, reason) ↦ not_none me w (only stage.Housed) row r.mid.state why _ r.holds at reason
       ]
 
-  hostdir_ends : (events : List Event) (m : Moment) (row : Row) (out : Result WriterHandle Stuck) → only stage.Floored row.stage ≡ true → IsSoundAt m → IsLawful m.state events → GoesWell me events → HasRow me w row m.state → Runs me (makes_hostdir w cap) events out → IsOpened row m events out
+  pub hostdir_ends : (events : List Event) (m : Moment) (row : Row) (out : Result WriterHandle Stuck) → only stage.Floored row.stage ≡ true → IsSoundAt m → IsLawful m.state events → GoesWell me events → HasRow me w row m.state → Runs me (makes_hostdir w cap) events out → IsOpened row m events out
   hostdir_ends events m row out at sound lawful well has runs =
       let r = reached me (λ x. HasRow me w row x.state) (row_stays me w row) m (MakeHostdir w) (if_done w (makes_index w cap)) events out sound lawful well has runs in
       elim r.served as (λ _. IsOpened row m events out) [
@@ -85,7 +85,7 @@ module _ (me w cap : ℕ) where
       ]
 
 -- a writer that has entered and is open is a new one of a plain machine
-is_new : (me w room host cap floor : ℕ) (old : State) (m : Moment) → IsSoundAt m → HasOpen me w (at_stage stage.Open (floored floor (entered old me room host cap))) m.state → MirrorsOwn me room (opened_of w cap) (new_writer w host cap floor) m
+pub is_new : (me w room host cap floor : ℕ) (old : State) (m : Moment) → IsSoundAt m → HasOpen me w (at_stage stage.Open (floored floor (entered old me room host cap))) m.state → MirrorsOwn me room (opened_of w cap) (new_writer w host cap floor) m
 is_new me w room host cap floor old m sound open_now =
     let row : Row = at_stage stage.Open (floored floor (entered old me room host cap)) in
     let b = between m me (dropping_of room (new_writer w host cap floor)) row sound open_now.has refl refl in

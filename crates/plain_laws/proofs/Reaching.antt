@@ -18,7 +18,7 @@ use Rattle.gathering.proofs.Facts.{moment-append, sound_after}
 use Rattle.refusal_laws.specs.Reasons.{HasReason}
 use Rattle.refusal_laws.proofs.Facts.{does_work}
 use Rattle.writer_laws.proofs.Stops.{whole_answers}
-use Rattle.plain_laws.specs.Calls.{AtSome, HasCalled}
+use Rattle.plain_laws.specs.Calls.{AreBy, AtSome, HasCalled}
 use Rattle.plain_laws.specs.Served.{GoesWell}
 
 -- what others call keeps it
@@ -51,6 +51,7 @@ module _ (me : ℕ) (fact : Moment → Type 0) (stays : StaysUnderOthers me fact
     pub well : GoesWell me rest
     pub runs : Runs me (k event.reply) rest out
     pub ends : moment_after (next_moment mid event) rest ≡ moment_after m events
+    pub alone : AreBy me events → (mid ≡ m) × AreBy me rest
 
   pub reached : {R : Type 0} (m : Moment) (q : Call) (k : Reply → Program Call Reply R) (events : List Event) (out : R) → IsSoundAt m → IsLawful m.state events → GoesWell me events → fact m → Runs me (ask q k) events out → Reached m q k events out
   reached m q k [] out sound lawful well holds runs = absurd runs
@@ -79,6 +80,7 @@ module _ (me : ℕ) (fact : Moment → Type 0) (stays : StaysUnderOthers me fact
               well = r.well;
               runs = r.runs;
               ends = r.ends;
+              alone = λ by. absurd (other by.0);
             }
         | inr (mine, asked, on) ↦
             let whole : event.ask.stop ≡ None = ap (λ (a : Ask). a.stop) asked in
@@ -104,6 +106,7 @@ module _ (me : ℕ) (fact : Moment → Type 0) (stays : StaysUnderOthers me fact
               well = well.1;
               runs = on;
               ends = refl;
+              alone = λ by. (refl, by.1);
             }
       ]
 
@@ -111,6 +114,11 @@ module _ (me : ℕ) (fact : Moment → Type 0) (stays : StaysUnderOthers me fact
 pub ended : {R : Type 0} (me : ℕ) (r : R) (events : List Event) (out : R) → Runs me (done r) events out → r ≡ out
 ended me r [] out runs = runs.1
 ended me r (event ∷ events) out runs = ended me r events out (runs_done me r event events out runs).1
+
+-- where nobody else calls, nothing is called behind its end
+pub over_alone : {R : Type 0} (me : ℕ) (r : R) (events : List Event) (out : R) → AreBy me events → Runs me (done r) events out → events ≡ []
+over_alone me r [] out by runs = refl
+over_alone me r (event ∷ events) out by runs = absurd ((runs_done me r event events out runs).0 by.0)
 
 -- a moment of later events is one of all
 pub some_later : (m : Moment) (before : List Event) (event : Event) (rest events : List Event) (holds : Moment → Type 0) → events ≡ before ++ event ∷ rest → AtSome (next_moment (moment_after m before) event) rest holds → AtSome m events holds

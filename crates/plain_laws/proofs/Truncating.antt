@@ -95,7 +95,7 @@ truncs_reach (name ∷ names) start top h =
     ]
 
 -- a listed name's item stood in the room
-had_listed : (m : Moment) (s : IsSoundAt m) (room : ℕ) (folder name : Name) (names : List Name) (i : Item) → (l : ListsFolder s.shape.tree room folder names) → is_top folder ≡ false → Among name names → IsIn folder name i → HadItem m room i
+pub had_listed : (m : Moment) (s : IsSoundAt m) (room : ℕ) (folder name : Name) (names : List Name) (i : Item) → (l : ListsFolder s.shape.tree room folder names) → is_top folder ≡ false → Among name names → IsIn folder name i → HadItem m room i
 had_listed m s room folder name names i l below among is =
     let f = named_file l.room folder name names below l.entries among in
     record {

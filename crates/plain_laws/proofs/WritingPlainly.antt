@@ -11,6 +11,7 @@ use Rattle.mount_model.specs.declared.row.Row.{Row}
 use Rattle.mount_model.specs.declared.row.Stage.TheVariants as stage
 use Rattle.mount_model.specs.History.{Event}
 use Rattle.mount_model.specs.Regular.{IsCounted}
+use Rattle.mount_model.specs.State.{State}
 use Rattle.mount_model.specs.Step.{Answers}
 use Rattle.mount_model.specs.Table.{only}
 use Rattle.mount_model.specs.Writing.{entry_of, write_check, wrote}
@@ -34,13 +35,13 @@ use Rattle.plain_machine.specs.Machine.{PlainWriter}
 use Rattle.plain_machine.specs.Becoming.{all_landed}
 use Rattle.plain_machine.specs.Landed.{last_of}
 use Rattle.plain_machine.specs.Writers.{issue, one_more}
-use Rattle.plain_laws.specs.Calls.{AtSome}
-use Rattle.plain_laws.specs.Plainly.{KeepsPlain, MirrorsOwn, WritesInto, WritesOne, WritesPlainly, dropping_of, plain_reason}
+use Rattle.plain_laws.specs.Calls.{AreBy, AtSome}
+use Rattle.plain_laws.specs.Plainly.{KeepsPlain, MirrorsOwn, RefusesOne, WritesInto, WritesOne, WritesPlainly, dropping_of, plain_reason}
 use Rattle.plain_laws.specs.Served.{EndsWell, GoesWell, HasOpen, write_reason}
-use Rattle.plain_laws.proofs.Doing.{flush_does, found, not_none, refused_same, write_does}
+use Rattle.plain_laws.proofs.Doing.{flush_does, flush_times, found, not_none, refused_same, write_does}
 use Rattle.plain_laws.proofs.Having.{Has, has_flushed, has_on, has_stays, has_written, its_between}
 use Rattle.plain_laws.proofs.Plainly.{has_it, mirrored}
-use Rattle.plain_laws.proofs.Reaching.{reached, some_later}
+use Rattle.plain_laws.proofs.Reaching.{over_alone, reached, some_later}
 use Rattle.plain_laws.proofs.Serving.{before_write, over}
 
 one_row : (a b : Row) → Some a ≡ Some b → a ≡ b
@@ -65,17 +66,21 @@ module _ (me number : ℕ) (w : PlainWriter) where
   So issued count = record w { issued = issued; landed = count }
 
   -- a later part of the events is one of all
-  into_later : (v : PlainWriter) (m mid : Moment) (at : ℕ) (block : List ℕ) (before : List Event) (event : Event) (rest events : List Event) (out : WriterOut) → events ≡ before ++ event ∷ rest → mid ≡ moment_after m before → moment_after (next_moment mid event) rest ≡ moment_after m events
+  into_later : (v : PlainWriter) (m mid : Moment) (at : ℕ) (block : List ℕ) (before : List Event) (event : Event) (rest events : List Event) (out : WriterOut) → events ≡ before ++ event ∷ rest → mid ≡ moment_after m before → moment_after (next_moment mid event) rest ≡ moment_after m events → (AreBy me events → AreBy me rest × (event.after.times ≡ m.state.times))
       → WritesInto (next_moment mid event) me number v at block rest out → WritesInto m me number v at block events out
-  into_later v m mid at block before event rest events out split is ends x =
-      elim (plain_reason v at (length block)) as (λ c. MatchOption c (WritesOne (next_moment mid event) me number v at block rest out) (λ why. KeepsPlain me number v (moment_after (next_moment mid event) rest) (Err (stuck.Refused why)) out)
-      → MatchOption c (WritesOne m me number v at block events out) (λ why. KeepsPlain me number v (moment_after m events) (Err (stuck.Refused why)) out)) [
-        | Some why ↦ λ k. subst (λ y. KeepsPlain me number v y (Err (stuck.Refused why)) out) ends k
+  into_later v m mid at block before event rest events out split is ends clock x =
+      elim (plain_reason v at (length block)) as (λ c. MatchOption c (WritesOne (next_moment mid event) me number v at block rest out) (λ why. RefusesOne (next_moment mid event) me number v why rest out)
+      → MatchOption c (WritesOne m me number v at block events out) (λ why. RefusesOne m me number v why events out)) [
+        | Some why ↦ λ k. record {
+          keeps = subst (λ y. KeepsPlain me number v y (Err (stuck.Refused why)) out) ends k.keeps;
+          left = λ by. let c = clock by in sym (ap (λ (y : Moment). y.state.times) ends) ∙ k.left c.0 ∙ c.1;
+        }
         | None ↦ λ k. record {
           time = k.time;
           times = k.times;
           made = some_later m before event rest events (λ y. Ticks y.state.times k.times k.time) split (subst (λ y. AtSome (next_moment y event) rest (λ z. Ticks z.state.times k.times k.time)) is k.made);
           keeps = subst (λ y. KeepsPlain me number (one_more (issue v at block (next_stamp k.time (last_of v.issued) v.floor)) v) y (Ok (next_stamp k.time (last_of v.issued) v.floor)) out) ends k.keeps;
+          left = λ by. let c = clock by in let l = k.left c.0 in (subst (λ t. Ticks t k.times k.time) c.1 l.0, sym (ap (λ (y : Moment). y.state.times) ends) ∙ l.1);
         }
       ] x
 
@@ -90,7 +95,7 @@ module _ (me number : ℕ) (w : PlainWriter) where
       (before_write me w.id h m row at block events out is sound lawful well has.opened free runs) in
       let r = reached me (Has me D row issued count) (has_stays me D row issued count) m (Write w.id at block) (if_wrote h) events out sound lawful well has (subst (λ id. Runs me (ask (Write id at block) (if_wrote h)) events out) is runs) in
       let next : Moment = next_moment r.mid r.event in
-      elim (plain_reason v at (length block)) as (λ x. MatchOption x (EndsWell out.result) (λ why. out.result ≡ Err (stuck.Refused why)) → MatchOption x (WritesOne m me number v at block events out) (λ why. KeepsPlain me number v (moment_after m events) (Err (stuck.Refused why)) out)) [
+      elim (plain_reason v at (length block)) as (λ x. MatchOption x (EndsWell out.result) (λ why. out.result ≡ Err (stuck.Refused why)) → MatchOption x (WritesOne m me number v at block events out) (λ why. RefusesOne m me number v why events out)) [
         | None ↦ λ ok. elim r.served as (λ _. WritesOne m me number v at block events out) [
           | inr (why, told, reason) ↦
               let o = over me w.id (λ x. Unit {0}) (λ x event rest s l other u. tt) (stays_with h (Err (stuck.Refused why))) next r.rest out tt r.then_sound r.lawful (subst (λ x. Runs me (if_wrote h x) r.rest out) told r.runs) in
@@ -114,13 +119,19 @@ module _ (me number : ℕ) (w : PlainWriter) where
                 times = x.times;
                 made = record { before = r.before; later = r.event ∷ r.rest; split = r.split; held = subst (λ y. Ticks y.state.times x.times x.time) r.at x.ticks };
                 keeps = subst (λ k. KeepsPlain me number (one_more (issue v at block k) v) (moment_after m events) (Ok k) out) stamp_is kept;
+                left = λ by.
+                    let a = r.alone by in
+                    let none : r.rest ≡ [] = over_alone me (stays_with (one_more_of h) (Ok stamp)) r.rest out a.1 (subst (λ y. Runs me (if_wrote h y) r.rest out) told r.runs) in (
+                      subst (λ (y : Moment). Ticks y.state.times x.times x.time) a.0 x.ticks,
+                      sym (ap (λ (y : Moment). y.state.times) r.ends) ∙ ap (λ l. (moment_after next l).state.times) none ∙ x.left,
+                    );
               }
         ]
-        | Some why ↦ λ err. elim r.served as (λ _. KeepsPlain me number v (moment_after m events) (Err (stuck.Refused why)) out) [
+        | Some why ↦ λ err. elim r.served as (λ _. RefusesOne m me number v why events out) [
           | inl (stamp, told) ↦
               let o = over me w.id (λ x. Unit {0}) (λ x event rest s l other u. tt) (stays_with (one_more_of h) (Ok stamp)) next r.rest out tt r.then_sound r.lawful (subst (λ x. Runs me (if_wrote h x) r.rest out) told r.runs) in
               ok_err stamp (stuck.Refused why) out.result _ (sym (ap (λ (x : WriterOut). x.result) o.1)) err
-          | inr (other, told, reason) ↦ elim reason as (λ _. KeepsPlain me number v (moment_after m events) (Err (stuck.Refused why)) out) [
+          | inr (other, told, reason) ↦ elim reason as (λ _. RefusesOne m me number v why events out) [
             | inl none ↦ not_none me w.id (only stage.Open) row r.mid.state other _ r.holds.opened.has r.holds.opened.is_open none
             | inr (found_row, some, check) ↦
                 let one : found_row ≡ row = one_row found_row row (sym some ∙ found me w.id (only stage.Open) row r.mid.state r.holds.opened.has r.holds.opened.is_open) in
@@ -131,11 +142,17 @@ module _ (me number : ℕ) (w : PlainWriter) where
                 let on : Has me D row issued count next = has_on me D row row issued count r.mid r.event r.rest (Write w.id at block) r.sound r.whole r.asked r.holds (subst (λ s. HasOpen me w.id row s) (sym unchanged) r.holds.opened) refl refl none_issued tt in
                 let o = over me w.id (Has me D row issued count) (has_stays me D row issued count) (stays_with h (Err (stuck.Refused other))) next r.rest out on r.then_sound r.lawful (subst (λ x. Runs me (if_wrote h x) r.rest out) told r.runs) in
                 let same : other ≡ why = same_refusal other why out.result (sym (ap (λ (x : WriterOut). x.result) o.1)) err in
-                subst (λ y. KeepsPlain me number v y (Err (stuck.Refused why)) out) r.ends (record {
-                  handle = h;
-                  is = sym o.1 ∙ ap (λ y. stays_with h (Err (stuck.Refused y))) same;
-                  mirrors = mirrored me number w h row issued count (moment_after next r.rest) (sound_after next r.rest r.lawful r.then_sound) o.0 counted floor capacity is pending cap fresh;
-                })
+                record {
+                  keeps = subst (λ y. KeepsPlain me number v y (Err (stuck.Refused why)) out) r.ends (record {
+                    handle = h;
+                    is = sym o.1 ∙ ap (λ y. stays_with h (Err (stuck.Refused y))) same;
+                    mirrors = mirrored me number w h row issued count (moment_after next r.rest) (sound_after next r.rest r.lawful r.then_sound) o.0 counted floor capacity is pending cap fresh;
+                  });
+                  left = λ by.
+                      let a = r.alone by in
+                      let none : r.rest ≡ [] = over_alone me (stays_with h (Err (stuck.Refused other))) r.rest out a.1 (subst (λ x. Runs me (if_wrote h x) r.rest out) told r.runs) in
+                      sym (ap (λ (y : Moment). y.state.times) r.ends) ∙ ap (λ l. (moment_after next l).state.times) none ∙ ap (λ (s : State). s.times) unchanged ∙ ap (λ (y : Moment). y.state.times) a.0;
+                }
           ]
         ]
       ] ends
@@ -165,7 +182,8 @@ module _ (me number : ℕ) (w : PlainWriter) where
                   let c = its_between me D e.after w.issued (length w.issued) next r.then_sound now in
                   let counted : e.after.landed ≡ length w.issued = omega (arith, c.issued, ap length e.none, ap length now.issued_is) in
                   let free : length e.after.pending.entries < e.after.pending.capacity = omega (arith, ap length e.none, e.capacity, some) in
-                  into_later (all_landed w) m r.mid at block r.before r.event r.rest events out r.split r.at r.ends
+                  let clock : AreBy me events → AreBy me r.rest × (r.event.after.times ≡ m.state.times) = λ by. let a = r.alone by in (a.1, flush_times me w.id row r.mid.state r.event.after r.holds.opened n (subst (λ x. Answers r.mid.state me (Flush w.id) x r.event.after) told r.answers) ∙ ap (λ (y : Moment). y.state.times) a.0) in
+                  into_later (all_landed w) m r.mid at block r.before r.event r.rest events out r.split r.at r.ends clock
                   (writing (flushed_of handle) next e.after w.issued (length w.issued) at block r.rest out o.writer o.cap_is o.fresh (sym (ap length e.none)) r.then_sound r.lawful r.well now counted (e.floor ∙ o.floor) (e.capacity ∙ o.capacity) free
                   (subst (λ x. Runs me (if_flushed handle (writes (flushed_of handle) at block) x) r.rest out) told r.runs))
             ]

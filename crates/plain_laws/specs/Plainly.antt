@@ -21,7 +21,7 @@ use Rattle.plain_machine.specs.Machine.{PlainWriter}
 use Rattle.plain_machine.specs.Becoming.{all_landed, made_room}
 use Rattle.plain_machine.specs.Landed.{last_of}
 use Rattle.plain_machine.specs.Writers.{issue, one_more}
-use Rattle.plain_laws.specs.Calls.{AtSome, HasCalled}
+use Rattle.plain_laws.specs.Calls.{AreBy, AtSome, HasCalled}
 use Rattle.plain_laws.specs.Served.{HasOpen}
 
 -- where the plain writer's index lies
@@ -59,18 +59,24 @@ plain_reason w at len =
     else if nat_le MAX_STAMP (last_of w.issued) || nat_le MAX_STAMP w.floor then Some StampsSpent
     else None
 
--- the write was made at a moment when the clock gave this time
+-- The write was made at a moment when the clock gave this time. Where nobody else calls, the clock was asked that once.
 pub record WritesOne (start : Moment) (me number : ℕ) (w : PlainWriter) (at : ℕ) (block : List ℕ) (events : List Event) (out : WriterOut) : Type 0 where
   pub time : ℕ
   pub times : Option (List ℕ)
   pub made : AtSome start events (λ x. Ticks x.state.times times time)
+  pub left : AreBy me events → Ticks start.state.times times time × ((moment_after start events).state.times ≡ times)
   pub keeps : KeepsPlain me number (one_more (issue w at block (next_stamp time (last_of w.issued) w.floor)) w) (moment_after start events) (Ok (next_stamp time (last_of w.issued) w.floor)) out
+
+-- The write was refused for this, and the writer is as it was. Where nobody else calls, the clock wasn't asked.
+pub record RefusesOne (start : Moment) (me number : ℕ) (w : PlainWriter) (why : Refusal) (events : List Event) (out : WriterOut) : Type 0 where
+  pub keeps : KeepsPlain me number w (moment_after start events) (Err (stuck.Refused why)) out
+  pub left : AreBy me events → (moment_after start events).state.times ≡ start.state.times
 
 -- its buffer has room: the write is made, or refused for its reason
 abbrev pub WritesInto : Moment → ℕ → ℕ → PlainWriter → ℕ → List ℕ → List Event → WriterOut → Type 0
 WritesInto start me number w at block events out = MatchOption (plain_reason w at (length block))
     (WritesOne start me number w at block events out)
-    (λ why. KeepsPlain me number w (moment_after start events) (Err (stuck.Refused why)) out)
+    (λ why. RefusesOne start me number w why events out)
 
 -- as the plain machine writes
 abbrev pub WritesPlainly : Moment → ℕ → ℕ → PlainWriter → ℕ → List ℕ → List Event → WriterOut → Type 0

@@ -1,17 +1,28 @@
 //! The laws of statements that come to their ends.
-ghost use Rattle.std.specs.Prelude.{◌≡◌, ℕ, List, Ok, Result, false, length};
+ghost use Rattle.std.specs.Prelude.{◌≡◌, ◌≤◌, ℕ, List, None, Ok, Option, Result, Some, false, length};
 ghost use Rattle.flow.specs.declared.stuck.Stuck.{Stuck};
 ghost use Rattle.flow.specs.Running.{Runs};
-ghost use Rattle.gathering.specs.Moments.{IsSoundAt, Moment};
+ghost use Rattle.gathering.specs.Moments.{IsSoundAt, Moment, moment_after};
 ghost use Rattle.mount_model.specs.declared.row.Row.{Row};
 ghost use Rattle.mount_model.specs.History.{Event};
+ghost use Rattle.mount_model.specs.Mounting.{IsMounted};
 ghost use Rattle.mount_model.specs.Paths.{Name};
 ghost use Rattle.mount_sound.specs.Owed.{IsLawful};
+ghost use Rattle.outcomes.specs.Data.{bytes_of};
+ghost use Rattle.outcomes.specs.Outcomes.{close_outcome, open_outcome, sync_outcome, write_outcome};
+ghost use Rattle.plain_laws.specs.Beginning.{bare_tree, first_machine};
+ghost use Rattle.plain_laws.specs.Calls.{AreBy};
+ghost use Rattle.plain_laws.specs.Mirrors.{Mirrors};
 ghost use Rattle.plain_laws.specs.Opens.{OpensOrNot};
 ghost use Rattle.plain_laws.specs.Plainly.{ClosesPlainly, MirrorsOwn, SyncsPlainly, WritesPlainly};
-ghost use Rattle.plain_machine.specs.Machine.{PlainWriter};
+ghost use Rattle.plain_laws.specs.Stepping.{HasActor, TakesStep, handle_in};
+ghost use Rattle.plain_machine.specs.Machine.{Plain, PlainActor, PlainWriter};
 ghost use Rattle.plain_laws.specs.Served.{ClosesWell, EndsAsItMay, EndsWell, GoesWell, HasOpen};
 ghost use Rattle.plain_laws.specs.Tops.{TruncatesAbove};
+ghost use Rattle.script_lang.specs.declared.script.ActorDecl.{ActorDecl};
+ghost use Rattle.script_lang.specs.declared.script.Data.{Data};
+ghost use Rattle.script_lang.specs.declared.script.Statement.TheVariants.{Close, Open, Sync, Write};
+ghost use Rattle.store_api.specs.Acts.{Stored};
 ghost use Rattle.trunc_rename.specs.Truncating.{truncate_program};
 ghost use Rattle.writer_flow.specs.Closing.{close_program};
 ghost use Rattle.writer_flow.specs.declared.handle.WriterHandle.{WriterHandle};
@@ -51,4 +62,23 @@ pub fn writers_are_plain()
     ensures writes { (m : Moment) (me number : ℕ) (w : PlainWriter) (handle : WriterHandle) (at : ℕ) (block : List ℕ) (events : List Event) (out : WriterOut) → IsLawful m.state events → GoesWell me events → MirrorsOwn me number handle w m
         → Runs me (write_program handle at block) events out → WritesPlainly m me number w at block events out }
     ensures closes { (m : Moment) (me number : ℕ) (w : PlainWriter) (handle : WriterHandle) (events : List Event) (out : WriterOut) → IsLawful m.state events → GoesWell me events → MirrorsOwn me number handle w m → Runs me (close_program handle) events out → ClosesPlainly me w events out }
+{}
+
+/// A law: a statement on a writer is one step of the plain machine. Where the machine has what the mount has, an opening, a write of some bytes, a sync and a
+/// close have the machine's outcome, and the machine has then what the mount has. The writers of all other actors are as before. Its caller met no fault and had
+/// memory, and nobody else called.
+pub fn writer_statements_are_steps()
+    ensures opens { (m : Moment) (me : ℕ) (p : Plain) (actor : PlainActor) (declared : ActorDecl) (name : Name) (events : List Event) (out : Result WriterHandle Stuck) → IsLawful m.state events → GoesWell me events → AreBy me events → Mirrors m p → HasActor m me p None actor
+        → Runs me (open_program name declared.host declared.cap) events out → TakesStep m me declared actor p (Open name) (open_outcome out) (moment_after m events) (handle_in out) }
+    ensures writes { (m : Moment) (me : ℕ) (p : Plain) (handle : WriterHandle) (actor : PlainActor) (declared : ActorDecl) (at : ℕ) (content : Data) (events : List Event) (out : WriterOut) → IsLawful m.state events → GoesWell me events → AreBy me events → Mirrors m p → HasActor m me p (Some handle) actor
+        → 1 ≤ length (bytes_of content) → Runs me (write_program handle at (bytes_of content)) events out → TakesStep m me declared actor p (Write at content) (write_outcome at (length (bytes_of content)) out.result) (moment_after m events) out.handle }
+    ensures syncs { (m : Moment) (me : ℕ) (p : Plain) (handle : WriterHandle) (actor : PlainActor) (declared : ActorDecl) (events : List Event) (out : WriterOut) → IsLawful m.state events → GoesWell me events → AreBy me events → Mirrors m p → HasActor m me p (Some handle) actor
+        → Runs me (sync_program handle) events out → TakesStep m me declared actor p Sync (sync_outcome out.result) (moment_after m events) out.handle }
+    ensures closes { (m : Moment) (me : ℕ) (p : Plain) (handle : WriterHandle) (actor : PlainActor) (declared : ActorDecl) (events : List Event) (out : WriterOut) → IsLawful m.state events → GoesWell me events → AreBy me events → Mirrors m p → HasActor m me p (Some handle) actor
+        → Runs me (close_program handle) events out → TakesStep m me declared actor p Close (close_outcome out.result) (moment_after m events) out.handle }
+{}
+
+/// A law: a machine begins with a mount. A mount over a store without rooms has what the machine has that has the room of the marks alone, whatever its actors.
+pub fn machines_begin_with_mounts()
+    ensures { (times : Option (List ℕ)) (opened : Stored) (m : Moment) (actors : List PlainActor) → opened.tree ≡ Some bare_tree → IsMounted 0 times opened m.state → IsSoundAt m → Mirrors m (first_machine actors times m.state.mount) }
 {}

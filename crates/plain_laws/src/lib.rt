@@ -6,5 +6,6 @@
 mod laws;
 
 pub use laws::{
-    open_writers_are_served, openings_are_served, truncates_take_the_next_stamp, writers_are_plain,
+    machines_begin_with_mounts, open_writers_are_served, openings_are_served,
+    truncates_take_the_next_stamp, writer_statements_are_steps, writers_are_plain,
 };

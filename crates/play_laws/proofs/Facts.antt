@@ -1,13 +1,10 @@
 -- What other crates may cite of this crate's proofs.
-pub use Rattle.play_laws.proofs.Readers.Alone.{ReadAll, ShareFailed, read_alone, runs_more}
 pub use Rattle.play_laws.proofs.Writers.Asking.{Anyhow, IsItsWrite, IsSparing, KeepsIts, MayAsk, statement_asks, statement_spares}
-pub use Rattle.play_laws.proofs.Readers.Behind.{alone_opened}
 pub use Rattle.play_laws.proofs.Callers.Carrying.{CourseOf, EndsSo, then_told}
 pub use Rattle.play_laws.proofs.Lines.Casts.{HasRole, its_role, its_workers, play_shows, readers_show}
 pub use Rattle.play_laws.proofs.Callers.Letting.{LetsUpTo, breaks, came_up_to, lets}
 pub use Rattle.play_laws.proofs.Callers.Coming.{ComesTo, GoesSo, IsQuiet, IsQuietly, all_of_first, by_itself, came_good, either_goes, end_alone, lets_both, lets_none, lets_one, nothing_more}
 pub use Rattle.play_laws.proofs.Lines.Counted.{play_counts, right_counts}
-pub use Rattle.play_laws.proofs.Readers.Dealing.{dealt_listed}
 pub use Rattle.play_laws.proofs.Readers.Opened.{HasFile, Keeps, keeps_later}
 pub use Rattle.play_laws.proofs.Writers.OneWriters.{KeepsWriter, OfWriter, Writes, any_back, any_front, writes_later}
 pub use Rattle.play_laws.proofs.Callers.Standing.{AllOf, Next, all_of_later, next_first, next_is, next_rest}

@@ -1,9 +1,6 @@
 -- What the statements show that open, read and tell.
-pub mod Alone
-pub mod Behind
 pub mod ByWorkers
 pub mod Cached
-pub mod Dealing
 pub mod Listings
 pub mod Opened
 pub mod Openings

@@ -17,7 +17,8 @@ use Rattle.mount_sound.specs.Excluding.{IsAboveAll}
 use Rattle.mount_sound.specs.Ledger.{Written}
 use Rattle.mount_sound.specs.Owed.{InRoom, IsLawful}
 use Rattle.gathering.specs.Moments.{HadTrunc, Moment, file_then, moment_after, next_moment}
-use Rattle.play_laws.specs.Opening.{IsRoomNamed, Stretch}
+use Rattle.reader_laws.specs.Naming.{IsRoomNamed}
+use Rattle.play_laws.specs.Opening.{Stretch}
 
 -- the caller made this call, and was answered so
 pub record IsAnswered (caller : ℕ) (call : Call) (reply : Reply) (event : Event) : Type 0 where

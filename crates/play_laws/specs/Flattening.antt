@@ -12,7 +12,8 @@ use Rattle.mount_sound.specs.Installed.{IsInstalled}
 use Rattle.outcomes.specs.Counts.{counts_of}
 use Rattle.gathering.specs.Moments.{Moment, moment_after}
 use Rattle.play_laws.specs.Changing.{IsAnswered}
-use Rattle.play_laws.specs.Opening.{IsRoomNamed, Stretch}
+use Rattle.reader_laws.specs.Naming.{IsRoomNamed}
+use Rattle.play_laws.specs.Opening.{Stretch}
 
 -- The room has the flattened index of this id, and no loss of power takes a byte of it. It is right for the room: its pieces, so many, are those of the
 -- entries that it covers, which have landed there; and these are the first of each writer, as many as the cut says.

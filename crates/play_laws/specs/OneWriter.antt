@@ -8,7 +8,8 @@ use Rattle.mount_model.specs.Paths.{Name}
 use Rattle.flow.specs.Running.{unbroken}
 use Rattle.gathering.specs.Moments.{Dropping, Moment, moment_after}
 use Rattle.writer_laws.specs.Counting.{writes_told}
-use Rattle.play_laws.specs.Opening.{IsRoomNamed, Stretch}
+use Rattle.reader_laws.specs.Naming.{IsRoomNamed}
+use Rattle.play_laws.specs.Opening.{Stretch}
 
 -- where the entries of a writer go, and how many of its writes were answered since it was opened
 pub record OneWriter : Type 0 where

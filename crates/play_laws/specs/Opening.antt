@@ -2,8 +2,6 @@
 use Rattle.std.specs.Prelude.{◌≡◌, ◌≤◌, ℕ, List, ◌∷◌, ◌++◌, Some}
 use Rattle.std.specs.List.{All, Any}
 use Rattle.plfs_types.specs.declared.entries.Trunc.{Trunc}
-use Rattle.store_api.specs.declared.tree.Tree.{Tree}
-use Rattle.store_laws.specs.There.{IsRoomOf}
 use Rattle.mount_model.specs.Paths.{Name}
 use Rattle.mount_model.specs.declared.call.Call.TheVariants.{Find, Greet}
 use Rattle.mount_model.specs.declared.reply.Reply.TheVariants.{Room}
@@ -16,16 +14,13 @@ use Rattle.gathering.specs.Listing.{AreTruncsAt}
 use Rattle.gathering.specs.Opening.{ListsTruncs, HasView}
 use Rattle.gathering.specs.View.{IsAboveCut}
 use Rattle.gathering.specs.Bounds.{IsSyncedIn}
+use Rattle.reader_laws.specs.Naming.{IsRoomNamed}
 use Rattle.play_laws.specs.OneFile.{OneFile}
 
 -- a stretch of a history, and all that went before it
 pub record Stretch : Type 0 where
   pub before : List Event
   pub events : List Event
-
--- the room of this number is the first that has this name, as the store tells its rooms
-abbrev pub IsRoomNamed : Moment → Name → ℕ → Type 0
-IsRoomNamed moment name room = (tree : Tree) → moment.state.store.tree ≡ Some tree → IsRoomOf tree name room
 
 -- What the caller saw of a container in this stretch, from its first call on, which comes behind these events. A later call listed the truncates, which are the
 -- file's. The cut has of each writer at least what had landed at the first call, and so all that was synced by then, and at most what had landed at the

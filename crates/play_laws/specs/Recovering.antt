@@ -21,7 +21,8 @@ use Rattle.mount_sound.specs.Owed.{IsNotLive, StandsInRoom}
 use Rattle.gathering.specs.Listing.{IsAmong}
 use Rattle.gathering.specs.Moments.{Moment, landed, moment_after}
 use Rattle.play_laws.specs.Changing.{IsAnswered}
-use Rattle.play_laws.specs.Opening.{IsRoomNamed, Stretch}
+use Rattle.reader_laws.specs.Naming.{IsRoomNamed}
+use Rattle.play_laws.specs.Opening.{Stretch}
 
 -- The calls by which a writer was taken out: it was inspected, so many of its entries were counted, and it was buried; and what was called around them.
 pub record Burial : Type 0 where

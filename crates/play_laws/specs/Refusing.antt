@@ -11,7 +11,8 @@ use Rattle.mount_model.specs.History.{Event}
 use Rattle.mount_model.specs.Paths.{Name, open_path, openhosts}
 use Rattle.gathering.specs.Moments.{HadItem, Moment, moment_after}
 use Rattle.play_laws.specs.Changing.{Change, IsAnswered, IsChange, IsFreeName, until_changed}
-use Rattle.play_laws.specs.Opening.{IsRoomNamed, Stretch}
+use Rattle.reader_laws.specs.Naming.{IsRoomNamed}
+use Rattle.play_laws.specs.Opening.{Stretch}
 
 -- ---- there is none
 

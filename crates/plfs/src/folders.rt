@@ -7,7 +7,7 @@ ghost use Rattle.store_folder.specs.Stored.{root_of};
 use plfs_types::{NoMemory, Word};
 use spread_store::StoreList;
 use std::alloc::{AllocError, Global};
-use store_folder::FolderStore;
+use store_folder::{FolderStore, open_limit};
 
 /// What stands between the folders in ROOT.
 const BETWEEN: char = ':';
@@ -37,18 +37,24 @@ pub fn stores_of(rt: HostRuntime, folders: &[&str]) -> Result<Stores, NoMemory>
     ensures each { IfOk result (λ stores. map (λ store. root_of store) stores ≡ map (λ folder. folder.now) folders.now) }
     ensures count { IfOk result (λ stores. length stores ≡ length folders.now) }
 {
+    let limit = open_limit(&rt);
     let mut stores = StoreList::new(rt.alloc());
     for folder in folders {
-        stores.push(store_on(rt, folder)?)?;
+        stores.push(store_on(rt, folder, limit, folders.len() as u64)?)?;
     }
     Ok(stores)
 }
 
-fn store_on(rt: HostRuntime, folder: &str) -> Result<FolderStore<HostRuntime>, NoMemory>
+fn store_on(
+    rt: HostRuntime,
+    folder: &str,
+    limit: u64,
+    stores: u64,
+) -> Result<FolderStore<HostRuntime>, NoMemory>
     ensures root { IfOk result (λ store. root_of store ≡ folder.now) }
 {
     let folder = Word::copy(rt.alloc(), folder)?;
-    FolderStore::open(rt, rt.alloc(), &folder)
+    FolderStore::one_of(rt, rt.alloc(), &folder, limit, stores)
 }
 
 // Whether the store at this place has failed.

@@ -7,8 +7,11 @@
 
 ghost use Rattle.std.specs.Prelude.{◌≤◌, length};
 
+mod amount;
 mod called;
+mod entries;
 mod folders;
+mod inputs;
 mod lock;
 mod progress;
 mod reading;
@@ -19,18 +22,23 @@ mod task;
 mod telling;
 
 use crate::called::{Called, Program, read_called};
+use crate::entries::list_files;
 use crate::folders::{MOST_FOLDERS, are_named, folders_of, stores_of};
+use crate::inputs::{open_files, split_from};
 use crate::lock::lock_folders;
 use crate::reading::{copies_the_input, read_input};
 use crate::standard::{INPUT, Standard};
 use crate::task::{Task, run};
-use crate::telling::{starved, tell_denied, tell_ran, tell_unopened, unread, usage};
+use crate::telling::{
+    starved, tell_denied, tell_ran, tell_unlisted, tell_unopened, tell_unread, unread, usage,
+};
 use check_program::CheckCommand;
 use command_line::Command;
-use copy_program::CopyCommand;
+use copy_program::{CopyCommand, ImportCommand};
 use drain_program::DrainCommand;
 use plfs_types::Word;
 use spread_store::{Backing, Spread};
+use std::cell::RefCell;
 use std::io;
 use std::process::ExitCode;
 use std::sync::Wait;
@@ -73,6 +81,12 @@ fn main(rt: HostRuntime) -> ExitCode {
     }
 }
 
+// The bytes of standard input, where the command reads them. The reader, which has a large buffer on the stack, ends with it.
+#[inline(never)]
+fn input_of(rt: &HostRuntime, command: &Command) -> io::Result<Vec<u8>> {
+    read_input(rt.alloc(), rt.reader(), command)
+}
+
 // Does what the words of `plfs` ask for.
 #[inline(never)]
 fn obey<H: Threads + Wait + Sync>(
@@ -91,7 +105,7 @@ fn obey<H: Threads + Wait + Sync>(
     let Some(command) = command else {
         return obey_drain(handle, rt, root, folders, words, standard);
     };
-    let input = match read_input(rt.alloc(), rt.reader(), &command) {
+    let input = match input_of(&rt, &command) {
         Ok(input) => input,
         Err(error) => return unread(&rt, error, standard),
     };
@@ -138,7 +152,8 @@ fn obey_drain<H: Threads + Wait + Sync>(
     code
 }
 
-// Does what the words of `plfs_copy` ask for. Without standard input nothing is put.
+// Does what the words of `plfs_copy` ask for. Without standard input nothing is put, and neither where one of the files in its place
+// can't be opened.
 #[inline(never)]
 fn obey_copy<H: Threads + Wait + Sync>(
     handle: &H,
@@ -150,13 +165,75 @@ fn obey_copy<H: Threads + Wait + Sync>(
 ) -> ExitCode
     requires few { length folders.now ≤ MOST_FOLDERS }
 {
+    let (words, behind) = split_from(words);
     let Some(command) = CopyCommand::read(words) else {
+        return obey_import(handle, rt, root, folders, words, behind, standard);
+    };
+    match behind {
+        [] => {
+            if copies_the_input(&command) && standard.has(INPUT) {
+                return unread(&rt, io::Error::other("it is closed"), standard);
+            }
+            let opened = RefCell::new(Vec::new(rt.alloc()));
+            let task = Task::Copy {
+                words,
+                command,
+                files: &[],
+                opened: &opened,
+            };
+            serve(handle, rt, root, folders, &task, standard)
+        }
+        [_] => usage(&rt, Program::Copy),
+        [_, files @ ..] => {
+            if !copies_the_input(&command) {
+                return usage(&rt, Program::Copy);
+            }
+            let opened = match open_files(&rt, rt.alloc(), files) {
+                Ok(opened) => RefCell::new(opened),
+                Err(unopened) => return tell_unread(&rt, unopened),
+            };
+            let task = Task::Copy {
+                words,
+                command,
+                files,
+                opened: &opened,
+            };
+            serve(handle, rt, root, folders, &task, standard)
+        }
+    }
+}
+
+// Puts the files of a folder, where the words of `plfs_copy` ask for that.
+#[inline(never)]
+fn obey_import<H: Threads + Wait + Sync>(
+    handle: &H,
+    rt: HostRuntime,
+    root: &Word,
+    folders: &[&str],
+    words: &[Word],
+    behind: &[Word],
+    standard: &Standard,
+) -> ExitCode
+    requires few { length folders.now ≤ MOST_FOLDERS }
+{
+    if !behind.is_empty() {
+        return usage(&rt, Program::Copy);
+    }
+    let Some(command) = ImportCommand::read(words) else {
         return usage(&rt, Program::Copy);
     };
-    if copies_the_input(&command) && standard.has(INPUT) {
-        return unread(&rt, io::Error::other("it is closed"), standard);
-    }
-    let task = Task::Copy { words, command };
+    let Some(folder) = words.get(1) else {
+        return usage(&rt, Program::Copy);
+    };
+    let entries = match list_files(&rt, folder) {
+        Ok(entries) => entries,
+        Err(error) => return tell_unlisted(&rt, folder, error),
+    };
+    let task = Task::Import {
+        command,
+        folder,
+        entries: &entries,
+    };
     serve(handle, rt, root, folders, &task, standard)
 }
 
@@ -203,6 +280,7 @@ fn serve<H: Threads + Wait + Sync>(
 }
 
 // Runs the command over one folder.
+#[inline(never)]
 fn serve_one<H: Threads + Wait + Sync>(
     handle: &H,
     rt: HostRuntime,
@@ -219,6 +297,7 @@ fn serve_one<H: Threads + Wait + Sync>(
 }
 
 // Runs the command over several folders as one store.
+#[inline(never)]
 fn serve_several<H: Threads + Wait + Sync>(
     handle: &H,
     rt: HostRuntime,

@@ -3,6 +3,7 @@ ghost use Rattle.std.specs.Prelude.{◌≡◌, [], true, false, None};
 ghost use Rattle.std.specs.Str.{IsUtf8};
 ghost use Rattle.plfs.specs.Telling.{tells_damage};
 
+use crate::amount::Amount;
 use std::alloc::Global;
 use std::cell::RefCell;
 use std::io::Write;
@@ -103,15 +104,19 @@ fn is_of_damage(line: &[u8]) -> bool {
     }
 }
 
-/// A writer, beside which stands what it wrote last.
+/// A writer, beside which stands what it wrote last. What is shown of an amount is cleared before it writes.
 #[derive(Drop)]
-pub struct Saying<'a, W> {
+pub struct Saying<'a, 'b, W> {
     pub writer: W,
     pub said: &'a RefCell<Said>,
+    pub amount: &'b RefCell<Amount>,
 }
 
-impl<'a, W: Write> Write for Saying<'a, W> {
+impl<'a, 'b, W: Write> Write for Saying<'a, 'b, W> {
     fn write(&mut self, buf: &[u8]) -> io::Result<usize> {
+        if let Ok(mut amount) = self.amount.try_borrow_mut() {
+            amount.clear();
+        }
         let end = self.writer.write(buf);
         if let Ok(mut said) = self.said.try_borrow_mut() {
             match &end {

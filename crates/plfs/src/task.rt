@@ -1,17 +1,24 @@
 //! A command, and its run over the folders, the standard streams and the system's clock.
+use crate::amount::{Amount, files_length, input_length};
+use crate::entries::Entries;
+use crate::inputs::{Files, Input};
 use crate::progress::Progress;
 use crate::reading::{copies_the_input, writes_a_file};
 use crate::said::{Said, Saying};
 use check_program::check;
 use command_line::Command;
-use copy_program::{CopyCommand, copy};
+use copy_program::{CopyCommand, ImportCommand, copy, import};
 use drain_program::{DrainEnded, drain};
 use edge_io::{NoGate, Sink, StdSink, StdSource, SystemClock};
-use plfs_program::{Ended, plfs};
+use plfs_program::plfs;
 use plfs_types::Word;
+use program_ends::Ended;
 use spread_store::Backing;
+use std::alloc::Global;
 use std::cell::RefCell;
+use std::fs::File;
 use std::io::{self, Read};
+use std::mem;
 use std::sync::Wait;
 use std::thread::Threads;
 use store_folder::{Cause, FolderStore};
@@ -28,10 +35,19 @@ pub enum Task<'a> {
         command: Command,
         input: &'a [u8],
     },
-    /// Of `plfs_copy`: its words, which are of this kind. It reads its input as it goes.
+    /// Of `plfs_copy`: its words, which are of this kind. It reads its input as it goes: standard input, or these files, which are open
+    /// where there are any, the last one first.
     Copy {
         words: &'a [Word],
         command: CopyCommand,
+        files: &'a [Word],
+        opened: &'a RefCell<Vec<File>>,
+    },
+    /// Of `plfs_copy`: what is put of a folder, and how.
+    Import {
+        command: ImportCommand,
+        folder: &'a Word,
+        entries: &'a Entries,
     },
     /// Of `plfs_check`: its words.
     Check {
@@ -50,36 +66,121 @@ pub struct Ran {
     pub ended: Ended<Folders>,
     pub said: Said,
     pub unread: Option<io::Error>,
+    /// How many files in the place of standard input were read to their ends.
+    pub read: usize,
     /// Why the target of a drain failed.
     pub target: Option<Cause>,
 }
 
-/// A reader, beside which stands why it failed last.
+/// A reader, beside which stands why it failed last. It shows how much it read.
 #[derive(Drop)]
-struct Hearing<'a, R> {
+struct Hearing<'a, 'b, R> {
     reader: R,
     error: &'a RefCell<Option<io::Error>>,
+    amount: &'b RefCell<Amount>,
 }
 
-impl<'a, R: Read> Read for Hearing<'a, R> {
+impl<'a, 'b, R: Read> Read for Hearing<'a, 'b, R> {
     fn read(&mut self, buf: &mut [u8]) -> io::Result<usize> {
         let end = self.reader.read(buf);
-        if let Err(error) = &end {
-            if let Ok(mut last) = self.error.try_borrow_mut() {
-                *last = Some(*error);
+        match &end {
+            Ok(count) => {
+                if let Ok(mut amount) = self.amount.try_borrow_mut() {
+                    amount.add(*count);
+                }
+            }
+            Err(error) => {
+                if let Ok(mut last) = self.error.try_borrow_mut() {
+                    *last = Some(*error);
+                }
             }
         }
         end
     }
 }
 
-// Whether what the command writes has lines.
+// The files that stand there.
+fn taken(alloc: Global, files: &RefCell<Vec<File>>) -> Vec<File> {
+    match files.try_borrow_mut() {
+        Ok(mut files) => mem::replace(&mut *files, Vec::new(alloc)),
+        Err(_) => Vec::new(alloc),
+    }
+}
+
+// Whether what the command writes has lines that begin with a number. Those of an import begin with a name.
 fn has_lines(task: &Task<'_>) -> bool {
     match task {
         Task::Plfs { command, .. } => !writes_a_file(command),
         Task::Copy { command, .. } => copies_the_input(command),
+        Task::Import { .. } => false,
         Task::Check { .. } => true,
         Task::Drain { .. } => true,
+    }
+}
+
+// How many bytes standard input has, or the files in its place.
+fn copied_length(rt: &HostRuntime, files: &[Word], opened: &RefCell<Vec<File>>) -> u64 {
+    if files.is_empty() {
+        return input_length(rt);
+    }
+    match opened.try_borrow() {
+        Ok(opened) => files_length(opened.as_slice()),
+        Err(_) => 0,
+    }
+}
+
+// How many bytes are copied, where that is known, and else 0.
+fn length_of(rt: &HostRuntime, task: &Task<'_>) -> u64 {
+    match task {
+        Task::Copy {
+            command,
+            files,
+            opened,
+            ..
+        } => {
+            if copies_the_input(command) {
+                copied_length(rt, files, opened)
+            } else {
+                0
+            }
+        }
+        _ => 0,
+    }
+}
+
+// Puts the files of a folder, and ends with the greatest status.
+#[inline(never)]
+fn put_files<O: Sink>(
+    rt: &HostRuntime,
+    command: ImportCommand,
+    folder: &Word,
+    entries: &Entries,
+    sink: &mut O,
+    store: Folders,
+) -> Ended<Folders> {
+    let Ok(files) = entries.sources(*rt, folder) else {
+        return Ended {
+            store: Some(store),
+            status: 3,
+        };
+    };
+    let Ended { store, status } = import(
+        rt.alloc(),
+        command.host,
+        command.over,
+        files,
+        sink,
+        store,
+        SystemClock::new(*rt),
+    );
+    let least = if entries.has_closed {
+        5
+    } else {
+        u8::from(entries.has_others)
+    };
+    Ended {
+        store,
+        status: status.max(least),
     }
 }
 
@@ -125,9 +226,12 @@ pub fn run<H: Threads + Wait + Sync>(
 ) -> Ran {
     let said = RefCell::new(Said::new(rt.alloc(), has_lines(task)));
     let error = RefCell::new(None);
+    let read = RefCell::new(0);
+    let amount = RefCell::new(Amount::new(*rt, length_of(rt, task)));
     let mut sink = StdSink::new(Saying {
         writer: io::writer(rt),
         said: &said,
+        amount: &amount,
     });
     let mut target = None;
     let ended = match task {
@@ -144,10 +248,21 @@ pub fn run<H: Threads + Wait + Sync>(
                 &NoGate,
             )
         }
-        Task::Copy { words, .. } => {
+        Task::Copy {
+            words,
+            files,
+            opened,
+            ..
+        } => {
+            let reader = if files.is_empty() {
+                Input::Standard(rt.stdin())
+            } else {
+                Input::Files(Files::new(taken(rt.alloc(), opened), &read))
+            };
             let mut source = StdSource::new(Hearing {
-                reader: rt.stdin(),
+                reader,
                 error: &error,
+                amount: &amount,
             });
             copy(
                 rt.alloc(),
@@ -158,6 +273,11 @@ pub fn run<H: Threads + Wait + Sync>(
                 SystemClock::new(*rt),
             )
         }
+        Task::Import {
+            command,
+            folder,
+            entries,
+        } => put_files(rt, *command, folder, entries, &mut sink, store),
         Task::Check { words } => check(rt.alloc(), words, &mut sink, &mut Progress::new(rt), store),
         Task::Drain { words, folder } => {
             let (ended, left) = drain_to(rt, words, folder, &mut sink, store);
@@ -170,6 +290,7 @@ pub fn run<H: Threads + Wait + Sync>(
         ended,
         said: said.into_inner(),
         unread: error.into_inner(),
+        read: read.into_inner(),
         target,
     }
 }

@@ -1,13 +1,14 @@
 //! What is said of how a run ended: the usage line, the line of folders that can't be had, and one line on standard error.
 use crate::called::Program;
 use crate::folders::{Stores, failed};
+use crate::inputs::Unopened;
 use crate::lock::{Denial, Denied};
 use crate::said::Said;
 use crate::spelled::Spelled;
 use crate::standard::{INPUT, OUTPUT, Standard};
 use crate::task::{Ran, Task};
-use plfs_program::{Ended, USAGE};
 use plfs_types::Word;
+use program_ends::{Ended, USAGE};
 use spread_store::SpreadTrouble;
 use std::io::{self, ErrorKind, Write};
 use std::process::ExitCode;
@@ -54,10 +55,14 @@ pub fn tell_ran(
         ended,
         said,
         unread,
+        read,
         target,
     } = ran;
     let Ended { store, status } = ended;
     if is_told(rt, root, task, target, status, &said) {
+        return ExitCode::from(status);
+    }
+    if status == 5 && tells_file(rt, task, read, &unread) {
         return ExitCode::from(status);
     }
     let Some(store) = store else {
@@ -139,6 +144,49 @@ fn is_told(
         }
         _ => false,
     }
+}
+
+// Says which of the files in the place of standard input failed: whether there were any. Of a folder's files each that failed was told
+// as it did.
+fn tells_file(rt: &HostRuntime, task: &Task<'_>, read: usize, unread: &Option<io::Error>) -> bool {
+    if let Task::Import { .. } = task {
+        return true;
+    }
+    let Task::Copy { files, .. } = task else {
+        return false;
+    };
+    let Some(file) = files.get(read) else {
+        return false;
+    };
+    let file = Spelled(file.as_str());
+    let _ = match unread {
+        Some(error) => eprintln!(rt; "plfs: {file}: read: {error}"),
+        None => eprintln!(rt; "plfs: {file}: nothing was read"),
+    };
+    true
+}
+
+/// Says which file in the place of standard input can't be opened, and why. Nothing was done.
+#[inline(never)]
+pub fn tell_unread(rt: &HostRuntime, unopened: Unopened<'_>) -> ExitCode {
+    let Unopened { file, error } = unopened;
+    if error.kind() == ErrorKind::OutOfMemory {
+        return starved(rt);
+    }
+    let file = Spelled(file.as_str());
+    let _ = eprintln!(rt; "plfs: {file}: open: {error}");
+    ExitCode::from(5)
+}
+
+/// Says why a folder whose files are to be put can't be listed. Nothing was done.
+#[inline(never)]
+pub fn tell_unlisted(rt: &HostRuntime, folder: &Word, error: io::Error) -> ExitCode {
+    if error.kind() == ErrorKind::OutOfMemory {
+        return starved(rt);
+    }
+    let folder = Spelled(folder.as_str());
+    let _ = eprintln!(rt; "plfs: {folder}: list: {error}");
+    ExitCode::from(5)
 }
 
 // Says where the store failed, and why.

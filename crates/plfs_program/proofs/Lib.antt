@@ -1,4 +1,3 @@
 mod Courses
-pub mod Facts
 mod Mounts
 mod Streams

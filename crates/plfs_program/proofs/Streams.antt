@@ -2,7 +2,6 @@
 pub mod CatLemmas
 pub mod CommandLemmas
 pub mod InputLemmas
-pub mod OutputLemmas
 pub mod PackInputs
 pub mod Pieces
 pub mod SmallTexts

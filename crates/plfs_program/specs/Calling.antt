@@ -3,13 +3,11 @@ use Rattle.std.specs.Prelude.{◌≡◌, ℕ, List, Option}
 use Rattle.store_api.specs.Acts.{Stored}
 use Rattle.mount_model.specs.State.{State}
 use Rattle.mount_model.specs.Mounting.{IsMounted}
-use Rattle.mount_model.specs.declared.trouble.MountTrouble.{MountTrouble}
-use Rattle.mount_model.specs.Failing.{FailsToMount}
 use Rattle.script_lang.specs.declared.line.Line.{Line}
 use Rattle.script_lang.specs.declared.script.Script.{Script}
 use Rattle.play_laws.specs.Counting.{CountWrites}
 use Rattle.plfs_program.specs.Seen.{TellsOrderly, TellsStill, TellsStory}
-use Rattle.plfs_program.specs.SoundTrees.{TellsSoundTree}
+use Rattle.program_ends.specs.SoundTrees.{TellsSoundTree}
 use Rattle.plfs_program.specs.Ways.{Way, HasLines, ShowsFiles}
 
 -- A mount was made of the store as it was, with these times to come. On it the script was played in this way, with these lines,
@@ -27,16 +25,3 @@ pub record IsPlayedOn (way : Way) (times : Option (List ℕ)) (before : Stored) 
   pub orderly : TellsOrderly times before script lines after
   pub still : TellsStill times before script lines after
   pub story : TellsStory times before script lines after
-
--- A mount was made of the store as it was, with these times to come, and such calls of it led to what is left of the store.
-pub record IsRun (Calls : State → State → Type 0) (times : Option (List ℕ)) (before after : Stored) : Type 0 where
-  pub start : State
-  pub end : State
-  pub mounted : IsMounted 0 times before start
-  pub called : Calls start end
-  pub left : end.store ≡ after
-
--- That, or the mounting broke off and left the store so.
-pub data Leaves (Calls : State → State → Type 0) (times : Option (List ℕ)) (before after : Stored) : Type 0 where
-  broke_off : (trouble : MountTrouble) → FailsToMount before trouble after → Leaves Calls times before after
-  ran : IsRun Calls times before after → Leaves Calls times before after

@@ -11,8 +11,8 @@ use Rattle.script_lang.specs.declared.script.Script.{Script}
 use Rattle.script_lang.specs.declared.script.Statement.TheVariants.{Ropen, Read}
 use Rattle.report_text.specs.Text.{text_of}
 use Rattle.plfs_program.specs.Commands.{of_command, script_of}
-use Rattle.plfs_program.specs.Outcomes.{status_of}
-use Rattle.plfs_program.specs.Output.{IsPrinted, IsCutOff}
+use Rattle.program_ends.specs.Outcomes.{status_of}
+use Rattle.program_ends.specs.Output.{IsPrinted, IsCutOff}
 
 -- in bytes
 abbrev pub piece_length : ℕ

@@ -14,12 +14,13 @@ use Rattle.run_core.specs.declared.lone_reader.LoneReader.{LoneReader}
 use Rattle.run_core.specs.Making.{Keeps, HasMade, HasMadeOne, Makes}
 use Rattle.plfs_program.specs.Cat.{CatEnds, IsRead, is_read, content_of, contents, reading, cat_statements, cat_script}
 use Rattle.plfs_program.specs.Commands.{actor}
-use Rattle.plfs_program.specs.Ends.{Ends}
-use Rattle.plfs_program.specs.Playing.{IsPlayedAs, IsStoreLeft}
-use Rattle.plfs_program.specs.Outcomes.{status_of}
-use Rattle.plfs_program.specs.Output.{IsPrinted, IsCutOff}
+use Rattle.program_ends.specs.Ends.{Ends}
+use Rattle.plfs_program.specs.Playing.{IsPlayedAs}
+use Rattle.program_ends.specs.Leaving.{IsStoreLeft}
+use Rattle.program_ends.specs.Outcomes.{status_of}
+use Rattle.program_ends.specs.Output.{IsPrinted, IsCutOff}
 use Rattle.plfs_program.specs.ReadOut.{AreOfOneFile, ShowOneFile}
-use Rattle.plfs_program.specs.SoundTrees.{TellsSoundTree}
+use Rattle.program_ends.specs.SoundTrees.{TellsSoundTree}
 use Rattle.plfs_program.specs.Ways.{HasBegun, by_turns}
 
 -- Calls followed a play with these lines, and were broken off as a further piece was read.

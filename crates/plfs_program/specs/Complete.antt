@@ -9,7 +9,7 @@ use Rattle.command_line.specs.Commands.{IsCommand}
 use Rattle.pack_input.specs.Input.{Fault as InputFault, HasFault as HasInputFault}
 use Rattle.script_lang.specs.Faults.{Fault, HasFault}
 use Rattle.plfs_program.specs.Course.{IsInput}
-use Rattle.plfs_program.specs.Ends.{Ends}
+use Rattle.program_ends.specs.Ends.{Ends}
 use Rattle.plfs_program.specs.Ways.{Way, command_of}
 
 -- the words are a command's that is served, and where that reads a script or small files, what was read has no fault
@@ -26,7 +26,3 @@ pub record HadNoTrouble (given after : Given) (e : Ends) : Type 0 where
   pub sink : HasRisen e.taking.faults e.taking_after.faults → ⊥
   pub stalls : HasRisen e.taking.stalls e.taking_after.stalls → ⊥
   pub store : (left : Stored) → e.stored_after ≡ Some left → HasRisen e.stored.faults left.faults → ⊥
-
--- all statements were made, or one was refused, or memory was
-abbrev pub IsDone : ℕ → Type 0
-IsDone status = (status ≡ 0) ⊎ (status ≡ 1) ⊎ (status ≡ 3)

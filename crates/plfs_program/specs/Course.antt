@@ -8,9 +8,10 @@ use Rattle.script_lang.specs.Grammar.{IsScript}
 use Rattle.command_line.specs.declared.commands.Command.{Command}
 use Rattle.command_line.specs.declared.commands.Command.TheVariants.{Cat, Migrate, Names, Pack, Unpack}
 use Rattle.command_line.specs.Commands.{IsCommand}
+use Rattle.program_ends.specs.Usage.{usage_line}
 use Rattle.plfs_program.specs.Catting.{CatCourse}
 use Rattle.plfs_program.specs.Commands.{IsPlanned}
-use Rattle.plfs_program.specs.Ends.{Ends, IsUntouched, IsSaid}
+use Rattle.program_ends.specs.Ends.{Ends, IsUntouched, IsSaid}
 use Rattle.plfs_program.specs.Faults.{fault_line}
 use Rattle.plfs_program.specs.Input.{IsWholeInput}
 use Rattle.plfs_program.specs.Migrating.{MigrateCourse}
@@ -20,9 +21,6 @@ use Rattle.plfs_program.specs.Showing.{all_lines, shows_of}
 use Rattle.plfs_program.specs.SmallFiles.{NamesCourse, UnpackCourse}
 use Rattle.plfs_program.specs.Ways.{Way, by_turns, command_of}
 use Rattle.plfs_program.specs.declared.commands.Plan.{Plan}
-
-abbrev pub usage_line : List ℕ
-usage_line = codes "usage: plfs ROOT run|play|gen N|cat NAME|stat NAME|map NAME|flatten NAME|trunc NAME SIZE|rename OLD NEW|recover NAME|ls|migrate NAME|pack NAME REGION|unpack NAME FILE|names NAME\n"
 
 -- What becomes of an input of these bytes, whose script is played in this way. Memory was refused before the mounting where it is starved.
 pub data InputCourse (way : Way) (bytes : List ℕ) (e : Ends) (status : ℕ) : Type 0 where

@@ -6,7 +6,7 @@ use Rattle.mount_model.specs.Failing.{FailsToMount}
 use Rattle.script_lang.specs.declared.line.Line.{Line}
 use Rattle.script_lang.specs.declared.script.Script.{Script}
 use Rattle.plfs_program.specs.Calling.{IsPlayedOn}
-use Rattle.plfs_program.specs.Mounting.{IsUnmounted}
+use Rattle.program_ends.specs.Mounting.{IsUnmounted}
 use Rattle.plfs_program.specs.Ways.{Way}
 
 -- The mounting broke off, which line 0 says alone; or a mount was made, and these are the lines that the script, played in this way, has on it.

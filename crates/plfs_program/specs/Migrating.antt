@@ -21,12 +21,13 @@ use Rattle.outcomes.specs.Outcomes.{stuck_outcome}
 use Rattle.script_lang.specs.declared.line.Line.{Line}
 use Rattle.script_lang.specs.declared.line.Outcome.{Outcome}
 use Rattle.report_text.specs.Text.{text_of}
-use Rattle.plfs_program.specs.Ends.{Ends}
-use Rattle.plfs_program.specs.Mounting.{unmounted_of}
-use Rattle.plfs_program.specs.Outcomes.{is_damage, is_fault, status_of}
-use Rattle.plfs_program.specs.Output.{IsPrinted, IsCutOff}
-use Rattle.plfs_program.specs.Playing.{IsStoreLeft}
-use Rattle.plfs_program.specs.SoundTrees.{TellsSoundTree}
+use Rattle.program_ends.specs.Ends.{Ends}
+use Rattle.program_ends.specs.Mounting.{unmounted_of}
+use Rattle.program_ends.specs.Outcomes.{is_damage, is_fault, status_of}
+use Rattle.program_ends.specs.Output.{IsPrinted, IsCutOff}
+use Rattle.program_ends.specs.Leaving.{IsStoreLeft}
+use Rattle.program_ends.specs.Reported.{IsReported, line_zero}
+use Rattle.program_ends.specs.SoundTrees.{TellsSoundTree}
 
 -- ---- what is said
 
@@ -42,10 +43,6 @@ Said = Result Migrated Outcome
 abbrev pub said_of : Result Migrated Stuck → Said
 said_of (Ok out) = Ok out
 said_of (Err why) = Err (stuck_outcome why)
-
--- the line of a trouble, which has no line of a script
-abbrev pub line_zero : Outcome → Line
-line_zero outcome = record { number = 0; outcome = outcome }
 
 abbrev pub said_text : Said → List ℕ
 said_text (Ok out) = migrated_line out
@@ -102,13 +99,6 @@ pub record IsMigration (name : List ℕ) (start : State) (ended : Result Migrate
   pub made : Migrates name start ended end
   pub cause : IsFault ended → HasRisen start.store.faults end.store.faults
   pub undamaged : IsClean start → IsUndamaged ended
-
--- the text was printed, with this status; or it was cut off; or memory was refused before
-abbrev pub IsReported : List ℕ → ℕ → Taking → Taking → ℕ → Type 0
-IsReported text decided taking taking_after status =
-    ((status ≡ decided) × IsPrinted text taking taking_after)
-    ⊎ ((status ≡ 6) × IsCutOff text taking taking_after)
-    ⊎ ((status ≡ 3) × (taking_after ≡ taking))
 
 -- a migration was made, and reported; or memory was refused in it
 pub data MigratesOn (name : List ℕ) (start : State) (taking : Taking) (end : State) (taking_after : Taking) (status : ℕ) : Type 0 where

@@ -19,12 +19,13 @@ use Rattle.pack_puts.specs.declared.packing.Packed.{Packed}
 use Rattle.pack_puts.specs.declared.packing.Packed.TheVariants.{All, Full}
 use Rattle.script_lang.specs.declared.line.Outcome.{Outcome}
 use Rattle.report_text.specs.Text.{text_of}
-use Rattle.plfs_program.specs.Ends.{Ends, IsUntouched, IsSaid}
-use Rattle.plfs_program.specs.Migrating.{IsReported, is_broken_by, line_zero}
-use Rattle.plfs_program.specs.Mounting.{unmounted_of}
-use Rattle.plfs_program.specs.Outcomes.{is_damage, is_fault, status_of}
-use Rattle.plfs_program.specs.Output.{IsPrinted, IsCutOff}
-use Rattle.plfs_program.specs.Playing.{IsStoreLeft}
+use Rattle.program_ends.specs.Ends.{Ends, IsUntouched, IsSaid}
+use Rattle.program_ends.specs.Reported.{IsReported, line_zero}
+use Rattle.plfs_program.specs.Migrating.{is_broken_by}
+use Rattle.program_ends.specs.Mounting.{unmounted_of}
+use Rattle.program_ends.specs.Outcomes.{is_damage, is_fault, status_of}
+use Rattle.program_ends.specs.Output.{IsPrinted, IsCutOff}
+use Rattle.program_ends.specs.Leaving.{IsStoreLeft}
 use Rattle.plfs_program.specs.SmallFiles.{outcome_of}
 use Rattle.plfs_program.specs.UnitTrees.{TellsUnitsOf}
 

@@ -2,16 +2,15 @@
 use Rattle.std.specs.Prelude.{ℕ, ◌≡◌, true, false, List, Some}
 use Rattle.plfs_types.specs.Counts.{HasRisen}
 use Rattle.store_api.specs.Acts.{Stored}
-use Rattle.mount_model.specs.State.{State}
 use Rattle.script_lang.specs.declared.line.Line.{Line}
 use Rattle.script_lang.specs.declared.script.Script.{Script}
-use Rattle.plfs_program.specs.Calling.{Leaves}
-use Rattle.plfs_program.specs.Ends.{Ends}
+use Rattle.program_ends.specs.Leaving.{IsStoreLeft}
+use Rattle.program_ends.specs.Ends.{Ends}
 use Rattle.plfs_program.specs.Lines.{AreLinesOf}
-use Rattle.plfs_program.specs.Outcomes.{has_line, is_damage, is_fault, status_of}
-use Rattle.plfs_program.specs.Output.{IsPrinted, IsCutOff}
+use Rattle.program_ends.specs.Outcomes.{has_line, is_damage, is_fault, status_of}
+use Rattle.program_ends.specs.Output.{IsPrinted, IsCutOff}
 use Rattle.plfs_program.specs.Showing.{Shows}
-use Rattle.plfs_program.specs.SoundTrees.{TellsSoundTree}
+use Rattle.program_ends.specs.SoundTrees.{TellsSoundTree}
 use Rattle.plfs_program.specs.Ways.{Way, HasBegun}
 
 -- These are the lines of the script, played in this way. There is none for a fault that isn't the store's own, and none of damage where the store told a sound tree.
@@ -21,12 +20,6 @@ pub record IsPlayedAs (way : Way) (script : Script) (lines : List Line) (e : End
   pub in_turn : AreLinesOf way e.times e.stored after script lines
   pub cause : has_line is_fault lines ≡ true → HasRisen e.stored.faults after.faults
   pub undamaged : TellsSoundTree e.stored → has_line is_damage lines ≡ false
-
--- memory was refused from the mounting on, and the store is as the mounting or such calls of the mount left it
-pub record IsStoreLeft (Calls : State → State → Type 0) (e : Ends) : Type 0 where
-  pub after : Stored
-  pub left : e.stored_after ≡ Some after
-  pub lawful : Leaves Calls e.times e.stored after
 
 -- What becomes of a script that is played in this way, of whose lines this is shown: the text that is printed, and the lines that decide
 -- the status.

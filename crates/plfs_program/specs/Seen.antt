@@ -9,7 +9,7 @@ use Rattle.headline.specs.Headline.{IsOrderly}
 use Rattle.headline.specs.Names.{Story}
 use Rattle.headline.specs.Still.{HasStill}
 use Rattle.headline.specs.Stories.{Fits}
-use Rattle.plfs_program.specs.SoundTrees.{TellsSoundTree}
+use Rattle.program_ends.specs.SoundTrees.{TellsSoundTree}
 
 -- the script and its lines, the tree before and after, the clock's times, and the counts of faults
 abbrev pub seen_run : Option (List ℕ) → Stored → Script → List Line → Stored → Tree → Tree → Run

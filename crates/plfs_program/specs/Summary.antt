@@ -5,7 +5,7 @@ use Rattle.std.specs.Fmt.{decimal}
 use Rattle.script_lang.specs.declared.line.Line.{Line}
 use Rattle.script_lang.specs.declared.line.Outcome.{Outcome}
 use Rattle.script_lang.specs.declared.line.Outcome.TheVariants.{Same, Differs, Stat}
-use Rattle.plfs_program.specs.Outcomes.{is_refusal, is_fault, is_damage}
+use Rattle.program_ends.specs.Outcomes.{is_refusal, is_fault, is_damage}
 use Rattle.plfs_program.specs.declared.summary.Counted.{Counted}
 use Rattle.plfs_program.specs.declared.summary.Counted.TheVariants as of
 

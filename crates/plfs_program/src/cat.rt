@@ -6,20 +6,17 @@ ghost use Rattle.report_text.specs.Text.{HaveText, text_of};
 ghost use Rattle.run_core.specs.Making.{IsAtRest};
 ghost use Rattle.plfs_program.specs.Cat.{opening as opening_of, reading as reading_of, reader_size as size_told, content_of as content_in, is_read};
 ghost use Rattle.plfs_program.specs.Catting.{CatsOn, Writes, FailsAt};
-ghost use Rattle.plfs_program.specs.Mounting.{IsUnmounted};
-ghost use Rattle.plfs_program.specs.Outcomes.{status_of as status};
-ghost use Rattle.plfs_program.specs.Output.{IsPrinted, IsCutOff};
+ghost use Rattle.program_ends.specs.Mounting.{IsUnmounted};
+ghost use Rattle.program_ends.specs.Outcomes.{status_of as status};
+ghost use Rattle.program_ends.specs.Output.{IsPrinted, IsCutOff};
 
 use crate::commands::{actor, of_command};
-use crate::output::write_out;
-use crate::reporting::report;
-use crate::showing::Shown;
-use crate::work::mounting_line;
 use edge_io::{Clock, Sink};
-use mount_core::{Mount, MountTrouble};
+use mount_core::Mount;
 use plfs_types::LogicalName;
+use program_ends::{say_line, write_out};
 use run_core::LoneReader;
-use script_lang::{Line, Lines, Numbered, Outcome, Statement};
+use script_lang::{Line, Numbered, Outcome, Statement};
 use std::alloc::Global;
 use store_api::Store;
 
@@ -105,20 +102,6 @@ fn write_piece<S: Store + Drop, C: Clock + Drop, O: Sink>(
     }
 }
 
-/// Prints one line, and ends with its status.
-pub fn say_line<O: Sink>(alloc: Global, out: &mut O, line: Line) -> u8
-    requires { HaveText (line ∷ []) }
-    ensures told { ((result ≡ status (line ∷ [])) × IsPrinted (text_of (line ∷ [])) (O.taking out.old) (O.taking out.new))
-        ⊎ ((result ≡ 6) × IsCutOff (text_of (line ∷ [])) (O.taking out.old) (O.taking out.new))
-        ⊎ ((result ≡ 3) × (O.taking out.new ≡ O.taking out.old)) }
-{
-    let mut lines = Lines::new(alloc);
-    if lines.push(line).is_err() {
-        return 3;
-    }
-    report(alloc, out, lines, Shown::All)
-}
-
 /// Writes the file of this name out, and answers the status.
 pub(crate) fn cat_mounted<S: Store + Drop, C: Clock + Drop, O: Sink>(
     alloc: Global,
@@ -142,15 +125,4 @@ pub(crate) fn cat_mounted<S: Store + Drop, C: Clock + Drop, O: Sink>(
         }
     }
     0
-}
-
-/// Says why there is no mount, and answers the status.
-pub fn say_unmounted<O: Sink>(alloc: Global, out: &mut O, trouble: MountTrouble) -> u8
-    ensures { ((lines : List TheLine) × IsUnmounted trouble lines × (((result ≡ status lines) × IsPrinted (text_of lines) (O.taking out.old) (O.taking out.new)) ⊎ ((result ≡ 6) × IsCutOff (text_of lines) (O.taking out.old) (O.taking out.new))))
-        ⊎ ((result ≡ 3) × (O.taking out.new ≡ O.taking out.old)) }
-{
-    let Ok(lines) = mounting_line(alloc, trouble) else {
-        return 3;
-    };
-    report(alloc, out, lines, Shown::All)
 }

@@ -2,31 +2,20 @@
 ghost use Rattle.std.specs.Prelude.{◌≡◌, ◌++◌, ◌∷◌, [], IfOk, OnOk};
 ghost use Rattle.std.specs.Fmt.{decimal};
 ghost use Rattle.mount_sound.specs.Sound.{IsFine};
-ghost use Rattle.plfs_program.specs.Migrating.{IsReported, MigratesOn, migrated_line as line_of, said_of, said_status as status_of, said_text as text_of};
+ghost use Rattle.program_ends.specs.Reported.{IsReported};
+ghost use Rattle.plfs_program.specs.Migrating.{MigratesOn, migrated_line as line_of, said_of, said_status as status_of, said_text as text_of};
 
-use crate::cat::say_line;
-use crate::output::write_out;
 use edge_io::{Clock, Sink};
 use flow::Stuck;
-use itoa::Buffer;
 use lone_flow::migrate;
 use migrate_core::Migrated;
 use mount_core::Mount;
 use outcomes::stuck_outcome;
 use plfs_types::{LogicalName, NoMemory};
+use program_ends::{push_number, say_line, write_out};
 use script_lang::Line;
 use std::alloc::Global;
 use store_api::Store;
-
-/// A word and a number more.
-pub fn push_number(text: &mut Vec<u8>, word: &[u8], number: u128) -> Result<(), NoMemory>
-    ensures { OnOk result (text.new.items ≡ text.old.items ++ (word.now ++ decimal number)) }
-{
-    let mut buffer = Buffer::new();
-    text.extend_from_slice(word)?;
-    text.extend_from_slice(buffer.format(number).as_bytes())?;
-    Ok(())
-}
 
 // The line that tells how much was packed.
 fn migrated_line(alloc: Global, packed: Migrated) -> Result<Vec<u8>, NoMemory>

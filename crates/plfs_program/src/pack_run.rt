@@ -8,13 +8,11 @@ ghost use Rattle.pack_input.specs.Input.{HasFault};
 ghost use Rattle.pack_input.specs.declared.files.NamedFile.{NamedFile};
 ghost use Rattle.plfs_program.specs.Commands.{IsBuiltCommand};
 ghost use Rattle.plfs_program.specs.Course.{Course};
-ghost use Rattle.plfs_program.specs.Ends.{ends_of};
+ghost use Rattle.program_ends.specs.Ends.{ends_of};
 ghost use Rattle.plfs_program.specs.Packing.{PackCourse, PackInputCourse};
 
-use crate::cat::say_unmounted;
 use crate::input::{NoInput, read_input};
 use crate::packing::{pack_fault_line, pack_mounted};
-use crate::top::{Ended, ends, say};
 use edge_io::{Clock, Sink, Source};
 use mount_core::Mount;
 use pack_input::{FileList, InputTrouble, Kind, read};
@@ -22,6 +20,7 @@ use packing_laws::{
     a_container_of_units_shows_no_damage, a_fault_is_the_stores, a_mounting_leaves_units_alone,
 };
 use plfs_types::LogicalName;
+use program_ends::{Ended, ends, say, say_unmounted};
 use std::alloc::Global;
 use store_api::Store;
 

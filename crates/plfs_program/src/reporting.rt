@@ -1,13 +1,13 @@
 //! Lines are reported.
 ghost use Rattle.std.specs.Prelude.{◌≡◌, ◌⊎◌};
 ghost use Rattle.report_text.specs.Text.{HaveText};
-ghost use Rattle.plfs_program.specs.Outcomes.{status_of as status};
-ghost use Rattle.plfs_program.specs.Output.{IsPrinted, IsCutOff};
+ghost use Rattle.program_ends.specs.Outcomes.{status_of as status};
+ghost use Rattle.program_ends.specs.Output.{IsPrinted, IsCutOff};
 ghost use Rattle.plfs_program.specs.Showing.{shows_of};
 
-use crate::output::write_out;
 use crate::showing::{Shown, told};
 use edge_io::Sink;
+use program_ends::write_out;
 use script_lang::Lines;
 use std::alloc::Global;
 

@@ -1,11 +1,12 @@
 //! What is shown of lines.
 ghost use Rattle.std.specs.Prelude.{◌≡◌, IfOk};
-ghost use Rattle.plfs_program.specs.Outcomes.{has_line, is_fault, is_damage, is_refusal, status_of as status};
+ghost use Rattle.program_ends.specs.Outcomes.{has_line, is_fault, is_damage, is_refusal, status_of as status};
 ghost use Rattle.report_text.specs.Text.{HaveText, text_of};
 ghost use Rattle.plfs_program.specs.Showing.{is_reader as reads, behind_opening as behind, is_line_zero as is_zero, shows_of};
 
 use crate::summary::summary;
 use plfs_types::{Bytes, NoMemory};
+use program_ends::status_of;
 use report_text::print;
 use script_lang::{Line, Lines, Outcome};
 use std::alloc::Global;
@@ -26,45 +27,6 @@ pub(crate) enum Shown {
 pub(crate) struct Printout {
     pub(crate) text: Bytes,
     pub(crate) status: u8,
-}
-
-fn has_fault(lines: &[Line]) -> bool
-    ensures { result ≡ has_line is_fault lines.now }
-{
-    lines
-        .iter()
-        .any(|line| matches!(line.outcome, Outcome::Fault))
-}
-
-fn has_damage(lines: &[Line]) -> bool
-    ensures { result ≡ has_line is_damage lines.now }
-{
-    lines
-        .iter()
-        .any(|line| matches!(line.outcome, Outcome::Damaged { .. }))
-}
-
-fn has_refusal(lines: &[Line]) -> bool
-    ensures { result ≡ has_line is_refusal lines.now }
-{
-    lines
-        .iter()
-        .any(|line| matches!(line.outcome, Outcome::Refused { .. }))
-}
-
-// The status of a run with these lines.
-fn status_of(lines: &[Line]) -> u8
-    ensures { result ≡ status lines.now }
-{
-    if has_damage(lines) {
-        7
-    } else if has_fault(lines) {
-        4
-    } else if has_refusal(lines) {
-        1
-    } else {
-        0
-    }
 }
 
 fn is_reader(line: &Line) -> bool

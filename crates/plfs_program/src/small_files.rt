@@ -5,17 +5,16 @@ ghost use Rattle.mount_sound.specs.Sound.{IsFine};
 ghost use Rattle.pack_core.specs.Naming.{BeginsToName, Names};
 ghost use Rattle.pack_core.specs.Unpacking.{BeginsToUnpack, Unpacks};
 ghost use Rattle.report_text.specs.Items.{list_text};
-ghost use Rattle.plfs_program.specs.Migrating.{IsReported};
+ghost use Rattle.program_ends.specs.Reported.{IsReported};
 ghost use Rattle.plfs_program.specs.SmallFiles.{ReadsOn, names_line as line_of, outcome_of, told_of_file, told_of_names, told_status as status_of, told_text as text_of};
 
-use crate::cat::say_line;
-use crate::output::write_out;
 use edge_io::{Clock, Sink};
 use mount_core::Mount;
 use outcomes::stuck_outcome;
 use pack_core::{names, unpack};
 use pack_files::ScanStuck;
 use plfs_types::{Bytes, LogicalName, Name, NameList, NoMemory};
+use program_ends::{say_line, say_text};
 use script_lang::{Line, Outcome, Why};
 use std::alloc::Global;
 use store_api::Store;
@@ -44,16 +43,6 @@ fn say_trouble<O: Sink>(alloc: Global, out: &mut O, why: ScanStuck) -> u8
         outcome: outcome_of(why),
     };
     say_line(alloc, out, line)
-}
-
-/// Writes this text, and answers this status where all of it was taken.
-pub fn say_text<O: Sink>(out: &mut O, text: &[u8], status: u8) -> u8
-    ensures { IsReported text.now status (O.taking out.old) (O.taking out.new) result }
-{
-    match write_out(out, text) {
-        Ok(()) => status,
-        Err(_) => 6,
-    }
 }
 
 // Says that no small file has the name, and answers the status.

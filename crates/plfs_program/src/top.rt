@@ -10,22 +10,22 @@ ghost use Rattle.script_lang.specs.Faults.{HasFault};
 ghost use Rattle.script_lang.specs.Grammar.{IsScript};
 ghost use Rattle.script_lang.specs.Ranges.{FitsScript};
 ghost use Rattle.run_core.specs.Conditions.{IsPlayable};
-ghost use Rattle.plfs_program.specs.Complete.{IsAsked, HadNoTrouble, IsDone};
+ghost use Rattle.plfs_program.specs.Complete.{IsAsked, HadNoTrouble};
+ghost use Rattle.program_ends.specs.Outcomes.{IsDone};
 ghost use Rattle.plfs_program.specs.Course.{Course, InputCourse};
 ghost use Rattle.plfs_program.specs.Playing.{PlayCourse};
-ghost use Rattle.plfs_program.specs.Ends.{ends_of, IsSaid};
-ghost use Rattle.plfs_program.specs.Output.{IsPrinted, IsCutOff};
+ghost use Rattle.program_ends.specs.Ends.{ends_of, IsSaid};
+ghost use Rattle.program_ends.specs.Output.{IsPrinted, IsCutOff};
 ghost use Rattle.plfs_program.specs.Showing.{shows_of};
-ghost use Rattle.plfs_program.specs.SoundTrees.{TellsSoundTree, LeavesSoundTree};
+ghost use Rattle.program_ends.specs.SoundTrees.{TellsSoundTree, LeavesSoundTree};
 ghost use Rattle.plfs_program.specs.UnitTrees.{AskForUnits};
 ghost use Rattle.plfs_program.specs.Ways.{Way, by_turns};
 
-use crate::cat::{cat_mounted, say_unmounted};
+use crate::cat::cat_mounted;
 use crate::commands::{Built, Plan, built_command};
 use crate::faults::fault_line;
 use crate::input::{NoInput, read_input};
 use crate::migrating::migrate_mounted;
-use crate::output::write_out;
 use crate::pack_run::pack;
 use crate::reporting::report;
 use crate::showing::Shown;
@@ -39,43 +39,11 @@ use packing_laws::{
     a_container_of_units_shows_no_damage, a_fault_is_the_stores, a_mounting_leaves_units_alone,
 };
 use plfs_types::{LogicalName, Word};
+use program_ends::{Ended, USAGE, ends, say, say_unmounted};
 use script_lang::{Kind, Script, ScriptTrouble};
 use std::alloc::Global;
 use store_api::Store;
 use unpack_laws::{who_names_sees_one_file, who_unpacks_sees_one_file};
-
-/// The usage line, which words outside the grammar print, with its line feed.
-pub const USAGE: &[u8] =
-    b"usage: plfs ROOT run|play|gen N|cat NAME|stat NAME|map NAME|flatten NAME|trunc NAME SIZE|rename OLD NEW|recover NAME|ls|migrate NAME|pack NAME REGION|unpack NAME FILE|names NAME\n";
-
-/// What a run leaves: the store, and the status with which the program ends.
-#[derive(Drop)]
-pub struct Ended<S> {
-    /// The store as the run left it.
-    pub store: Option<S>,
-    /// 0: each statement was made. 1: one was refused. 2: the words or the script are none that are played.
-    /// 3: memory was refused. 4: the store failed. 5: the source failed. 6: the sink failed, or took nothing.
-    /// 7: an item is damaged.
-    pub status: u8,
-}
-
-/// The end of a run with this status.
-pub fn ends<S>(store: S, status: u8) -> Ended<S>
-    ensures store { result.store ≡ Some store }
-    ensures status { result.status ≡ status }
-{
-    Ended {
-        store: Some(store),
-        status,
-    }
-}
-
-/// Prints one line.
-pub fn say<O: Sink>(out: &mut O, line: &[u8])
-    ensures { IsPrinted line.now (O.taking out.old) (O.taking out.new) ⊎ IsCutOff line.now (O.taking out.old) (O.taking out.new) }
-{
-    let _ = write_out(out, line);
-}
 
 // Plays the script on the store, and prints what is shown of its lines.
 fn play_script<S: Store + Drop, C: Clock + Drop, O: Sink>(

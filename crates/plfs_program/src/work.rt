@@ -4,60 +4,24 @@ ghost use Rattle.plfs_types.specs.Counts.{HasRisen};
 ghost use Rattle.report_text.specs.Text.{HaveText};
 ghost use Rattle.mount_model.specs.Paths.{marks_folder};
 ghost use Rattle.run_core.specs.Conditions.{IsPlayable};
-ghost use Rattle.plfs_program.specs.Calling.{Leaves};
+ghost use Rattle.program_ends.specs.Leaving.{Leaves};
 ghost use Rattle.plfs_program.specs.Lines.{AreLinesOf};
-ghost use Rattle.plfs_program.specs.Mounting.{unmounted_of, IsUnmounted};
-ghost use Rattle.plfs_program.specs.Outcomes.{has_line, is_damage, is_fault};
-ghost use Rattle.plfs_program.specs.SoundTrees.{TellsSoundTree};
+ghost use Rattle.program_ends.specs.Mounting.{unmounted_of, IsUnmounted};
+ghost use Rattle.program_ends.specs.Outcomes.{has_line, is_damage, is_fault};
+ghost use Rattle.program_ends.specs.SoundTrees.{TellsSoundTree};
 ghost use Rattle.plfs_program.specs.Ways.{HasBegun, by_turns, on_threads};
 
 use edge_io::{Clock, Gate};
-use mount_core::{Mount, MountTrouble};
-use plfs_types::{Name, NoMemory};
+use mount_core::Mount;
+use plfs_types::NoMemory;
+use program_ends::mounting_line;
 use run_core::play;
-use script_lang::{Line, Lines, Outcome, Script, Why};
+use script_lang::{Lines, Script};
 use std::alloc::Global;
 use std::sync::Wait;
 use std::thread::Threads;
 use store_api::Store;
 use thread_runs::{RunEnded, run};
-
-// A file among the marks is damaged.
-fn damaged_marks(file: Name) -> Outcome
-    ensures { result ≡ Outcome.Damaged marks_folder file 0 }
-{
-    Outcome::Damaged {
-        folder: Name::from_bytes(b"mounts").unwrap(),
-        file,
-        place: 0,
-    }
-}
-
-// What the line says of a mounting that broke off. Want of memory has no line.
-fn unmounted(trouble: MountTrouble) -> Result<Outcome, NoMemory>
-    ensures { IfOk result (λ outcome. unmounted_of trouble ≡ Some outcome) }
-{
-    match trouble {
-        MountTrouble::Damaged { file } => Ok(damaged_marks(file)),
-        MountTrouble::NoMarks => Ok(damaged_marks(Name::empty())),
-        MountTrouble::Spent => Ok(Outcome::Refused {
-            why: Why::MountsSpent,
-        }),
-        MountTrouble::Fault => Ok(Outcome::Fault),
-        MountTrouble::NoMemory => Err(NoMemory),
-    }
-}
-
-/// The line of a mounting that broke off.
-pub(crate) fn mounting_line(alloc: Global, trouble: MountTrouble) -> Result<Lines, NoMemory>
-    ensures line { IfOk result (IsUnmounted trouble) }
-    ensures text { IfOk result HaveText }
-{
-    let mut lines = Lines::new(alloc);
-    let outcome = unmounted(trouble)?;
-    lines.push(Line { number: 0, outcome })?;
-    Ok(lines)
-}
 
 /// What the work on a store leaves.
 #[derive(Drop)]

@@ -2,8 +2,9 @@
 use crate::spelling::{end, letters, numbers, parts};
 use crate::stages::{Stage, Under};
 use edge_io::{ListClock, MemorySink, MemorySource, NoGate};
-use plfs_program::{Ended, plfs, single};
+use plfs_program::{plfs, single};
 use plfs_types::{Bytes, Word};
+use program_ends::Ended;
 use std::alloc::Global;
 use std::sync::Wait;
 use std::thread::Threads;

@@ -8,7 +8,7 @@ use Rattle.mount_model.specs.Failing.{FailsToMount}
 use Rattle.mount_model.specs.declared.trouble.MountTrouble.{MountTrouble}
 use Rattle.step_laws.specs.Alike.{IsTold}
 use Rattle.step_laws.proofs.Facts.{fails_one, fails_rise, mounts_or_fails, mounts_one, mounted_faults, mounted_tells}
-use Rattle.plfs_program.specs.Mounting.{unmounted_of}
+use Rattle.program_ends.specs.Mounting.{unmounted_of}
 use Rattle.program_replay.proofs.OneWay.{Doing, GoesOneWay}
 use Rattle.program_replay.proofs.Twice.{tells_why, outcome_one}
 

@@ -26,11 +26,11 @@ use Rattle.plfs_program.specs.Cat as cat
 use Rattle.plfs_program.specs.Catting.{CatCourse, IsReadOut}
 use Rattle.plfs_program.specs.Commands.{script_of}
 use Rattle.plfs_program.specs.Complete.{HadNoTrouble}
-use Rattle.plfs_program.specs.Ends.{Ends}
+use Rattle.program_ends.specs.Ends.{Ends}
 use Rattle.plfs_program.specs.Lines.{AreLinesOf, unmounted, mounted}
-use Rattle.plfs_program.specs.Mounting.{IsUnmounted}
-use Rattle.plfs_program.specs.Outcomes.{status_of}
-use Rattle.plfs_program.specs.Output.{IsPrinted, IsCutOff}
+use Rattle.program_ends.specs.Mounting.{IsUnmounted}
+use Rattle.program_ends.specs.Outcomes.{status_of}
+use Rattle.program_ends.specs.Output.{IsPrinted, IsCutOff}
 use Rattle.plfs_program.specs.Playing.{IsPlayedAs}
 use Rattle.plfs_program.specs.Ways.{by_turns}
 use Rattle.program_replay.specs.Twice.{BeginAlike, PrintAlike}

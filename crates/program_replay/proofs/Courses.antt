@@ -12,8 +12,9 @@ use Rattle.command_line.specs.Commands.{IsCommand}
 use Rattle.plfs_program.specs.Catting.{CatCourse}
 use Rattle.plfs_program.specs.Commands.{IsBuiltCommand, plan_of}
 use Rattle.plfs_program.specs.Complete.{HadNoTrouble}
-use Rattle.plfs_program.specs.Course.{Course, InputCourse, IsInput, usage_line, faulty, played, starved, usage, unread, read, planned, cats, migrates, packs_unread, packs, unpacks, names_all, hungry}
-use Rattle.plfs_program.specs.Ends.{Ends, IsSaid, IsUntouched}
+use Rattle.plfs_program.specs.Course.{Course, InputCourse, IsInput, faulty, played, starved, usage, unread, read, planned, cats, migrates, packs_unread, packs, unpacks, names_all, hungry}
+use Rattle.program_ends.specs.Usage.{usage_line}
+use Rattle.program_ends.specs.Ends.{Ends, IsSaid, IsUntouched}
 use Rattle.plfs_program.specs.Faults.{fault_line}
 use Rattle.plfs_program.specs.Migrating.{MigrateCourse}
 use Rattle.plfs_program.specs.Packing.{PackCourse, PackInputCourse, pack_fault_line}
@@ -21,7 +22,7 @@ use Rattle.plfs_program.specs.Packing as packing
 use Rattle.plfs_program.specs.Playing.{PlayCourse}
 use Rattle.plfs_program.specs.Showing.{Shows, all_lines, shows_of}
 use Rattle.plfs_program.specs.SmallFiles.{NamesCourse, UnpackCourse}
-use Rattle.plfs_program.specs.Output.{IsPrinted}
+use Rattle.program_ends.specs.Output.{IsPrinted}
 use Rattle.plfs_program.specs.Ways.{by_turns, on_threads}
 use Rattle.program_replay.specs.Twice.{BeginAlike, PrintAlike}
 use Rattle.program_replay.proofs.Cats.{cat_twice}

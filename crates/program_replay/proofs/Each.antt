@@ -10,10 +10,10 @@ use Rattle.pack_files.specs.declared.scan.ScanStuck.{ScanStuck}
 use Rattle.pack_input.specs.declared.files.NamedFile.{NamedFile}
 use Rattle.pack_puts.specs.Packing.{Packs}
 use Rattle.plfs_program.specs.Complete.{HadNoTrouble}
-use Rattle.plfs_program.specs.Ends.{Ends}
+use Rattle.program_ends.specs.Ends.{Ends}
 use Rattle.plfs_program.specs.Migrating.{MigrateCourse, IsMigratedAs, IsSaidOf, Said, said_of, said_text, said_status}
 use Rattle.plfs_program.specs.Migrating as m
-use Rattle.plfs_program.specs.Output.{IsPrinted}
+use Rattle.program_ends.specs.Output.{IsPrinted}
 use Rattle.plfs_program.specs.Packing.{IsEndOf, PackCourse, PackEnd, end_of, packed_status, packed_text}
 use Rattle.plfs_program.specs.Packing as packing
 use Rattle.plfs_program.specs.SmallFiles.{Begins, Does, Claims, Told, ReadCourse, IsToldAs, IsToldOf, told_text, told_status}

@@ -1,8 +1,8 @@
 -- Two runs that begin alike, and print the same.
 use Rattle.std.specs.Prelude.{◌≡◌, ℕ, ◌<◌, ◌-◌, ◌^◌, List, Some}
 use Rattle.step_laws.specs.Alike.{IsTold}
-use Rattle.plfs_program.specs.Ends.{Ends}
-use Rattle.plfs_program.specs.Output.{IsPrinted}
+use Rattle.program_ends.specs.Ends.{Ends}
+use Rattle.program_ends.specs.Output.{IsPrinted}
 
 -- The store of both is the same and tells its tree, its count of faults has not come to its end, and the clock of both
 -- tells these times.

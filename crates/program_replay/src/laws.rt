@@ -5,7 +5,7 @@ ghost use Rattle.script_lang.specs.declared.script.Script.{Script};
 ghost use Rattle.plfs_program.specs.Commands.{IsBuiltCommand};
 ghost use Rattle.plfs_program.specs.Complete.{HadNoTrouble};
 ghost use Rattle.plfs_program.specs.Course.{Course};
-ghost use Rattle.plfs_program.specs.Ends.{Ends};
+ghost use Rattle.program_ends.specs.Ends.{Ends};
 ghost use Rattle.plfs_program.specs.Playing.{PlayCourse};
 ghost use Rattle.plfs_program.specs.Showing.{Shows};
 ghost use Rattle.plfs_program.specs.Ways.{by_turns};

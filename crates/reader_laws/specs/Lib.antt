@@ -5,3 +5,4 @@ pub mod Listing
 pub mod Opening
 pub mod Opened
 pub mod Troubled
+pub mod Naming

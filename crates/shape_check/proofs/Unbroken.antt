@@ -4,10 +4,11 @@ use Rattle.std.proofs.Common.{sym, subst}
 use Rattle.store_api.specs.declared.step.Answer.{Answer}
 use Rattle.store_api.specs.declared.step.Answer.TheVariants.{Made, Old, Absent, NoRoom, NoFolder, NotEmpty, TargetThere, Names, Number, Bytes, Beyond}
 use Rattle.store_api.specs.Acts.{Stored}
+use Rattle.mount_model.specs.Paths.{Name}
 use Rattle.shape_check.specs.declared.finding.Finding.{Finding}
 use Rattle.shape_check.specs.declared.finding.Finding.TheVariants.{Broken, Fault, NoMemory, Untold}
-use Rattle.shape_check.specs.Rightness.{IsNoComplaint, IsOfShape, NoAnswer}
-use Rattle.shape_check.specs.Told.{length_in, names_of, number_in, rooms_in}
+use Rattle.shape_check.specs.Rightness.{IsNoComplaint, IsOfRoom, IsOfShape, NoAnswer}
+use Rattle.shape_check.specs.Told.{bytes_in, length_in, names_of, number_in, rooms_in}
 
 pub unanswered : (old new : Stored) (finding : Finding) → NoAnswer old new finding → IsNoComplaint finding
 unanswered old new (Broken complaint) n = n
@@ -41,28 +42,7 @@ no_number (Number value) = tt
 no_number (Bytes bytes) = tt
 no_number Beyond = tt
 
--- ---- of the shape
-
-pub unbroken_shape : (finding : Finding) → IsNoComplaint finding → IsOfShape finding
-unbroken_shape (Broken complaint) none = absurd none
-unbroken_shape Fault none = tt
-unbroken_shape NoMemory none = tt
-unbroken_shape Untold none = tt
-
-pub unbroken_shapes : {A : Type 0} (result : Result A Finding) → IfErr result IsNoComplaint → IfErr result IsOfShape
-unbroken_shapes (Ok value) none = tt
-unbroken_shapes (Err finding) none = unbroken_shape finding none
-
-pub unanswered_shape : (old new : Stored) (finding : Finding) → NoAnswer old new finding → IsOfShape finding
-unanswered_shape old new finding none = unbroken_shape finding (unanswered old new finding none)
-
-pub memory_unbroken : (finding : Finding) → finding ≡ NoMemory → IsNoComplaint finding
-memory_unbroken finding is = subst IsNoComplaint (sym is) tt
-
-pub memory_shape : (finding : Finding) → finding ≡ NoMemory → IsOfShape finding
-memory_shape finding is = subst IsOfShape (sym is) tt
-
-pub no_names : (answer : Answer) → IfErr (names_of answer) IsOfShape
+pub no_names : (answer : Answer) → IfErr (names_of answer) IsNoComplaint
 no_names Made = tt
 no_names (Old number) = tt
 no_names Absent = tt
@@ -75,7 +55,7 @@ no_names (Number value) = tt
 no_names (Bytes bytes) = tt
 no_names Beyond = tt
 
-pub no_length : (answer : Answer) → IfErr (length_in answer) IsOfShape
+pub no_length : (answer : Answer) → IfErr (length_in answer) IsNoComplaint
 no_length Made = tt
 no_length (Old number) = tt
 no_length Absent = tt
@@ -87,3 +67,43 @@ no_length (Names names) = tt
 no_length (Number value) = tt
 no_length (Bytes bytes) = tt
 no_length Beyond = tt
+
+pub no_bytes : (answer : Answer) → IfErr (bytes_in answer) IsNoComplaint
+no_bytes Made = tt
+no_bytes (Old number) = tt
+no_bytes Absent = tt
+no_bytes NoRoom = tt
+no_bytes NoFolder = tt
+no_bytes (NotEmpty least) = tt
+no_bytes TargetThere = tt
+no_bytes (Names names) = tt
+no_bytes (Number value) = tt
+no_bytes (Bytes bytes) = tt
+no_bytes Beyond = tt
+
+pub memory_unbroken : (finding : Finding) → finding ≡ NoMemory → IsNoComplaint finding
+memory_unbroken finding is = subst IsNoComplaint (sym is) tt
+
+-- ---- of the room, and of its shape
+
+pub unbroken_room : (name : Name) (finding : Finding) → IsNoComplaint finding → IsOfRoom name finding
+unbroken_room name (Broken complaint) none = absurd none
+unbroken_room name Fault none = tt
+unbroken_room name NoMemory none = tt
+unbroken_room name Untold none = tt
+
+pub unbroken_shape : (name : Name) (finding : Finding) → IsNoComplaint finding → IsOfShape name finding
+unbroken_shape name (Broken complaint) none = absurd none
+unbroken_shape name Fault none = tt
+unbroken_shape name NoMemory none = tt
+unbroken_shape name Untold none = tt
+
+pub unbroken_shapes : {A : Type 0} (name : Name) (result : Result A Finding) → IfErr result IsNoComplaint → IfErr result (IsOfShape name)
+unbroken_shapes name (Ok value) none = tt
+unbroken_shapes name (Err finding) none = unbroken_shape name finding none
+
+pub memory_room : (name : Name) (finding : Finding) → finding ≡ NoMemory → IsOfRoom name finding
+memory_room name finding is = subst (IsOfRoom name) (sym is) tt
+
+pub memory_shape : (name : Name) (finding : Finding) → finding ≡ NoMemory → IsOfShape name finding
+memory_shape name finding is = subst (IsOfShape name) (sym is) tt

@@ -5,6 +5,7 @@ use Rattle.store_api.specs.declared.tree.Tree.{Tree}
 use Rattle.store_api.specs.declared.store.Trouble.{Trouble}
 use Rattle.store_api.specs.declared.store.Trouble.TheVariants as trouble
 use Rattle.store_api.specs.Acts.{Stored}
+use Rattle.mount_model.specs.Paths.{Name, marks_name}
 use Rattle.tree_laws.specs.Complaints.{Complaint, IsBroken}
 use Rattle.tree_laws.specs.Complaints as complaint
 use Rattle.shape_check.specs.declared.finding.Complaint as code
@@ -53,12 +54,39 @@ is_of_shape (variant.Between room path stamp) = false
 is_of_shape (variant.TwoTruncates room stamp) = true
 is_of_shape (variant.WrongIndex room path) = false
 
--- what is found wrong, if anything is, is of the shape
-abbrev pub IsOfShape : Finding → Type 0
-IsOfShape (Broken complaint) = is_of_shape complaint ≡ true
-IsOfShape Fault = Unit {0}
-IsOfShape NoMemory = Unit {0}
-IsOfShape Untold = Unit {0}
+-- the room that it is of
+abbrev pub room_of : code.Complaint → Name
+room_of (variant.RoomName room) = room
+room_of (variant.NoFolder room folder) = room
+room_of (variant.NoAccess room) = room
+room_of (variant.ForeignFolder room folder) = room
+room_of (variant.Foreign room path) = room
+room_of (variant.NoMark path) = marks_name
+room_of (variant.Filled room path) = room
+room_of (variant.Unmarked room path) = room
+room_of (variant.TwoHosts room writer) = room
+room_of (variant.Entry room path place) = room
+room_of (variant.LongLog room path) = room
+room_of (variant.Unaccounted room path) = room
+room_of (variant.Untrue room path) = room
+room_of (variant.Unsettled room path) = room
+room_of (variant.Between room path stamp) = room
+room_of (variant.TwoTruncates room stamp) = room
+room_of (variant.WrongIndex room path) = room
+
+-- what is found wrong, if anything is, is wrong with the room of this name
+abbrev pub IsOfRoom : Name → Finding → Type 0
+IsOfRoom name (Broken complaint) = room_of complaint ≡ name
+IsOfRoom name Fault = Unit {0}
+IsOfRoom name NoMemory = Unit {0}
+IsOfRoom name Untold = Unit {0}
+
+-- the same, and it is of its shape
+abbrev pub IsOfShape : Name → Finding → Type 0
+IsOfShape name (Broken complaint) = (is_of_shape complaint ≡ true) × (room_of complaint ≡ name)
+IsOfShape name Fault = Unit {0}
+IsOfShape name NoMemory = Unit {0}
+IsOfShape name Untold = Unit {0}
 
 -- what a trouble of the store is
 abbrev pub finding_of : Trouble → Finding

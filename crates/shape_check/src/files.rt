@@ -23,12 +23,12 @@ pub struct Place {
 
 /// Whether the file at this path, if it is there, is an item's, with bytes only where it may have some, and with an id
 /// that a mount with a mark may have drawn.
-#[tactic(auto, using(crate::proofs::FileLemmas::no_place, crate::proofs::FileLemmas::file_gone, crate::proofs::FileLemmas::item_wrong, crate::proofs::FileLemmas::item_fails, crate::proofs::FileLemmas::item_fine, crate::proofs::Seen::looked_on))]
+#[tactic(auto, using(crate::proofs::FileLemmas::no_place, crate::proofs::FileLemmas::file_gone, crate::proofs::FileLemmas::item_wrong, crate::proofs::FileLemmas::item_fails, crate::proofs::FileLemmas::item_fine, crate::proofs::Seen::looked_on, crate::proofs::Unbroken::unbroken_shape))]
 pub fn check_file<S: Store>(store: &mut S, place: &Place, path: Path) -> Result<(), Finding>
     ensures looked { IsLookedAt (S.stored store.old) (S.stored store.new) }
     ensures ok { OnOk result (OfPlace (IsFineItem path) place.now (S.stored store.old)) }
     ensures err { IfErr result (Fails (IsPlaced place.now) (S.stored store.old) (S.stored store.new)) }
-    ensures shape { IfErr result IsOfShape }
+    ensures shape { IfErr result (IsOfShape place.now.name) }
 {
     let Some(len) = length(store, place.number, &path)? else {
         return Ok(());
@@ -47,7 +47,7 @@ fn check_id<S: Store>(
     ensures looked { IsLookedAt (S.stored store.old) (S.stored store.new) }
     ensures ok { OnOk result ((tree : Tree) → IsSeen (S.stored store.old) tree → IsPlaced place.now tree → IsDrawn id tree) }
     ensures err { IfErr result (Fails (HasItemFile place.now path id) (S.stored store.old) (S.stored store.new)) }
-    ensures shape { IfErr result IsOfShape }
+    ensures shape { IfErr result (IsOfShape place.now.name) }
 {
     match id {
         Some(id) => check_drawn(store, place, path, id),
@@ -56,12 +56,12 @@ fn check_id<S: Store>(
 }
 
 /// Whether a mount with a mark may have drawn the id.
-#[tactic(auto, using(crate::proofs::FileLemmas::marked_fails, crate::proofs::FileLemmas::marked_fine, crate::proofs::FileLemmas::marked_wrong))]
+#[tactic(auto, using(crate::proofs::FileLemmas::marked_fails, crate::proofs::FileLemmas::marked_fine, crate::proofs::FileLemmas::marked_wrong, crate::proofs::Unbroken::unbroken_shape))]
 fn check_drawn<S: Store>(store: &mut S, place: &Place, path: Path, id: u64) -> Result<(), Finding>
     ensures looked { IsLookedAt (S.stored store.old) (S.stored store.new) }
     ensures ok { OnOk result ((tree : Tree) → IsSeen (S.stored store.old) tree → IsPlaced place.now tree → IsDrawn (Some id) tree) }
     ensures err { IfErr result (Fails (HasItemFile place.now path (Some id)) (S.stored store.old) (S.stored store.new)) }
-    ensures shape { IfErr result IsOfShape }
+    ensures shape { IfErr result (IsOfShape place.now.name) }
 {
     let is = is_marked(store, place.marks, id)?;
     if is {
@@ -79,7 +79,7 @@ fn check_drawn<S: Store>(store: &mut S, place: &Place, path: Path, id: u64) -> R
 fn judge_file(room: Name, path: &Path, len: u64) -> Result<Option<u64>, Finding>
     ensures ok { IfOk result (IsItemOf path.now len) }
     ensures err { IfErr result (IsNoItem room path.now len) }
-    ensures shape { IfErr result IsOfShape }
+    ensures shape { IfErr result (IsOfShape room) }
 {
     let Some(item) = read(path) else {
         return Err(Finding::Broken {

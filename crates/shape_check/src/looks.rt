@@ -6,7 +6,7 @@ ghost use Rattle.store_api.specs.Acts.{Acts};
 ghost use Rattle.store_api.specs.Step.{step_of};
 ghost use Rattle.store_laws.specs.Outcomes.{IsLook};
 ghost use Rattle.store_laws.specs.Says.{AreRoomNames};
-ghost use Rattle.shape_check.specs.Rightness.{Fails, IsNoComplaint, NoAnswer, IsOfShape};
+ghost use Rattle.shape_check.specs.Rightness.{Fails, IsNoComplaint, NoAnswer};
 ghost use Rattle.shape_check.specs.Seeing.{IsSeen, IsLookedAt, HasRoom, IsOrderlyFile, IsAny};
 ghost use Rattle.shape_check.specs.Told.{TellsFolder, TellsLength, TellsBytes, TellsRoom, names_of as names_told, length_in as length_told, bytes_in as bytes_told, rooms_in as rooms_told, number_in as number_told};
 
@@ -82,12 +82,12 @@ fn names_of(answer: Answer) -> Result<Option<NameList>, Finding>
 }
 
 /// The names of the folder's entries, if the folder is there.
-#[tactic(auto, using(crate::proofs::LookLemmas::no_answer, crate::proofs::LookLemmas::folder_ok, crate::proofs::LookLemmas::folder_err, crate::proofs::Unbroken::unanswered_shape, crate::proofs::Unbroken::no_names))]
+#[tactic(auto, using(crate::proofs::LookLemmas::no_answer, crate::proofs::LookLemmas::folder_ok, crate::proofs::LookLemmas::folder_err, crate::proofs::Unbroken::unanswered, crate::proofs::Unbroken::no_names))]
 pub fn list<S: Store>(store: &mut S, room: u64, folder: Name) -> Result<Option<NameList>, Finding>
     ensures looked { IsLookedAt (S.stored store.old) (S.stored store.new) }
     ensures ok { IfOk result (λ found. (tree : Tree) (held : Room) → IsSeen (S.stored store.old) tree → slice_get tree.rooms room ≡ Some held → TellsFolder held folder found) }
     ensures err { IfErr result (Fails (HasRoom room) (S.stored store.old) (S.stored store.new)) }
-    ensures shape { IfErr result IsOfShape }
+    ensures unbroken { IfErr result IsNoComplaint }
 {
     let answer = ask(store, &Step::List { room, folder })?;
     names_of(answer)
@@ -105,12 +105,12 @@ fn length_in(answer: &Answer) -> Result<Option<u64>, Finding>
 }
 
 /// The length of the file, if it is there.
-#[tactic(auto, using(crate::proofs::LookLemmas::no_answer, crate::proofs::LookLemmas::length_ok, crate::proofs::LookLemmas::length_err, crate::proofs::Unbroken::unanswered_shape, crate::proofs::Unbroken::no_length))]
+#[tactic(auto, using(crate::proofs::LookLemmas::no_answer, crate::proofs::LookLemmas::length_ok, crate::proofs::LookLemmas::length_err, crate::proofs::Unbroken::unanswered, crate::proofs::Unbroken::no_length))]
 pub fn length<S: Store>(store: &mut S, room: u64, path: &Path) -> Result<Option<u64>, Finding>
     ensures looked { IsLookedAt (S.stored store.old) (S.stored store.new) }
     ensures ok { IfOk result (λ found. (tree : Tree) (held : Room) → IsSeen (S.stored store.old) tree → slice_get tree.rooms room ≡ Some held → TellsLength held path.now found) }
     ensures err { IfErr result (Fails (HasRoom room) (S.stored store.old) (S.stored store.new)) }
-    ensures shape { IfErr result IsOfShape }
+    ensures unbroken { IfErr result IsNoComplaint }
 {
     let answer = ask(
         store,
@@ -133,7 +133,7 @@ fn bytes_in(answer: Answer) -> Result<Bytes, Finding>
 }
 
 /// So many bytes of the file from this place on, or all to its end.
-#[tactic(auto, using(crate::proofs::LookLemmas::no_answer, crate::proofs::LookLemmas::bytes_ok, crate::proofs::LookLemmas::bytes_err))]
+#[tactic(auto, using(crate::proofs::LookLemmas::no_answer, crate::proofs::LookLemmas::bytes_ok, crate::proofs::LookLemmas::bytes_err, crate::proofs::Unbroken::unanswered, crate::proofs::Unbroken::no_bytes))]
 pub fn read<S: Store>(
     store: &mut S,
     room: u64,
@@ -144,6 +144,7 @@ pub fn read<S: Store>(
     ensures looked { IsLookedAt (S.stored store.old) (S.stored store.new) }
     ensures ok { IfOk result (λ bytes. (tree : Tree) (held : Room) → IsSeen (S.stored store.old) tree → slice_get tree.rooms room ≡ Some held → TellsBytes held path.now at len bytes) }
     ensures err { IfErr result (Fails (IsOrderlyFile room path.now) (S.stored store.old) (S.stored store.new)) }
+    ensures unbroken { IfErr result IsNoComplaint }
 {
     let answer = ask(
         store,

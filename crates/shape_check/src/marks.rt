@@ -6,7 +6,7 @@ ghost use Rattle.mount_shape.specs.Marks.{IsMarksRoom, IsOfMark};
 ghost use Rattle.shape_check.specs.declared.finding.Complaint.TheVariants.{ForeignFolder};
 ghost use Rattle.shape_check.specs.declared.finding.Finding.TheVariants.{Broken};
 ghost use Rattle.shape_check.specs.Places.{IsMarksPlace, IsMarkName, OfMarks, IsFineMark, IsFineFile, IsFineTop, Each, ShowsNames, HasMarks};
-ghost use Rattle.shape_check.specs.Rightness.{Fails, IsOfShape};
+ghost use Rattle.shape_check.specs.Rightness.{Fails, IsNoComplaint, IsOfShape};
 ghost use Rattle.shape_check.specs.Seeing.{IsSeen, IsLookedAt, HasRoom};
 
 use crate::finding::{Complaint, Finding, broken};
@@ -40,12 +40,12 @@ pub fn at_top(file: Name) -> Path
 }
 
 /// Whether the room has the folder of marks, empty marks in it, and nothing else.
-#[tactic(auto, using(crate::proofs::MarkLemmas::no_room, crate::proofs::MarkLemmas::marks_checked, crate::proofs::LoopLemmas::fails_on, crate::proofs::LoopLemmas::later_fails, crate::proofs::Seen::looked_on))]
+#[tactic(auto, using(crate::proofs::MarkLemmas::no_room, crate::proofs::MarkLemmas::marks_checked, crate::proofs::LoopLemmas::fails_on, crate::proofs::LoopLemmas::later_fails, crate::proofs::Seen::looked_on, crate::proofs::Unbroken::unbroken_shape))]
 pub fn check_marks<S: Store>(store: &mut S, number: u64) -> Result<(), Finding>
     ensures looked { IsLookedAt (S.stored store.old) (S.stored store.new) }
     ensures ok { OnOk result (OfMarks IsMarksRoom number (S.stored store.old)) }
     ensures err { IfErr result (Fails (IsMarksPlace number) (S.stored store.old) (S.stored store.new)) }
-    ensures shape { IfErr result IsOfShape }
+    ensures shape { IfErr result (IsOfShape marks_room_name) }
 {
     let tops = tops_of(store, number)?;
     check_tops(store, number, tops.as_slice())?;
@@ -59,7 +59,7 @@ pub fn tops_of<S: Store>(store: &mut S, number: u64) -> Result<NameList, Finding
     ensures looked { IsLookedAt (S.stored store.old) (S.stored store.new) }
     ensures ok { IfOk result (λ names. ShowsNames (S.stored store.old) number [] names) }
     ensures err { IfErr result (Fails (HasRoom number) (S.stored store.old) (S.stored store.new)) }
-    ensures shape { IfErr result IsOfShape }
+    ensures unbroken { IfErr result IsNoComplaint }
 {
     match list(store, number, Name::empty())? {
         Some(names) => Ok(names),
@@ -68,12 +68,12 @@ pub fn tops_of<S: Store>(store: &mut S, number: u64) -> Result<NameList, Finding
 }
 
 /// The names of the marks.
-#[tactic(auto, using(crate::proofs::MarkLemmas::no_room, crate::proofs::MarkLemmas::names_shown, crate::proofs::MarkLemmas::marks_missing))]
+#[tactic(auto, using(crate::proofs::MarkLemmas::no_room, crate::proofs::MarkLemmas::names_shown, crate::proofs::MarkLemmas::marks_missing, crate::proofs::Unbroken::unbroken_shape))]
 fn files_of<S: Store>(store: &mut S, number: u64) -> Result<NameList, Finding>
     ensures looked { IsLookedAt (S.stored store.old) (S.stored store.new) }
     ensures ok { IfOk result (λ names. ShowsNames (S.stored store.old) number marks_folder_name names) }
     ensures err { IfErr result (Fails (IsMarksPlace number) (S.stored store.old) (S.stored store.new)) }
-    ensures shape { IfErr result IsOfShape }
+    ensures shape { IfErr result (IsOfShape marks_room_name) }
 {
     match list(store, number, marks_folder())? {
         Some(names) => Ok(names),
@@ -91,7 +91,7 @@ fn check_tops<S: Store>(store: &mut S, number: u64, tops: &[Name]) -> Result<(),
     ensures looked { IsLookedAt (S.stored store.old) (S.stored store.new) }
     ensures ok { OnOk result (OfMarks (Each IsFineTop tops.now) number (S.stored store.old)) }
     ensures err { IfErr result (Fails (IsMarksPlace number) (S.stored store.old) (S.stored store.new)) }
-    ensures shape { IfErr result IsOfShape }
+    ensures shape { IfErr result (IsOfShape marks_room_name) }
 {
     for top in tops {
         check_top(store, number, *top)?;
@@ -101,12 +101,12 @@ fn check_tops<S: Store>(store: &mut S, number: u64, tops: &[Name]) -> Result<(),
 
 /// Whether the entry of the top is the folder of marks, and no file. A folder's name is asked for no file, which a store on
 /// real folders would take for a fault.
-#[tactic(auto, using(crate::proofs::MarkLemmas::no_room, crate::proofs::LoopLemmas::fails_on, crate::proofs::LoopLemmas::later_fails, crate::proofs::Seen::looked_on))]
+#[tactic(auto, using(crate::proofs::MarkLemmas::no_room, crate::proofs::LoopLemmas::fails_on, crate::proofs::LoopLemmas::later_fails, crate::proofs::Seen::looked_on, crate::proofs::Unbroken::unbroken_shape))]
 fn check_top<S: Store>(store: &mut S, number: u64, top: Name) -> Result<(), Finding>
     ensures looked { IsLookedAt (S.stored store.old) (S.stored store.new) }
     ensures ok { OnOk result (OfMarks (IsFineTop top) number (S.stored store.old)) }
     ensures err { IfErr result (Fails (IsMarksPlace number) (S.stored store.old) (S.stored store.new)) }
-    ensures shape { IfErr result IsOfShape }
+    ensures shape { IfErr result (IsOfShape marks_room_name) }
 {
     if top == Name::empty() {
         return check_top_file(store, number, top);
@@ -118,12 +118,12 @@ fn check_top<S: Store>(store: &mut S, number: u64, top: Name) -> Result<(), Find
 }
 
 /// Whether it is no file.
-#[tactic(auto, using(crate::proofs::MarkLemmas::no_room, crate::proofs::MarkLemmas::top_file, crate::proofs::MarkLemmas::mark_gone, crate::proofs::LoopLemmas::fails_on))]
+#[tactic(auto, using(crate::proofs::MarkLemmas::no_room, crate::proofs::MarkLemmas::top_file, crate::proofs::MarkLemmas::mark_gone, crate::proofs::LoopLemmas::fails_on, crate::proofs::Unbroken::unbroken_shape))]
 fn check_top_file<S: Store>(store: &mut S, number: u64, top: Name) -> Result<(), Finding>
     ensures looked { IsLookedAt (S.stored store.old) (S.stored store.new) }
     ensures ok { OnOk result (OfMarks (IsFineMark (record { folder = []; file = top })) number (S.stored store.old)) }
     ensures err { IfErr result (Fails (IsMarksPlace number) (S.stored store.old) (S.stored store.new)) }
-    ensures shape { IfErr result IsOfShape }
+    ensures shape { IfErr result (IsOfShape marks_room_name) }
 {
     let path = at_top(top);
     match length(store, number, &path)? {
@@ -136,7 +136,7 @@ fn check_top_file<S: Store>(store: &mut S, number: u64, top: Name) -> Result<(),
 fn judge_folder(top: Name) -> Result<(), Finding>
     ensures ok { OnOk result ((top ≡ []) ⊎ (top ≡ marks_folder_name)) }
     ensures err { IfErr result (λ finding. (finding ≡ Broken (ForeignFolder marks_room_name top)) × ((top ≡ []) ⊎ (top ≡ marks_folder_name) → ⊥)) }
-    ensures shape { IfErr result IsOfShape }
+    ensures shape { IfErr result (IsOfShape marks_room_name) }
 {
     if top == Name::empty() || top == marks_folder() {
         Ok(())
@@ -153,7 +153,7 @@ fn check_files<S: Store>(store: &mut S, number: u64, files: &[Name]) -> Result<(
     ensures looked { IsLookedAt (S.stored store.old) (S.stored store.new) }
     ensures ok { OnOk result (OfMarks (Each IsFineFile files.now) number (S.stored store.old)) }
     ensures err { IfErr result (Fails (IsMarksPlace number) (S.stored store.old) (S.stored store.new)) }
-    ensures shape { IfErr result IsOfShape }
+    ensures shape { IfErr result (IsOfShape marks_room_name) }
 {
     for file in files {
         check_mark(store, number, *file)?;
@@ -162,12 +162,12 @@ fn check_files<S: Store>(store: &mut S, number: u64, files: &[Name]) -> Result<(
 }
 
 /// Whether the file is an empty mark.
-#[tactic(auto, using(crate::proofs::MarkLemmas::no_room, crate::proofs::MarkLemmas::mark_gone, crate::proofs::MarkLemmas::mark_fine))]
+#[tactic(auto, using(crate::proofs::MarkLemmas::no_room, crate::proofs::MarkLemmas::mark_gone, crate::proofs::MarkLemmas::mark_fine, crate::proofs::Unbroken::unbroken_shape))]
 fn check_mark<S: Store>(store: &mut S, number: u64, file: Name) -> Result<(), Finding>
     ensures looked { IsLookedAt (S.stored store.old) (S.stored store.new) }
     ensures ok { OnOk result (OfMarks (IsFineMark (record { folder = marks_folder_name; file = file })) number (S.stored store.old)) }
     ensures err { IfErr result (Fails (IsMarksPlace number) (S.stored store.old) (S.stored store.new)) }
-    ensures shape { IfErr result IsOfShape }
+    ensures shape { IfErr result (IsOfShape marks_room_name) }
 {
     let path = Path {
         folder: marks_folder(),
@@ -205,7 +205,7 @@ pub fn is_marked<S: Store>(store: &mut S, marks: Option<u64>, id: u64) -> Result
     ensures looked { IsLookedAt (S.stored store.old) (S.stored store.new) }
     ensures ok { IfOk result (λ is. (tree : Tree) → IsSeen (S.stored store.old) tree → HasMarks marks tree → (IsTrue is ↔ IsOfMark tree id)) }
     ensures err { IfErr result (Fails (HasMarks marks) (S.stored store.old) (S.stored store.new)) }
-    ensures shape { IfErr result IsOfShape }
+    ensures unbroken { IfErr result IsNoComplaint }
 {
     match marks {
         Some(number) => is_of_mark(store, number, id),
@@ -219,7 +219,7 @@ fn is_of_mark<S: Store>(store: &mut S, number: u64, id: u64) -> Result<bool, Fin
     ensures looked { IsLookedAt (S.stored store.old) (S.stored store.new) }
     ensures ok { IfOk result (λ is. (tree : Tree) → IsSeen (S.stored store.old) tree → HasMarks (Some number) tree → (IsTrue is ↔ IsOfMark tree id)) }
     ensures err { IfErr result (Fails (HasMarks (Some number)) (S.stored store.old) (S.stored store.new)) }
-    ensures shape { IfErr result IsOfShape }
+    ensures unbroken { IfErr result IsNoComplaint }
 {
     let serial = id % (1 << 32);
     if serial == 0 {

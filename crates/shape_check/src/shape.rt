@@ -35,7 +35,7 @@ pub fn check_shape<S: Store>(
     ensures looked { IsLookedAt (S.stored store.old) (S.stored store.new) }
     ensures ok { IfOk result (λ paths. OfPlace (HasShape paths) place.now (S.stored store.old)) }
     ensures err { IfErr result (Fails (IsPlaced place.now) (S.stored store.old) (S.stored store.new)) }
-    ensures shape { IfErr result IsOfShape }
+    ensures shape { IfErr result (IsOfShape place.now.name) }
 {
     check_name(place.name)?;
     let paths = paths_of(alloc, store, place)?;
@@ -48,7 +48,7 @@ pub fn check_shape<S: Store>(
 fn check_name(name: Name) -> Result<(), Finding>
     ensures ok { OnOk result (IsLogicalName name) }
     ensures err { IfErr result (λ finding. (finding ≡ Broken (RoomName name)) × (IsLogicalName name → ⊥)) }
-    ensures shape { IfErr result IsOfShape }
+    ensures shape { IfErr result (IsOfShape name) }
 {
     if name.is_logical() {
         return Ok(());
@@ -59,11 +59,12 @@ fn check_name(name: Name) -> Result<(), Finding>
 }
 
 /// The paths of the files in its folders, once the folders and the files at its top have been judged.
+#[tactic(auto, using(crate::proofs::Unbroken::unbroken_shape))]
 fn paths_of<S: Store>(alloc: Global, store: &mut S, place: &Place) -> Result<PathList, Finding>
     ensures looked { IsLookedAt (S.stored store.old) (S.stored store.new) }
     ensures ok { IfOk result (λ paths. OfPlace (AreWalked paths) place.now (S.stored store.old)) }
     ensures err { IfErr result (Fails (IsPlaced place.now) (S.stored store.old) (S.stored store.new)) }
-    ensures shape { IfErr result IsOfShape }
+    ensures shape { IfErr result (IsOfShape place.now.name) }
 {
     let tops = tops_of(store, place.number)?;
     walk(alloc, store, place, tops.as_slice())
@@ -79,7 +80,7 @@ fn walk<S: Store>(
     ensures looked { IsLookedAt (S.stored store.old) (S.stored store.new) }
     ensures ok { IfOk result (λ paths. OfPlace (HasWalked tops.now paths) place.now (S.stored store.old)) }
     ensures err { IfErr result (Fails (IsPlaced place.now) (S.stored store.old) (S.stored store.new)) }
-    ensures shape { IfErr result IsOfShape }
+    ensures shape { IfErr result (IsOfShape place.now.name) }
 {
     let mut paths = PathList::new(alloc);
     for top in tops {
@@ -90,7 +91,7 @@ fn walk<S: Store>(
 
 /// Adds the paths of the folder's files, where the entry of the top is a folder that a container may have. Else its file is
 /// judged. A folder's name is asked for no file, which a store on real folders would take for a fault.
-#[tactic(auto, using(crate::proofs::FileLemmas::no_place, crate::proofs::LoopLemmas::later_fails, crate::proofs::Seen::looked_on))]
+#[tactic(auto, using(crate::proofs::FileLemmas::no_place, crate::proofs::LoopLemmas::later_fails, crate::proofs::Seen::looked_on, crate::proofs::Unbroken::unbroken_shape))]
 fn add_top<S: Store>(
     store: &mut S,
     place: &Place,
@@ -100,7 +101,7 @@ fn add_top<S: Store>(
     ensures looked { IsLookedAt (S.stored store.old) (S.stored store.new) }
     ensures ok { OnOk result (Adds (IsTopOf top) paths.old paths.new place.now (S.stored store.old)) }
     ensures err { IfErr result (Fails (IsPlaced place.now) (S.stored store.old) (S.stored store.new)) }
-    ensures shape { IfErr result IsOfShape }
+    ensures shape { IfErr result (IsOfShape place.now.name) }
 {
     if top == Name::empty() {
         return check_file(store, place, at_top(top));
@@ -116,7 +117,7 @@ fn add_top<S: Store>(
 fn add_folder(room: Name, folder: Name, names: &[Name], paths: &mut PathList) -> Result<(), Finding>
     ensures ok { OnOk result (IsContainerFolder folder × (paths.new ≡ paths.old ++ map (in_folder folder) names.now)) }
     ensures err { IfErr result (IsForeignFolder room folder) }
-    ensures shape { IfErr result IsOfShape }
+    ensures shape { IfErr result (IsOfShape room) }
 {
     if !is_container_folder(folder) {
         return Err(Finding::Broken {
@@ -146,7 +147,7 @@ fn check_paths<S: Store>(store: &mut S, place: &Place, paths: &[Path]) -> Result
     ensures looked { IsLookedAt (S.stored store.old) (S.stored store.new) }
     ensures ok { OnOk result (OfPlace (EachAt IsFineItem paths.now) place.now (S.stored store.old)) }
     ensures err { IfErr result (Fails (IsPlaced place.now) (S.stored store.old) (S.stored store.new)) }
-    ensures shape { IfErr result IsOfShape }
+    ensures shape { IfErr result (IsOfShape place.now.name) }
 {
     for path in paths {
         check_file(store, place, *path)?;
@@ -160,7 +161,7 @@ fn check_needed<S: Store>(store: &mut S, place: &Place) -> Result<(), Finding>
     ensures looked { IsLookedAt (S.stored store.old) (S.stored store.new) }
     ensures ok { OnOk result (OfPlace HasNeeded place.now (S.stored store.old)) }
     ensures err { IfErr result (Fails (IsPlaced place.now) (S.stored store.old) (S.stored store.new)) }
-    ensures shape { IfErr result IsOfShape }
+    ensures shape { IfErr result (IsOfShape place.now.name) }
 {
     check_has(store, place, metadata())?;
     check_has(store, place, truncs())?;
@@ -169,13 +170,13 @@ fn check_needed<S: Store>(store: &mut S, place: &Place) -> Result<(), Finding>
 }
 
 /// Whether it has the folder.
-#[tactic(auto, using(crate::proofs::FileLemmas::no_place, crate::proofs::ShapeLemmas::folder_there, crate::proofs::ShapeLemmas::folder_missing))]
+#[tactic(auto, using(crate::proofs::FileLemmas::no_place, crate::proofs::ShapeLemmas::folder_there, crate::proofs::ShapeLemmas::folder_missing, crate::proofs::Unbroken::unbroken_shape))]
 fn check_has<S: Store>(store: &mut S, place: &Place, folder: Name) -> Result<(), Finding>
     requires { (folder ≡ metadata_name) ⊎ (folder ≡ truncs_name) ⊎ (folder ≡ flats_name) }
     ensures looked { IsLookedAt (S.stored store.old) (S.stored store.new) }
     ensures ok { OnOk result (OfPlace (λ tree room. has_folder room folder ≡ true) place.now (S.stored store.old)) }
     ensures err { IfErr result (Fails (IsPlaced place.now) (S.stored store.old) (S.stored store.new)) }
-    ensures shape { IfErr result IsOfShape }
+    ensures shape { IfErr result (IsOfShape place.now.name) }
 {
     match list(store, place.number, folder)? {
         Some(_names) => Ok(()),
@@ -189,12 +190,12 @@ fn check_has<S: Store>(store: &mut S, place: &Place, folder: Name) -> Result<(),
 }
 
 /// Whether it has the file `access`.
-#[tactic(auto, using(crate::proofs::FileLemmas::no_place, crate::proofs::ShapeLemmas::access_there, crate::proofs::ShapeLemmas::access_missing))]
+#[tactic(auto, using(crate::proofs::FileLemmas::no_place, crate::proofs::ShapeLemmas::access_there, crate::proofs::ShapeLemmas::access_missing, crate::proofs::Unbroken::unbroken_shape))]
 fn check_access<S: Store>(store: &mut S, place: &Place) -> Result<(), Finding>
     ensures looked { IsLookedAt (S.stored store.old) (S.stored store.new) }
     ensures ok { OnOk result (OfPlace HasAccess place.now (S.stored store.old)) }
     ensures err { IfErr result (Fails (IsPlaced place.now) (S.stored store.old) (S.stored store.new)) }
-    ensures shape { IfErr result IsOfShape }
+    ensures shape { IfErr result (IsOfShape place.now.name) }
 {
     match length(store, place.number, &print(&Item::Access))? {
         Some(_len) => Ok(()),

@@ -8,6 +8,10 @@ use Rattle.store_folder.specs.Counting.{untold}
 abbrev pub stored_of : {C F : Type 0} → StoreByCalls C F → Stored
 stored_of store = untold store.counts.acts store.counts.faults
 
+-- how many files it keeps open at most
+abbrev pub most_of : {C F : Type 0} → StoreByCalls C F → ℕ
+most_of store = store.disk.open.files.cap
+
 -- the path of its folder
 abbrev pub root_of : {C F : Type 0} → StoreByCalls C F → List ℕ
 root_of store = string_bytes store.disk.root

@@ -1,5 +1,5 @@
 //! What a store keeps of its folder, and each step's way to the system.
-ghost use Rattle.std.specs.Prelude.{◌≡◌, [], false, IfOk, IfErr, string_bytes};
+ghost use Rattle.std.specs.Prelude.{◌≡◌, [], max, false, IfOk, IfErr, string_bytes};
 ghost use Rattle.store_api.specs.Step.{step_of};
 ghost use Rattle.folder_calls.specs.Own.{is_own};
 ghost use Rattle.store_folder.specs.Leaving.{Attempts, EndsAmongRooms};
@@ -25,12 +25,13 @@ pub struct Disk<C, F> {
 }
 
 impl<C: Calls<File = F> + Drop, F: Drop> Disk<C, F> {
-    /// The folder of this path. It touches nothing.
-    pub fn new(calls: C, alloc: Global, root: &Word) -> Result<Self, Failure>
+    /// The folder of this path, with place for so many open files, for one at least. It touches nothing.
+    pub fn new(calls: C, alloc: Global, root: &Word, most: u64) -> Result<Self, Failure>
         ensures calls { IfOk result (λ disk. disk.calls ≡ calls) }
         ensures root { IfOk result (λ disk. string_bytes disk.root ≡ root.now) }
         ensures rooms { IfOk result (λ disk. (disk.rooms.items ≡ []) × (disk.is_numbered ≡ false)) }
         ensures closed { IfOk result (λ disk. disk.open.files.entries ≡ []) }
+        ensures place { IfOk result (λ disk. disk.open.files.cap ≡ max most 1) }
         ensures none_own { IfOk result (λ disk. (key : FileKey) → is_own disk.own key ≡ false) }
         ensures memory { IfErr result (λ failure. failure ≡ Failure.NoMemory) }
     {
@@ -40,7 +41,7 @@ impl<C: Calls<File = F> + Drop, F: Drop> Disk<C, F> {
             root: String::from_str(alloc, root.as_str())?,
             rooms: Vec::new(alloc),
             is_numbered: false,
-            open: OpenFiles::new(alloc)?,
+            open: OpenFiles::new(alloc, most)?,
             own: OwnFiles::new(alloc),
         })
     }

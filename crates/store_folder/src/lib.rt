@@ -17,6 +17,6 @@ mod store;
 mod syncing;
 
 pub use folder_calls::{
-    Asked, Calls, Cause, Failure, Kind, Place, Reason, Removal, System, SystemCalls,
+    Asked, Calls, Cause, Failure, Kind, Place, Reason, Removal, System, SystemCalls, open_limit,
 };
 pub use store::{FolderStore, StoreByCalls};

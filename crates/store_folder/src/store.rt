@@ -1,5 +1,5 @@
 //! The store: a folder of the system, and the counts of its acts and faults.
-ghost use Rattle.std.specs.Prelude.{◌≡◌, ◌⊎◌, ◌≤◌, [], true, false, IfOk, IfSome, IsErrOf, Err, None, Some, unwrap_or};
+ghost use Rattle.std.specs.Prelude.{◌≡◌, ◌⊎◌, ◌≤◌, ℕ, List, max, [], true, false, IfOk, IfSome, IsErrOf, Err, None, Some, unwrap_or};
 ghost use Rattle.store_api.specs.Step.{Step as StepMade, step_of};
 ghost use Rattle.plfs_types.specs.Counts.{next_count, HasRisen};
 ghost use Rattle.store_api.specs.Acts.{Acts};
@@ -15,16 +15,17 @@ ghost use Rattle.store_folder.specs.Rooms.{IsStill};
 ghost use Rattle.store_folder.specs.Steps.{Numbers, Performs};
 ghost use Rattle.store_folder.specs.Syncing.{refusal, is_refused, synced_by, IsDoubtedFor};
 ghost use Rattle.store_folder.specs.StepPlaces.{place_of};
-ghost use Rattle.store_folder.specs.Stored.{stored_of, root_of};
+ghost use Rattle.store_folder.specs.Stored.{stored_of, root_of, most_of};
+ghost use Rattle.folder_calls.specs.Limits.{IsLimitBy, share_of};
 
 use crate::disk::Disk;
 use crate::syncing::{refusal, synced_by};
 use folder_calls::{
     Calls, Cause, Doubt, Doubts, Failure, FileKey, Item, Place, Reason, System, SystemCalls,
-    doubt_by,
+    doubt_by, open_limit, share_of,
 };
 use plfs_types::{NoMemory, Word};
-use std::alloc::Global;
+use std::alloc::{AllocError, Global};
 use std::fs::File;
 use store_api::{Answer, Step, Store, Trouble};
 
@@ -54,21 +55,61 @@ pub type FolderStore<R> = StoreByCalls<SystemCalls<R>, File>;
 impl<R: System> StoreByCalls<SystemCalls<R>, File> {
     /// A store on the folder of this path. It touches nothing: the first act lists the folder and numbers its rooms.
     ///
+    /// It keeps open at most half of what the process may by the system's list of its limits, so that a second store may be open
+    /// beside it.
+    ///
     /// `NoMemory` leaves nothing behind.
     pub fn open(rt: R, alloc: Global, root: &Word) -> Result<Self, NoMemory>
         ensures fresh { IfOk result (λ store. stored_of store ≡ untold 0 0) }
         ensures root { IfOk result (λ store. root_of store ≡ root.now) }
         ensures unread { IfOk result (λ store. store.disk.is_numbered ≡ false) }
         ensures closed { IfOk result (λ store. store.disk.open.files.entries ≡ []) }
+        ensures place { IfOk result (λ store. (limits : List ℕ) × (limit : ℕ) × IsLimitBy limits limit × (most_of store ≡ share_of limit 1)) }
         ensures none_own { IfOk result (λ store. (key : FileKey) → is_own store.disk.own key ≡ false) }
         ensures none_doubted { IfOk result (λ store. (item : Item) → doubt_of store.doubts item ≡ None) }
     {
-        StoreByCalls::by(SystemCalls::new(rt), alloc, root)
+        let limit = open_limit(&rt);
+        StoreByCalls::one_of(rt, alloc, root, limit, 1)
+    }
+
+    /// The same, one of so many stores of a process that may have `limit` files open. They share half of these.
+    pub fn one_of(
+        rt: R,
+        alloc: Global,
+        root: &Word,
+        limit: u64,
+        stores: u64,
+    ) -> Result<Self, NoMemory>
+        ensures fresh { IfOk result (λ store. stored_of store ≡ untold 0 0) }
+        ensures root { IfOk result (λ store. root_of store ≡ root.now) }
+        ensures unread { IfOk result (λ store. store.disk.is_numbered ≡ false) }
+        ensures closed { IfOk result (λ store. store.disk.open.files.entries ≡ []) }
+        ensures place { IfOk result (λ store. most_of store ≡ share_of limit stores) }
+        ensures none_own { IfOk result (λ store. (key : FileKey) → is_own store.disk.own key ≡ false) }
+        ensures none_doubted { IfOk result (λ store. (item : Item) → doubt_of store.doubts item ≡ None) }
+    {
+        keep_freed(alloc);
+        StoreByCalls::keeping(SystemCalls::new(rt), alloc, root, share_of(limit, stores))
     }
 }
 
+/// How many files a store keeps open by calls that tell no limit.
+const FEW: u64 = 256;
+
+/// Four times as many bytes as are read at once of an index, or of a file that is written out.
+const KEPT: usize = 4_194_304;
+
+// Takes that much memory and frees it, untouched. From then on the allocator of Linux's C library keeps what is freed, up
+// to twice as much. Before, it gives the memory of each larger read back to the system, which clears it page by page. It counts
+// for time alone: no contract sees it.
+#[inline(never)]
+fn keep_freed(alloc: Global) {
+    let kept: Result<Vec<u8>, AllocError> = Vec::with_capacity(alloc, KEPT);
+    drop(kept);
+}
+
 impl<C: Calls<File = F> + Drop, F: Drop> StoreByCalls<C, F> {
-    /// A store on the folder of this path, by these calls. It makes none of them.
+    /// A store on the folder of this path, by these calls. It makes none of them, and keeps at most 256 files open.
     ///
     /// `NoMemory` leaves nothing behind.
     pub fn by(calls: C, alloc: Global, root: &Word) -> Result<Self, NoMemory>
@@ -77,10 +118,25 @@ impl<C: Calls<File = F> + Drop, F: Drop> StoreByCalls<C, F> {
         ensures calls { IfOk result (λ store. store.disk.calls ≡ calls) }
         ensures unread { IfOk result (λ store. store.disk.is_numbered ≡ false) }
         ensures closed { IfOk result (λ store. store.disk.open.files.entries ≡ []) }
+        ensures place { IfOk result (λ store. most_of store ≡ 256) }
         ensures none_own { IfOk result (λ store. (key : FileKey) → is_own store.disk.own key ≡ false) }
         ensures none_doubted { IfOk result (λ store. (item : Item) → doubt_of store.doubts item ≡ None) }
     {
-        match Disk::new(calls, alloc, root) {
+        StoreByCalls::keeping(calls, alloc, root, FEW)
+    }
+
+    // The same, with place for so many open files, for one at least.
+    fn keeping(calls: C, alloc: Global, root: &Word, most: u64) -> Result<Self, NoMemory>
+        ensures fresh { IfOk result (λ store. stored_of store ≡ untold 0 0) }
+        ensures root { IfOk result (λ store. root_of store ≡ root.now) }
+        ensures calls { IfOk result (λ store. store.disk.calls ≡ calls) }
+        ensures unread { IfOk result (λ store. store.disk.is_numbered ≡ false) }
+        ensures closed { IfOk result (λ store. store.disk.open.files.entries ≡ []) }
+        ensures place { IfOk result (λ store. most_of store ≡ max most 1) }
+        ensures none_own { IfOk result (λ store. (key : FileKey) → is_own store.disk.own key ≡ false) }
+        ensures none_doubted { IfOk result (λ store. (item : Item) → doubt_of store.doubts item ≡ None) }
+    {
+        match Disk::new(calls, alloc, root, most) {
             Ok(disk) => Ok(StoreByCalls {
                 disk,
                 doubts: Doubts::new(alloc),

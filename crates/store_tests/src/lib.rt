@@ -17,6 +17,8 @@ mod failing;
 #[cfg(test)]
 mod folder;
 #[cfg(test)]
+mod limits;
+#[cfg(test)]
 mod links;
 #[cfg(test)]
 mod losing;

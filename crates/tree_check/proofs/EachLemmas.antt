@@ -3,14 +3,13 @@ use Rattle.std.proofs.Common.{◌≡◌, ℕ, zero, suc, inl, inr, List, [], ◌
 use Rattle.std.specs.Prelude.{slice_get}
 use Rattle.std.specs.List.{AllByRecursion}
 use Rattle.plfs_types.specs.declared.names.Path.{Path}
-use Rattle.store_api.specs.declared.tree.Tree.{Tree}
 use Rattle.shape_check.specs.declared.finding.Complaint.{Complaint}
 use Rattle.shape_check.specs.Shape.{IsOneOf}
-use Rattle.tree_check.specs.Complaining.{IsRightOf, TellsOfEach}
+use Rattle.tree_check.specs.Complaining.{TellsOfEach}
 
-module _ (tree : Tree) (Q : Path → Type 0) where
+module _ (R : Complaint → Type 0) (Q : Path → Type 0) where
   -- one more path, of which it is so
-  pub each_fine : (paths : List Path) (i : ℕ) (path : Path) (found : List Complaint) → slice_get paths i ≡ Some path → Q path → TellsOfEach tree Q (take i paths) found → TellsOfEach tree Q (take (suc i) paths) found
+  pub each_fine : (paths : List Path) (i : ℕ) (path : Path) (found : List Complaint) → slice_get paths i ≡ Some path → Q path → TellsOfEach R Q (take i paths) found → TellsOfEach R Q (take (suc i) paths) found
   each_fine [] i path found at q told = absurd (cc)
   each_fine (p ∷ ps) zero path [] at q told = (let same : p ≡ path = cc in inl (subst Q (sym same) q, tt))
   each_fine (p ∷ ps) zero path (c ∷ found) at q told = absurd told
@@ -20,8 +19,8 @@ module _ (tree : Tree) (Q : Path → Type 0) where
   ]
 
   -- one more path, of which one complaint is told
-  pub each_wrong : (paths : List Path) (i : ℕ) (path : Path) (found : List Complaint) (complaint : Complaint) → slice_get paths i ≡ Some path → IsRightOf tree complaint → TellsOfEach tree Q (take i paths) found
-      → TellsOfEach tree Q (take (suc i) paths) (found ++ complaint ∷ [])
+  pub each_wrong : (paths : List Path) (i : ℕ) (path : Path) (found : List Complaint) (complaint : Complaint) → slice_get paths i ≡ Some path → R complaint → TellsOfEach R Q (take i paths) found
+      → TellsOfEach R Q (take (suc i) paths) (found ++ complaint ∷ [])
   each_wrong [] i path found complaint at right told = absurd (cc)
   each_wrong (p ∷ ps) zero path [] complaint at right told = inr (complaint, [], refl, right, tt)
   each_wrong (p ∷ ps) zero path (c ∷ found) complaint at right told = absurd told
@@ -31,16 +30,16 @@ module _ (tree : Tree) (Q : Path → Type 0) where
   ]
 
   -- all that is told is right
-  pub each_right : (paths : List Path) (found : List Complaint) → TellsOfEach tree Q paths found → AllByRecursion (IsRightOf tree) found
+  pub each_right : (paths : List Path) (found : List Complaint) → TellsOfEach R Q paths found → AllByRecursion R found
   each_right [] [] told = tt
   each_right [] (c ∷ found) told = absurd told
   each_right (p ∷ ps) found told = elim told [
     | inl both ↦ each_right ps found both.1
-    | inr one ↦ subst (AllByRecursion (IsRightOf tree)) (sym one.2) (one.3, each_right ps one.1 one.4)
+    | inr one ↦ subst (AllByRecursion R) (sym one.2) (one.3, each_right ps one.1 one.4)
   ]
 
   -- where nothing is, it is so of each path
-  pub each_none : (paths : List Path) → TellsOfEach tree Q paths [] → (path : Path) → IsOneOf paths path → Q path
+  pub each_none : (paths : List Path) → TellsOfEach R Q paths [] → (path : Path) → IsOneOf paths path → Q path
   each_none [] told path one = absurd one
   each_none (p ∷ ps) told path one = elim told [
     | inl both ↦ elim one [

@@ -21,13 +21,13 @@ use Rattle.shape_check.specs.declared.finding.Complaint.{Complaint}
 use Rattle.shape_check.specs.declared.finding.Finding.{Finding}
 use Rattle.shape_check.specs.declared.finding.Finding.TheVariants.{Broken, Fault, NoMemory, Untold}
 use Rattle.shape_check.specs.Files.{IsPlaced, OfPlace}
-use Rattle.shape_check.specs.Rightness.{Fails}
+use Rattle.shape_check.specs.Rightness.{Fails, IsOfRoom}
 use Rattle.shape_check.specs.Seeing.{IsLookedAt}
 use Rattle.shape_check.specs.Shape.{IsOneOf}
 use Rattle.shape_check.proofs.Facts.{no_memory, risen_on, seen_on}
 use Rattle.tree_check.specs.declared.droppings.Dropping.{Dropping}
 use Rattle.tree_check.specs.declared.owners.Owner.{Owner}
-use Rattle.tree_check.specs.Complaining.{HasNoted, TellsOfItems}
+use Rattle.tree_check.specs.Complaining.{HasNoted, IsRightIn, TellsOfItems}
 use Rattle.tree_check.specs.Droppings.{IsDroppingOf, landed_of, AreBesideAll, IsBetween}
 use Rattle.tree_check.specs.Indices.{IsOwnedAt, OfOwnedAt}
 use Rattle.tree_check.specs.Known.{IsRightItem, IsRightAt, IsAtWork, OfWork, IsKnownAt, OfKnownAt, IsKnownAll, OfKnownAll, IsOpenAt, IsOpenEntry}
@@ -138,17 +138,17 @@ module _ (place : Place) (owners : BTreeMap ℕ Owner) (truncs : List Trunc) (pa
 
   pub items_more : (i : ℕ) (path : Path) (old mid new : Stored) (told : Result Unit Finding) (found more : List Complaint) → slice_get paths i ≡ Some path → IsLookedAt old mid
       → OfKnownAll (TellsOfItems (take i paths) found) place owners truncs paths old → OnOk told (OfKnownAt (IsRightAt path) place owners truncs path mid) → IfErr told (Fails (IsKnownAt place owners truncs path) mid new)
-      → HasNoted told found more → OfKnownAll (TellsOfItems (take (i + 1) paths) more) place owners truncs paths old
+      → IfErr told (IsOfRoom place.name) → HasNoted told found more → OfKnownAll (TellsOfItems (take (i + 1) paths) more) place owners truncs paths old
   unfolding at_path
-  items_more i path old mid new (Ok done) found more at looked before fine wrong noted = λ tree seen known. so_far i more tree known.placed.room
+  items_more i path old mid new (Ok done) found more at looked before fine wrong named noted = λ tree seen known. so_far i more tree known.placed.room
       (subst (λ (l : List Complaint). TellsOfItems (take (suc i) paths) l tree known.placed.room) (sym noted)
-      (each_fine tree (λ (p : Path). IsRightAt p tree known.placed.room) paths i path found at (fine tree (seen_on old mid tree looked seen) (at_path path tree known (path_there paths i path at))) (before tree seen known)))
-  items_more i path old mid new (Err (Broken complaint)) found more at looked before fine wrong noted = λ tree seen known. so_far i more tree known.placed.room
+      (each_fine (IsRightIn tree known.placed.room.name) (λ (p : Path). IsRightAt p tree known.placed.room) paths i path found at (fine tree (seen_on old mid tree looked seen) (at_path path tree known (path_there paths i path at))) (before tree seen known)))
+  items_more i path old mid new (Err (Broken complaint)) found more at looked before fine wrong named noted = λ tree seen known. so_far i more tree known.placed.room
       (subst (λ (l : List Complaint). TellsOfItems (take (suc i) paths) l tree known.placed.room) (sym noted)
-      (each_wrong tree (λ (p : Path). IsRightAt p tree known.placed.room) paths i path found complaint at (wrong.right tree (seen_on old mid tree looked seen) (at_path path tree known (path_there paths i path at))) (before tree seen known)))
-  items_more i path old mid new (Err Fault) found more at looked before fine wrong noted = absurd noted
-  items_more i path old mid new (Err NoMemory) found more at looked before fine wrong noted = absurd noted
-  items_more i path old mid new (Err Untold) found more at looked before fine wrong noted = absurd noted
+      (each_wrong (IsRightIn tree known.placed.room.name) (λ (p : Path). IsRightAt p tree known.placed.room) paths i path found complaint at (wrong.right tree (seen_on old mid tree looked seen) (at_path path tree known (path_there paths i path at)), named ∙ sym known.placed.named) (before tree seen known)))
+  items_more i path old mid new (Err Fault) found more at looked before fine wrong named noted = absurd noted
+  items_more i path old mid new (Err NoMemory) found more at looked before fine wrong named noted = absurd noted
+  items_more i path old mid new (Err Untold) found more at looked before fine wrong named noted = absurd noted
 
   pub items_all : (i : ℕ) (found : List Complaint) (old : Stored) → length paths ≤ i → OfKnownAll (TellsOfItems (take i paths) found) place owners truncs paths old → OfKnownAll (TellsOfItems paths found) place owners truncs paths old
   items_all i found old past told = subst (λ (l : List Path). OfKnownAll (TellsOfItems l found) place owners truncs paths old) (take_all i paths past) told

@@ -11,6 +11,7 @@ mod IndexLemmas
 mod FlatLemmas
 mod EachLemmas
 mod HaltLemmas
+mod OfRoom
 mod OfShape
 mod ContainerLemmas
 mod RoomLemmas

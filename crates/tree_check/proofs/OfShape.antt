@@ -9,18 +9,18 @@ use Rattle.shape_check.proofs.Facts.{memory_shape}
 use Rattle.tree_check.specs.Owners.{IsTwoHosts}
 use Rattle.tree_check.specs.Truncates.{IsTwoTruncs}
 
-hosts_shape : (room : Name) (paths : List Path) (finding : Finding) → IsTwoHosts room paths finding → IsOfShape finding
-hosts_shape room paths finding (inl none) = memory_shape finding none
-hosts_shape room paths finding (inr wrong) = subst IsOfShape (sym wrong.5) refl
+hosts_shape : (room : Name) (paths : List Path) (finding : Finding) → IsTwoHosts room paths finding → IsOfShape room finding
+hosts_shape room paths finding (inl none) = memory_shape room finding none
+hosts_shape room paths finding (inr wrong) = subst (IsOfShape room) (sym wrong.5) (refl, refl)
 
-pub two_hosts_shape : {A : Type 0} (room : Name) (paths : List Path) (result : Result A Finding) → IfErr result (IsTwoHosts room paths) → IfErr result IsOfShape
+pub two_hosts_shape : {A : Type 0} (room : Name) (paths : List Path) (result : Result A Finding) → IfErr result (IsTwoHosts room paths) → IfErr result (IsOfShape room)
 two_hosts_shape room paths (Ok value) wrong = tt
 two_hosts_shape room paths (Err finding) wrong = hosts_shape room paths finding wrong
 
-truncs_shape : (room : Name) (paths : List Path) (finding : Finding) → IsTwoTruncs room paths finding → IsOfShape finding
-truncs_shape room paths finding (inl none) = memory_shape finding none
-truncs_shape room paths finding (inr wrong) = subst IsOfShape (sym wrong.8) refl
+truncs_shape : (room : Name) (paths : List Path) (finding : Finding) → IsTwoTruncs room paths finding → IsOfShape room finding
+truncs_shape room paths finding (inl none) = memory_shape room finding none
+truncs_shape room paths finding (inr wrong) = subst (IsOfShape room) (sym wrong.8) (refl, refl)
 
-pub two_truncs_shape : {A : Type 0} (room : Name) (paths : List Path) (result : Result A Finding) → IfErr result (IsTwoTruncs room paths) → IfErr result IsOfShape
+pub two_truncs_shape : {A : Type 0} (room : Name) (paths : List Path) (result : Result A Finding) → IfErr result (IsTwoTruncs room paths) → IfErr result (IsOfShape room)
 two_truncs_shape room paths (Ok value) wrong = tt
 two_truncs_shape room paths (Err finding) wrong = truncs_shape room paths finding wrong

@@ -30,12 +30,12 @@ use Rattle.shape_check.specs.declared.finding.Finding.{Finding}
 use Rattle.shape_check.specs.declared.finding.Finding.TheVariants.{Broken, Fault, Untold}
 use Rattle.shape_check.specs.Files.{IsPlaced, OfPlace}
 use Rattle.shape_check.specs.Places.{IsMarksPlace, OfMarks, HasMarks}
-use Rattle.shape_check.specs.Rightness.{Fails, IsOfShape, IsRight, is_of_shape}
+use Rattle.shape_check.specs.Rightness.{Fails, IsOfShape, IsRight}
 use Rattle.shape_check.specs.Seeing.{IsSeen, IsLookedAt, IsAny}
 use Rattle.shape_check.specs.Told.{TellsRoom}
 use Rattle.shape_check.proofs.Facts.{listed_more, looked_on, seen_on}
 use Rattle.tree_check.specs.declared.halting.Halt.{Halt}
-use Rattle.tree_check.specs.Complaining.{InNamed, IsFirstOf, IsOneFound, IsRightOf, IsToldOf, TellsOfContainer, TellsOfRoom}
+use Rattle.tree_check.specs.Complaining.{InNamed, IsFirstOf, IsOneFound, IsRightIn, IsRightOf, IsToldOf, TellsOfContainer, TellsOfRoom}
 use Rattle.tree_check.specs.Known.{IsRightAt}
 use Rattle.tree_check.specs.Rooms.{IsCheckedContainer, IsRightRoom, IsNamed, OfNamed, HasRooms, AreRight, OfTree}
 use Rattle.tree_check.proofs.EachLemmas.{each_right}
@@ -117,9 +117,9 @@ module _ (tree : Tree) (room : Room) where
   room_fine found none (inl (fine, nothing)) = fine
   room_fine found none (inr told) = (let is : IsCheckedContainer tree room = told.none none in record { shape = inr is.shape; checked = is.checked })
 
-  room_wrong : (found : List Complaint) → TellsOfRoom found tree room → AllByRecursion (IsRightOf tree) found
-  room_wrong found (inl (fine, nothing)) = subst (AllByRecursion (IsRightOf tree)) (sym nothing) tt
-  room_wrong found (inr told) = each_right tree (λ (path : Path). IsRightAt path tree room) told.paths found told.each
+  room_wrong : (found : List Complaint) → TellsOfRoom found tree room → AllByRecursion (IsRightIn tree room.name) found
+  room_wrong found (inl (fine, nothing)) = subst (AllByRecursion (IsRightIn tree room.name)) (sym nothing) tt
+  room_wrong found (inr told) = each_right (IsRightIn tree room.name) (λ (path : Path). IsRightAt path tree room) told.paths found told.each
 
 module _ (marks : Option ℕ) (name : Name) (old : Stored) where
   -- of a room that was checked to its end
@@ -127,23 +127,23 @@ module _ (marks : Option ℕ) (name : Name) (old : Stored) where
   named_told found told tree seen has = (
       let here = told tree seen has.marked in
       record {
-        right = room_wrong tree here.1 found here.4;
+        right = subst (λ (n : Name). AllByRecursion (IsRightIn tree n) found) here.3 (room_wrong tree here.1 found here.4);
         none = λ none. (here.0, here.1, here.2, here.3, room_fine tree here.1 found none here.4);
         each = inr (here.0, here.1, here.2, here.3, here.4);
       })
 
   -- of one whose check one complaint ended
-  one_told : (new : Stored) (found : List Complaint) (finding : Finding) → IsOneFound finding found → Fails (IsNamed marks name) old new finding → IsOfShape finding → (tree : Tree) → IsSeen old tree → IsNamed marks name tree → IsToldOf found name tree
+  one_told : (new : Stored) (found : List Complaint) (finding : Finding) → IsOneFound finding found → Fails (IsNamed marks name) old new finding → IsOfShape name finding → (tree : Tree) → IsSeen old tree → IsNamed marks name tree → IsToldOf found name tree
   one_told new found finding (complaint, broken, one) f shape tree seen has = (
       let right : IsRightOf tree complaint = subst (IsRight tree) broken (f.right tree seen has) in
-      let kind : is_of_shape complaint ≡ true = subst IsOfShape broken shape in
+      let kind : IsOfShape name (Broken complaint) = subst (IsOfShape name) broken shape in
       record {
-        right = subst (AllByRecursion (IsRightOf tree)) (sym one) (right, tt);
+        right = subst (AllByRecursion (IsRightIn tree name)) (sym one) ((right, kind.1), tt);
         none = λ none. (let clash : [] ≡ complaint ∷ [] = sym none ∙ one in absurd (cc));
-        each = inl (complaint, one, kind);
+        each = inl (complaint, one, kind.0);
       })
 
-  pub one_told_all : (new : Stored) (finding : Finding) (result : Result (List Complaint) Halt) → IfOk result (IsOneFound finding) → Fails (IsNamed marks name) old new finding → IsOfShape finding
+  pub one_told_all : (new : Stored) (finding : Finding) (result : Result (List Complaint) Halt) → IfOk result (IsOneFound finding) → Fails (IsNamed marks name) old new finding → IsOfShape name finding
       → IfOk result (λ found. (tree : Tree) → IsSeen old tree → IsNamed marks name tree → IsToldOf found name tree)
   one_told_all new finding (Err halt) one f shape = tt
   one_told_all new finding (Ok found) one f shape = one_told new found finding one f shape
@@ -156,8 +156,8 @@ module _ (marks : Option ℕ) (name : Name) (old : Stored) where
       let here = told tree seen marked in
       subst (IsRightRoom tree) (same_room tree name here.0 number here.1 room marked.listable here.2 here.3 there named) (room_fine tree here.1 found none here.4))
 
-  first_wrong : (found rest : List Complaint) (complaint : Complaint) (tree : Tree) → found ≡ complaint ∷ rest → AllByRecursion (IsRightOf tree) found → IsRightOf tree complaint
-  first_wrong found rest complaint tree is all = (let both : AllByRecursion (IsRightOf tree) (complaint ∷ rest) = subst (AllByRecursion (IsRightOf tree)) is all in both.0)
+  first_wrong : (found rest : List Complaint) (complaint : Complaint) (tree : Tree) (room : Name) → found ≡ complaint ∷ rest → AllByRecursion (IsRightIn tree room) found → IsRightOf tree complaint
+  first_wrong found rest complaint tree room is all = (let both : AllByRecursion (IsRightIn tree room) (complaint ∷ rest) = subst (AllByRecursion (IsRightIn tree room)) is all in both.0.0)
 
   pub first_fails : (new : Stored) (found : List Complaint) (result : Result Unit Finding) → InNamed (TellsOfRoom found) marks name old → IfErr result (IsFirstOf found) → IfErr result (Fails (IsNamed marks name) old new)
   first_fails new found (Ok done) told first = tt
@@ -165,7 +165,7 @@ module _ (marks : Option ℕ) (name : Name) (old : Stored) where
     cause = λ e. (let clash : Broken complaint ≡ Fault = sym broken ∙ e in absurd (cc));
     right = λ tree seen has. (
         let here = told tree seen has.marked in
-        subst (IsRight tree) (sym broken) (first_wrong found rest complaint tree is (room_wrong tree here.1 found here.4)));
+        subst (IsRight tree) (sym broken) (first_wrong found rest complaint tree here.1.name is (room_wrong tree here.1 found here.4)));
   }
 
 -- ---- one room after the other

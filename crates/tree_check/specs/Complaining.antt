@@ -11,7 +11,7 @@ use Rattle.shape_check.specs.declared.finding.Complaint.{Complaint}
 use Rattle.shape_check.specs.declared.finding.Finding.{Finding}
 use Rattle.shape_check.specs.declared.finding.Finding.TheVariants.{Broken, Fault, NoMemory, Untold}
 use Rattle.shape_check.specs.Places.{HasMarks}
-use Rattle.shape_check.specs.Rightness.{complaint_of, is_of_shape}
+use Rattle.shape_check.specs.Rightness.{complaint_of, is_of_shape, room_of}
 use Rattle.shape_check.specs.Seeing.{IsSeen}
 use Rattle.shape_check.specs.Shape.{HasShape}
 use Rattle.tree_check.specs.Known.{IsRightAt}
@@ -21,17 +21,21 @@ use Rattle.tree_check.specs.Rooms.{IsCheckedContainer, IsRightRoom}
 abbrev pub IsRightOf : Tree → Complaint → Type 0
 IsRightOf tree complaint = IsBroken tree (complaint_of complaint)
 
--- Of each of these paths, in their order, it is so, or one complaint is told that is right. Nothing else is told.
-abbrev pub TellsOfEach : Tree → (Path → Type 0) → List Path → List Complaint → Type 0
-TellsOfEach tree Q [] [] = Unit {0}
-TellsOfEach tree Q [] (complaint ∷ found) = ⊥
-TellsOfEach tree Q (path ∷ paths) found =
-    (Q path × TellsOfEach tree Q paths found)
-    ⊎ ((complaint : Complaint) × (rest : List Complaint) × (found ≡ complaint ∷ rest) × IsRightOf tree complaint × TellsOfEach tree Q paths rest)
+-- the same, and it is of this room
+abbrev pub IsRightIn : Tree → Name → Complaint → Type 0
+IsRightIn tree name complaint = IsRightOf tree complaint × (room_of complaint ≡ name)
 
--- the item at each of these paths is right, or one complaint is told of it
+-- Of each of these paths, in their order, it is so, or one such complaint is told. Nothing else is told.
+abbrev pub TellsOfEach : (Complaint → Type 0) → (Path → Type 0) → List Path → List Complaint → Type 0
+TellsOfEach R Q [] [] = Unit {0}
+TellsOfEach R Q [] (complaint ∷ found) = ⊥
+TellsOfEach R Q (path ∷ paths) found =
+    (Q path × TellsOfEach R Q paths found)
+    ⊎ ((complaint : Complaint) × (rest : List Complaint) × (found ≡ complaint ∷ rest) × R complaint × TellsOfEach R Q paths rest)
+
+-- the item at each of these paths is right, or one complaint is told of the container that is right
 abbrev pub TellsOfItems : List Path → List Complaint → Tree → Room → Type 0
-TellsOfItems paths found tree room = TellsOfEach tree (λ path. IsRightAt path tree room) paths found
+TellsOfItems paths found tree room = TellsOfEach (IsRightIn tree room.name) (λ path. IsRightAt path tree room) paths found
 
 -- the container has the shape of one in a sound tree, and of each of its items that isn't right one complaint is told
 pub record TellsOfContainer (found : List Complaint) (tree : Tree) (room : Room) : Type 0 where
@@ -54,8 +58,8 @@ IsOfItsShape found = (complaint : Complaint) × (found ≡ complaint ∷ []) × 
 
 -- What is told of the room of this name.
 pub record IsToldOf (found : List Complaint) (name : Name) (tree : Tree) : Type 0 where
-  -- each complaint is right
-  pub right : AllByRecursion (IsRightOf tree) found
+  -- each complaint is right, and of this room
+  pub right : AllByRecursion (IsRightIn tree name) found
   -- there is one, unless the room is as in a sound tree
   pub none : found ≡ [] → InRoomOf tree name (IsRightRoom tree)
   -- there is one of its shape, or else one for each item that isn't right

@@ -3,6 +3,7 @@ ghost use Rattle.std.specs.Prelude.{◌≡◌, [], Some, IfErr, IfOk, OnOk};
 ghost use Rattle.plfs_types.specs.Counts.{HasRisen};
 ghost use Rattle.store_api.specs.declared.tree.Tree.{Tree};
 ghost use Rattle.store_api.specs.AllKept.{all_kept};
+ghost use Rattle.mount_model.specs.Paths.{marks_name as marks_room_name};
 ghost use Rattle.mount_shape.specs.Marks.{IsMarksRoom};
 ghost use Rattle.mount_sound.specs.Sound.{IsSoundTree};
 ghost use Rattle.tree_laws.specs.Checked.{HoldsBytes};
@@ -109,6 +110,7 @@ pub fn check_room<S: Store>(
 }
 
 /// What is complained of the room of this name, unless one thing ends the check of it.
+#[tactic(auto, using(shape_check::proofs::Facts::unbroken_shape))]
 fn check_named<S: Store>(
     alloc: Global,
     store: &mut S,
@@ -118,7 +120,7 @@ fn check_named<S: Store>(
     ensures looked { IsLookedAt (S.stored store.old) (S.stored store.new) }
     ensures ok { IfOk result (λ found. InNamed (TellsOfRoom found) marks name (S.stored store.old)) }
     ensures err { IfErr result (Fails (IsNamed marks name) (S.stored store.old) (S.stored store.new)) }
-    ensures shape { IfErr result IsOfShape }
+    ensures shape { IfErr result (IsOfShape name) }
 {
     let Some(number) = find_room(store, name)? else {
         return Err(Finding::Untold);
@@ -147,7 +149,7 @@ fn check_marks_room<S: Store>(
     ensures looked { IsLookedAt (S.stored store.old) (S.stored store.new) }
     ensures ok { IfOk result (λ found. (found ≡ []) × OfMarks IsMarksRoom number (S.stored store.old)) }
     ensures err { IfErr result (Fails (IsMarksPlace number) (S.stored store.old) (S.stored store.new)) }
-    ensures shape { IfErr result IsOfShape }
+    ensures shape { IfErr result (IsOfShape marks_room_name) }
 {
     check_marks(store, number)?;
     Ok(ComplaintList::new(alloc))
@@ -162,7 +164,7 @@ fn check_container<S: Store>(
     ensures looked { IsLookedAt (S.stored store.old) (S.stored store.new) }
     ensures ok { IfOk result (λ found. OfPlace (TellsOfContainer found) place.now (S.stored store.old)) }
     ensures err { IfErr result (Fails (IsPlaced place.now) (S.stored store.old) (S.stored store.new)) }
-    ensures shape { IfErr result IsOfShape }
+    ensures shape { IfErr result (IsOfShape place.now.name) }
 {
     let paths = check_shape(alloc, store, place)?;
     let owners = owners_of(alloc, place.name, paths.as_slice())?;

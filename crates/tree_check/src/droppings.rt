@@ -3,7 +3,7 @@ ghost use Rattle.std.specs.Prelude.{◌≡◌, ◌≤◌, ◌↔◌, IsTrue, len
 ghost use Rattle.tree_check.specs.Entries.{AreInOrder};
 ghost use Rattle.mount_model.specs.Paths.{index_path, log_path as log_path_of};
 ghost use Rattle.shape_check.specs.Files.{IsPlaced, OfPlace};
-ghost use Rattle.shape_check.specs.Rightness.{Fails};
+ghost use Rattle.shape_check.specs.Rightness.{Fails, IsOfRoom};
 ghost use Rattle.shape_check.specs.Seeing.{IsLookedAt};
 ghost use Rattle.tree_check.specs.Droppings.{IsReadAs, IsOrderly, IsBadDropping, IsDroppingOf, AreBesideAll, IsBetween, AreOutside, IsFromTo, IsInside, IsLeftRight, IsLeftWrong};
 
@@ -51,6 +51,7 @@ fn log_of(host: u32, writer: u64) -> Path
 }
 
 /// Reads a writer's index dropping, none where it isn't there, unless its entries aren't in order.
+#[tactic(auto, using(shape_check::proofs::Facts::unbroken_room, crate::proofs::OfRoom::bad_named))]
 pub(crate) fn read_dropping<S: Store>(
     alloc: Global,
     store: &mut S,
@@ -62,6 +63,7 @@ pub(crate) fn read_dropping<S: Store>(
     ensures orderly { IfOk result (IsOrderly writer) }
     ensures ok { IfOk result (λ dropping. OfPlace (IsDroppingOf host writer dropping) place.now (S.stored store.old)) }
     ensures err { IfErr result (Fails (IsPlaced place.now) (S.stored store.old) (S.stored store.new)) }
+    ensures named { IfErr result (IsOfRoom place.now.name) }
 {
     let path = index_of(host, writer);
     let bytes = bytes_or_none(alloc, store, place, &path)?;

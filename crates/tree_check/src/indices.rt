@@ -10,7 +10,7 @@ ghost use Rattle.flat_format.specs.Valid.{IsFlat};
 ghost use Rattle.interval_merge.specs.Lists.{joined, ArePiecesOfEach};
 ghost use Rattle.mount_sound.specs.Flats.{IsRightFlat, IsRightPack};
 ghost use Rattle.shape_check.specs.declared.finding.Finding.TheVariants.{NoMemory as NoMemoryLeft};
-ghost use Rattle.shape_check.specs.Rightness.{Fails};
+ghost use Rattle.shape_check.specs.Rightness.{Fails, IsOfRoom};
 ghost use Rattle.shape_check.specs.Seeing.{IsSeen, IsLookedAt};
 ghost use Rattle.tree_check.specs.Entries.{AreInOrder};
 ghost use Rattle.tree_check.specs.Indices.{IsOwned, IsOwnedAt, OfOwnedAt, IsLeftOf, IsDecoded, IsUnpacked, AreTheirs, TellsCover, TellsCovers, IsCoverOf};
@@ -43,6 +43,7 @@ pub(crate) fn check_pack<S: Store>(
     ensures looked { IsLookedAt (S.stored store.old) (S.stored store.new) }
     ensures ok { OnOk result (OfOwnedAt (IsRightItem (Packed host writer)) place.now owners.now path.now (S.stored store.old)) }
     ensures err { IfErr result (Fails (IsOwnedAt place.now owners.now path.now) (S.stored store.old) (S.stored store.new)) }
+    ensures named { IfErr result (IsOfRoom place.now.name) }
 {
     let holds = is_right_pack(alloc, store, place, owners, path, host, writer)?;
     if holds {
@@ -56,6 +57,7 @@ pub(crate) fn check_pack<S: Store>(
     })
 }
 
+#[tactic(auto, using(shape_check::proofs::Facts::unbroken_room, shape_check::proofs::Facts::memory_room))]
 fn is_right_pack<S: Store>(
     alloc: Global,
     store: &mut S,
@@ -68,6 +70,7 @@ fn is_right_pack<S: Store>(
     ensures looked { IsLookedAt (S.stored store.old) (S.stored store.new) }
     ensures ok { IfOk result (λ is. (tree : Tree) → IsSeen (S.stored store.old) tree → (at : IsOwnedAt place.now owners.now path.now tree) → IsTrue is ↔ IsRightPack at.owned.placed.room host writer at.bytes) }
     ensures err { IfErr result (Fails (IsOwnedAt place.now owners.now path.now) (S.stored store.old) (S.stored store.new)) }
+    ensures named { IfErr result (IsOfRoom place.now.name) }
 {
     if !is_left_of(owners, host, writer) {
         return Ok(false);
@@ -127,6 +130,7 @@ pub(crate) fn check_flat<S: Store>(
     ensures looked { IsLookedAt (S.stored store.old) (S.stored store.new) }
     ensures ok { OnOk result (OfOwnedAt (IsRightItem (FlatItem id)) place.now owners.now path.now (S.stored store.old)) }
     ensures err { IfErr result (Fails (IsOwnedAt place.now owners.now path.now) (S.stored store.old) (S.stored store.new)) }
+    ensures named { IfErr result (IsOfRoom place.now.name) }
 {
     let holds = is_right_flat(alloc, store, place, owners, path)?;
     if holds {
@@ -140,6 +144,7 @@ pub(crate) fn check_flat<S: Store>(
     })
 }
 
+#[tactic(auto, using(shape_check::proofs::Facts::unbroken_room, shape_check::proofs::Facts::memory_room))]
 fn is_right_flat<S: Store>(
     alloc: Global,
     store: &mut S,
@@ -150,6 +155,7 @@ fn is_right_flat<S: Store>(
     ensures looked { IsLookedAt (S.stored store.old) (S.stored store.new) }
     ensures ok { IfOk result (λ is. (tree : Tree) → IsSeen (S.stored store.old) tree → (at : IsOwnedAt place.now owners.now path.now tree) → IsTrue is ↔ IsRightFlat at.owned.placed.room at.bytes) }
     ensures err { IfErr result (Fails (IsOwnedAt place.now owners.now path.now) (S.stored store.old) (S.stored store.new)) }
+    ensures named { IfErr result (IsOfRoom place.now.name) }
 {
     let bytes = bytes_or_none(alloc, store, place, path)?;
     let found = decoded(alloc, bytes.as_slice())?;
@@ -172,6 +178,7 @@ fn decoded(alloc: Global, bytes: &[u8]) -> Result<Option<Flat>, NoMemory>
 }
 
 /// Whether its covers tell of the first entries of their writers, and its pieces are theirs.
+#[tactic(auto, using(shape_check::proofs::Facts::memory_room))]
 fn are_covered<S: Store>(
     alloc: Global,
     store: &mut S,
@@ -183,6 +190,7 @@ fn are_covered<S: Store>(
     ensures looked { IsLookedAt (S.stored store.old) (S.stored store.new) }
     ensures ok { IfOk result (λ is. (tree : Tree) → IsSeen (S.stored store.old) tree → (at : IsOwned place.now owners.now tree) → IsTrue is ↔ AreTheirs at.placed.room flat.now) }
     ensures err { IfErr result (Fails (IsOwned place.now owners.now) (S.stored store.old) (S.stored store.new)) }
+    ensures named { IfErr result (IsOfRoom place.now.name) }
 {
     let found = pieces_of(alloc, store, place, owners, flat.covers.as_slice())?;
     match found {
@@ -202,6 +210,7 @@ fn are_merged(alloc: Global, lists: PiecesList, pieces: &[Piece]) -> Result<bool
 }
 
 /// The pieces of the entries that each cover tells of, where all covers tell of the first entries of their writers.
+#[tactic(auto, using(shape_check::proofs::Facts::memory_room))]
 fn pieces_of<S: Store>(
     alloc: Global,
     store: &mut S,
@@ -212,6 +221,7 @@ fn pieces_of<S: Store>(
     ensures looked { IsLookedAt (S.stored store.old) (S.stored store.new) }
     ensures ok { IfOk result (λ found. (tree : Tree) → IsSeen (S.stored store.old) tree → (at : IsOwned place.now owners.now tree) → TellsCovers at.placed.room covers.now found) }
     ensures err { IfErr result (Fails (IsOwned place.now owners.now) (S.stored store.old) (S.stored store.new)) }
+    ensures named { IfErr result (IsOfRoom place.now.name) }
 {
     let mut lists = PiecesList::new(alloc);
     for cover in covers {
@@ -225,6 +235,7 @@ fn pieces_of<S: Store>(
 }
 
 /// The pieces of the entries that are covered, where so many have landed and the cover tells of them.
+#[tactic(auto, using(shape_check::proofs::Facts::unbroken_room, shape_check::proofs::Facts::memory_room))]
 fn covered<S: Store>(
     alloc: Global,
     store: &mut S,
@@ -235,6 +246,7 @@ fn covered<S: Store>(
     ensures looked { IsLookedAt (S.stored store.old) (S.stored store.new) }
     ensures ok { IfOk result (λ found. (tree : Tree) → IsSeen (S.stored store.old) tree → (at : IsOwned place.now owners.now tree) → TellsCover at.placed.room cover.now found) }
     ensures err { IfErr result (Fails (IsOwned place.now owners.now) (S.stored store.old) (S.stored store.new)) }
+    ensures named { IfErr result (IsOfRoom place.now.name) }
 {
     let Some(owner) = owner_of(owners, cover.writer) else {
         return Ok(None);

@@ -4,7 +4,7 @@ ghost use Rattle.store_api.specs.declared.tree.Tree.{Tree};
 ghost use Rattle.store_laws.specs.Files.{file_at};
 ghost use Rattle.mount_sound.specs.Dropping.{bytes_of};
 ghost use Rattle.shape_check.specs.Files.{IsPlaced, OfPlace};
-ghost use Rattle.shape_check.specs.Rightness.{Fails};
+ghost use Rattle.shape_check.specs.Rightness.{Fails, IsNoComplaint};
 ghost use Rattle.shape_check.specs.Seeing.{IsSeen, IsLookedAt};
 ghost use Rattle.tree_check.specs.Whole.{HasFileOf};
 
@@ -23,6 +23,7 @@ pub(crate) fn length_or_none<S: Store>(
     ensures looked { IsLookedAt (S.stored store.old) (S.stored store.new) }
     ensures ok { IfOk result (λ len. OfPlace (λ tree room. length (bytes_of (file_at room path.now)) ≡ len) place.now (S.stored store.old)) }
     ensures err { IfErr result (Fails (IsPlaced place.now) (S.stored store.old) (S.stored store.new)) }
+    ensures unbroken { IfErr result IsNoComplaint }
 {
     match length(store, place.number, path)? {
         Some(len) => Ok(len),
@@ -36,6 +37,7 @@ pub(crate) fn has_file<S: Store>(store: &mut S, place: &Place, path: &Path) -> R
     ensures looked { IsLookedAt (S.stored store.old) (S.stored store.new) }
     ensures ok { IfOk result (λ has. OfPlace (λ tree room. is_some (file_at room path.now) ≡ has) place.now (S.stored store.old)) }
     ensures err { IfErr result (Fails (IsPlaced place.now) (S.stored store.old) (S.stored store.new)) }
+    ensures unbroken { IfErr result IsNoComplaint }
 {
     match length(store, place.number, path)? {
         Some(_len) => Ok(true),
@@ -54,6 +56,7 @@ pub(crate) fn bytes_or_none<S: Store>(
     ensures looked { IsLookedAt (S.stored store.old) (S.stored store.new) }
     ensures ok { IfOk result (λ bytes. OfPlace (λ tree room. bytes_of (file_at room path.now) ≡ bytes) place.now (S.stored store.old)) }
     ensures err { IfErr result (Fails (IsPlaced place.now) (S.stored store.old) (S.stored store.new)) }
+    ensures unbroken { IfErr result IsNoComplaint }
 {
     match length(store, place.number, path)? {
         Some(size) => whole(alloc, store, place, path, size),
@@ -62,7 +65,7 @@ pub(crate) fn bytes_or_none<S: Store>(
 }
 
 /// All bytes of a file of this length.
-#[tactic(auto, using(crate::proofs::WholeLemmas::fails_on, crate::proofs::WholeLemmas::no_memory, crate::proofs::WholeLemmas::looked_same, crate::proofs::WholeLemmas::looked_on))]
+#[tactic(auto, using(crate::proofs::WholeLemmas::fails_on, crate::proofs::WholeLemmas::no_memory, crate::proofs::WholeLemmas::looked_same, crate::proofs::WholeLemmas::looked_on, shape_check::proofs::Facts::memory_unbroken))]
 fn whole<S: Store>(
     alloc: Global,
     store: &mut S,
@@ -73,6 +76,7 @@ fn whole<S: Store>(
     ensures looked { IsLookedAt (S.stored store.old) (S.stored store.new) }
     ensures ok { IfOk result (λ bytes. (tree : Tree) → IsSeen (S.stored store.old) tree → (has : HasFileOf place.now path.now size tree) → has.bytes ≡ bytes) }
     ensures err { IfErr result (Fails (HasFileOf place.now path.now size) (S.stored store.old) (S.stored store.new)) }
+    ensures unbroken { IfErr result IsNoComplaint }
 {
     let mut all = Vec::new(alloc);
     let mut at = 0;
@@ -98,6 +102,7 @@ fn piece<S: Store>(
     ensures some { IfOk result (λ bytes. length bytes ≡ min (size - at) MAX_PIECE) }
     ensures ok { IfOk result (λ bytes. (tree : Tree) → IsSeen (S.stored store.old) tree → (has : HasFileOf place.now path.now size tree) → bytes ≡ take (min (size - at) MAX_PIECE) (drop at has.bytes)) }
     ensures err { IfErr result (Fails (HasFileOf place.now path.now size) (S.stored store.old) (S.stored store.new)) }
+    ensures unbroken { IfErr result IsNoComplaint }
 {
     let some = (size - at).min(MAX_PIECE);
     let bytes = read(store, place.number, path, at, some)?;

@@ -6,7 +6,7 @@ ghost use Rattle.container_layout.specs.declared.items.Item.TheVariants.{Index, 
 ghost use Rattle.container_layout.specs.Paths.{IsAt};
 ghost use Rattle.mount_model.specs.Paths.{open_path as open_path_of};
 ghost use Rattle.shape_check.specs.Files.{OfPlace};
-ghost use Rattle.shape_check.specs.Rightness.{Fails, IsNoComplaint};
+ghost use Rattle.shape_check.specs.Rightness.{Fails, IsNoComplaint, IsOfRoom};
 ghost use Rattle.shape_check.specs.Seeing.{IsLookedAt};
 ghost use Rattle.tree_check.specs.Complaining.{TellsOfItems};
 ghost use Rattle.tree_check.specs.Known.{IsAtWork, OfWork, IsKnownAt, OfKnownAt, IsKnownAll, OfKnownAll, IsOpenAt, IsOpenEntry, IsRightItem, IsRightAt};
@@ -56,6 +56,7 @@ fn check_item<S: Store>(
     ensures looked { IsLookedAt (S.stored store.old) (S.stored store.new) }
     ensures ok { OnOk result (OfKnownAt (IsRightAt path.now) place.now owners.now truncs.now path.now (S.stored store.old)) }
     ensures err { IfErr result (Fails (IsKnownAt place.now owners.now truncs.now path.now) (S.stored store.old) (S.stored store.new)) }
+    ensures named { IfErr result (IsOfRoom place.now.name) }
 {
     match read(path) {
         Some(item) => check_kind(alloc, store, place, owners, truncs, path, &item),
@@ -76,6 +77,7 @@ fn check_kind<S: Store>(
     ensures looked { IsLookedAt (S.stored store.old) (S.stored store.new) }
     ensures ok { OnOk result (OfKnownAt (IsRightItem item.now) place.now owners.now truncs.now path.now (S.stored store.old)) }
     ensures err { IfErr result (Fails (IsKnownAt place.now owners.now truncs.now path.now) (S.stored store.old) (S.stored store.new)) }
+    ensures named { IfErr result (IsOfRoom place.now.name) }
 {
     match *item {
         Item::Index { host, writer } => check_index(
@@ -121,6 +123,7 @@ fn has_left(owners: &Owners, writer: u64) -> bool
 
 /// Whether the index dropping of a writer that hasn't left is as in a sound tree. That of one that has is checked with
 /// its metadata dropping.
+#[tactic(auto, using(crate::proofs::OfRoom::between_named))]
 fn check_index<S: Store>(
     alloc: Global,
     store: &mut S,
@@ -135,6 +138,7 @@ fn check_index<S: Store>(
     ensures looked { IsLookedAt (S.stored store.old) (S.stored store.new) }
     ensures ok { OnOk result (OfKnownAt (IsRightItem (Index host writer)) place.now owners.now truncs.now path.now (S.stored store.old)) }
     ensures err { IfErr result (Fails (IsKnownAt place.now owners.now truncs.now path.now) (S.stored store.old) (S.stored store.new)) }
+    ensures named { IfErr result (IsOfRoom place.now.name) }
 {
     if has_left(owners, writer) {
         return Ok(());
@@ -145,6 +149,7 @@ fn check_index<S: Store>(
 }
 
 /// Whether a writer of which so many entries have landed is among those that have the container open, if any have.
+#[tactic(auto, using(shape_check::proofs::Facts::unbroken_room))]
 fn check_accounted<S: Store>(
     store: &mut S,
     place: &Place,
@@ -155,6 +160,7 @@ fn check_accounted<S: Store>(
     ensures looked { IsLookedAt (S.stored store.old) (S.stored store.new) }
     ensures ok { OnOk result (OfPlace (IsOpenEntry host writer landed) place.now (S.stored store.old)) }
     ensures err { IfErr result (Fails (IsOpenAt place.now host writer landed) (S.stored store.old) (S.stored store.new)) }
+    ensures named { IfErr result (IsOfRoom place.now.name) }
 {
     if landed == 0 {
         return Ok(());
@@ -179,6 +185,7 @@ fn open_of(host: u32, writer: u64) -> Path
 }
 
 /// Whether the writer of this metadata dropping is as in a sound tree.
+#[tactic(auto, using(crate::proofs::OfRoom::between_named, crate::proofs::OfRoom::left_named))]
 fn check_meta<S: Store>(
     alloc: Global,
     store: &mut S,
@@ -191,6 +198,7 @@ fn check_meta<S: Store>(
     ensures looked { IsLookedAt (S.stored store.old) (S.stored store.new) }
     ensures ok { OnOk result (OfWork (IsRightItem (Meta left.now.last left.now.bytes left.now.stamp left.now.host left.now.writer)) place.now truncs.now path.now (S.stored store.old)) }
     ensures err { IfErr result (Fails (IsAtWork place.now truncs.now path.now) (S.stored store.old) (S.stored store.new)) }
+    ensures named { IfErr result (IsOfRoom place.now.name) }
 {
     let dropping = read_dropping(alloc, store, place, left.host, left.writer)?;
     judge_left(place.name, path, left, &dropping)?;

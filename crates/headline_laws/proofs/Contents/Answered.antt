@@ -33,30 +33,30 @@ use Rattle.script_lang.specs.declared.script.Statement.TheVariants.{Map}
 use Rattle.actor_core.specs.declared.kept.Kept.{Kept}
 use Rattle.actor_core.specs.Endings.{Ending}
 use Rattle.run_core.specs.Play.{IsRight}
-use Rattle.play_laws.specs.OneFile.{ArePiecesSeen, OneFile, printed_cut}
+use Rattle.play_laws.specs.OneFile.{ArePiecesSeen, OneFile}
 use Rattle.play_laws.specs.OneWriter.{OneWriter}
 use Rattle.play_laws.specs.Showing.{TellsOneFile}
 use Rattle.play_laws.proofs.Facts.{Next}
-use Rattle.headline.specs.Run.{IsAmong, IsLine, Run, Says, Told, before, own, phased, so_far, told}
+use Rattle.headline.specs.Run.{IsAmong, IsLine, Run, Says, Told, before, own, phased, told}
 use Rattle.headline.specs.Trees.{Has}
-use Rattle.headline.specs.Views.{IdsRise, IsCut, IsWriter, Seen, changes_of, count_of, item_of, writes_of}
+use Rattle.headline.specs.Views.{IsCut, Seen, changes_of, item_of, writes_of}
 use Rattle.headline.specs.Files.{Answers, entry_of, reader_after, reader_at, reader_next}
 use Rattle.headline.specs.Changes.{writing_at}
 use Rattle.headline.specs.Contents.{HasContents, ShowsContents}
-use Rattle.headline_laws.proofs.OrderlyLines.Answering.{AllBehind, MapsSo, SaysOf, Shown, apart_before, later, not_next, own_rise, reader_actor, rise_behind, step_of}
+use Rattle.headline_laws.proofs.OrderlyLines.AnswerSteps.{MapsSo, step_of}
+use Rattle.headline_laws.proofs.OrderlyLines.Answering.{AllBehind, SaysOf, Shown, apart_before, later, not_next, own_rise, reader_actor, rise_behind}
 use Rattle.headline_laws.proofs.OrderlyLines.Places.{Rise, Split, among_later, beside_rise, own_split}
 use Rattle.headline_laws.proofs.Statements.Did.{IsOfKindOr}
 use Rattle.headline_laws.proofs.Statements.Does.{Ended, did, was_gone}
 use Rattle.headline_laws.proofs.Story.Attributed.{head_of, tail_of}
 use Rattle.headline_laws.proofs.Story.Lines.{AnyLine, LineOn, container, line_here, line_on, whole_history}
 use Rattle.headline_laws.proofs.Story.Shown.{ShownEach}
-use Rattle.headline_laws.proofs.Trees.Printed.{ids_rise}
 use Rattle.headline_laws.proofs.Trees.Reading.{ReaderLine, last_tree, reader_line}
+use Rattle.headline_laws.proofs.Trees.Sights.{reader_sees}
 use Rattle.headline_laws.proofs.Trees.Still.{file_of}
 use Rattle.headline_laws.proofs.Contents.Above.{IsBelow, later_above}
 use Rattle.headline_laws.proofs.Contents.Counted.{Begin, HasSeen, IsSeen, all_seen, homes, sound_begin}
-use Rattle.headline_laws.proofs.Contents.Cuts.{counts_between}
-use Rattle.headline_laws.proofs.Landed.Counting.{counted_in, seen_counted, seen_rise}
+use Rattle.headline_laws.proofs.Contents.Cuts.{cut_seen}
 
 -- ---- the lines behind a reader's
 
@@ -119,7 +119,7 @@ module _ (run : Run) (times : Option (List ℕ)) (mount : Stored) (start end : S
   homes_of t = container run First end fits sound_first right t
 
   -- what was listed behind these events, and what stands in the end
-  above_all : (t : Told) (file : OneFile) (upto rest : List Event) (begun : Moment) → right.history ≡ upto ++ rest → file.moment ≡ moment_after First upto → homes_of t ≡ file.room → HasView begun file.moment file.room file.cut file.truncs → (u : Trunc) → IsItem (item_of u) → Has run.after (homes_of t) (item_of u)
+  pub above_all : (t : Told) (file : OneFile) (upto rest : List Event) (begun : Moment) → right.history ≡ upto ++ rest → file.moment ≡ moment_after First upto → homes_of t ≡ file.room → HasView begun file.moment file.room file.cut file.truncs → (u : Trunc) → IsItem (item_of u) → Has run.after (homes_of t) (item_of u)
       → IsAmong u file.truncs ⊎ (All (IsBelow u.stamp) (map change_of (writes_in file.moment file.cut)) × All (λ (v : Trunc). v.stamp < u.stamp) file.truncs)
   above_all t file upto rest begun is moment room view u is_item has = later_above begun file.moment rest file.room file.cut file.truncs u lawful_then sound_then view (subst (λ x. HadTrunc x file.room u.stamp u.size) ends (subst (λ k. HadTrunc (moment_after First right.history) k u.stamp u.size) room last))
     where
@@ -156,18 +156,6 @@ module _ (run : Run) (times : Option (List ℕ)) (mount : Stored) (start end : S
   pieces_of file pieces are =
       subst (λ es. ArePieces es (truncs_of (changes_in file.moment file.cut file.truncs)) pieces) (sym (entries_of-changes (writes_in file.moment file.cut) file.truncs))
       (subst (λ ts. ArePieces (entries_in (writes_in file.moment file.cut)) ts pieces) (sym (truncs_of-changes (writes_in file.moment file.cut) file.truncs)) are)
-
-  -- its counts, each between what is sure and what may be
-  cut_of : (t : Told) (size : ℕ) (cut : List WriterCount) (truncs : List Trunc) → Says run t (line.Reader size cut truncs) → (file : OneFile) → cut ≡ printed_cut file.cut → WritersRise file.room file.cut → (h : HasSeen run times mount start end fits mounted tells sound right left t file.moment file.cut)
-      → IsCut run (homes run times mount start end fits mounted tells sound right left) t h.seen
-  cut_of t size cut truncs says file counts rise h = record {
-    known = All-from_recursion Known_so h.seen (All-weaker (IsSeen run times mount start end fits mounted tells sound right left t) Known_so h.seen (λ s known. (known.0, known.2)) h.known);
-    rise = subst IdsRise (ap (λ c. map (λ (x : WriterCount). x.writer) c) h.counts ∙ seen_rise h.seen) (ids_rise file.room file.cut rise);
-    between = λ w is. (let b = counts_between run times mount start end fits mounted tells sound right left free t size cut truncs says w is in let same : count_of w.id h.seen ≡ counted_in w.id cut = seen_counted w.id h.seen ∙ ap (counted_in w.id) (sym (counts ∙ h.counts)) in (omega (arith, b.0, same), omega (arith, b.1, same)));
-  }
-    where
-      Known_so : Seen → Type 0
-      Known_so s = (1 ≤ s.count) × IsWriter run (homes run times mount start end fits mounted tells sound right left) (homes_of t) (before run t) (so_far run t) s.writer
 
   -- a line that tells of this file, which its actor has from then on
   of_file : (t : Told) (size : ℕ) (cut : List WriterCount) (truncs : List Trunc) (file : OneFile) (new : Option OneFile) (rest : List Told) → t.outcome ≡ line.Reader size cut truncs → new ≡ Some file → TellsOneFile size cut truncs file → (h : HasSeen run times mount start end fits mounted tells sound right left t file.moment file.cut) → Shown new rest
@@ -214,9 +202,12 @@ module _ (run : Run) (times : Option (List ℕ)) (mount : Stored) (start end : S
   of_line : (t : Told) (size : ℕ) (cut : List WriterCount) (truncs : List Trunc) (says : Says run t (line.Reader size cut truncs)) (l : AnyLine run First end fits sound_first right (reader_at run t) (writing_at run t) t) (rest : List Told) → Shown l.line.shown.new rest → own t.actor (told run) ≡ own t.actor (before run t) ++ t ∷ rest
       → ReaderLine run First end fits sound_first right l size cut truncs → ShowsContents run (homes run times mount start end fits mounted tells sound right left) t size cut truncs
   of_line t size cut truncs says l rest more split z =
-      of_file t size cut truncs z.so.file l.line.shown.new rest says.says z.so.has z.so.tells seen_so more split (cut_of t size cut truncs says z.so.file z.so.tells.counts z.so.sees.view.rise seen_so)
+      of_file t size cut truncs z.so.file l.line.shown.new rest says.says z.so.has z.so.tells seen_so more split (cut_seen run times mount start end fits mounted tells sound right left free t cut truncs says.is_line (λ other is. opens_none other (sym says.says ∙ is)) (reader_sees run First end fits sound_first right t size cut truncs says.says) z.so.file z.so.tells.counts z.so.sees.view.rise seen_so)
       (above_all t z.so.file (l.line.part.earlier ++ z.upto) z.rest _ z.split z.moment z.in_room z.so.sees.view)
     where
+      opens_none : (other : ℕ) → line.Reader size cut truncs ≡ line.Opened other → ⊥
+      opens_none other is = cc
+
       seen_so : HasSeen run times mount start end fits mounted tells sound right left t z.so.file.moment z.so.file.cut
       seen_so = all_seen run times mount start end fits mounted tells sound right left t z.so.file.moment (l.line.part.earlier ++ z.upto) z.rest z.split z.moment _ z.so.file.cut (subst (λ k. WritersRise k z.so.file.cut) (sym z.in_room) z.so.sees.view.rise) z.so.sees.view.admissible
 

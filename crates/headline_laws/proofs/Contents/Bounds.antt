@@ -1,4 +1,4 @@
--- Each count of a reader's line lies between what the lines make sure to have landed and what they allow.
+-- Each count of a line that shows a file lies between what the lines make sure to have landed and what they allow.
 use Rattle.std.proofs.Common.{◌≡◌, ◌⊎◌, ◌≤◌, ◌+◌, inl, inr, ℕ, Bool, true, false, nat_eq, List, [], ◌∷◌, ◌++◌, length, Option, Some, None, refl, sym, ap, ◌∙◌, subst, arith, append_assoc, length-append}
 use Rattle.std.specs.Prelude.{slice_get}
 use Rattle.std.specs.List.{AllByRecursion}
@@ -19,7 +19,7 @@ use Rattle.script_lang.specs.declared.line.Outcome.TheVariants as line
 use Rattle.actor_core.specs.Statements.{work_of}
 use Rattle.run_core.specs.Play.{IsRight}
 use Rattle.play_laws.proofs.Facts.{Next}
-use Rattle.headline.specs.Run.{Run, Says, Told, before, own, so_far, told}
+use Rattle.headline.specs.Run.{IsLine, Run, Says, Told, before, own, so_far, told}
 use Rattle.headline.specs.Files.{reader_after, reader_at, reader_next}
 use Rattle.headline.specs.Changes.{Writing, none as no_writing, writing_after, writing_at, writing_next}
 use Rattle.headline.specs.Writers.{Account, account, account_of, cap_of, nothing, told_of}
@@ -36,6 +36,7 @@ use Rattle.headline_laws.proofs.Story.Lines.{AnyLine, ChainOf, HasRooms, chain_o
 use Rattle.headline_laws.proofs.Story.Ordered.{Front, all_own, begun_are, begun_first, begun_own, begun_phases, has_begun}
 use Rattle.headline_laws.proofs.Story.Parts.{begins, begins_rise}
 use Rattle.headline_laws.proofs.Story.Shown.{ShownEach}
+use Rattle.headline_laws.proofs.Trees.Sights.{Sees}
 use Rattle.headline_laws.proofs.Contents.FirstOpen.{FirstOpen, OpensNot, account_more, all_first, all_rest, first_open, none_told}
 use Rattle.headline_laws.proofs.Contents.OpenedWriter.{Behind as Behind_of, Chain as Chain_of, First as First_of, Home as Home_of, Opening as Opening_of, account_is as account_is_of, chain_as as chain_as_of, go as go_of, its as its_of, none_before as none_before_of, opening, sound_first as sound_first_of, started as started_of}
 use Rattle.headline_laws.proofs.Contents.Least.{least_holds}
@@ -61,12 +62,12 @@ module _ (run : Run) (times : Option (List ℕ)) (mount : Stored) (start end : S
   abbrev Opening : (actor : ℕ) → ChainOf run First end fits sound_first right actor → ℕ → ℕ → List Told → List Event → Type 0
   Opening actor c id phase post done = Opening_of run times mount start end fits mounted tells sound right left actor c id phase post done
 
-  module _ (t : Told) (size : ℕ) (cut : List WriterCount) (truncs : List Trunc) where
+  module _ (t : Told) (cut : List WriterCount) (truncs : List Trunc) (is_line : IsLine run t) (opens_none : (other : ℕ) → t.outcome ≡ line.Opened other → ⊥) (sees : Sees run First end fits sound_first right t cut truncs) where
     abbrev BoundedLine : Dropping → List Event → List Event → Type 0
-    BoundedLine d earlier mine = BoundedLine_of run times mount start end fits mounted tells sound right left t size cut truncs d earlier mine
+    BoundedLine d earlier mine = BoundedLine_of run times mount start end fits mounted tells sound right left t cut truncs d earlier mine
 
-    bounded_line : (r : Option Told) (w : Writing) (l : AnyLine run First end fits sound_first right r w t) → t.outcome ≡ line.Reader size cut truncs → (d : Dropping) → Stood Last d → d.room ≡ Home t → BoundedLine d l.line.part.earlier l.line.part.mine
-    bounded_line = bounded_line_of run times mount start end fits mounted tells sound right left t size cut truncs
+    bounded_line : (r : Option Told) (w : Writing) (l : AnyLine run First end fits sound_first right r w t) → (d : Dropping) → Stood Last d → d.room ≡ Home t → BoundedLine d l.line.part.earlier l.line.part.mine
+    bounded_line r w l d stood home = bounded_line_of run times mount start end fits mounted tells sound right left t cut truncs r w l (sees r w l) d stood home
 
     -- ---- one writer of the container
 
@@ -122,18 +123,18 @@ module _ (run : Run) (times : Option (List ℕ)) (mount : Stored) (start end : S
 
         -- ---- a writer of another actor
 
-        module _ (free : run.in_order ≡ false) (apart : actor ≡ t.actor → ⊥) (says : Says run t (line.Reader size cut truncs)) (fo : FirstOpen id (own actor (told run))) where
+        module _ (free : run.in_order ≡ false) (apart : actor ≡ t.actor → ⊥) (fo : FirstOpen id (own actor (told run))) where
           abbrev b : Opening actor c id fo.o.phase fo.post []
           b = started fo.pre fo.o fo.post fo.is fo.says
 
           abbrev l : AnyLine run First end fits sound_first right (reader_at run t) (writing_at run t) t
-          l = line_here run First end fits sound_first right t says.is_line
+          l = line_here run First end fits sound_first right t is_line
 
           its_d : ItsDropping b.d
           its_d = its fo.o.phase fo.post [] b
 
           line_is : BoundedLine b.d l.line.part.earlier l.line.part.mine
-          line_is = bounded_line (reader_at run t) (writing_at run t) l says.says b.d its_d.stood its_d.room
+          line_is = bounded_line (reader_at run t) (writing_at run t) l b.d its_d.stood its_d.room
 
           abbrev its_end : List Event
           its_end = l.line.part.earlier ++ l.line.part.mine
@@ -186,12 +187,12 @@ module _ (run : Run) (times : Option (List ℕ)) (mount : Stored) (start end : S
 
       -- ---- a writer of the line's own actor
 
-      module _ (free : run.in_order ≡ false) (says : Says run t (line.Reader size cut truncs)) (c : ChainOf run First end fits sound_first right t.actor) (fo : FirstOpen id (own t.actor (told run))) (rest : List Told) (split : own t.actor (told run) ≡ own t.actor (before run t) ++ t ∷ rest) where
+      module _ (free : run.in_order ≡ false) (c : ChainOf run First end fits sound_first right t.actor) (fo : FirstOpen id (own t.actor (told run))) (rest : List Told) (split : own t.actor (told run) ≡ own t.actor (before run t) ++ t ∷ rest) where
         abbrev Earlier : List Told
         Earlier = own t.actor (before run t)
 
         opens_not : OpensNot id t
-        opens_not is = let clash : line.Reader size cut truncs ≡ line.Opened id = sym says.says ∙ is in absurd (cc)
+        opens_not = opens_none id
 
         abbrev HighIt : List Told → Type 0
         HighIt ts = High t.actor c (ts ++ t ∷ [])
@@ -233,7 +234,7 @@ module _ (run : Run) (times : Option (List ℕ)) (mount : Stored) (start end : S
                   }
 
                   line_is : BoundedLine b_own.d p.earlier p.mine
-                  line_is = bounded_line (reader_after b_own.reader u) (writing_after b_own.writing u) its_line says.says b_own.d its_d.stood its_d.room
+                  line_is = bounded_line (reader_after b_own.reader u) (writing_after b_own.writing u) its_line b_own.d its_d.stood its_d.room
 
                   split_so : right.history ≡ (p.earlier ++ p.mine) ++ p.later
                   split_so = p.split ∙ sym (append_assoc p.earlier p.mine p.later)
@@ -283,7 +284,7 @@ module _ (run : Run) (times : Option (List ℕ)) (mount : Stored) (start end : S
                     opened_then : Opening t.actor c id fo.o.phase fo.post ends → counted_in id cut ≤ 0
                     opened_then b =
                         let its_d = its t.actor c fo.o.phase fo.post ends b in
-                        let line_is = bounded_line (reader_after None Earlier) (writing_after no_writing Earlier) its_line says.says b.d its_d.stood its_d.room in
+                        let line_is = bounded_line (reader_after None Earlier) (writing_after no_writing Earlier) its_line b.d its_d.stood its_d.room in
                         let long = length-append l.part.earlier l.part.mine in
                         let high = line_is.high ends l.part.later split_so (omega (arith, long)) in
                         let zero_is = none_before t.actor c fo.o.phase fo.post ends b ends l.part.later split_so b.behind in
@@ -301,24 +302,24 @@ module _ (run : Run) (times : Option (List ℕ)) (mount : Stored) (start end : S
       abbrev At_most : ℕ → Type 0
       At_most actor = counted_in id cut ≤ (account run actor id (so_far run t)).most
 
-      most_counted : run.in_order ≡ false → Says run t (line.Reader size cut truncs) → At_most o.actor
-      most_counted free says = by (nat_eq o.actor t.actor) refl
+      most_counted : run.in_order ≡ false → At_most o.actor
+      most_counted free = by (nat_eq o.actor t.actor) refl
         where
           there : Among o (own o.actor (told run))
           there = among_own (told run) o (among (told run) o opened.is_line)
 
           by_own : o.actor ≡ t.actor → At_most t.actor
           by_own same =
-              let split = own_split run t (among (told run) t says.is_line) in
-              let c = chain_of run First end fits sound_first right t says.is_line in
+              let split = own_split run t (among (told run) t is_line) in
+              let c = chain_of run First end fits sound_first right t is_line in
               let fo = first_open id (own t.actor (told run)) o (subst (λ a. Among o (own a (told run))) same there) opened.says in
-              subst (High t.actor c) (sym (begun_own run free t split.rest split.is)) (own_high free says c fo split.rest split.is)
+              subst (High t.actor c) (sym (begun_own run free t split.rest split.is)) (own_high free c fo split.rest split.is)
 
           by_other : (o.actor ≡ t.actor → ⊥) → At_most o.actor
           by_other apart =
               let c = chain_of run First end fits sound_first right o opened.is_line in
               let fo = first_open id (own o.actor (told run)) o there opened.says in
-              apart_high o.actor c free apart says fo
+              apart_high o.actor c free apart fo
 
           same_actor : nat_eq o.actor t.actor ≡ true → o.actor ≡ t.actor
           same_actor is = grind (arith, nat_tests)
@@ -331,8 +332,8 @@ module _ (run : Run) (times : Option (List ℕ)) (mount : Stored) (start end : S
           by false off = by_other (other_actor off)
 
       -- The law of this file: it lies between what is sure and what may be.
-      pub opened_between : run.in_order ≡ false → Says run t (line.Reader size cut truncs) → ((account run o.actor id (before run t)).least ≤ counted_in id cut) × At_most o.actor
-      opened_between free says = (
-        least_holds run times mount start end fits mounted tells sound right left (λ w many. many ≤ counted_in w cut) (λ w fewer many le all. omega (arith, le, all)) (λ w. omega arith) t says.is_line (λ r w l d stood home_is x xs is short. (bounded_line r w l says.says d stood home_is).low x xs is short) o id opened home free,
-        most_counted free says,
+      pub opened_between : run.in_order ≡ false → ((account run o.actor id (before run t)).least ≤ counted_in id cut) × At_most o.actor
+      opened_between free = (
+        least_holds run times mount start end fits mounted tells sound right left (λ w many. many ≤ counted_in w cut) (λ w fewer many le all. omega (arith, le, all)) (λ w. omega arith) t is_line (λ r w l d stood home_is x xs is short. (bounded_line r w l d stood home_is).low x xs is short) o id opened home free,
+        most_counted free,
       )

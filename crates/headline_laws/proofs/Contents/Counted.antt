@@ -7,6 +7,9 @@ use Rattle.std.proofs.lemmas.Bool.Decides.{nat_tests}
 use Rattle.std.proofs.lemmas.List.{append-nil, length-map, map-append, take-append-le}
 use Rattle.container_layout.specs.declared.items.Item.TheVariants.{Index}
 use Rattle.container_layout.specs.Paths.{path_of}
+use Rattle.plain_file.specs.File.{stored_bytes}
+use Rattle.attr_flow.specs.Shares.{with_share}
+use Rattle.look_laws.specs.Shares.{shares_seen}
 use Rattle.store_api.specs.Acts.{Stored}
 use Rattle.store_api.specs.declared.tree.Room.{Room}
 use Rattle.store_laws.specs.Files.{file_at}
@@ -18,12 +21,14 @@ use Rattle.mount_model.specs.declared.row.Row.{Row}
 use Rattle.mount_model.specs.History.{Event}
 use Rattle.mount_sound.specs.Dropping.{IsDropping, IsWriter as IsWriterOf, log_bytes}
 use Rattle.mount_sound.specs.Items.{HasItem}
-use Rattle.mount_sound.specs.Ledger.{Written}
+use Rattle.mount_sound.specs.Entries.{logged}
+use Rattle.mount_sound.specs.Ledger.{Written, entries_in}
 use Rattle.mount_sound.specs.Sound.{IsSoundTree}
 use Rattle.mount_sound.proofs.Facts.{mounted_sound}
 use Rattle.gathering.specs.Gathering.{Gathered, IsAdmissible}
 use Rattle.gathering.specs.Moments.{Dropping, IsSoundAt, Moment, file_in_room, issued_by, moment_after}
-use Rattle.gathering.specs.View.{WritersRise, change_of, writes_in}
+use Rattle.gathering.specs.View.{WritersRise, change_of, own_entries, writes_in}
+use Rattle.gathering.proofs.Facts.{length-entries, sound_after}
 use Rattle.script_lang.specs.Ranges.{FitsScript}
 use Rattle.script_lang.specs.declared.line.Outcome.TheVariants as line
 use Rattle.run_core.specs.Play.{IsRight}
@@ -32,13 +37,14 @@ use Rattle.headline.specs.Run.{Run, Says, Told, before, so_far, told}
 use Rattle.headline.specs.Trees.{Has}
 use Rattle.headline.specs.Writers.{Writer, new_writer, old_writer}
 use Rattle.headline.specs.Names.{Story}
-use Rattle.headline.specs.Views.{IsWriter, Seen, counted, opened, stood, writes_of}
+use Rattle.headline.specs.Views.{IsWriter, Seen, counted, opened, shared, stood, writes_of}
 use Rattle.headline_laws.proofs.Statements.Known.{HasEntered, entered_more}
 use Rattle.headline_laws.proofs.Story.Entered.{entered_once}
 use Rattle.headline_laws.proofs.Story.Lines.{container}
-use Rattle.headline_laws.proofs.Trees.Reading.{grows_to, opened_line}
+use Rattle.headline_laws.proofs.Trees.Reading.{grows_to, lawful_to, opened_line}
 use Rattle.headline_laws.proofs.Trees.Still.{Led, file_of, same as issued_still, take_map, told_before}
 use Rattle.headline_laws.proofs.Contents.Accounts.{issued_told}
+use Rattle.headline_laws.proofs.Contents.Amounts.{have_some, some_logged, sums_same}
 use Rattle.headline_laws.proofs.Contents.Issues.{found_write}
 use Rattle.headline_laws.proofs.Contents.Written.{written}
 
@@ -150,6 +156,7 @@ module _ (run : Run) (times : Option (List ℕ)) (mount : Stored) (start end : S
     pub known : AllByRecursion (IsSeen t) seen
     pub counts : printed_cut cut ≡ map counted seen
     pub writes : writes_of seen ≡ map change_of (writes_in moment cut)
+    pub shares : shares_seen moment cut ≡ map shared seen
 
   module _ (t : Told) (moment : Moment) (es rest : List Event) (is : right.history ≡ es ++ rest) (moment_is : moment ≡ moment_after Begin es) where
     whole_of : (g : Gathered) → g.dropping.room ≡ homes.of t → 1 ≤ g.count → g.count ≤ length (issued_by moment g.dropping) → Whole t g.dropping.writer
@@ -179,8 +186,19 @@ module _ (run : Run) (times : Option (List ℕ)) (mount : Stored) (start end : S
           same = ap (take g.count) w.writes ∙ take_map change_of g.count (InAll (homes.of t) id) ∙ ap (λ z. map change_of (take g.count z)) more ∙ ap (map change_of) (take-append-le g.count (issued_by moment g.dropping) grown.0 few);
         }
 
+    -- its first writes have these bytes
+    bytes_are : (g : Gathered) (w : Writer) → take g.count w.writes ≡ map change_of (take g.count (issued_by moment g.dropping)) → stored_bytes (take g.count w.writes) ≡ logged (own_entries moment g)
+    bytes_are g w same = ap stored_bytes same ∙ sums_same (take g.count (issued_by moment g.dropping)) ∙ ap logged (sym (take_map (λ (x : Written). x.entry) g.count (issued_by moment g.dropping)))
+
+    bytes_some : (g : Gathered) → 1 ≤ g.count → g.count ≤ length (issued_by moment g.dropping) → nat_eq (logged (own_entries moment g)) 0 ≡ false
+    bytes_some g many few =
+        let s : IsSoundAt moment = subst IsSoundAt (sym moment_is) (sound_after Begin es (lawful_to run Begin end fits sound_begin right es rest is) sound_begin) in
+        let long = length-entries (issued_by moment g.dropping) in
+        let some : 1 ≤ logged (own_entries moment g) = some_logged (entries_in (issued_by moment g.dropping)) g.count (have_some g.dropping.writer 0 0 (entries_in (issued_by moment g.dropping)) (s.sound.writes g.dropping.room g.dropping.writer).in_order) many (omega (arith, few, long)) in
+        grind (arith, nat_tests)
+
     pub all_seen : (first : Moment) (cut : List Gathered) → WritersRise (homes.of t) cut → IsAdmissible first moment cut → HasSeen t moment cut
-    all_seen first [] rise all = record { seen = []; known = tt; counts = refl; writes = refl }
+    all_seen first [] rise all = record { seen = []; known = tt; counts = refl; writes = refl; shares = refl }
     all_seen first (g ∷ cut) rise all = by_count (nat_eq g.count 0) refl (all_seen first cut rise.2 all.1)
       where
         none : nat_eq g.count 0 ≡ true → HasSeen t moment cut → HasSeen t moment (g ∷ cut)
@@ -191,6 +209,7 @@ module _ (run : Run) (times : Option (List ℕ)) (mount : Stored) (start end : S
               known = h.known;
               counts = ap (λ b. if b then printed_cut cut else record { writer = g.dropping.writer; count = g.count } ∷ printed_cut cut) is_zero ∙ h.counts;
               writes = h.writes ∙ ap (λ k. map change_of (take k (issued_by moment g.dropping) ++ writes_in moment cut)) (sym zero_is);
+              shares = ap (λ k. with_share g.dropping.writer (logged (take k (entries_in (issued_by moment g.dropping)))) (shares_seen moment cut)) zero_is ∙ h.shares;
             }
 
         some : nat_eq g.count 0 ≡ false → HasSeen t moment cut → HasSeen t moment (g ∷ cut)
@@ -200,11 +219,13 @@ module _ (run : Run) (times : Option (List ℕ)) (mount : Stored) (start end : S
             let f = first_of g rise.0 all.0.were_issued w in
             let it : Seen = record { writer = w.writer; count = g.count } in
             let count_is : counted it ≡ record { writer = g.dropping.writer; count = g.count } = ap (λ k. record { writer = k; count = g.count }) w.its_id in
+            let share_is : shared it ≡ record { writer = g.dropping.writer; bytes = logged (own_entries moment g) } = λ i. record { writer = w.its_id i; bytes = bytes_are g w.writer f.same i } in
             record {
               seen = it ∷ h.seen;
               known = ((many, f.few, w.is_writer), h.known);
               counts = ap (λ b. if b then printed_cut cut else record { writer = g.dropping.writer; count = g.count } ∷ printed_cut cut) not_zero ∙ ap (λ z. z ∷ printed_cut cut) (sym count_is) ∙ ap (λ z. counted it ∷ z) h.counts;
               writes = ap (λ z. z ++ writes_of h.seen) f.same ∙ ap (λ z. map change_of (take g.count (issued_by moment g.dropping)) ++ z) h.writes ∙ sym (map-append change_of (take g.count (issued_by moment g.dropping)) (writes_in moment cut));
+              shares = ap (λ b. if b then shares_seen moment cut else record { writer = g.dropping.writer; bytes = logged (own_entries moment g) } ∷ shares_seen moment cut) (bytes_some g many all.0.were_issued) ∙ ap (λ z. z ∷ shares_seen moment cut) (sym share_is) ∙ ap (λ z. shared it ∷ z) h.shares;
             }
 
         by_count : (b : Bool) → nat_eq g.count 0 ≡ b → HasSeen t moment cut → HasSeen t moment (g ∷ cut)

@@ -28,7 +28,7 @@ pub record IsBetween (m : Moment) (d : Dropping) (row : Row) : Type 0 where
   pub no_fewer : row.landed ≤ landed m d
   pub no_more : landed m d ≤ entry_count row
 
-abbrev its_dropping : Row → Dropping
+abbrev pub its_dropping : Row → Dropping
 its_dropping row = record { room = row.room; host = row.host; writer = row.id }
 
 row_between : (m : Moment) (s : IsSoundAt m) (row : Row) → row_of row.id m.state.table.writers ≡ Some row → IsBetween m (its_dropping row) row

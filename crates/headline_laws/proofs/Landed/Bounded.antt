@@ -34,7 +34,8 @@ use Rattle.headline.specs.Writers.{Account, after_line, after_sync, after_write,
 use Rattle.headline_laws.proofs.Contents.Entering.{never_twice, opens_in}
 use Rattle.headline_laws.proofs.Landed.Lasting.{AfterSpared, after_spared, holds_still, memory_rest, out, still}
 use Rattle.headline_laws.proofs.Landed.Between.{AtPlace}
-use Rattle.headline_laws.proofs.Landed.Machines.{Greeted, IsOpenSo, IsOutSo, KeepsTo, alive_does, closes_end, greets, syncs_end, writes_end}
+use Rattle.headline_laws.proofs.Landed.Gone.{HasGone}
+use Rattle.headline_laws.proofs.Landed.Machines.{Greeted, IsOpenSo, IsOutSo, KeepsTo, alive_does, close_departs, closes_end, greets, syncs_end, writes_end}
 use Rattle.headline_laws.proofs.Landed.Settled.{IsSettled, settled_later}
 use Rattle.headline_laws.proofs.Landed.Writes.{HoldsNow}
 use Rattle.headline_laws.proofs.Statements.Did.{Did, Had, IsOfKindOr, IsOpen, IsThere, OpensSo, WritesSo}
@@ -235,6 +236,13 @@ module _ (m : Moment) (sound : IsSoundAt m) (n : ℕ) (history : List Event) (bl
             (closes_end n d cap a.left a.armed o.handle a.has a.mid o.row acc o.latest o.is o.told a.at a.holds a.rest p.spent p.e a.lawful a.had
             (subst (λ w. ComesTo n (closes a.left a.armed w) a.rest p.spent p.e) a.has a.comes))
 
+        departs_here : t.statement ≡ say.Close → (count : ℕ) → p.e.outcome ≡ line.Closed count → HasGone (moment_after now p.mine) d
+        departs_here is count closes_so =
+            let a = at_statement say.Close is in
+            subst (λ x. HasGone x d) a.ends
+            (close_departs n d cap a.left a.armed o.handle a.has a.mid o.row acc o.latest o.is o.told a.at a.holds a.rest p.spent p.e a.lawful a.had
+            (subst (λ w. ComesTo n (closes a.left a.armed w) a.rest p.spent p.e) a.has a.comes) count closes_so)
+
         by_statement : (z : Statement) → t.statement ≡ z → P (after_line d.writer cap acc z p.e.outcome)
         by_statement (say.Write at content) is = write_here at content is
         by_statement say.Sync is = sync_here is
@@ -343,3 +351,24 @@ module _ (m : Moment) (sound : IsSoundAt m) (n : ℕ) (history : List Event) (bl
         by : KeepsTo n d cap now kept acc → P (told_of d.writer cap acc t.statement t.outcome)
         by (inl o) = open_line o p.ended
         by (inr o) = out_line entered o
+
+    -- Behind the line of a close that tells a number the writer has left.
+    pub line_departs : (count : ℕ) → acc.latest ≡ true → t.statement ≡ say.Close → t.outcome ≡ line.Closed count → Keeps p.earlier kept acc → HasGone (moment_after m (p.earlier ++ p.mine)) d
+    line_departs count latest asked closes_so keeps = subst (λ x. HasGone x d) (sym (moment-append m p.earlier p.mine)) (by keeps p.ended)
+      where
+        told : p.e.outcome ≡ line.Closed count
+        told = sym says ∙ closes_so
+
+        not_gone : p.e.outcome ≡ line.Gone → ⊥
+        not_gone is = let clash : line.Gone ≡ line.Closed count = sym is ∙ told in absurd (cc)
+
+        had_writer : (w : Option WriterHandle) (reader : Option OpenReader) (z : Statement) (x : Outcome) → w ≡ None → z ≡ say.Close → x ≡ line.Closed count → (WasMade x → Had w reader z) → ⊥
+        had_writer w reader z x none is is_closed uses = subst IsThere none (subst (Had w reader) is (uses (subst WasMade (sym is_closed) tt)))
+
+        by : KeepsTo n d cap now kept acc → Ended kept t.statement p.e → HasGone (moment_after now p.mine) d
+        by keeps (was_gone is over after) = absurd (not_gone over)
+        by (inl o) (did alive dd) = departs_here o alive dd asked count told
+        by (inr o) (did alive dd) = elim (o.idle latest) as (λ _. HasGone (moment_after now p.mine) d) [
+          | inl is ↦ absurd (true_not_false kept.gone is alive)
+          | inr none ↦ absurd (had_writer kept.writer kept.reader t.statement p.e.outcome none asked told dd.uses)
+        ]

@@ -26,6 +26,7 @@ use Rattle.writer_laws.specs.Counting.{entry_count}
 use Rattle.writer_laws.specs.Knowing.{HasRow, IsSynced, Knows}
 use Rattle.writer_laws.proofs.Facts.{sync_ends}
 use Rattle.writer_laws.proofs.Own.{MetaOwn, exit_own, put_meta_own}
+use Rattle.headline_laws.proofs.Landed.Gone.{HasGone, gone_later, leaves, meta_made}
 use Rattle.headline_laws.proofs.Landed.Leaving.{drawn_next, exit_dead, row_drawn}
 use Rattle.outcomes.specs.Outcomes.{close_outcome}
 use Rattle.headline.specs.Writers.{Account, after_sync as sync_tells, all_landed, any_landed}
@@ -49,9 +50,16 @@ module _ (me : ℕ) (d : Dropping) where
     pub ends : EndsWithin me d capacity m out acc
     pub told : IsTold ends.handle ends.row
 
+  -- where it tells a number, it has left
+  abbrev pub Departs : Moment → WriterOut → Type 0
+  Departs m out = (n : ℕ) → out.result ≡ Ok n → HasGone m d
+
   -- or it is out
   abbrev pub CloseEnds : ℕ → Moment → WriterOut → Account → Type 0
-  CloseEnds capacity m out acc = EndsTold capacity m out acc ⊎ ((out.handle ≡ None) × IsSettled m d acc)
+  CloseEnds capacity m out acc = (EndsTold capacity m out acc ⊎ ((out.handle ≡ None) × IsSettled m d acc)) × Departs m out
+
+  not_told : (why : Stuck) (n : ℕ) (r : Result ℕ Stuck) → Err why ≡ r → r ≡ Ok n → ⊥
+  not_told why n r is told = cc
 
   -- all has landed, and the handle tells how much
   record AllLanded (handle : WriterHandle) (row : Row) : Type 0 where
@@ -75,17 +83,17 @@ module _ (me : ℕ) (d : Dropping) where
         };
         told = told;
       } in
-      subst (λ r. CloseEnds capacity (moment_after m events) out (if_synced_all acc r)) (ap (λ (x : WriterOut). x.result) o.is) (inl e)
+      subst (λ r. CloseEnds capacity (moment_after m events) out (if_synced_all acc r)) (ap (λ (x : WriterOut). x.result) o.is) (inl e, λ n is. absurd (not_told why n out.result (ap (λ (x : WriterOut). x.result) o.is) is))
 
   any_now : (m : Moment) (row : Row) (acc : Account) → HoldsNow m d row acc → HoldsNow m d row (any_landed acc)
   any_now m row acc holds = holds_any (entry_count row) row.landed (landed m d) row.landed (landed m d) acc holds (omega arith) holds.no_fewer holds.no_more
 
   -- it is out, and then only others call
-  gone_so : (capacity : ℕ) (result : Result ℕ Stuck) (m : Moment) (acc : Account) (events : List Event) (out : WriterOut) → IsSettled m d (if_synced_all acc result) → IsLawful m.state events → Runs me (done (gone_with result)) events out → CloseEnds capacity (moment_after m events) out (if_synced_all acc out.result)
-  gone_so capacity result m acc events out s lawful runs =
+  gone_so : (capacity : ℕ) (result : Result ℕ Stuck) (m : Moment) (acc : Account) (events : List Event) (out : WriterOut) → IsSettled m d (if_synced_all acc result) → ((n : ℕ) → result ≡ Ok n → HasGone m d) → IsLawful m.state events → Runs me (done (gone_with result)) events out → CloseEnds capacity (moment_after m events) out (if_synced_all acc out.result)
+  gone_so capacity result m acc events out s left lawful runs =
       let is : gone_with result ≡ out = ended events runs in
       subst (λ r. CloseEnds capacity (moment_after m events) out (if_synced_all acc r)) (ap (λ (x : WriterOut). x.result) is)
-      (inr (sym (ap (λ (x : WriterOut). x.handle) is), settled_later m events d (if_synced_all acc result) s lawful))
+      (inr (sym (ap (λ (x : WriterOut). x.handle) is), settled_later m events d (if_synced_all acc result) s lawful), λ n told. gone_later m events d (left n (ap (λ (x : WriterOut). x.result) is ∙ told)) lawful)
     where
       ended : (es : List Event) → Runs me (done (gone_with result)) es out → gone_with result ≡ out
       ended es r = r.1
@@ -105,32 +113,32 @@ module _ (me : ℕ) (d : Dropping) where
   drawn_then mid e rest row at lawful = omega (arith, row_drawn d.writer row mid.state at.sound.regular at.has.there, drawn_next mid e rest lawful)
 
   -- Exit is next
-  before_exit : (capacity : ℕ) (handle : WriterHandle) (m : Moment) (row : Row) (acc : Account) (events : List Event) (out : WriterOut) → IsHandle d capacity handle row → handle.closing ≡ true → AllLanded handle row → AtPlace m me d row → HoldsNow m d row acc → IsLawful m.state events → Runs me (exits handle) events out
+  before_exit : (capacity : ℕ) (handle : WriterHandle) (m : Moment) (row : Row) (acc : Account) (events : List Event) (out : WriterOut) → IsHandle d capacity handle row → handle.closing ≡ true → row.has_meta ≡ true → AllLanded handle row → AtPlace m me d row → HoldsNow m d row acc → IsLawful m.state events → Runs me (exits handle) events out
       → CloseEnds capacity (moment_after m events) out (if_synced_all acc out.result)
-  before_exit capacity handle m row acc events out h asked_so all place holds lawful runs =
+  before_exit capacity handle m row acc events out h asked_so has_meta all place holds lawful runs =
       let g = reach me d m row (Exit handle.writer) (if_left handle) events out place lawful runs in
       let asked : g.event.ask ≡ unbroken (Exit d.writer) = g.asked ∙ ap (λ w. unbroken (Exit w)) h.writer in
       let answers : Answers g.mid.state me (Exit d.writer) g.event.reply g.event.after = subst (λ w. Answers g.mid.state me (Exit w) g.event.reply g.event.after) h.writer g.answers in
       let here : HoldsNow g.mid d row acc = subst (λ n. Holds (entry_count row) row.landed n acc) (sym g.same) holds in
       let same : landed (next_moment g.mid g.event) d ≡ landed g.mid d = spared_next g.mid g.event g.rest me d row g.at g.lawful (λ mine. subst (λ c. SparesIndex c d) (sym (ap (λ (a : Ask). a.call) asked)) tt) in
       subst (λ x. CloseEnds capacity x out (if_synced_all acc out.result)) g.ends
-      (after_exit g.mid g.event g.event.reply g.rest refl here answers g.at g.lawful same g.runs)
+      (after_exit g.mid g.event g.event.reply g.rest refl (ap (λ (a : Ask). a.call) asked) here answers g.at g.lawful same g.runs)
     where
-      after_exit : (mid : Moment) (e : Event) (rep : Reply) (rest : List Event) → e.reply ≡ rep → HoldsNow mid d row acc → Answers mid.state me (Exit d.writer) e.reply e.after → AtPlace mid me d row → IsLawful mid.state (e ∷ rest) → landed (next_moment mid e) d ≡ landed mid d → Runs me (if_left handle rep) rest out
+      after_exit : (mid : Moment) (e : Event) (rep : Reply) (rest : List Event) → e.reply ≡ rep → e.ask.call ≡ Exit d.writer → HoldsNow mid d row acc → Answers mid.state me (Exit d.writer) e.reply e.after → AtPlace mid me d row → IsLawful mid.state (e ∷ rest) → landed (next_moment mid e) d ≡ landed mid d → Runs me (if_left handle rep) rest out
           → CloseEnds capacity (moment_after (next_moment mid e) rest) out (if_synced_all acc out.result)
-      after_exit mid e reply.Done rest is here answers at lawful_here same on =
+      after_exit mid e reply.Done rest is asks here answers at lawful_here same on =
           let dead = exit_dead me d.writer row mid.state e.reply e.after at.sound.regular at.has answers (inl is) in
           let b : IsBetween mid d row = between mid me d row at in
           let exact : landed mid d ≡ entry_count row = omega (arith, all.counted, b.no_fewer, b.no_more) in
           let full : HoldsNow mid d row (all_landed handle.landed acc) =
           subst (λ k. Holds (entry_count row) row.landed k (all_landed handle.landed acc)) (sym exact) (subst (λ k. Holds (entry_count row) k (entry_count row) (all_landed handle.landed acc)) (sym all.counted) (holds_all (entry_count row) handle.landed acc here.issued_is all.count)) in
-          gone_so capacity (Ok handle.landed) (next_moment mid e) acc rest out
-          (settled_out mid e rest row 0 (Ok handle.landed) acc at lawful_here (sound_then mid e rest row at lawful_here) dead (drawn_then mid e rest row at lawful_here) same full) lawful_here.2 on
-      after_exit mid e reply.Fault rest is here answers at lawful_here same on =
+          let settled = settled_out mid e rest row 0 (Ok handle.landed) acc at lawful_here (sound_then mid e rest row at lawful_here) dead (drawn_then mid e rest row at lawful_here) same full in
+          gone_so capacity (Ok handle.landed) (next_moment mid e) acc rest out settled (λ n told. leaves me d mid e rest row at lawful_here asks answers is has_meta all.counted settled.out) lawful_here.2 on
+      after_exit mid e reply.Fault rest is asks here answers at lawful_here same on =
           let dead = exit_dead me d.writer row mid.state e.reply e.after at.sound.regular at.has answers (inr is) in
           gone_so capacity (Err stuck.Fault) (next_moment mid e) acc rest out
-          (settled_out mid e rest row 0 (Err stuck.Fault) acc at lawful_here (sound_then mid e rest row at lawful_here) dead (drawn_then mid e rest row at lawful_here) same (any_now mid row acc here)) lawful_here.2 on
-      after_exit mid e rep rest is here answers at lawful_here same on =
+          (settled_out mid e rest row 0 (Err stuck.Fault) acc at lawful_here (sound_then mid e rest row at lawful_here) dead (drawn_then mid e rest row at lawful_here) same (any_now mid row acc here)) (λ n told. absurd (not_told stuck.Fault n (Err stuck.Fault) refl told)) lawful_here.2 on
+      after_exit mid e rep rest is asks here answers at lawful_here same on =
           let stays : HasRow me d.writer row e.after = exit_own me d.writer row mid.state e.reply e.after at.has answers (λ f. not_so (sym is ∙ f)) (λ f. not_fault (sym is ∙ f)) in
           let any : HoldsNow (next_moment mid e) d row (any_landed acc) = subst (λ k. Holds (entry_count row) row.landed k (any_landed acc)) (sym same) (any_now mid row acc here) in
           failed_told capacity handle (trouble rep) (next_moment mid e) row acc rest out h (λ closing. (all.count, all.counted)) (record { sound = sound_then mid e rest row at lawful_here; has = stays; room = at.room; host = at.host }) any lawful_here.2 on
@@ -159,12 +167,12 @@ module _ (me : ℕ) (d : Dropping) where
       let closing_is : IsHandle d capacity (closing_of handle) k.after = record { writer = h.writer; cap_is = h.cap_is; pending_is = h.pending_is ∙ sym k.pending } in
       let landed_all : AllLanded (closing_of handle) k.after = record { count = all.count ∙ sym k.total; counted = counted ∙ all.counted ∙ sym k.total } in
       subst (λ x. CloseEnds capacity x out (if_synced_all acc out.result)) g.ends
-      (after_meta next k.after g.event.reply g.rest closing_is landed_all there now g.lawful.2 g.runs)
+      (after_meta next k.after g.event.reply g.rest closing_is (λ told. meta_made me d.writer g.mid.state g.event.after g.event.reply (subst (λ w. Answers g.mid.state me (PutMeta w) g.event.reply g.event.after) h.writer g.answers) told k.after k.has) landed_all there now g.lawful.2 g.runs)
     where
-      after_meta : (next : Moment) (after : Row) (rep : Reply) (rest : List Event) → IsHandle d capacity (closing_of handle) after → AllLanded (closing_of handle) after → AtPlace next me d after → HoldsNow next d after acc → IsLawful next.state rest → Runs me (if_put (closing_of handle) rep) rest out
+      after_meta : (next : Moment) (after : Row) (rep : Reply) (rest : List Event) → IsHandle d capacity (closing_of handle) after → (rep ≡ reply.Done → after.has_meta ≡ true) → AllLanded (closing_of handle) after → AtPlace next me d after → HoldsNow next d after acc → IsLawful next.state rest → Runs me (if_put (closing_of handle) rep) rest out
           → CloseEnds capacity (moment_after next rest) out (if_synced_all acc out.result)
-      after_meta next after reply.Done rest is landed_so there now lawful_here on = before_exit capacity (closing_of handle) next after acc rest out is refl landed_so there now lawful_here on
-      after_meta next after rep rest is landed_so there now lawful_here on = failed_told capacity (closing_of handle) (trouble rep) next after acc rest out is (λ closing. (landed_so.count, landed_so.counted)) there (any_now next after acc now) lawful_here on
+      after_meta next after reply.Done rest is made landed_so there now lawful_here on = before_exit capacity (closing_of handle) next after acc rest out is refl (made refl) landed_so there now lawful_here on
+      after_meta next after rep rest is made landed_so there now lawful_here on = failed_told capacity (closing_of handle) (trouble rep) next after acc rest out is (λ closing. (landed_so.count, landed_so.counted)) there (any_now next after acc now) lawful_here on
 
   -- ---- by its line
 

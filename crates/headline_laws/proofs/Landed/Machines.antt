@@ -1,5 +1,5 @@
 -- A write, a sync and a close of a writer that is open: what has landed of it keeps to what the line tells, whether they end or are stopped.
-use Rattle.std.proofs.Common.{◌≡◌, ◌⊎◌, ◌≤◌, inl, inr, ℕ, Bool, true, false, nat_eq, nat_le, List, [], ◌∷◌, ◌++◌, length, Option, Some, None, refl, sym, ap, ◌∙◌, subst, arith, append_assoc, if◌then◌else◌}
+use Rattle.std.proofs.Common.{◌≡◌, ◌⊎◌, ◌≤◌, inl, inr, ℕ, Bool, true, false, nat_eq, nat_le, List, [], ◌∷◌, ◌++◌, length, Option, Some, None, Result, Ok, Err, refl, sym, ap, ◌∙◌, subst, arith, append_assoc, if◌then◌else◌}
 use Rattle.story.specs.Program.{ask, followed_by}
 use Rattle.story.specs.Process.{asks}
 use Rattle.mount_model.specs.declared.call.Call.TheVariants.{Exit, Flush, Greet, PutMeta, SyncIndex, SyncLog, Write as AskWrite}
@@ -8,6 +8,8 @@ use Rattle.mount_model.specs.declared.reply.Reply.TheVariants as reply
 use Rattle.mount_model.specs.declared.row.Row.{Row}
 use Rattle.mount_model.specs.History.{Event}
 use Rattle.mount_sound.specs.Owed.{IsLawful}
+use Rattle.flow.specs.declared.stuck.Stuck.{Stuck}
+use Rattle.flow.specs.declared.stuck.Stuck.TheVariants as stuck
 use Rattle.flow.specs.Running.{unbroken}
 use Rattle.script_lang.specs.declared.line.Outcome.{Outcome}
 use Rattle.script_lang.specs.declared.line.Outcome.TheVariants as line
@@ -40,6 +42,7 @@ use Rattle.headline_laws.proofs.Statements.Did.{IsOpen}
 use Rattle.headline_laws.proofs.Landed.Between.{AtPlace}
 use Rattle.headline_laws.proofs.Landed.Carried.{Carried, GoesAfter, IsSteady, carried_ends, halted, ran}
 use Rattle.headline_laws.proofs.Landed.Closes.{CloseEnds, IsTold, close_within}
+use Rattle.headline_laws.proofs.Landed.Gone.{HasGone}
 use Rattle.headline_laws.proofs.Landed.Numbers.{holds_any}
 use Rattle.headline_laws.proofs.Landed.Settled.{IsSettled}
 use Rattle.headline_laws.proofs.Landed.Syncs.{sync_within}
@@ -144,13 +147,13 @@ alive_does n left s mine spent e alive comes = subst (λ b. ComesTo n (if b then
 
 -- ---- what the account keeps
 
-write_latest : (id cap at : ℕ) (bytes : List ℕ) (a : Account) (o : Outcome) → (after_write id cap at bytes a o).latest ≡ a.latest
+pub write_latest : (id cap at : ℕ) (bytes : List ℕ) (a : Account) (o : Outcome) → (after_write id cap at bytes a o).latest ≡ a.latest
 write_latest id cap at bytes a (line.Wrote place len (Some stamp)) = (room_same cap a).latest
 write_latest id cap at bytes a (line.Refused TooFar) = (room_same cap a).latest
 write_latest id cap at bytes a (line.Refused StampsSpent) = (room_same cap a).latest
 write_latest id cap at bytes a o = refl
 
-sync_latest : (a : Account) (o : Outcome) → (after_sync a o).latest ≡ a.latest
+pub sync_latest : (a : Account) (o : Outcome) → (after_sync a o).latest ≡ a.latest
 sync_latest a (line.Synced count) = refl
 sync_latest a (line.Closed count) = refl
 sync_latest a line.Gone = refl
@@ -262,7 +265,7 @@ module _ (n : ℕ) (d : Dropping) (cap : ℕ) where
     closes_end mine spent e lawful had comes = by_end (carried_ends n d (λ out. closed left out) (stopped left) m acc low_now (close_program handle) stop m mine spent e (close_steady handle) (λ more. record { row = row; at = place; issued = holds.issued_is; more = omega arith }) lawful had comes)
       where
         by_close : (out : WriterOut) → CloseEnds n d cap (moment_after m mine) out (after_sync acc (close_outcome out.result)) → Good (after_sync acc) mine (closed left out)
-        by_close out (inl t) = inl (record {
+        by_close out (inl t, departs) = inl (record {
           latest = sync_latest acc (close_outcome out.result) ∙ latest;
           handle = t.ends.handle;
           row = t.ends.row;
@@ -272,8 +275,22 @@ module _ (n : ℕ) (d : Dropping) (cap : ℕ) where
           at = t.ends.at;
           holds = t.ends.holds;
         })
-        by_close out (inr (none, settled)) = inr (record { settled = settled; idle = λ latest_is. inr none })
+        by_close out (inr (none, settled), departs) = inr (record { settled = settled; idle = λ latest_is. inr none })
 
         by_end : Carried n d (λ out. closed left out) (stopped left) m acc low_now (close_program handle) m mine e → Good (after_sync acc) mine e
         by_end (ran out runs is) = subst (Good (after_sync acc) mine) is (by_close out (close_within n d cap handle m row acc mine out h told place holds lawful runs))
         by_end (halted is settled) = was_stopped (after_sync acc) mine e refl is settled
+
+    -- a close that tells a number has left
+    pub close_departs : (mine : List Event) (spent : List (List Event)) (e : Ending) → IsLawful m.state mine → HadMemory mine → ComesTo n (closes left stop (Some handle)) mine spent e → (count : ℕ) → e.outcome ≡ line.Closed count → HasGone (moment_after m mine) d
+    close_departs mine spent e lawful had comes count says = by_end (carried_ends n d (λ out. closed left out) (stopped left) m acc low_now (close_program handle) stop m mine spent e (close_steady handle) (λ more. record { row = row; at = place; issued = holds.issued_is; more = omega arith }) lawful had comes)
+      where
+        told_ok : (result : Result ℕ Stuck) → close_outcome result ≡ line.Closed count → result ≡ Ok count
+        told_ok (Ok k) is = cc
+        told_ok (Err stuck.Fault) is = absurd (cc)
+        told_ok (Err (stuck.Damaged folder file place_of)) is = absurd (cc)
+        told_ok (Err (stuck.Refused why)) is = absurd (cc)
+
+        by_end : Carried n d (λ out. closed left out) (stopped left) m acc low_now (close_program handle) m mine e → HasGone (moment_after m mine) d
+        by_end (ran out runs is) = (close_within n d cap handle m row acc mine out h told place holds lawful runs).1 count (told_ok out.result (ap (λ (x : Ending). x.outcome) is ∙ says))
+        by_end (halted is settled) = absurd (let clash : line.Stopped ≡ line.Closed count = ap (λ (x : Ending). x.outcome) is ∙ says in cc)

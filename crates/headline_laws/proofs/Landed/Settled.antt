@@ -23,7 +23,7 @@ use Rattle.headline_laws.proofs.Landed.Leaving.{drawn_next}
 use Rattle.headline.specs.Writers.{Account}
 use Rattle.headline_laws.proofs.Landed.Sparing.{either_spares, ended_store, none_made, part_store, same_landed}
 
-only_live : (s : Stage) → only stage.Open s ≡ true → is_live s ≡ false → ⊥
+pub only_live : (s : Stage) → only stage.Open s ≡ true → is_live s ≡ false → ⊥
 only_live stage.Entered e f = cc
 only_live stage.Floored e f = cc
 only_live stage.Housed e f = cc

@@ -9,7 +9,8 @@ use Rattle.actor_core.specs.Endings.{Ending, gone}
 use Rattle.actor_core.specs.Statements.{disarmed, does, greeted, greeted_work, work_of}
 use Rattle.actor_core.specs.Work.{finishes}
 use Rattle.headline_laws.proofs.Statements.Ends.{EndsAs, either, ends_so}
-use Rattle.headline_laws.proofs.Statements.Did.{Did, DidBy, Does, closes_did, closes_reader_did, flattens_did, lists_did, maps_did, opens_did, opens_reader_did, reads_did, recovers_did, renames_did, same_writer, syncs_did, tells_did, truncates_did, verifies_did, writes_did}
+use Rattle.headline_laws.proofs.Statements.Did.{Did, DidBy, Does, closes_did, closes_reader_did, maps_did, opens_did, opens_reader_did, reads_did, same_writer, syncs_did, verifies_did, writes_did}
+use Rattle.headline_laws.proofs.Statements.DidByName.{flattens_did, lists_did, recovers_did, renames_did, tells_did, truncates_did}
 use Rattle.headline_laws.proofs.Statements.Refreshed.{refreshes_did}
 
 -- ---- each statement

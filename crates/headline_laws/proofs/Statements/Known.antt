@@ -22,7 +22,7 @@ use Rattle.play_laws.specs.Writing.{ShowsClosed, ShowsNoWriting, ShowsSynced, Sh
 use Rattle.headline.specs.Run.{Told}
 use Rattle.headline.specs.Files.{reader_next}
 use Rattle.headline.specs.Changes.{Writing, after_close, after_open, id_of, in_doubt, none, unsure, writer, writing_next}
-use Rattle.headline_laws.proofs.OrderlyLines.Answering.{Next as NextFile, step_of}
+use Rattle.headline_laws.proofs.OrderlyLines.AnswerSteps.{Next as NextFile, step_of}
 
 -- ---- the writer behind a statement
 
@@ -118,7 +118,7 @@ close_next : (w : Writing) (o : Outcome) (id : ℕ) → id_of (after_close w o) 
 close_next w (line.Closed count) id is = absurd (cc)
 close_next w o id is = sym (doubt_same w) ∙ is
 
-same_next : (w : Writing) (s : Statement) (o : Outcome) (id : ℕ) → IsNotOpened o → id_of (writing_next w s o) ≡ Some id → id_of w ≡ Some id
+pub same_next : (w : Writing) (s : Statement) (o : Outcome) (id : ℕ) → IsNotOpened o → id_of (writing_next w s o) ≡ Some id → id_of w ≡ Some id
 same_next w (Open name) o id not_opened is = not_open_next w o id not_opened is
 same_next w Close o id not_opened is = close_next w o id is
 same_next w s o id not_opened is = is

@@ -27,7 +27,8 @@ use Rattle.script_lang.specs.declared.script.Statement.TheVariants.{Flatten, Ope
 use Rattle.run_core.specs.Play.{IsRight}
 use Rattle.play_laws.specs.OneFile.{OneFile}
 use Rattle.play_laws.specs.OneWriter.{OneWriter}
-use Rattle.play_laws.specs.Opening.{IsRoomNamed, Stretch}
+use Rattle.reader_laws.specs.Naming.{IsRoomNamed}
+use Rattle.play_laws.specs.Opening.{Stretch}
 use Rattle.play_laws.specs.Showing.{Shows}
 use Rattle.play_laws.specs.Writing.{ShowsWriting}
 use Rattle.play_laws.proofs.Facts.{IsQuiet, MayAsk}
@@ -87,7 +88,7 @@ each_keeps old caller = record {
 }
 
 -- the container of this number has this name, as the store tells it
-record HasName (state : State) (n : ℕ) (name : List ℕ) : Type 0 where
+pub record HasName (state : State) (n : ℕ) (name : List ℕ) : Type 0 where
   pub tree : Tree
   pub told : state.store.tree ≡ Some tree
   pub room : Room
@@ -106,10 +107,10 @@ name_kept old new caller ask reply n name stepped quiet h =
 
 -- ---- along a history
 
-abbrev HaveNoMove : List Event → Type 0
+abbrev pub HaveNoMove : List Event → Type 0
 HaveNoMove events = (first : List Event) (e : Event) (later : List Event) → events ≡ first ++ e ∷ later → IsNoMove e.ask.call
 
-name_stays : (state : State) (events : List Event) (n : ℕ) (name : List ℕ) → IsLawful state events → HaveNoMove events → HasName state n name → (last : State) → last ≡ state_after state events → HasName last n name
+pub name_stays : (state : State) (events : List Event) (n : ℕ) (name : List ℕ) → IsLawful state events → HaveNoMove events → HasName state n name → (last : State) → last ≡ state_after state events → HasName last n name
 name_stays state [] n name lawful quiet h last is = subst (λ s. HasName s n name) (sym is) h
 name_stays state (e ∷ events) n name lawful quiet h last is =
     name_stays e.after events n name lawful.2 (λ first x later split. quiet (e ∷ first) x later (ap (λ z. e ∷ z) split)) (name_kept state e.after e.caller e.ask e.reply n name lawful.1 (quiet [] e events refl) h) last is
@@ -117,7 +118,7 @@ name_stays state (e ∷ events) n name lawful quiet h last is =
 -- ---- a line
 
 -- its container had this name at some time of its statement
-record NamedAt (m : Moment) (before front : List Event) (name : List ℕ) (room : ℕ) : Type 0 where
+pub record NamedAt (m : Moment) (before front : List Event) (name : List ℕ) (room : ℕ) : Type 0 where
   pub upto : List Event
   pub later : List Event
   pub split : front ≡ upto ++ later
@@ -145,7 +146,7 @@ module _ (m : Moment) (n : ℕ) (before front : List Event) (nothing : ℕ) wher
     named = subst (λ (x : Option OneFile). IsRoomNamed (moment_after m (before ++ opens.earlier)) name (file_room nothing x)) (sym has) opens.named;
   }
 
-  named_at : (name : List ℕ) (old new : Option OneFile) (writer w : Option OneWriter) (s : Statement) (o : Outcome) → SpeaksOf name s o → (shows : Shows m n There old s o new) → ShowsWriting m n There writer s o w → NamedAt m before front name (room_of m n There nothing old new w s o shows)
+  pub named_at : (name : List ℕ) (old new : Option OneFile) (writer w : Option OneWriter) (s : Statement) (o : Outcome) → SpeaksOf name s o → (shows : Shows m n There old s o new) → ShowsWriting m n There writer s o w → NamedAt m before front name (room_of m n There nothing old new w s o shows)
   named_at name old new writer w (Open asked) (line.Opened id) is shows writes = subst (λ x. NamedAt m before front x (room_of m n There nothing old new w (Open asked) (line.Opened id) shows)) is (opened_named asked id old new writer w shows writes)
   named_at name old new writer w (Ropen asked workers) (line.Reader size cut truncs) is shows writes =
       subst (λ x. NamedAt m before front x (room_of m n There nothing old new w (Ropen asked workers) (line.Reader size cut truncs) shows)) is (reader_named asked workers size cut truncs old new w shows)
@@ -187,7 +188,7 @@ its_name : (tree : Tree) (n : ℕ) (room : Room) (name : List ℕ) → slice_get
 its_name tree n room name there is = slice_get-map (λ (r : Room). r.name) tree.rooms n ∙ ap (option_map (λ (r : Room). r.name)) there ∙ ap (λ x. Some x) is
 
 module _ (run : Run) (m : Moment) (end : State) (fits : FitsScript run.script) (sound : IsSoundAt m) (right : IsRight run.script m.state run.lines end) (left : end.store.tree ≡ Some run.after) where
-  no_moves : RenamesNone run → HaveNoMove right.history
+  pub no_moves : RenamesNone run → HaveNoMove right.history
   no_moves none first e later is = quiet e.ask.call refl
     where
       quiet : (call : Call) → e.ask.call ≡ call → IsNoMove call

@@ -40,7 +40,7 @@ one_more {R} n call k before event mine result none own asked runs =
     subst (λ (z : List Event). AreCallsOf (asking (ask call k)) z result) (sym (entries_both n before (event ∷ mine) ∙ ap (λ z. z ++ made_by n (event ∷ mine)) none)) (after_own n (unbroken call) (λ reply. asking (k reply)) event mine result own asked runs)
 
 -- the program ran to this result in the first of these events, and what follows came to this end
-record RanTo {R : Type 0} (n : ℕ) (p : Program Call Reply R) (next : Option Stop → R → Work) (mine : List Event) (spent : List (List Event)) (e : Ending) : Type 0 where
+pub record RanTo {R : Type 0} (n : ℕ) (p : Program Call Reply R) (next : Option Stop → R → Work) (mine : List Event) (spent : List (List Event)) (e : Ending) : Type 0 where
   pub first : List Event
   pub rest : List Event
   pub stop : Option Stop
@@ -49,7 +49,7 @@ record RanTo {R : Type 0} (n : ℕ) (p : Program Call Reply R) (next : Option St
   pub runs : Runs n p first result
   pub on : Comes n (next stop result) rest spent e
 
-carried_came : {R : Type 0} (n : ℕ) (p : Program Call Reply R) (stop : Option Stop) (next : Option Stop → R → Work) (halted : Work) (mine : List Event) (spent : List (List Event)) (e : Ending) → Comes n (carried p stop next halted) mine spent e
+pub carried_came : {R : Type 0} (n : ℕ) (p : Program Call Reply R) (stop : Option Stop) (next : Option Stop → R → Work) (halted : Work) (mine : List Event) (spent : List (List Event)) (e : Ending) → Comes n (carried p stop next halted) mine spent e
     → RanTo n p next mine spent e ⊎ ((rest : List Event) × Comes n halted rest spent e)
 carried_came n (done r) stop next halted mine spent e comes = inl (record { first = []; rest = mine; stop = stop; result = r; all = refl; runs = (refl, refl); on = comes })
 carried_came {R} n (ask call k) stop next halted mine spent e m =

@@ -19,15 +19,18 @@ use Rattle.headline.specs.Writers.{host_of}
 use Rattle.headline.specs.Names.{Story}
 use Rattle.headline.specs.Stories.{Fits}
 use Rattle.headline_laws.proofs.Contents.Answered.{contents}
+use Rattle.headline_laws.proofs.Contents.Stats.{stats_told}
 use Rattle.headline_laws.proofs.Story.Entered.{entered_once}
 use Rattle.headline_laws.proofs.Story.Lines.{container}
 use Rattle.headline_laws.proofs.Story.Named.{names_told}
 use Rattle.headline_laws.proofs.Story.OneOpener.{opened_by_one}
 use Rattle.headline_laws.proofs.Story.Refused.{refusals_told}
+use Rattle.headline_laws.proofs.Trees.Departed.{writers_departed}
 use Rattle.headline_laws.proofs.Trees.Flattened.{flattened_stands}
 use Rattle.headline_laws.proofs.Trees.Fresh.{number_new}
 use Rattle.headline_laws.proofs.Trees.Kept.{writers_kept}
 use Rattle.headline_laws.proofs.Trees.Left.{writers_left}
+use Rattle.headline_laws.proofs.Trees.Listed.{names_are_listed}
 use Rattle.headline_laws.proofs.Trees.Old.{old_seen}
 use Rattle.headline_laws.proofs.Trees.Reading.{last_item, opened_line, readers_told}
 use Rattle.headline_laws.proofs.Trees.Truncated.{truncates_told}
@@ -56,7 +59,7 @@ module _ (run : Run) (times : Option (List ℕ)) (opened : Stored) (start end : 
       (there (Index (host_of (slice_get run.script.actors t.actor)) id) s.index, there (Log (host_of (slice_get run.script.actors t.actor)) id) s.log)
 
   pub has_story : run.in_order ≡ false → (story : Story) × Fits run story
-  has_story free = (homes, record { names = names_told run Begin end fits sound_begin right left; opened = record { index = λ t id says. (both_here t id says).0; log = λ t id says. (both_here t id says).1; new = number_new run times opened start end fits mounted told sound right; alone = λ s t id. opened_by_one run times opened start end fits mounted told sound right left id s t }; readers = readers_told run Begin end fits sound_begin right left free; old = old_seen run times opened start end fits mounted told sound right; contents = contents run times opened start end fits mounted told sound right left free; truncated = truncates_told run times opened start end fits mounted told sound right left free; flattened = flattened_stands run times opened start end fits mounted told sound right left; refusals = refusals_told run Begin end fits sound_begin right; left = writers_left run times opened start end fits mounted told sound right left; kept = writers_kept run times opened start end fits mounted told sound right left })
+  has_story free = (homes, record { names = names_told run Begin end fits sound_begin right left; opened = record { index = λ t id says. (both_here t id says).0; log = λ t id says. (both_here t id says).1; new = number_new run times opened start end fits mounted told sound right; alone = λ s t id. opened_by_one run times opened start end fits mounted told sound right left id s t }; readers = readers_told run Begin end fits sound_begin right left free; old = old_seen run times opened start end fits mounted told sound right; contents = contents run times opened start end fits mounted told sound right left free; stats = stats_told run times opened start end fits mounted told sound right left free; truncated = truncates_told run times opened start end fits mounted told sound right left free; flattened = flattened_stands run times opened start end fits mounted told sound right left; listed = names_are_listed run times opened start end fits mounted told sound right left free; refusals = refusals_told run Begin end fits sound_begin right; left = writers_left run times opened start end fits mounted told sound right left; closed = writers_departed run times opened start end fits mounted told sound right left; kept = writers_kept run times opened start end fits mounted told sound right left })
 
 pub play_has_story : (run : Run) (times : Option (List ℕ)) (opened : Stored) (start end : State) → FitsScript run.script → IsMounted 0 times opened start → opened.tree ≡ Some run.before → IsSoundTree run.before → IsPlay run.script start run.lines end → end.store.tree ≡ Some run.after
     → run.in_order ≡ false → (story : Story) × Fits run story

@@ -206,10 +206,10 @@ module _ (run : Run) (m : Moment) (end : State) (fits : FitsScript run.script) (
       }
 
   -- what was so in a part that ended before the line's began
-  abbrev ends_before : {s t : Told} → TwoHere run m end fits sound right s t → List Event → List Event → Type 0
+  abbrev pub ends_before : {s t : Told} → TwoHere run m end fits sound right s t → List Event → List Event → Type 0
   ends_before two upto gap = two.other.line.part.earlier ≡ (two.one.line.part.earlier ++ upto) ++ gap
 
-  before_it : (s t : Told) (two : TwoHere run m end fits sound right s t) (upto later : List Event) → two.one.line.shown.front ≡ upto ++ later → (gap : List Event) × ends_before two upto gap
+  pub before_it : (s t : Told) (two : TwoHere run m end fits sound right s t) (upto later : List Event) → two.one.line.shown.front ≡ upto ++ later → (gap : List Event) × ends_before two upto gap
   before_it s t two upto later front =
       let p = two.one.line.part in
       let h = two.one.line.shown in

@@ -20,7 +20,7 @@ use Rattle.pack_laws.specs.Scanned.{region_start, region_stop}
 use Rattle.unit_format.specs.Units.{unit_size, unit_spelling}
 use Rattle.gathering.specs.Moments.{Dropping, IsSoundAt, Moment, moment_after, next_moment}
 use Rattle.gathering.proofs.Facts.{follows, sound_after}
-use Rattle.play_laws.specs.Opening.{IsRoomNamed}
+use Rattle.reader_laws.specs.Naming.{IsRoomNamed}
 use Rattle.pack_files.specs.Scanning.{scan_program}
 use Rattle.pack_files.specs.Putting.{put_program}
 use Rattle.pack_input.specs.declared.files.NamedFile.{NamedFile}

@@ -30,7 +30,7 @@ use Rattle.writer_laws.proofs.Facts.{EnteredBy, entered_by}
 use Rattle.gathering.specs.Moments.{Dropping, IsSoundAt, Moment, moment_after, next_moment}
 use Rattle.gathering.proofs.Facts.{follows, legal_first, legal_rest, moment-append, sound_after}
 use Rattle.reader_laws.proofs.Facts.{answered}
-use Rattle.play_laws.specs.Opening.{IsRoomNamed}
+use Rattle.reader_laws.specs.Naming.{IsRoomNamed}
 use Rattle.packing_laws.proofs.OnlyUnits.Alone.{Comes, IsMade, behind}
 use Rattle.packing_laws.proofs.Puts.Putting.{HasWritten}
 

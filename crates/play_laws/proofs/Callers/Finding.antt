@@ -27,7 +27,7 @@ use Rattle.gathering.specs.Moments.{IsSoundAt, Moment, file_in_room, file_told, 
 use Rattle.gathering.proofs.Facts.{legal_first, legal_rest, moment-append, sound_after}
 use Rattle.reader_laws.specs.Failing.{IsContainerAt}
 use Rattle.reader_laws.proofs.Facts.{answered}
-use Rattle.play_laws.specs.Opening.{IsRoomNamed}
+use Rattle.reader_laws.specs.Naming.{IsRoomNamed}
 use Rattle.play_laws.proofs.Callers.Standing.{Next}
 
 number_found : (table : Table) (told : Told) (room : ℕ) → Room room ≡ (find_outcome table told).reply → told ≡ Ok (Number room)

@@ -32,7 +32,8 @@ use Rattle.gathering.proofs.Facts.{folder_listed, found_any, legal_first, legal_
 use Rattle.reader_laws.proofs.Facts.{answered, first_of}
 use Rattle.look_laws.proofs.Facts.{AreOf, all_told}
 use Rattle.play_laws.specs.Changing.{IsAnswered}
-use Rattle.play_laws.specs.Opening.{IsRoomNamed, Stretch}
+use Rattle.reader_laws.specs.Naming.{IsRoomNamed}
+use Rattle.play_laws.specs.Opening.{Stretch}
 use Rattle.play_laws.specs.Recovering.{AreTold, Burial, IsBuried, IsFoundLive, IsLive, RecoversFile, RecoversHold, RecoversWriters}
 use Rattle.play_laws.proofs.Holds.Changes.{one_moment, then_moment}
 use Rattle.play_laws.proofs.Callers.Finding.{name_found}

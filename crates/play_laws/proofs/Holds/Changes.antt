@@ -8,7 +8,8 @@ use Rattle.mount_model.specs.Paths.{Name}
 use Rattle.gathering.specs.Moments.{Moment, moment_after, next_moment}
 use Rattle.gathering.proofs.Facts.{moment-append}
 use Rattle.play_laws.specs.Changing.{Change, IsChange, IsFreeName, IsHolderOf, IsRenamed, IsTruncated, RenamesFile, TruncatesFile, until_changed}
-use Rattle.play_laws.specs.Opening.{IsRoomNamed, Stretch}
+use Rattle.reader_laws.specs.Naming.{IsRoomNamed}
+use Rattle.play_laws.specs.Opening.{Stretch}
 use Rattle.play_laws.specs.Refusing.{Attempt, FindsHeld, FindsNone, FindsOpen, FindsTaken, HadOpenFirst, IsAttempt, WasShut, as_tried}
 use Rattle.play_laws.proofs.Holds.Held.{alone}
 

@@ -37,7 +37,7 @@ use Rattle.reader_laws.proofs.Facts.{answered, first_of}
 use Rattle.flatten_laws.proofs.Facts.{IsTaken, gathered_taken}
 use Rattle.play_laws.specs.Changing.{IsAnswered}
 use Rattle.play_laws.specs.Flattening.{FlattensFile, IsFlattened}
-use Rattle.play_laws.specs.Opening.{IsRoomNamed}
+use Rattle.reader_laws.specs.Naming.{IsRoomNamed}
 use Rattle.play_laws.proofs.Holds.Changes.{then_moment}
 use Rattle.play_laws.proofs.Callers.Finding.{name_found}
 use Rattle.play_laws.proofs.Holds.Held.{answered_so, found_room, its_step, went_on}

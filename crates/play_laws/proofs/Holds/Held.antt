@@ -32,7 +32,8 @@ use Rattle.gathering.specs.Moments.{Moment, IsSoundAt, moment_after, next_moment
 use Rattle.gathering.proofs.Facts.{legal_first, legal_rest, moment-append, sound_after}
 use Rattle.reader_laws.proofs.Facts.{IsFirstOf, answered, first_of}
 use Rattle.play_laws.specs.Changing.{Change, IsAnswered, IsChange, IsHolderOf}
-use Rattle.play_laws.specs.Opening.{IsRoomNamed, Stretch}
+use Rattle.reader_laws.specs.Naming.{IsRoomNamed}
+use Rattle.play_laws.specs.Opening.{Stretch}
 use Rattle.play_laws.proofs.Callers.Finding.{name_found}
 
 -- ---- replies

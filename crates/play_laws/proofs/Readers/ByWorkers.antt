@@ -15,7 +15,7 @@ use Rattle.reader_laws.specs.Opening.{droppings_of, shares_of, Work, portions_of
 use Rattle.gather_flow.specs.Dealing.{dealt_to}
 use Rattle.gather_flow.specs.Shares.{worker_program}
 use Rattle.gather_flow.specs.Workers.{and_share, all_of}
-use Rattle.play_laws.proofs.Readers.Dealing.{dealt_all}
+use Rattle.sharing_laws.specs.Dealing.{dealt_all}
 
 -- ---- a caller's calls in a wider part
 

@@ -49,15 +49,13 @@ use Rattle.gather_flow.specs.Workers.{all_of}
 use Rattle.actor_core.specs.Sharing.{shared}
 use Rattle.actor_core.specs.Stopping.{carried}
 use Rattle.actor_core.specs.Work.{Work as Doing, finishes}
+use Rattle.sharing_laws.proofs.Facts.{OpensSo, ReadAll, all_among, all_named, dealt, dealt_listed, err_is, opens_so, parts_gathered, parts_of, pieces_run, read_alone, reader_made, runs_by_workers, runs_in_turn, was_listed}
 use Rattle.play_laws.specs.Opening.{Stretch}
 use Rattle.play_laws.specs.Showing.{ShowsOpening}
-use Rattle.play_laws.proofs.Readers.Alone.{OpensSo, err_is, opens_so, ReadAll, read_alone}
-use Rattle.play_laws.proofs.Readers.Behind.{all_named, pieces_run, runs_by_workers, runs_in_turn, was_listed}
 use Rattle.play_laws.proofs.Readers.ByWorkers.{CallsIn, WorkerFailed, none_both, read_by_workers, calls_wider}
 use Rattle.play_laws.proofs.Callers.Carrying.{CourseOf, EndsSo, carried_on, ended_behind, then_told}
-use Rattle.play_laws.proofs.Readers.Dealing.{dealt, dealt_listed, all_among}
 use Rattle.play_laws.proofs.Readers.Listings.{finds_first}
-use Rattle.play_laws.proofs.Readers.Opened.{Good, Keeps, HasOpenedFile, parts_of, parts_gathered, reader_made, file_opened}
+use Rattle.play_laws.proofs.Readers.Opened.{Good, Keeps, HasOpenedFile, file_opened}
 use Rattle.play_laws.proofs.Callers.Standing.{AllOf, Both, FailedHere, Next, failed_within, keeps_first, up_to}
 
 module _ (start : Moment) (sound : IsSoundAt start) (n : ℕ) (before greeting : List Event) (greets : All (λ (a : Asked). a.ask.call ≡ Greet) (calls_of n greeting)) where

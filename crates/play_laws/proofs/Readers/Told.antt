@@ -52,15 +52,13 @@ use Rattle.actor_core.specs.declared.kept.Stop.{Stop}
 use Rattle.actor_core.specs.Endings.{Ending, stopped, told_of}
 use Rattle.actor_core.specs.Telling.{if_asked, if_relisted, tells_by, tells_of_file}
 use Rattle.actor_core.specs.Work.{finishes}
+use Rattle.sharing_laws.proofs.Facts.{alone_opened, dealt_listed, read_alone, then_made}
 use Rattle.play_laws.specs.Opening.{Stretch}
 use Rattle.play_laws.specs.Showing.{ShowsLook}
 use Rattle.look_laws.specs.Shares.{shares_seen}
 use Rattle.play_laws.specs.Telling.{ShowsTold}
-use Rattle.play_laws.proofs.Readers.Alone.{read_alone, then_made}
-use Rattle.play_laws.proofs.Readers.Behind.{alone_opened}
 use Rattle.play_laws.proofs.Readers.Cached.{cached_told}
 use Rattle.play_laws.proofs.Callers.Carrying.{CourseOf, EndsSo, carried_on, ended_behind, then_told}
-use Rattle.play_laws.proofs.Readers.Dealing.{dealt_listed}
 use Rattle.play_laws.proofs.Callers.Earlier.{opened_earlier}
 use Rattle.play_laws.proofs.Readers.Listings.{FindsFirst, Gives, IsOf, IsSuch, made_such, open_at_of}
 use Rattle.play_laws.proofs.Readers.Opened.{HasOpenedFile, file_opened}

@@ -35,7 +35,7 @@ use Rattle.trunc_rename.specs.Renaming.{moved, moves, rename_program}
 use Rattle.gathering.specs.Moments.{IsSoundAt, Moment, moment_after, next_moment}
 use Rattle.gathering.proofs.Facts.{legal_rest}
 use Rattle.reader_laws.proofs.Facts.{IsFirstOf, answered, first_of}
-use Rattle.play_laws.specs.Opening.{IsRoomNamed}
+use Rattle.reader_laws.specs.Naming.{IsRoomNamed}
 use Rattle.play_laws.specs.Refusing.{FindsTaken}
 use Rattle.play_laws.proofs.Holds.Held.{HasHeld, OnFind, OnHold, alone, answered_so, change_of, changed, has_called, held_so, its_step, one_tree}
 use Rattle.play_laws.proofs.Refused.Unheld.{given_or_not, refused_so}

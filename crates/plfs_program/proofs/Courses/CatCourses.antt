@@ -4,7 +4,6 @@ use Rattle.std.specs.List.{range_with_len}
 use Rattle.std.proofs.lemmas.List.Elements.{All-cons, All-map}
 use Rattle.plfs_types.specs.Counts.{HasRisen}
 use Rattle.store_api.specs.Acts.{Stored}
-use Rattle.edge_io.specs.Sink.{Taking}
 use Rattle.mount_model.specs.State.{State}
 use Rattle.mount_model.specs.Failing.{FailsToMount}
 use Rattle.mount_model.specs.Mounting.{IsMounted}
@@ -20,26 +19,23 @@ use Rattle.report_text.specs.Text.{HaveText, text_of}
 use Rattle.run_core.specs.Conditions.{IsPlayable}
 use Rattle.run_core.specs.Play.{IsPlay}
 use Rattle.run_core.proofs.Facts.{play_caused, play_has_text}
-use Rattle.plfs_program.specs.Calling.{ran, broke_off}
+use Rattle.program_ends.specs.Leaving.{ran, broke_off, IsStoreLeft}
 use Rattle.plfs_program.specs.Cat.{unopened, unsaid, hungry, opening, reading, cat_statements, cat_script, reader_size}
 use Rattle.plfs_program.specs.Catting.{CatsOn, CatCourse, WentOn, IsLeftBehind, IsReadOut}
-use Rattle.plfs_program.specs.Ends.{Ends}
+use Rattle.program_ends.specs.Ends.{Ends}
 use Rattle.plfs_program.specs.Lines.{unmounted, mounted}
-use Rattle.plfs_program.specs.Mounting.{unmounted_of, IsUnmounted}
-use Rattle.plfs_program.specs.Outcomes.{status_of}
-use Rattle.plfs_program.specs.Output.{IsPrinted, IsCutOff}
-use Rattle.plfs_program.specs.Playing.{IsStoreLeft}
+use Rattle.program_ends.specs.Mounting.{unmounted_of}
+use Rattle.program_ends.specs.Outcomes.{status_of}
+use Rattle.program_ends.specs.Output.{IsPrinted, IsCutOff}
 use Rattle.plfs_program.specs.ReadOut.{ShowOneFile}
-use Rattle.plfs_program.specs.SoundTrees.{TellsSoundTree}
+use Rattle.program_ends.specs.SoundTrees.{TellsSoundTree}
 use Rattle.plfs_program.specs.Ways.{HasBegun, by_turns}
-use Rattle.plfs_program.proofs.Courses.Calls.{was_run}
+use Rattle.program_ends.proofs.Facts.{SaidUnmounted, was_run, fault_line_alone, unmounted_undamaged}
 use Rattle.plfs_program.proofs.Streams.CatLemmas.{seen_so}
 use Rattle.plfs_program.proofs.Streams.CommandLemmas.{statements_fit}
 use Rattle.plfs_program.proofs.Courses.Lines.{play_cause}
-use Rattle.plfs_program.proofs.Mounts.MountLemmas.{fault_line_alone}
 use Rattle.plfs_program.proofs.Streams.Pieces.{cat_shows}
 use Rattle.plfs_program.proofs.Courses.Plain.{counted_on, orderly_on, plain_on, still_on, story_on, undamaged_on}
-use Rattle.plfs_program.proofs.Mounts.SoundMarks.{unmounted_undamaged}
 
 -- ---- its script is played
 
@@ -102,12 +98,6 @@ no_reader_size trouble.NoMarks outcome is = let same : outcome ≡ of.Damaged ma
 no_reader_size trouble.Spent outcome is = let same : outcome ≡ of.Refused MountsSpent = cc in ap reader_size same
 no_reader_size trouble.Fault outcome is = let same : outcome ≡ of.Fault = cc in ap reader_size same
 no_reader_size trouble.NoMemory outcome is = absurd (cc)
-
--- what was said of a mounting that broke off
-abbrev pub SaidUnmounted : MountTrouble → Taking → Taking → ℕ → Type 0
-SaidUnmounted why taking after status =
-    ((lines : List Line) × IsUnmounted why lines × (((status ≡ status_of lines) × IsPrinted (text_of lines) taking after) ⊎ ((status ≡ 6) × IsCutOff (text_of lines) taking after)))
-    ⊎ ((status ≡ 3) × (after ≡ taking))
 
 pub unmounted_so : (name : List ℕ) (e : Ends) (status : ℕ) (why : MountTrouble) (after : Stored) → e.stored_after ≡ Some after → FailsToMount e.stored why after → (why ≡ trouble.Fault → HasRisen e.stored.faults after.faults)
     → SaidUnmounted why e.taking e.taking_after status → CatCourse name e status

@@ -18,17 +18,18 @@ use Rattle.command_line.specs.declared.commands.Command.TheVariants.{Names, Pack
 use Rattle.report_text.specs.Text.{text_of}
 use Rattle.plfs_program.specs.Cat.{content_of, unopened, unsaid, whole, stuck, broken, starved, hungry as wants}
 use Rattle.plfs_program.specs.Catting.{CatCourse}
-use Rattle.plfs_program.specs.Complete.{IsAsked, HadNoTrouble, IsDone}
+use Rattle.plfs_program.specs.Complete.{IsAsked, HadNoTrouble}
+use Rattle.program_ends.specs.Outcomes.{IsDone, has_line, is_damage, is_fault, is_refusal, status_of}
 use Rattle.plfs_program.specs.Course.{Course, InputCourse, faulty, played, starved as unplayed, usage, unread, read, planned, cats, migrates, packs_unread, packs, unpacks, names_all, hungry}
-use Rattle.plfs_program.specs.Ends.{Ends}
-use Rattle.plfs_program.specs.Migrating.{MigrateCourse, Said, is_broken_by, line_zero, said_status, said_text, printed as told_whole, cut_off as told_part, exhausted as untold}
-use Rattle.plfs_program.specs.Outcomes.{has_line, is_damage, is_fault, is_refusal, status_of}
-use Rattle.plfs_program.specs.Output.{IsCutOff}
+use Rattle.program_ends.specs.Ends.{Ends}
+use Rattle.plfs_program.specs.Migrating.{MigrateCourse, Said, is_broken_by, said_status, said_text, printed as told_whole, cut_off as told_part, exhausted as untold}
+use Rattle.program_ends.specs.Reported.{line_zero}
+use Rattle.program_ends.specs.Output.{IsCutOff}
 use Rattle.plfs_program.specs.Packing.{PackCourse, PackEnd, PackInputCourse, packed_status, packed_text, printed as told_of_packing, cut_off as told_in_part, exhausted as broken_packing, faulty as faulty_input, packed as packed_input, starved as unpacked}
 use Rattle.plfs_program.specs.Playing.{IsPlayedAs, PlayCourse, printed, cut_off, exhausted}
 use Rattle.plfs_program.specs.Showing.{Shows, all_lines, is_reader, shows_of}
 use Rattle.plfs_program.specs.SmallFiles.{Begins, Claims, Does, ReadCourse, Told, told_status, told_text, printed as read_whole, cut_off as read_part, exhausted as unread_so}
-use Rattle.plfs_program.specs.SoundTrees.{TellsSoundTree}
+use Rattle.program_ends.specs.SoundTrees.{TellsSoundTree}
 use Rattle.plfs_program.specs.UnitTrees.{AskForUnits, TellsUnitsOf}
 use Rattle.plfs_program.specs.Ways.{Way, by_turns}
 use Rattle.plfs_program.specs.declared.showing.Shown.{Shown}

@@ -17,25 +17,27 @@ use Rattle.pack_files.specs.declared.scan.ScanStuck.{ScanStuck}
 use Rattle.pack_input.specs.declared.files.NamedFile.{NamedFile}
 use Rattle.pack_puts.specs.declared.packing.Packed.TheVariants.{All, Full}
 use Rattle.run_core.specs.Leading.{GoesOn}
-use Rattle.plfs_program.specs.Calling.{Leaves, broke_off, ran}
+use Rattle.program_ends.specs.Leaving.{Leaves, broke_off, ran, IsStoreLeft}
 use Rattle.plfs_program.specs.Cat.{cat_script, unopened, unsaid, whole, stuck, broken, starved, hungry as wants}
 use Rattle.plfs_program.specs.Catting.{CatCourse, IsLeftBehind}
 use Rattle.plfs_program.specs.Commands.{IsBuiltCommand, IsServed}
 use Rattle.plfs_program.specs.Course.{Course, InputCourse, faulty, played, starved as unplayed, usage, unread, read, planned, cats, migrates, packs_unread, packs, unpacks, names_all, hungry}
-use Rattle.plfs_program.specs.Ends.{Ends, IsUntouched}
+use Rattle.program_ends.specs.Ends.{Ends, IsUntouched}
 use Rattle.plfs_program.specs.Lines.{AreLinesOf, unmounted, mounted}
-use Rattle.plfs_program.specs.Migrating.{HasBegunIt, IsMigratedAs, IsSaidOf, MigrateCourse, Said, is_broken_by, line_zero, said_status, printed as said, cut_off as unsaid_whole, exhausted as starved_so, unmounted as not_mounted, mounted as on_mount}
-use Rattle.plfs_program.specs.Outcomes.{has_line, is_damage, is_fault, is_refusal, status_of}
+use Rattle.plfs_program.specs.Migrating.{HasBegunIt, IsMigratedAs, IsSaidOf, MigrateCourse, Said, is_broken_by, said_status, printed as said, cut_off as unsaid_whole, exhausted as starved_so, unmounted as not_mounted, mounted as on_mount}
+use Rattle.program_ends.specs.Reported.{line_zero}
+use Rattle.program_ends.specs.Outcomes.{has_line, is_damage, is_fault, is_refusal, status_of}
 use Rattle.plfs_program.specs.Packing.{HasBegunToPack, IsEndOf, IsPackedAs, PackCourse, PackEnd, PackInputCourse, packed_status, printed as told_of_packing, cut_off as told_in_part, exhausted as broken_packing, faulty as faulty_input, packed as packed_input, starved as unpacked, unmounted as no_packing, mounted as packing}
-use Rattle.plfs_program.specs.Playing.{IsPlayedAs, IsStoreLeft, PlayCourse, printed, cut_off, exhausted}
+use Rattle.plfs_program.specs.Playing.{IsPlayedAs, PlayCourse, printed, cut_off, exhausted}
 use Rattle.plfs_program.specs.Showing.{Shows, all_lines, behind_opening, is_reader, shows_of}
 use Rattle.plfs_program.specs.SmallFiles.{Begins, Claims, Does, HasBegunToRead, IsToldAs, IsToldOf, ReadCourse, Told, told_status, printed as read_whole, cut_off as read_part, exhausted as unread_so, unmounted as none_mounted, mounted as on_its_mount}
-use Rattle.plfs_program.specs.SoundTrees.{TellsSoundTree, LeavesSoundTree}
+use Rattle.program_ends.specs.SoundTrees.{TellsSoundTree, LeavesSoundTree}
 use Rattle.plfs_program.specs.UnitTrees.{AskForUnits, TellsUnitsOf}
 use Rattle.plfs_program.specs.Ways.{Way, HasBegun, by_turns}
 use Rattle.plfs_program.specs.declared.showing.Shown.{Shown}
 use Rattle.plfs_program.specs.declared.showing.Shown.TheVariants as shown
-use Rattle.plfs_program.proofs.Courses.Calls.{FailingLeavesSound, all_leave_sound, begun_leads, looked_leads, migration_leads, packing_leads, play_runs, reading_leads, went_runs}
+use Rattle.program_ends.proofs.Facts.{FailingLeavesSound, all_leave_sound}
+use Rattle.plfs_program.proofs.Courses.Calls.{begun_leads, looked_leads, migration_leads, packing_leads, play_runs, reading_leads, went_runs}
 
 -- ---- a sound tree is left
 

@@ -4,15 +4,15 @@ use Rattle.plfs_types.specs.Counts.{HasRisen}
 use Rattle.store_api.specs.Acts.{Stored}
 use Rattle.script_lang.specs.declared.line.Line.{Line}
 use Rattle.script_lang.specs.declared.script.Script.{Script}
-use Rattle.plfs_program.specs.Calling.{Leaves}
+use Rattle.program_ends.specs.Leaving.{Leaves}
 use Rattle.plfs_program.specs.Lines.{AreLinesOf}
-use Rattle.plfs_program.specs.Outcomes.{has_line, is_damage, is_fault, status_of}
-use Rattle.plfs_program.specs.Output.{IsPrinted, IsCutOff}
-use Rattle.plfs_program.specs.Ends.{Ends, IsSaid}
+use Rattle.program_ends.specs.Outcomes.{has_line, is_damage, is_fault, status_of}
+use Rattle.program_ends.specs.Output.{IsPrinted, IsCutOff}
+use Rattle.program_ends.specs.Ends.{Ends, IsSaid}
 use Rattle.plfs_program.specs.Playing.{PlayCourse, printed, cut_off, exhausted}
 use Rattle.plfs_program.specs.Course.{InputCourse}
 use Rattle.plfs_program.specs.Showing.{Shows}
-use Rattle.plfs_program.specs.SoundTrees.{TellsSoundTree}
+use Rattle.program_ends.specs.SoundTrees.{TellsSoundTree}
 use Rattle.plfs_program.specs.Ways.{Way, HasBegun}
 
 -- what was said of a text is said of a line that is the same

@@ -15,7 +15,7 @@ use Rattle.script_lang.specs.declared.line.Outcome.{Outcome}
 use Rattle.script_lang.specs.declared.line.Outcome.TheVariants as of
 use Rattle.report_text.specs.Text.{HaveText}
 use Rattle.run_core.specs.Faults.{HasFault}
-use Rattle.plfs_program.specs.Outcomes.{has_line, is_fault}
+use Rattle.program_ends.specs.Outcomes.{has_line, is_fault}
 use Rattle.plfs_program.specs.Showing.{behind_opening, is_reader}
 
 -- ---- their text

@@ -17,20 +17,17 @@ use Rattle.outcomes.specs.Outcomes.{stuck_outcome}
 use Rattle.script_lang.specs.declared.line.Line.{Line}
 use Rattle.script_lang.specs.declared.line.Outcome.{Outcome}
 use Rattle.report_text.specs.Text.{HaveText, ListsLogicalNames, text_of}
-use Rattle.plfs_program.specs.Calling.{ran, broke_off}
-use Rattle.plfs_program.specs.Ends.{Ends}
-use Rattle.plfs_program.specs.Migrating.{HasBegunIt, IsMigratedAs, IsMigration, IsReported, MigrateCourse, MigratesOn, Said, cut_off, ended_so, exhausted, is_broken_by, line_zero, mounted, printed, said_of, said_status, said_text, starved, unmounted}
-use Rattle.plfs_program.specs.Mounting.{unmounted_of}
-use Rattle.plfs_program.specs.Outcomes.{is_damage, is_fault, status_of}
-use Rattle.plfs_program.specs.Output.{IsPrinted, IsCutOff}
-use Rattle.plfs_program.specs.Playing.{IsStoreLeft}
-use Rattle.plfs_program.specs.SoundTrees.{TellsSoundTree}
-use Rattle.plfs_program.proofs.Courses.Calls.{was_run}
-use Rattle.plfs_program.proofs.Courses.CatCourses.{SaidUnmounted}
+use Rattle.program_ends.specs.Leaving.{ran, broke_off, IsStoreLeft}
+use Rattle.program_ends.specs.Ends.{Ends}
+use Rattle.plfs_program.specs.Migrating.{HasBegunIt, IsMigratedAs, IsMigration, MigrateCourse, MigratesOn, Said, cut_off, ended_so, exhausted, is_broken_by, mounted, printed, said_of, said_status, said_text, starved, unmounted}
+use Rattle.program_ends.specs.Reported.{IsReported, line_zero}
+use Rattle.program_ends.specs.Mounting.{unmounted_of}
+use Rattle.program_ends.specs.Outcomes.{is_damage, is_fault, status_of}
+use Rattle.program_ends.specs.Output.{IsPrinted, IsCutOff}
+use Rattle.program_ends.specs.SoundTrees.{TellsSoundTree}
+use Rattle.program_ends.proofs.Facts.{was_run, SaidUnmounted, fault_line_alone, unmounted_undamaged}
 use Rattle.plfs_program.proofs.Courses.Lines.{mounting_keeps, risen_since}
-use Rattle.plfs_program.proofs.Mounts.MountLemmas.{fault_line_alone}
 use Rattle.plfs_program.proofs.Courses.Plain.{mounted_clean}
-use Rattle.plfs_program.proofs.Mounts.SoundMarks.{unmounted_undamaged}
 
 -- ---- the line of a trouble
 

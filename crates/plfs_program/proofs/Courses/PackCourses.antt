@@ -14,16 +14,14 @@ use Rattle.pack_puts.specs.declared.packing.Packed.{Packed}
 use Rattle.script_lang.specs.declared.line.Line.{Line}
 use Rattle.script_lang.specs.declared.line.Outcome.{Outcome}
 use Rattle.report_text.specs.Text.{text_of}
-use Rattle.plfs_program.specs.Calling.{broke_off as unmounted_left, ran}
-use Rattle.plfs_program.specs.Ends.{Ends}
-use Rattle.plfs_program.specs.Migrating.{IsReported}
-use Rattle.plfs_program.specs.Mounting.{unmounted_of}
-use Rattle.plfs_program.specs.Outcomes.{status_of}
-use Rattle.plfs_program.specs.Output.{IsPrinted, IsCutOff}
+use Rattle.program_ends.specs.Leaving.{broke_off as unmounted_left, ran, IsStoreLeft}
+use Rattle.program_ends.specs.Ends.{Ends}
+use Rattle.program_ends.specs.Reported.{IsReported}
+use Rattle.program_ends.specs.Mounting.{unmounted_of}
+use Rattle.program_ends.specs.Outcomes.{status_of}
+use Rattle.program_ends.specs.Output.{IsPrinted, IsCutOff}
 use Rattle.plfs_program.specs.Packing.{HasBegunToPack, IsPackedAs, PackCourse, PackEnd, PackInputCourse, PacksOn, broke_off, cut_off, end_of, ended_so, exhausted, mounted, packed_status, packed_text, printed, unmounted}
-use Rattle.plfs_program.specs.Playing.{IsStoreLeft}
-use Rattle.plfs_program.proofs.Courses.Calls.{was_run}
-use Rattle.plfs_program.proofs.Courses.CatCourses.{SaidUnmounted}
+use Rattle.program_ends.proofs.Facts.{was_run, SaidUnmounted}
 use Rattle.plfs_program.proofs.Courses.MigrateCourses.{unmounted_caused, unmounted_whole}
 use Rattle.plfs_program.proofs.Courses.UnitCourses.{MountsUnits, Troubles, end_tells, run_caused, run_undamaged}
 

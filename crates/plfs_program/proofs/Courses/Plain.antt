@@ -17,10 +17,10 @@ use Rattle.run_core.specs.Leading.{Leads}
 use Rattle.play_laws.specs.Undamaged.{AreUndamaged, IsUndamaged}
 use Rattle.play_laws.specs.Counting.{CountWrites}
 use Rattle.play_laws.proofs.Facts.{play_counts, play_shows, play_undamaged, readers_show, right_counts, right_undamaged}
-use Rattle.plfs_program.specs.Outcomes.{has_line, is_damage}
+use Rattle.program_ends.specs.Outcomes.{has_line, is_damage}
 use Rattle.headline_laws.proofs.Facts.{has_story, orderly, play_has_story, play_orderly, still}
 use Rattle.plfs_program.specs.Seen.{TellsOrderly, TellsStill, TellsStory, seen_run}
-use Rattle.plfs_program.specs.SoundTrees.{TellsSoundTree}
+use Rattle.program_ends.specs.SoundTrees.{TellsSoundTree}
 use Rattle.plfs_program.specs.Ways.{Way, HasLines, ShowsFiles, by_turns, on_threads}
 use Rattle.plfs_program.proofs.Courses.Lines.{mounting_keeps}
 

@@ -19,16 +19,14 @@ use Rattle.unpack_laws.specs.Told.{AreNames, IsContent}
 use Rattle.script_lang.specs.declared.line.Line.{Line}
 use Rattle.script_lang.specs.declared.line.Outcome.{Outcome}
 use Rattle.report_text.specs.Text.{text_of}
-use Rattle.plfs_program.specs.Calling.{broke_off as unmounted_left, ran}
-use Rattle.plfs_program.specs.Ends.{Ends}
-use Rattle.plfs_program.specs.Migrating.{IsReported}
-use Rattle.plfs_program.specs.Mounting.{unmounted_of}
-use Rattle.plfs_program.specs.Outcomes.{status_of}
-use Rattle.plfs_program.specs.Output.{IsPrinted, IsCutOff}
-use Rattle.plfs_program.specs.Playing.{IsStoreLeft}
+use Rattle.program_ends.specs.Leaving.{broke_off as unmounted_left, ran, IsStoreLeft}
+use Rattle.program_ends.specs.Ends.{Ends}
+use Rattle.program_ends.specs.Reported.{IsReported}
+use Rattle.program_ends.specs.Mounting.{unmounted_of}
+use Rattle.program_ends.specs.Outcomes.{status_of}
+use Rattle.program_ends.specs.Output.{IsPrinted, IsCutOff}
 use Rattle.plfs_program.specs.SmallFiles.{Begins, Does, HasBegunToRead, IsToldAs, NamesCourse, ReadCourse, ReadsOn, Claims, Told, UnpackCourse, broke_off, cut_off, ended_so, exhausted, mounted, printed, told_of_file, told_of_names, told_status, told_text, unmounted}
-use Rattle.plfs_program.proofs.Courses.Calls.{was_run}
-use Rattle.plfs_program.proofs.Courses.CatCourses.{SaidUnmounted}
+use Rattle.program_ends.proofs.Facts.{was_run, SaidUnmounted}
 use Rattle.plfs_program.proofs.Courses.MigrateCourses.{unmounted_caused, unmounted_whole}
 use Rattle.plfs_program.proofs.Courses.UnitCourses.{MountsUnits, TellsTroubles, Troubles, file_tells, names_tell, run_caused, run_undamaged}
 

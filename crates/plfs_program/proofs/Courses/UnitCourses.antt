@@ -19,9 +19,9 @@ use Rattle.packing_laws.specs.HasOnly.{IsOfUnits, TreeIsOfUnits}
 use Rattle.packing_laws.specs.OnlyUnits.{Filing}
 use Rattle.packing_laws.specs.Troubles.{TellsFault, TellsNoDamage}
 use Rattle.script_lang.specs.declared.line.Outcome.{Outcome}
-use Rattle.plfs_program.specs.Ends.{Ends}
+use Rattle.program_ends.specs.Ends.{Ends}
 use Rattle.plfs_program.specs.Migrating.{is_broken_by}
-use Rattle.plfs_program.specs.Outcomes.{is_damage, is_fault}
+use Rattle.program_ends.specs.Outcomes.{is_damage, is_fault}
 use Rattle.plfs_program.specs.Packing.{end_of}
 use Rattle.plfs_program.specs.SmallFiles.{outcome_of, told_of_file, told_of_names}
 use Rattle.plfs_program.specs.UnitTrees.{TellsUnitsOf}

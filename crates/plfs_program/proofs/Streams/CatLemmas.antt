@@ -22,8 +22,8 @@ use Rattle.run_core.proofs.Facts.{made_none, made_more, made_play, one_breaks}
 use Rattle.plfs_program.specs.Cat.{CatEnds, unopened, unsaid, whole, stuck, broken, starved, hungry, IsRead, is_read, content_of, contents, opening, reading, cat_statements, cat_script, pieces_of, reader_size}
 use Rattle.plfs_program.specs.Catting.{CatsOn, Reads, Writes, FailsAt, starves, sticks, breaks}
 use Rattle.plfs_program.specs.Commands.{script_of, actor}
-use Rattle.plfs_program.specs.Outcomes.{status_of}
-use Rattle.plfs_program.specs.Output.{IsPrinted, IsCutOff}
+use Rattle.program_ends.specs.Outcomes.{status_of}
+use Rattle.program_ends.specs.Output.{IsPrinted, IsCutOff}
 
 -- ---- what was written
 

@@ -1,6 +1,6 @@
 use Rattle.std.proofs.Common.{sym, subst}
 use Rattle.tree_check.specs.declared.halting.Halt.{Halt}
-use Rattle.plfs_program.specs.Migrating.{IsReported}
+use Rattle.program_ends.specs.Reported.{IsReported}
 use Rattle.check_program.specs.Lines.{halt_status, halt_text}
 use Rattle.check_program.proofs.saying.say_halt.Goals as goal
 

@@ -1,5 +1,5 @@
 use Rattle.std.proofs.Common.{ℕ, List, ◌∙◌, subst}
-use Rattle.plfs_program.specs.Migrating.{IsReported}
+use Rattle.program_ends.specs.Reported.{IsReported}
 use Rattle.check_program.proofs.saying.say_unreadable.Goals as goal
 
 pub returns : goal.returns

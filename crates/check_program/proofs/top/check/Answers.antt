@@ -1,6 +1,6 @@
 use Rattle.std.proofs.Common.{None}
 use Rattle.std.specs.Option.{option_map}
-use Rattle.plfs_program.specs.Ends.{Ends, ends_of}
+use Rattle.program_ends.specs.Ends.{Ends, ends_of}
 use Rattle.check_program.proofs.Verdicts.{says_broken, says_fault, says_fine, says_sound, says_verdict, stays}
 use Rattle.check_program.proofs.top.check.Goals as goal
 

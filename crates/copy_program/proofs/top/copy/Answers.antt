@@ -1,6 +1,6 @@
 use Rattle.std.proofs.Common.{subst}
 use Rattle.std.specs.Option.{option_map}
-use Rattle.plfs_program.specs.Ends.{Ends, ends_of}
+use Rattle.program_ends.specs.Ends.{Ends, ends_of}
 use Rattle.copy_program.specs.declared.words.CopyCommand.{CopyCommand}
 use Rattle.copy_program.specs.Course.{gets, puts}
 use Rattle.copy_program.specs.Words.{IsCopyCommand}

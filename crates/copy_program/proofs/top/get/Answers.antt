@@ -2,7 +2,7 @@ use Rattle.std.proofs.Common.{List, ℕ, ◌∙◌, ap, subst}
 use Rattle.std.specs.Option.{option_map}
 use Rattle.plfs_program.specs.Commands.{IsBuiltCommand}
 use Rattle.plfs_program.specs.Course.{Course}
-use Rattle.plfs_program.specs.Ends.{Ends, ends_of}
+use Rattle.program_ends.specs.Ends.{Ends, ends_of}
 use Rattle.copy_program.proofs.top.get.Goals as goal
 
 pub returns-clause-course : goal.returns-clause-course

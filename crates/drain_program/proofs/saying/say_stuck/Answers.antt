@@ -1,5 +1,5 @@
 use Rattle.std.proofs.Common.{Err, subst, sym}
-use Rattle.plfs_program.specs.Migrating.{IsReported}
+use Rattle.program_ends.specs.Reported.{IsReported}
 use Rattle.drain_copy.specs.declared.outcome.DrainStuck.{DrainStuck}
 use Rattle.drain_program.specs.Reporting.{drain_status, drain_text, report_of}
 use Rattle.drain_program.proofs.saying.say_stuck.Goals as goal

@@ -1,5 +1,5 @@
 use Rattle.std.proofs.Common.{List, ℕ, ◌∙◌, subst}
-use Rattle.plfs_program.specs.Migrating.{IsReported}
+use Rattle.program_ends.specs.Reported.{IsReported}
 use Rattle.drain_program.proofs.saying.say_taken.Goals as goal
 
 pub returns : goal.returns

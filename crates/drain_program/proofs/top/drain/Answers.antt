@@ -1,5 +1,5 @@
 use Rattle.std.specs.Option.{option_map}
-use Rattle.plfs_program.specs.Ends.{Ends, ends_of}
+use Rattle.program_ends.specs.Ends.{Ends, ends_of}
 use Rattle.drain_program.specs.Course.{drains}
 use Rattle.drain_program.proofs.CompleteLemmas.{course_complete, course_refused, course_whole}
 use Rattle.drain_program.proofs.CourseLemmas.{course_cause, course_copies, course_shows, course_stays, run_sound}

@@ -1,7 +1,7 @@
 use Rattle.std.proofs.Common.{ap, subst, sym}
 use Rattle.std.specs.Option.{option_map}
 use Rattle.mount_sound.proofs.Facts.{mounted_fine}
-use Rattle.plfs_program.specs.Ends.{Ends, ends_of}
+use Rattle.program_ends.specs.Ends.{Ends, ends_of}
 use Rattle.drain_copy.specs.Draining.{drain_program}
 use Rattle.drain_laws.specs.Driving.{Drives}
 use Rattle.drain_program.proofs.RunLemmas.{drained_so, not_drained_so}

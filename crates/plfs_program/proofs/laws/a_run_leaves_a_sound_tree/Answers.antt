@@ -1,4 +1,5 @@
-use Rattle.plfs_program.proofs.Courses.Calls.{leaves_sound, play_runs}
+use Rattle.program_ends.proofs.Facts.{leaves_sound}
+use Rattle.plfs_program.proofs.Courses.Calls.{play_runs}
 use Rattle.plfs_program.proofs.laws.a_run_leaves_a_sound_tree.Goals as goal
 
 pub returns-clause-play : goal.returns-clause-play

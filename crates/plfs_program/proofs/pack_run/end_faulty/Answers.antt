@@ -1,6 +1,6 @@
 use Rattle.std.proofs.Common.{rules, ◌∙◌}
 use Rattle.std.specs.Option.{option_map}
-use Rattle.plfs_program.specs.Ends.{ends_of, Ends}
+use Rattle.program_ends.specs.Ends.{ends_of, Ends}
 use Rattle.plfs_program.specs.Packing.{faulty, pack_fault_line}
 use Rattle.plfs_program.proofs.Courses.CourseLemmas.{said_as}
 use Rattle.plfs_program.proofs.pack_run.end_faulty.Goals as goal

@@ -1,7 +1,7 @@
 use Rattle.std.proofs.Common.{ap, sym}
 use Rattle.std.specs.Option.{option_map}
 use Rattle.mount_sound.proofs.Facts.{mounted_fine}
-use Rattle.plfs_program.specs.Ends.{Ends, ends_of}
+use Rattle.program_ends.specs.Ends.{Ends, ends_of}
 use Rattle.plfs_program.proofs.Courses.PackCourses.{not_packed_so, packed_so}
 use Rattle.plfs_program.proofs.pack_run.pack_files.Goals as goal
 

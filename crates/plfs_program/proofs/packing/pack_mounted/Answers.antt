@@ -1,6 +1,6 @@
 use Rattle.std.proofs.Common.{List, refl, subst}
 use Rattle.pack_input.specs.declared.files.NamedFile.{NamedFile}
-use Rattle.plfs_program.specs.Migrating.{IsReported}
+use Rattle.program_ends.specs.Reported.{IsReported}
 use Rattle.plfs_program.specs.Packing.{broke_off, end_of, ended_so, packed_status, packed_text}
 use Rattle.plfs_program.proofs.packing.pack_mounted.Goals as goal
 

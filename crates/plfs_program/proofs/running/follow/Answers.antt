@@ -3,7 +3,7 @@ use Rattle.std.specs.Option.{option_map}
 use Rattle.command_line.specs.Commands.{IsCommand}
 use Rattle.command_line.specs.declared.commands.Command.{Command}
 use Rattle.command_line.specs.declared.commands.Command.TheVariants.{Run}
-use Rattle.plfs_program.specs.Ends.{ends_of, Ends}
+use Rattle.program_ends.specs.Ends.{ends_of, Ends}
 use Rattle.plfs_program.proofs.Courses.CourseLaws.{goes_as_before, same_command}
 use Rattle.plfs_program.proofs.running.follow.Goals as goal
 

@@ -1,6 +1,6 @@
 use Rattle.std.proofs.Common.{ap, sym}
 use Rattle.std.specs.Option.{option_map}
-use Rattle.plfs_program.specs.Ends.{ends_of, Ends}
+use Rattle.program_ends.specs.Ends.{ends_of, Ends}
 use Rattle.plfs_program.specs.Showing.{all_lines}
 use Rattle.plfs_program.specs.Ways.{on_threads}
 use Rattle.plfs_program.proofs.Courses.CourseLemmas.{reported}

@@ -1,7 +1,7 @@
 use Rattle.std.proofs.Common.{refl, ap, sym}
 use Rattle.std.specs.Option.{option_map}
 use Rattle.plfs_program.specs.Course.{cats}
-use Rattle.plfs_program.specs.Ends.{Ends, ends_of}
+use Rattle.program_ends.specs.Ends.{Ends, ends_of}
 use Rattle.plfs_program.proofs.Courses.CatCourses.{mounted_so, unmounted_so}
 use Rattle.plfs_program.proofs.top.cat.Goals as goal
 

@@ -2,7 +2,7 @@ use Rattle.std.proofs.Common.{refl, ap, sym}
 use Rattle.std.specs.Option.{option_map}
 use Rattle.mount_sound.proofs.Facts.{mounted_fine}
 use Rattle.plfs_program.specs.Course.{migrates}
-use Rattle.plfs_program.specs.Ends.{Ends, ends_of}
+use Rattle.program_ends.specs.Ends.{Ends, ends_of}
 use Rattle.plfs_program.proofs.Courses.MigrateCourses.{migrated_so, not_mounted_so}
 use Rattle.plfs_program.proofs.top.migrate.Goals as goal
 

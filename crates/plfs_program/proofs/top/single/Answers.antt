@@ -1,6 +1,6 @@
 use Rattle.std.specs.Option.{option_map}
 use Rattle.plfs_program.specs.Commands.{IsBuiltCommand}
-use Rattle.plfs_program.specs.Ends.{ends_of, Ends}
+use Rattle.program_ends.specs.Ends.{ends_of, Ends}
 use Rattle.plfs_program.proofs.Courses.CourseLaws.{course_leaves, course_undamaged}
 use Rattle.plfs_program.proofs.Courses.CompleteLaws.{course_done}
 use Rattle.plfs_program.proofs.top.single.Goals as goal

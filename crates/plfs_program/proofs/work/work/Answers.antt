@@ -1,11 +1,11 @@
 use Rattle.plfs_types.specs.Counts.{HasRisen}
 use Rattle.mount_sound.proofs.Facts.{mounted_fine}
-use Rattle.plfs_program.specs.Calling.{broke_off, ran}
+use Rattle.program_ends.specs.Leaving.{broke_off, ran}
 use Rattle.plfs_program.specs.Ways.{HasBegun, by_turns}
-use Rattle.plfs_program.proofs.Courses.Calls.{begun_so, was_run}
+use Rattle.plfs_program.proofs.Courses.Calls.{begun_so}
+use Rattle.program_ends.proofs.Facts.{was_run, all_caused, all_unmounted_undamaged}
 use Rattle.plfs_program.proofs.Courses.Lines.{play_cause}
-use Rattle.plfs_program.proofs.Mounts.MountLemmas.{all_mounted, all_undamaged, all_unmounted, all_caused}
-use Rattle.plfs_program.proofs.Mounts.SoundMarks.{all_unmounted_undamaged}
+use Rattle.plfs_program.proofs.Mounts.MountLemmas.{all_mounted, all_undamaged, all_unmounted}
 use Rattle.plfs_program.proofs.work.work.Goals as goal
 
 pub play-lines-requires-clause-fine : goal.play-lines-requires-clause-fine

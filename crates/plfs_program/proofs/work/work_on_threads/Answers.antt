@@ -1,12 +1,11 @@
 use Rattle.std.proofs.Common.{inr}
 use Rattle.plfs_types.specs.Counts.{HasRisen}
 use Rattle.mount_sound.proofs.Facts.{mounted_fine}
-use Rattle.plfs_program.specs.Calling.{broke_off, ran}
+use Rattle.program_ends.specs.Leaving.{broke_off, ran}
 use Rattle.plfs_program.specs.Ways.{HasBegun, on_threads}
-use Rattle.plfs_program.proofs.Courses.Calls.{was_run}
+use Rattle.program_ends.proofs.Facts.{was_run, all_caused, all_unmounted_undamaged}
 use Rattle.plfs_program.proofs.Courses.Lines.{play_cause}
-use Rattle.plfs_program.proofs.Mounts.MountLemmas.{all_mounted, all_undamaged, all_unmounted, all_caused}
-use Rattle.plfs_program.proofs.Mounts.SoundMarks.{all_unmounted_undamaged}
+use Rattle.plfs_program.proofs.Mounts.MountLemmas.{all_mounted, all_undamaged, all_unmounted}
 use Rattle.plfs_program.proofs.work.work_on_threads.Goals as goal
 
 pub run-back-requires-clause-fine : goal.run-back-requires-clause-fine

@@ -37,4 +37,4 @@ pub returns-in_err-truncs-clause-shape : goal.returns-in_err-truncs-clause-shape
 returns-in_err-truncs-clause-shape g c = two_truncs_shape c.args.place.now.name c.as_slice-2.result.now c.from_residual-in_err-truncs.result (search rules)
 
 pub returns-clause-shape : goal.returns-clause-shape
-returns-clause-shape g c = unbroken_shapes c.check_items.result c.check_items.ensures.unbroken
+returns-clause-shape g c = unbroken_shapes c.args.place.now.name c.check_items.result c.check_items.ensures.unbroken

@@ -1,0 +1,5 @@
+mod Apart
+mod AskedAgain
+mod HeadNumbers
+mod NameTests
+mod Places

@@ -1,0 +1,4 @@
+pub mod Asking
+pub mod Heads
+pub mod Requests
+pub mod Telling

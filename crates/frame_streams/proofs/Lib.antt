@@ -1,0 +1,4 @@
+mod Arrivals
+pub mod Facts
+mod Outputs
+mod Readings

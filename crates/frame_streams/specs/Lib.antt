@@ -1,0 +1,3 @@
+pub mod Arriving
+pub mod Filling
+pub mod Writing

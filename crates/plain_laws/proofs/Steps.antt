@@ -1,0 +1,11 @@
+pub mod Others
+pub mod Leaving
+pub mod Rooms
+pub mod Alone
+pub mod Owners
+pub mod Keeping
+pub mod Leave
+pub mod Making
+pub mod Floors
+pub mod Joining
+pub mod Begun

@@ -1,0 +1,14 @@
+-- A machine that begins over a store where nothing was.
+use Rattle.std.specs.Prelude.{ℕ, List, [], ◌∷◌, Option}
+use Rattle.store_api.specs.declared.tree.Tree.{Tree}
+use Rattle.mount_model.specs.Paths.{marks_name}
+use Rattle.plain_machine.specs.Machine.{Plain, PlainActor}
+use Rattle.plain_machine.specs.Becoming.{empty_room}
+
+-- a store without rooms
+abbrev pub bare_tree : Tree
+bare_tree = record { rooms = [] }
+
+-- the machine of a mount over it, with these actors: it has the room of the marks alone
+abbrev pub first_machine : List PlainActor → Option (List ℕ) → ℕ → Plain
+first_machine actors times mark = record { rooms = empty_room marks_name ∷ []; actors = actors; times = times; mark = mark; serial = 0 }

@@ -1,0 +1,199 @@
+//! The files of a folder whose bytes are put: which they are, and how they are read.
+ghost use Rattle.std.specs.Io.{ReadsAtMost};
+
+use crate::amount::{Amount, file_length};
+use crate::spelled::Spelled;
+use copy_program::Named;
+use edge_io::StdSource;
+use plfs_types::{LogicalName, Name, Word};
+use std::alloc::Global;
+use std::fs::{self, DirEntry, File, ReadDir};
+use std::io::{self, ErrorKind, Read};
+use std::str;
+
+/// The plain files of a folder that have names of files.
+#[derive(Drop)]
+pub struct Entries {
+    // In their order, but the last one first.
+    names: Vec<Name>,
+    /// Whether one of them can't be opened, and was left out.
+    pub has_closed: bool,
+    /// Whether something else is in the folder, and was left out.
+    pub has_others: bool,
+}
+
+/// A file of a folder that is put.
+pub type Putting = Named<StdSource<Entry>>;
+
+impl Entries {
+    fn new(alloc: Global) -> Entries {
+        Entries {
+            names: Vec::new(alloc),
+            has_closed: false,
+            has_others: false,
+        }
+    }
+
+    // Something that is no such file is left out.
+    fn leave(&mut self, rt: &HostRuntime, folder: &Word, name: &str, why: &str) {
+        self.has_others = true;
+        let folder = Spelled(folder.as_str());
+        let name = Spelled(name);
+        let _ = eprintln!(rt; "plfs: {folder}/{name}: left out: {why}");
+    }
+
+    // A plain file of this name. It is left out where it can't be opened.
+    fn keep(
+        &mut self,
+        rt: &HostRuntime,
+        entry: &DirEntry<HostRuntime, Global>,
+        name: LogicalName,
+    ) -> io::Result<()> {
+        match File::open(rt, entry.path()) {
+            Ok(file) => {
+                drop(file);
+                self.names.push(name.name())?;
+            }
+            Err(error) => {
+                self.has_closed = true;
+                let path = Spelled(entry.path().as_str());
+                let _ = eprintln!(rt; "plfs: {path}: open: {error}");
+            }
+        }
+        Ok(())
+    }
+
+    // What stands in the folder under this name.
+    fn meet(
+        &mut self,
+        rt: &HostRuntime,
+        folder: &Word,
+        entry: &DirEntry<HostRuntime, Global>,
+    ) -> io::Result<()> {
+        let text = entry.file_name();
+        let Some(name) = LogicalName::read(text.as_bytes()) else {
+            self.leave(rt, folder, text, "its name is none of a file");
+            return Ok(());
+        };
+        match fs::metadata(rt, entry.path()) {
+            Ok(found) if found.is_file() => self.keep(rt, entry, name),
+            Ok(_) => {
+                self.leave(rt, folder, text, "it is no plain file");
+                Ok(())
+            }
+            Err(error) if error.kind() == ErrorKind::NotFound => {
+                self.leave(rt, folder, text, "it leads nowhere");
+                Ok(())
+            }
+            Err(error) => Err(error),
+        }
+    }
+
+    // All that stands in the folder.
+    fn meet_all(
+        &mut self,
+        rt: &HostRuntime,
+        folder: &Word,
+        listing: ReadDir<HostRuntime, Global>,
+    ) -> io::Result<()> {
+        for entry in listing {
+            match entry {
+                Ok(entry) => self.meet(rt, folder, &entry)?,
+                Err(error) if error.kind() == ErrorKind::InvalidFilename => {
+                    self.leave(rt, folder, "?", "its name is no text");
+                }
+                Err(error) => return Err(error),
+            }
+        }
+        self.names.sort_unstable();
+        self.names.reverse();
+        Ok(())
+    }
+
+    /// The files, the last one first. Each is opened where it is read.
+    pub fn sources(&self, rt: HostRuntime, folder: &Word) -> io::Result<Vec<Putting>> {
+        let mut sources = Vec::new(rt.alloc());
+        for name in self.names.iter() {
+            if let Some(name) = LogicalName::read(name.bytes()) {
+                let path = path_of(rt.alloc(), folder, &name.name())?;
+                let input = StdSource::new(Entry::new(rt, path));
+                sources.push(Named { name, input })?;
+            }
+        }
+        Ok(sources)
+    }
+}
+
+/// The files of this folder that can be put. What else is there is said on standard error.
+#[inline(never)]
+pub fn list_files(rt: &HostRuntime, folder: &Word) -> io::Result<Entries> {
+    let mut entries = Entries::new(rt.alloc());
+    match fs::read_dir(rt, folder.as_str()) {
+        Ok(listing) => entries.meet_all(rt, folder, listing)?,
+        Err(error) => return Err(error),
+    }
+    Ok(entries)
+}
+
+/// A file of a folder, which is opened where its first byte is read. It shows how far it was read, and says at once why it can't be
+/// opened or read.
+#[derive(Drop)]
+pub struct Entry {
+    rt: HostRuntime,
+    path: String,
+    file: Option<File>,
+    amount: Amount,
+}
+
+// The path of the file of this name.
+fn path_of(alloc: Global, folder: &Word, name: &Name) -> io::Result<String> {
+    let mut path = String::from_str(alloc, folder.as_str())?;
+    path.push_str("/")?;
+    path.push_str(str::from_utf8(name.bytes()).unwrap_or(""))?;
+    Ok(path)
+}
+
+impl Entry {
+    // The file at this path.
+    fn new(rt: HostRuntime, path: String) -> Entry {
+        Entry {
+            rt,
+            path,
+            file: None,
+            amount: Amount::new(rt, 0),
+        }
+    }
+
+    // Reads from the file, which is opened where it isn't.
+    fn read_more(&mut self, buf: &mut [u8]) -> io::Result<usize>
+        ensures bound { ReadsAtMost result buf.new }
+    {
+        if let Some(file) = self.file.as_mut() {
+            return file.read(buf);
+        }
+        let mut file = File::open(&self.rt, self.path.as_str())?;
+        self.amount = Amount::new(self.rt, file_length(&file));
+        let end = file.read(buf);
+        self.file = Some(file);
+        end
+    }
+
+    // Says why it can't be read.
+    fn tell(&mut self, error: io::Error) {
+        self.amount.clear();
+        let rt = &self.rt;
+        let path = Spelled(self.path.as_str());
+        let _ = eprintln!(rt; "plfs: {path}: read: {error}");
+    }
+}
+
+impl Read for Entry {
+    fn read(&mut self, buf: &mut [u8]) -> io::Result<usize> {
+        let end = self.read_more(buf);
+        match &end {
+            Ok(count) => self.amount.add(*count),
+            Err(error) => self.tell(*error),
+        }
+        end
+    }
+}

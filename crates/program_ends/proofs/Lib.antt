@@ -1,0 +1,5 @@
+pub mod Facts
+mod Leaving
+mod Mounts
+mod OutputLemmas
+mod Unmounted

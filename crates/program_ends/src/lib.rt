@@ -1,0 +1,16 @@
+//! How a program over a store ends: what its mounting says, what it prints, with which status, and what it leaves.
+#![tactic(auto)]
+
+mod ended;
+mod laws;
+mod lines;
+mod mounting;
+mod output;
+mod texts;
+
+pub use ended::{Ended, USAGE, ends, say};
+pub use laws::{marks_are_why, marks_decide};
+pub use lines::{report_lines, say_line, status_of};
+pub use mounting::{mounting_line, say_unmounted};
+pub use output::{Broken, write_out};
+pub use texts::{push_number, say_text};

@@ -1,0 +1,6 @@
+mod Breaks
+mod Casting
+pub mod Facts
+mod Phases
+mod Steps
+mod Tables

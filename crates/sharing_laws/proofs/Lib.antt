@@ -1,0 +1,6 @@
+mod Alone
+mod Behind
+mod Dealing
+pub mod Facts
+mod Listings
+mod Made
