@@ -1,9 +1,9 @@
-# Completion for bash of the commands plfs, plfs_copy and plfs_check: `source completions/plfs.bash`.
+# Completion for bash of the commands plfs, plfs_copy, plfs_check and plfs_serve: `source completions/plfs.bash`.
 _plfs() {
     local word=${COMP_WORDS[COMP_CWORD]} place=$COMP_CWORD i verbs
     case ${COMP_WORDS[0]##*/} in
-    plfs_copy) verbs='put get import' ;;
-    plfs_check) verbs='' ;;
+    plfs_copy) verbs='put get import export' ;;
+    plfs_check | plfs_serve) verbs='' ;;
     *) verbs='run play gen cat stat map flatten trunc rename recover ls migrate pack unpack names drain' ;;
     esac
     # A colon parts the folders of ROOT, and is a word of its own here.
@@ -28,4 +28,4 @@ _plfs() {
         ;;
     esac
 }
-complete -F _plfs plfs plfs_copy plfs_check
+complete -F _plfs plfs plfs_copy plfs_check plfs_serve

@@ -1,4 +1,4 @@
-# Completion for fish of the commands plfs, plfs_copy and plfs_check: `source completions/plfs.fish`, or a copy in ~/.config/fish/completions.
+# Completion for fish of the commands plfs, plfs_copy, plfs_check and plfs_serve: `source completions/plfs.fish`, or a copy in ~/.config/fish/completions.
 function __plfs_is_word --description 'Whether the word that is typed has this number behind the command'
     test (count (commandline -opc)) -eq $argv[1]
 end
@@ -12,11 +12,11 @@ function __plfs_folders
     end
 end
 
-for program in plfs plfs_copy plfs_check
+for program in plfs plfs_copy plfs_check plfs_serve
     complete -c $program -f
     complete -c $program -n '__plfs_is_word 1' -a '(__plfs_folders)'
     complete -c $program -n '__plfs_is_word 1' -l help -d 'how to call the program, and its statuses'
     complete -c $program -n '__plfs_is_word 1' -l version -d 'the version'
 end
 complete -c plfs -n '__plfs_is_word 2' -a 'run play gen cat stat map flatten trunc rename recover ls migrate pack unpack names drain'
-complete -c plfs_copy -n '__plfs_is_word 2' -a 'put get import'
+complete -c plfs_copy -n '__plfs_is_word 2' -a 'put get import export'

@@ -1,4 +1,4 @@
-# Completion for zsh of the commands plfs, plfs_copy and plfs_check: `source completions/plfs.zsh` behind `compinit`.
+# Completion for zsh of the commands plfs, plfs_copy, plfs_check and plfs_serve: `source completions/plfs.zsh` behind `compinit`.
 _plfs() {
     case $CURRENT in
     2)
@@ -12,11 +12,11 @@ _plfs() {
         ;;
     3)
         case ${words[1]:t} in
-        plfs_copy) compadd -- put get import ;;
-        plfs_check) ;;
+        plfs_copy) compadd -- put get import export ;;
+        plfs_check | plfs_serve) ;;
         *) compadd -- run play gen cat stat map flatten trunc rename recover ls migrate pack unpack names drain ;;
         esac
         ;;
     esac
 }
-compdef _plfs plfs plfs_copy plfs_check
+compdef _plfs plfs plfs_copy plfs_check plfs_serve

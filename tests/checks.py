@@ -161,11 +161,11 @@ def words_that_are_no_command_of_plfs_check_print_its_usage_line(trial):
 
 @check
 def after_kills_of_writers_a_folder_is_sound(trial):
-    trial.ends(0, "actor a\na open f\na close\n")
-    killed = 0
-    for turn in range(4 * KILLS):
-        if killed == KILLS:
-            break
+    killed, turn, most = 0, 0, trial.kills or KILLS
+    while turn < 4 * most and killed < most:
+        if turn % (4 * KILLS) == 0:
+            shutil.rmtree(trial.root / "f", ignore_errors=True)
+            trial.ends(0, "actor a\na open f\na close\n")
         _, log, index = places(trial)
         least = trial.random.randrange(800)
         killed += killed_when(trial.start(writing(turn)), lambda: size_of(log) > least)
@@ -174,7 +174,9 @@ def after_kills_of_writers_a_folder_is_sound(trial):
         if turn % 2:
             trial.ends(0, "", words=("recover", "f"))
             same("after a recovery", checked(trial), (0, "sound\n", ""))
+        turn += 1
     true("no run was killed", killed)
+    trial.note = f"{killed} of {turn} were killed"
 
 
 @check

@@ -10,7 +10,7 @@ import time
 
 from trial import SECONDS, Skipped, check, ignore, listed, masked, same, size_limit, true
 
-USAGE = "usage: plfs_copy ROOT put NAME [HOST] [--over] [--from FILE..]|get NAME|import DIR [HOST] [--over]\n"
+USAGE = "usage: plfs_copy ROOT put NAME [HOST] [--over] [--from FILE..]|get NAME|import DIR [HOST] [--over]|export DIR [--over]\n"
 # The bytes of one write.
 BLOCK = 2**24
 # The most bytes that one read asks of the input.
@@ -252,6 +252,7 @@ def a_put_that_is_killed_leaves_a_front_that_recover_mends(trial):
         shutil.rmtree(trial.root / name)
     if not killed:
         raise Skipped("no put was killed")
+    trial.note = f"{killed} of {turn + 1} were killed"
 
 
 @check
@@ -263,12 +264,17 @@ def a_get_whose_output_ends_early_is_status_6(trial):
         same("the status", run(trial, "get", "f", stdout=pipe)[0], 6)
 
 
-@check
-def several_folders_take_what_is_put(trial):
+def three_folders(trial):
+    """Three empty folders, and the word that names them as one ROOT."""
     folders = [trial.folder / name for name in ("one", "two", "three")]
     for folder in folders:
         folder.mkdir()
-    root = ":".join(map(str, folders))
+    return folders, ":".join(map(str, folders))
+
+
+@check
+def several_folders_take_what_is_put(trial):
+    folders, root = three_folders(trial)
     for name in ("a", "b", "c", "d"):
         same(f"put {name}", run(trial, "put", name, root=root, content=name.encode())[0], 0)
     for name in ("a", "b", "c", "d"):

@@ -128,10 +128,8 @@ def behind_kills_of_a_drain_at_random_moments_the_next_one_copies_the_rest(trial
     spent = time.monotonic()
     drains(trial, target_of(trial), None)
     spent = time.monotonic() - spent
-    killed, most = 0, trial.kills or KILLED
-    for turn in range(2 * most):
-        if killed == most:
-            break
+    killed, turn, most = 0, 0, trial.kills or KILLED
+    while turn < 2 * most and killed < most:
         target = target_of(trial, f"target{turn}")
         end = time.monotonic() + trial.random.random() * spent
         killed += killed_when(trial.start("", words=("drain", "f", str(target))), lambda: time.monotonic() > end)
@@ -140,7 +138,9 @@ def behind_kills_of_a_drain_at_random_moments_the_next_one_copies_the_rest(trial
         if turn % 10 == 0:
             is_copied(trial, target)
         shutil.rmtree(target)
+        turn += 1
     true("no drain was killed", killed)
+    trial.note = f"{killed} of {turn} were killed"
 
 
 def calls_of_a_drain(trial):

@@ -8,7 +8,7 @@ import signal
 import subprocess
 import time
 
-from copies_in import BLOCK, KILLS, gets, puts, refused, run, start
+from copies_in import BLOCK, KILLS, gets, puts, refused, run, start, three_folders
 from trial import SECONDS, Skipped, check, ignore, listed, same, size_limit, true
 
 
@@ -187,10 +187,7 @@ def two_imports_at_once_do_not_meet(trial):
 
 @check
 def several_folders_take_what_is_imported(trial):
-    folders = [trial.folder / name for name in ("one", "two", "three")]
-    for folder in folders:
-        folder.mkdir()
-    root = ":".join(map(str, folders))
+    _, root = three_folders(trial)
     contents = {f"f{place}": trial.random.randbytes(100 + place) for place in range(12)}
     folder = folder_of(trial, contents)
     same("the lines", imports(trial, folder, root=root), [(name, f"put {len(contents[name])}") for name in sorted(contents)])
@@ -203,7 +200,7 @@ def an_import_that_is_killed_leaves_whole_files_and_one_front(trial):
     contents = {f"f{place:02}": trial.random.randbytes(trial.random.choice((1000, 300_000, BLOCK + 5))) for place in range(12)}
     folder = folder_of(trial, contents)
     killed = 0
-    for _ in range(trial.kills or KILLS):
+    for turn in range(trial.kills or KILLS):
         started = start(trial, "import", str(folder))
         time.sleep(trial.random.random() * 0.6)
         started.kill()
@@ -228,6 +225,7 @@ def an_import_that_is_killed_leaves_whole_files_and_one_front(trial):
         trial.root.mkdir()
     if not killed:
         raise Skipped("no import was killed")
+    trial.note = f"{killed} of {turn + 1} were killed"
 
 
 @check

@@ -99,6 +99,7 @@ def after_kills_at_random_writes_all_that_had_landed_is_read_back(trial):
         killed += killed_when(trial.start(writing(turn)), lambda: size_of(log) > least)
         is_read_back(trial, counts, turn, 8, *place)
     true("no run was killed", killed)
+    trial.note = f"{killed} of {len(counts)} were killed"
 
 
 @check
@@ -134,6 +135,7 @@ def after_kills_while_containers_are_made_each_is_whole_or_absent_and_little_is_
         killed += is_killed_while_making(trial, f"c{turns}", trial.random.random() * spent)
         turns += 1
     true("no run was killed", killed)
+    trial.note = f"{killed} of {turns} were killed"
     trial.holds()
     for turn in range(turns):
         ended = trial.run(f"actor a\na ropen c{turn}\na read 0 64\n")

@@ -87,6 +87,23 @@ def the_manual_of_plfs_copy_its_help_and_completions_have_the_words_of_its_usage
         same("what man says of it", subprocess.run(words, **how).stderr, "")
 
 
+@check
+def the_manual_of_plfs_serve_its_help_and_completions_have_its_words(trial):
+    usage = subprocess.run(["plfs_serve"], executable=trial.program, stdout=subprocess.PIPE, text=True, timeout=20).stdout
+    same("the usage line", usage, "usage: plfs_serve ROOT [HOST]\n")
+    helped = subprocess.run([trial.top / "plfs_serve", "--help"], stdout=subprocess.PIPE, text=True, timeout=20).stdout
+    true("--help has another usage line", helped.startswith(usage))
+    page = trial.top / "docs" / "plfs_serve.1"
+    for status in range(8):
+        true(f"the manual lacks the status {status}", re.search(rf"^\.B {status}$", page.read_text().partition('.SH "EXIT STATUS"')[2], re.M))
+    for shell in ("bash", "zsh", "fish"):
+        true(f"plfs.{shell} lacks plfs_serve", "plfs_check plfs_serve" in (trial.top / "completions" / f"plfs.{shell}").read_text())
+    if shutil.which("man"):
+        how = {"stdout": subprocess.DEVNULL, "stderr": subprocess.PIPE, "text": True}
+        words = ["man", "--warnings", "-E", "UTF-8", "-l", "-Tutf8", "-Z", str(page)]
+        same("what man says of it", subprocess.run(words, **how).stderr, "")
+
+
 def commands(trial):
     """The commands of the usage line, in its order."""
     usage = trial.run("", words=()).out
@@ -139,7 +156,7 @@ def completion_for_other_shells_offers_the_same(trial):
     if shutil.which("zsh"):
         calls = [f"CURRENT={number} PREFIX={word} _plfs" for number, word in ((2, "--h"), (2, "/tmp:sto"), (3, "r"), (4, ""))]
         script = "\n".join([ZSH, f"source '{trial.top}/completions/plfs.zsh'", *calls])
-        same("what zsh offers", asked(["zsh", "-f", "-c", script]), ["_plfs plfs plfs_copy plfs_check", "--help", "-/ sto", *[it for it in known if it[0] == "r"]])
+        same("what zsh offers", asked(["zsh", "-f", "-c", script]), ["_plfs plfs plfs_copy plfs_check plfs_serve", "--help", "-/ sto", *[it for it in known if it[0] == "r"]])
     if shutil.which("fish"):
         for words, wanted in (("sto", ["store/"]), ("/tmp:sto", ["/tmp:store/"]), ("--", ["--help", "--version"]), ("/tmp ", sorted(known)), ("/tmp play ", [])):
             script = f"source '{trial.top}/completions/plfs.fish'; complete -C 'plfs {words}'"

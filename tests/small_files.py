@@ -17,6 +17,8 @@ UNLESS_MORE = "restore it from a copy, unless more than small files was written 
 # Of a container so many files are written out.
 SOME = 8
 MOST_INPUT = 2**20
+# So many packings into one container are killed one behind the other.
+TURNS = 12
 
 
 def line(name, content):
@@ -392,7 +394,9 @@ def seen_names(trial):
 def after_kills_at_random_times_the_container_is_read_as_by_hand(trial):
     script = lines((f"f{number}", bytes(500)) for number in range(900))
     killed = 0
-    for turn in range(12):
+    for turn in range(trial.kills or TURNS):
+        if turn % TURNS == 0:
+            shutil.rmtree(trial.root / "p", ignore_errors=True)
         most = written(trial) + trial.random.randrange(450_000)
         killed += killed_when(trial.start(script, words=("pack", "p", str(turn % 3))), lambda: written(trial) > most)
         if (trial.root / "p").is_dir():
@@ -400,6 +404,7 @@ def after_kills_at_random_times_the_container_is_read_as_by_hand(trial):
                 trial.ends(0, "", words=("recover", "p"))
             true("a kill left what is no small file", isinstance(as_read_by_hand(trial, "p"), dict))
     true("no packing was killed", killed)
+    trial.note = f"{killed} of {turn + 1} were killed"
 
 
 def written(trial):

@@ -69,7 +69,7 @@ def listed(folder):
 
 class Trial:
     """One check's folder, its empty ROOT in it, the program, the library of preload.c, a source of random numbers, and how many kills are
-    asked for, if that is said."""
+    asked for, if that is said. A check that passes may leave a note, which is printed with its line."""
 
     def __init__(self, program, library, top, folder, random, kills=None):
         self.program = str(program)
@@ -79,6 +79,7 @@ class Trial:
         self.root = self.folder / "root"
         self.random = random
         self.kills = kills
+        self.note = ""
         self.scripts = 0
         self.root.mkdir()
 

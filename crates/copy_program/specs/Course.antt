@@ -10,7 +10,7 @@ use Rattle.copy_program.specs.Putting.{PutCourse}
 use Rattle.copy_program.specs.Words.{IsCopyCommand}
 
 abbrev pub usage_line : List ℕ
-usage_line = codes "usage: plfs_copy ROOT put NAME [HOST] [--over] [--from FILE..]|get NAME|import DIR [HOST] [--over]\n"
+usage_line = codes "usage: plfs_copy ROOT put NAME [HOST] [--over] [--from FILE..]|get NAME|import DIR [HOST] [--over]|export DIR [--over]\n"
 
 -- what becomes of `cat` with this name
 abbrev pub GetCourse : List ℕ → Given → Given → Ends → ℕ → Type 0

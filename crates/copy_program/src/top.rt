@@ -20,7 +20,7 @@ use store_api::Store;
 
 /// The usage line, which words outside the grammar print, with its line feed.
 pub const USAGE: &[u8] =
-    b"usage: plfs_copy ROOT put NAME [HOST] [--over] [--from FILE..]|get NAME|import DIR [HOST] [--over]\n";
+    b"usage: plfs_copy ROOT put NAME [HOST] [--over] [--from FILE..]|get NAME|import DIR [HOST] [--over]|export DIR [--over]\n";
 
 /// The words of the command that writes a file out. The bytes of a name are text.
 fn cat_words(alloc: Global, name: LogicalName) -> Result<Vec<Word>, NoMemory>

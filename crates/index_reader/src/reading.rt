@@ -80,6 +80,20 @@ fn next_stage(alloc: Global, rest: &mut Queue<Placed>, sofar: &mut Bytes) -> Res
     Ok(Stage::Ended(Ok(all)))
 }
 
+/// Adds the first `len` of these bytes. Where there were none, they are taken over.
+fn add_first(sofar: &mut Bytes, bytes: Bytes, len: usize) -> Result<(), NoMemory>
+    requires { len ≤ length bytes }
+    ensures { OnOk result (sofar.new ≡ sofar.old ++ take len bytes) }
+{
+    if sofar.as_slice().is_empty() {
+        let mut bytes = bytes;
+        bytes.truncate(len);
+        *sofar = bytes;
+        return Ok(());
+    }
+    add(sofar, &bytes.as_slice()[..len])
+}
+
 /// What comes after the reply to the Read of a place.
 fn after_reply(
     alloc: Global,
@@ -97,12 +111,11 @@ fn after_reply(
     let Some(bytes) = bytes_in(reply) else {
         return Ok(Stage::Ended(Err(why)));
     };
-    let bytes = bytes.as_slice();
-    let count = bytes.len() as u64;
+    let count = bytes.as_slice().len() as u64;
     if count < place.len {
         return Ok(Stage::Ended(Err(damage(&path, ends_at(place, count)))));
     }
-    add(sofar, &bytes[..place.len as usize])?;
+    add_first(sofar, bytes, place.len as usize)?;
     next_stage(alloc, rest, sofar)
 }
 

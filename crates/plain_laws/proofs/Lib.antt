@@ -11,3 +11,4 @@ mod Having
 mod Plainly
 mod WritingPlainly
 mod Steps
+mod ByName

@@ -7,5 +7,6 @@ pub mod Keeping
 pub mod Leave
 pub mod Making
 pub mod Floors
+pub mod Entered
 pub mod Joining
 pub mod Begun

@@ -57,17 +57,17 @@ use Rattle.plain_laws.proofs.Reaching.{StaysUnderOthers, ended, reached, some_la
 
 -- ---- the greatest stamp that names tell is that of one
 
-went_on : {A : Type 0} (o : Option A) (why : Stuck) (next : A → Result ℕ Stuck) (top : ℕ) → or_trouble o why next ≡ Ok top → (a : A) × (o ≡ Some a) × (next a ≡ Ok top)
+pub went_on : {A : Type 0} (o : Option A) (why : Stuck) (next : A → Result ℕ Stuck) (top : ℕ) → or_trouble o why next ≡ Ok top → (a : A) × (o ≡ Some a) × (next a ≡ Ok top)
 went_on None why next top h = let clash : ◌≡◌ {A = Result ℕ Stuck} (Err why) (Ok top) = h in absurd cc
 went_on (Some a) why next top h = (a, refl, h)
 
 either_max : (a b : ℕ) → (max a b ≡ a) ⊎ (max a b ≡ b)
 either_max a b = elim (cases_lt a b) as (λ _. (max a b ≡ a) ⊎ (max a b ≡ b)) [ inl less ↦ inr (omega (arith, less)) | inr more ↦ inl (omega (arith, more)) ]
 
-abbrev TellsMeta : List Name → ℕ → Type 0
+abbrev pub TellsMeta : List Name → ℕ → Type 0
 TellsMeta names top = (name : Name) × (m : Metadata) × Among name names × (meta_in name ≡ Some m) × (m.stamp ≡ top)
 
-metas_reach : (names : List Name) (start top : ℕ) → metadata_top names start ≡ Ok top → (top ≡ start) ⊎ TellsMeta names top
+pub metas_reach : (names : List Name) (start top : ℕ) → metadata_top names start ≡ Ok top → (top ≡ start) ⊎ TellsMeta names top
 metas_reach [] start top h = inl (let same : start ≡ top = cc in sym same)
 metas_reach (name ∷ names) start top h =
     let s = went_on (meta_in name) (damage (file_in metadata name) 0) (λ (m : Metadata). metadata_top names (max start m.stamp)) top h in
@@ -79,10 +79,10 @@ metas_reach (name ∷ names) start top h =
       ]
     ]
 
-abbrev TellsTrunc : List Name → ℕ → Type 0
+abbrev pub TellsTrunc : List Name → ℕ → Type 0
 TellsTrunc names top = (name : Name) × (t : Trunc) × Among name names × (trunc_in name ≡ Some t) × (t.stamp ≡ top)
 
-truncs_reach : (names : List Name) (start top : ℕ) → truncs_top names start ≡ Ok top → (top ≡ start) ⊎ TellsTrunc names top
+pub truncs_reach : (names : List Name) (start top : ℕ) → truncs_top names start ≡ Ok top → (top ≡ start) ⊎ TellsTrunc names top
 truncs_reach [] start top h = inl (let same : start ≡ top = cc in sym same)
 truncs_reach (name ∷ names) start top h =
     let s = went_on (trunc_in name) (damage (file_in truncs name) 0) (λ (t : Trunc). truncs_top names (max start t.stamp)) top h in
@@ -105,11 +105,11 @@ had_listed m s room folder name names i l below among is =
           (ap (λ o. file_told o room (record { folder = folder; file = name })) s.shape.told ∙ ap (λ o. file_in_room o (record { folder = folder; file = name })) l.has_room ∙ f.1);
     }
 
-names_of : (reply : Reply) (names : List Name) → names_in reply ≡ Some names → reply ≡ Looked (answer.Names names)
+pub names_of : (reply : Reply) (names : List Name) → names_in reply ≡ Some names → reply ≡ Looked (answer.Names names)
 names_of (Looked (answer.Names listed)) names e = let same : listed ≡ names = cc in ap (λ n. Looked (answer.Names n)) same
 names_of reply names e = absurd cc
 
-cases_Result : (r : Result ℕ Stuck) → ((a : ℕ) × (r ≡ Ok a)) ⊎ ((why : Stuck) × (r ≡ Err why))
+pub cases_Result : (r : Result ℕ Stuck) → ((a : ℕ) × (r ≡ Ok a)) ⊎ ((why : Stuck) × (r ≡ Err why))
 cases_Result (Ok a) = inl (a, refl)
 cases_Result (Err why) = inr (why, refl)
 
@@ -121,7 +121,7 @@ pub record HoldsIt (me room holder : ℕ) (m : Moment) : Type 0 where
   pub held : holder_of me holder m.state.table.holders ≡ Some h
   pub room_is : h.room ≡ room
 
-its_own : (me : ℕ) (o : Option Holder) (h : Holder) → o ≡ Some h → h.owner ≡ me → its_hold me o ≡ Some h
+pub its_own : (me : ℕ) (o : Option Holder) (h : Holder) → o ≡ Some h → h.owner ≡ me → its_hold me o ≡ Some h
 its_own me None h e owned = absurd (cc)
 its_own me (Some x) h e owned =
     let same : x ≡ h = cc in
@@ -153,7 +153,7 @@ pushed h table (Ok (answer.NotEmpty least)) holder after o = absurd (elim o.0 as
 ])
 pushed h table told holder after o = absurd (not_held openhosts [] told holder o.0)
 
-hold_does : (m : Moment) (s : IsSoundAt m) (me room holder : ℕ) (event : Event) → Answers m.state me (Hold room) (Holding holder) event.after → HoldsIt me room holder (next_moment m event)
+pub hold_does : (m : Moment) (s : IsSoundAt m) (me room holder : ℕ) (event : Event) → Answers m.state me (Hold room) (Holding holder) event.after → HoldsIt me room holder (next_moment m event)
 hold_does m s me room holder event a = elim (match_cases (draw_check m.state room) (HoldsRoom me room m.state (Holding holder) event.after) (λ why. Refuses why m.state (Holding holder) event.after) a) as (λ _. HoldsIt me room holder (next_moment m event)) [
   | inr (why, some, refused) ↦ absurd (let e : Holding holder ≡ Refused why = refused.0 in cc)
   | inl (none, does) ↦
@@ -168,18 +168,18 @@ hold_does m s me room holder event a = elim (match_cases (draw_check m.state roo
 ]
 
 -- a look leaves the table
-look_table : (old new : State) (me room : ℕ) (look : Sight) (told : Answer) → Answers old me (Look room look) (Looked told) new → new.table ≡ old.table
+pub look_table : (old new : State) (me room : ℕ) (look : Sight) (told : Answer) → Answers old me (Look room look) (Looked told) new → new.table ≡ old.table
 look_table old new me room look told a = elim (match_cases (room_check old room) (MakesAct (look_step room look) (look_outcome look old) old (Looked told) new) (λ why. Refuses why old (Looked told) new) a) as (λ _. new.table ≡ old.table) [
   | inl (none, m) ↦ ap (λ (s : State). s.table) m.after
   | inr (why, some, refused) ↦ absurd (let e : Looked told ≡ Refused why = refused.0 in cc)
 ]
 
-looked_holds : (m : Moment) (me room holder number : ℕ) (look : Sight) (told : Answer) (event : Event) → Answers m.state me (Look number look) (Looked told) event.after → HoldsIt me room holder m → HoldsIt me room holder (next_moment m event)
+pub looked_holds : (m : Moment) (me room holder number : ℕ) (look : Sight) (told : Answer) (event : Event) → Answers m.state me (Look number look) (Looked told) event.after → HoldsIt me room holder m → HoldsIt me room holder (next_moment m event)
 looked_holds m me room holder number look told event a k = record { h = k.h; held = subst (λ (t : Table). holder_of me holder t.holders ≡ Some k.h) (sym (look_table m.state event.after me number look told a)) k.held; room_is = k.room_is }
 
 -- ---- what was reached stays so
 
-one_step : (room top : ℕ) (m : Moment) (event : Event) (rest : List Event) → IsSoundAt m → IsLawful m.state (event ∷ rest) → IsReached room top m → IsReached room top (next_moment m event)
+pub one_step : (room top : ℕ) (m : Moment) (event : Event) (rest : List Event) → IsSoundAt m → IsLawful m.state (event ∷ rest) → IsReached room top m → IsReached room top (next_moment m event)
 one_step room top m event rest sound lawful (inl none) = inl none
 one_step room top m event rest sound lawful (inr (inl t)) = inr (inl (t.0, (grows_after m (event ∷ []) (lawful.0, lawful.1, tt) sound).stands room (item.Trunc top t.0) tt t.1))
 one_step room top m event rest sound lawful (inr (inr w)) = inr (inr (w.0, w.1, w.2, w.3, (grows_after m (event ∷ []) (lawful.0, lawful.1, tt) sound).stands room (item.Meta w.0 w.1 top w.2 w.3) tt w.4))
@@ -193,7 +193,7 @@ knows_stays me room holder top m event rest sound lawful other k = record { hold
 
 -- ---- what listings reach
 
-metas_known : (m : Moment) (s : IsSoundAt m) (me room : ℕ) (names : List Name) (top : ℕ) (after : State) → Answers m.state me (Look room (ListFolder metadata)) (Looked (answer.Names names)) after → metadata_top names 0 ≡ Ok top → IsReached room top m
+pub metas_known : (m : Moment) (s : IsSoundAt m) (me room : ℕ) (names : List Name) (top : ℕ) (after : State) → Answers m.state me (Look room (ListFolder metadata)) (Looked (answer.Names names)) after → metadata_top names 0 ≡ Ok top → IsReached room top m
 metas_known m s me room names top after a is =
     let l = folder_listed m.state s.shape.tree me room metadata names after s.shape.told (record { does = a }) in
     from (metas_reach names 0 top is) l
@@ -202,7 +202,7 @@ metas_known m s me room names top after a is =
     from (inl zero) l = inl zero
     from (inr t) l = inr (inr (t.1.last, t.1.bytes, t.1.host, t.1.writer, subst (λ k. HadItem m room (item.Meta t.1.last t.1.bytes k t.1.host t.1.writer)) t.4 (had_listed m s room metadata t.0 names (item.Meta t.1.last t.1.bytes t.1.stamp t.1.host t.1.writer) l refl t.2 (meta_in-found t.0 t.1 t.3))))
 
-truncs_known : (m : Moment) (s : IsSoundAt m) (me room : ℕ) (names : List Name) (least top : ℕ) (after : State) → Answers m.state me (Look room (ListFolder truncs)) (Looked (answer.Names names)) after → truncs_top names least ≡ Ok top → IsReached room least m → IsReached room top m
+pub truncs_known : (m : Moment) (s : IsSoundAt m) (me room : ℕ) (names : List Name) (least top : ℕ) (after : State) → Answers m.state me (Look room (ListFolder truncs)) (Looked (answer.Names names)) after → truncs_top names least ≡ Ok top → IsReached room least m → IsReached room top m
 truncs_known m s me room names least top after a is was =
     let l = folder_listed m.state s.shape.tree me room truncs names after s.shape.told (record { does = a }) in
     from (truncs_reach names least top is) l
@@ -213,7 +213,7 @@ truncs_known m s me room names least top after a is was =
 
 -- ---- the machine
 
-no_ok : (why : Stuck) (out : ℕ) (R : Type 0) → ◌≡◌ {A = Result ℕ Stuck} (Err why) (Ok out) → R
+pub no_ok : (why : Stuck) (out : ℕ) (R : Type 0) → ◌≡◌ {A = Result ℕ Stuck} (Err why) (Ok out) → R
 no_ok why out R e = absurd (cc)
 
 released_ok : (result : Result ℕ Stuck) (reply : Reply) (out : ℕ) → released result reply ≡ Ok out → result ≡ Ok out
@@ -228,7 +228,7 @@ let_go_is me holder result (e ∷ events) out runs = elim (runs_next me (Release
   | inr (own, asked, on) ↦ released_ok result e.reply out (ended me (released result e.reply) events (Ok out) on)
 ]
 
-marked_is : (stamp size : ℕ) (table : Table) (told : Told) (n : ℕ) → Marked n ≡ (truncate_outcome stamp size table told).reply → n ≡ stamp
+pub marked_is : (stamp size : ℕ) (table : Table) (told : Told) (n : ℕ) → Marked n ≡ (truncate_outcome stamp size table told).reply → n ≡ stamp
 marked_is stamp size table (Ok answer.Made) n e = cc
 marked_is stamp size table (Ok answer.NoRoom) n e = absurd (cc)
 marked_is stamp size table (Ok answer.NoFolder) n e = absurd (cc)
@@ -254,13 +254,13 @@ marks_later m room stamp before event rest events split x = record {
 }
 
 -- the time at which a truncate was marked, and its stamp
-record Stamped (old : State) (top n : ℕ) : Type 0 where
-  time : ℕ
-  times : Option (List ℕ)
-  ticks : Ticks old.times times time
-  is : n ≡ next_stamp time top top
+pub record Stamped (old : State) (top n : ℕ) : Type 0 where
+  pub time : ℕ
+  pub times : Option (List ℕ)
+  pub ticks : Ticks old.times times time
+  pub is : n ≡ next_stamp time top top
 
-mark_does : (old new : State) (me holder size top n : ℕ) (h : Holder) → holder_of me holder old.table.holders ≡ Some h → Answers old me (Mark holder size top) (Marked n) new → Stamped old top n
+pub mark_does : (old new : State) (me holder size top n : ℕ) (h : Holder) → holder_of me holder old.table.holders ≡ Some h → Answers old me (Mark holder size top) (Marked n) new → Stamped old top n
 mark_does old new me holder size top n h held a = elim (match_cases (holder_of me holder old.table.holders) (Refuses refusal.NotHolder old (Marked n) new) (λ x. UnlessRefused (truncate_check size top) old (Marked n) new (TruncatesAt x size top old (Marked n) new)) a) as (λ _. Stamped old top n) [
   | inl (none, refused) ↦ absurd (let e : Marked n ≡ Refused refusal.NotHolder = refused.0 in cc)
   | inr (x, some, d) ↦ elim (match_cases (truncate_check size top) (TruncatesAt x size top old (Marked n) new) (λ why. Refuses why old (Marked n) new) d) as (λ _. Stamped old top n) [

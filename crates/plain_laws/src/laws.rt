@@ -1,5 +1,6 @@
 //! The laws of statements that come to their ends.
 ghost use Rattle.std.specs.Prelude.{◌≡◌, ◌≤◌, ℕ, List, None, Ok, Option, Result, Some, false, length};
+ghost use Rattle.actor_core.specs.Names.{names_program};
 ghost use Rattle.flow.specs.declared.stuck.Stuck.{Stuck};
 ghost use Rattle.flow.specs.Running.{Runs};
 ghost use Rattle.gathering.specs.Moments.{IsSoundAt, Moment, moment_after};
@@ -9,7 +10,7 @@ ghost use Rattle.mount_model.specs.Mounting.{IsMounted};
 ghost use Rattle.mount_model.specs.Paths.{Name};
 ghost use Rattle.mount_sound.specs.Owed.{IsLawful};
 ghost use Rattle.outcomes.specs.Data.{bytes_of};
-ghost use Rattle.outcomes.specs.Outcomes.{close_outcome, open_outcome, sync_outcome, write_outcome};
+ghost use Rattle.outcomes.specs.Outcomes.{close_outcome, list_outcome, open_outcome, rename_outcome, sync_outcome, truncate_outcome, write_outcome};
 ghost use Rattle.plain_laws.specs.Beginning.{bare_tree, first_machine};
 ghost use Rattle.plain_laws.specs.Calls.{AreBy};
 ghost use Rattle.plain_laws.specs.Mirrors.{Mirrors};
@@ -21,8 +22,9 @@ ghost use Rattle.plain_laws.specs.Served.{ClosesWell, EndsAsItMay, EndsWell, Goe
 ghost use Rattle.plain_laws.specs.Tops.{TruncatesAbove};
 ghost use Rattle.script_lang.specs.declared.script.ActorDecl.{ActorDecl};
 ghost use Rattle.script_lang.specs.declared.script.Data.{Data};
-ghost use Rattle.script_lang.specs.declared.script.Statement.TheVariants.{Close, Open, Sync, Write};
+ghost use Rattle.script_lang.specs.declared.script.Statement.TheVariants.{Close, Ls, Open, Rename, Sync, Trunc, Write};
 ghost use Rattle.store_api.specs.Acts.{Stored};
+ghost use Rattle.trunc_rename.specs.Renaming.{rename_program};
 ghost use Rattle.trunc_rename.specs.Truncating.{truncate_program};
 ghost use Rattle.writer_flow.specs.Closing.{close_program};
 ghost use Rattle.writer_flow.specs.declared.handle.WriterHandle.{WriterHandle};
@@ -76,6 +78,23 @@ pub fn writer_statements_are_steps()
         → Runs me (sync_program handle) events out → TakesStep m me declared actor p Sync (sync_outcome out.result) (moment_after m events) out.handle }
     ensures closes { (m : Moment) (me : ℕ) (p : Plain) (handle : WriterHandle) (actor : PlainActor) (declared : ActorDecl) (events : List Event) (out : WriterOut) → IsLawful m.state events → GoesWell me events → AreBy me events → Mirrors m p → HasActor m me p (Some handle) actor
         → Runs me (close_program handle) events out → TakesStep m me declared actor p Close (close_outcome out.result) (moment_after m events) out.handle }
+{}
+
+/// A law: a statement that lists all files is a step of the plain machine, which it leaves as it was. It names the files of the machine's rooms, in byte order. Its
+/// caller met no fault and had memory, and nobody else called.
+pub fn listings_are_steps()
+    ensures { (m : Moment) (me : ℕ) (p : Plain) (handle : Option WriterHandle) (actor : PlainActor) (declared : ActorDecl) (events : List Event) (out : Result (List Name) Stuck) → IsLawful m.state events → GoesWell me events → AreBy me events → Mirrors m p → HasActor m me p handle actor
+        → Runs me names_program events out → TakesStep m me declared actor p Ls (list_outcome out) (moment_after m events) handle }
+{}
+
+/// A law: a truncate and a rename are steps of the plain machine. They have its outcome, also where they are refused: as of no file, held, busy by the least writer
+/// that has the room open, of a name that is taken, too far, or of spent ids or stamps. The stamp of a truncate is the next one above the greatest in its room.
+/// The machine has then what the mount has, and the writers of all actors are as before. The caller met no fault and had memory, and nobody else called.
+pub fn truncates_and_renames_are_steps()
+    ensures truncates { (m : Moment) (me : ℕ) (p : Plain) (handle : Option WriterHandle) (actor : PlainActor) (declared : ActorDecl) (name : Name) (size : ℕ) (events : List Event) (out : Result ℕ Stuck) → IsLawful m.state events → GoesWell me events → AreBy me events → Mirrors m p → HasActor m me p handle actor
+        → Runs me (truncate_program name size) events out → TakesStep m me declared actor p (Trunc name size) (truncate_outcome out) (moment_after m events) handle }
+    ensures renames { (m : Moment) (me : ℕ) (p : Plain) (handle : Option WriterHandle) (actor : PlainActor) (declared : ActorDecl) (name to : Name) (events : List Event) (out : Result (Unit {0}) Stuck) → IsLawful m.state events → GoesWell me events → AreBy me events → Mirrors m p → HasActor m me p handle actor
+        → Runs me (rename_program name to) events out → TakesStep m me declared actor p (Rename name to) (rename_outcome out) (moment_after m events) handle }
 {}
 
 /// A law: a machine begins with a mount. A mount over a store without rooms has what the machine has that has the room of the marks alone, whatever its actors.

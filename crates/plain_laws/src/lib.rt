@@ -6,6 +6,7 @@
 mod laws;
 
 pub use laws::{
-    machines_begin_with_mounts, open_writers_are_served, openings_are_served,
-    truncates_take_the_next_stamp, writer_statements_are_steps, writers_are_plain,
+    listings_are_steps, machines_begin_with_mounts, open_writers_are_served, openings_are_served,
+    truncates_and_renames_are_steps, truncates_take_the_next_stamp, writer_statements_are_steps,
+    writers_are_plain,
 };

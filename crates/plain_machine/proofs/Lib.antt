@@ -1,3 +1,5 @@
 mod Pieces
 mod Working
+mod Together
+mod Filling
 mod Naming

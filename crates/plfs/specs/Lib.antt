@@ -1,3 +1,4 @@
 pub mod Folders
+pub mod Inputs
 pub mod Streams
 pub mod Telling

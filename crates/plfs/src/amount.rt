@@ -1,5 +1,5 @@
 //! How much of an input was copied, on standard error where that is a terminal and the input's length is known.
-ghost use Rattle.std.specs.Prelude.{◌≡◌, ◌<◌, ◌≤◌, ◌*◌, ◌/◌, ◌-◌};
+ghost use Rattle.std.specs.Prelude.{◌≡◌, ◌<◌, ◌≤◌, ◌⊎◌, ◌+◌, ◌*◌, ◌/◌, ◌-◌, ◌^◌, min};
 
 use edge_io::{Clock, SystemClock};
 use std::fs::{self, File};
@@ -65,21 +65,30 @@ fn seconds(count: u64, rate: u128) -> u128
     u128::from(count) / rate
 }
 
-// How many hundredths of all these are, rounded down.
-fn hundredths(done: u64, all: u64) -> u128
-    requires { 1 ≤ all }
+/// How many hundredths of all these are, rounded down.
+pub fn hundredths(done: u64, all: u64) -> u64
+    requires { done < all }
     ensures { result ≡ done * 100 / all }
 {
-    u128::from(done) * 100 / u128::from(all)
+    (u128::from(done) * 100 / u128::from(all)) as u64
+}
+
+// How many bytes are shown as all: none, unless standard error is a terminal.
+fn shown_as_all(rt: &HostRuntime, all: u64) -> u64
+    ensures { (result ≡ all) ⊎ (result ≡ 0) }
+{
+    if rt.stderr().is_terminal() { all } else { 0 }
 }
 
 impl Amount {
     /// So many bytes are to come, or it isn't known how many where that is 0. It is shown where standard error is a terminal.
-    pub fn new(rt: HostRuntime, all: u64) -> Amount {
-        let all = if rt.stderr().is_terminal() { all } else { 0 };
+    pub fn new(rt: HostRuntime, all: u64) -> Amount
+        ensures all { (result.all ≡ all) ⊎ (result.all ≡ 0) }
+        ensures none { (result.done ≡ 0) × (result.shown ≡ 0) }
+    {
         Amount {
             rt,
-            all,
+            all: shown_as_all(&rt, all),
             done: 0,
             began: milliseconds(rt),
             shown: 0,
@@ -87,7 +96,11 @@ impl Amount {
     }
 
     /// So many bytes more were read, or the end where that is 0.
-    pub fn add(&mut self, count: usize) {
+    pub fn add(&mut self, count: usize)
+        ensures all { self.new.all ≡ self.old.all }
+        ensures hidden { self.old.all ≡ 0 → self.new ≡ self.old }
+        ensures done { 1 ≤ self.old.all → self.new.done ≡ min (self.old.done + count) (2 ^ 64 - 1) }
+    {
         if self.all == 0 {
             return;
         }
@@ -96,9 +109,7 @@ impl Amount {
             self.clear();
             return;
         }
-        let now = u64::try_from(hundredths(self.done, self.all))
-            .unwrap_or(0)
-            .saturating_add(1);
+        let now = hundredths(self.done, self.all) + 1;
         if now != self.shown {
             self.shown = now;
             self.show();
@@ -116,7 +127,10 @@ impl Amount {
     }
 
     /// Clears the line, where something is shown. It is shown anew behind the next read.
-    pub fn clear(&mut self) {
+    pub fn clear(&mut self)
+        ensures none { self.new.shown ≡ 0 }
+        ensures same { (self.new.all ≡ self.old.all) × (self.new.done ≡ self.old.done) × (self.new.began ≡ self.old.began) }
+    {
         if self.shown == 0 {
             return;
         }

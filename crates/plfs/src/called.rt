@@ -12,6 +12,7 @@ pub enum Program {
     Plfs,
     Copy,
     Check,
+    Serve,
 }
 
 /// The program that was called, and the words behind its name.
@@ -42,11 +43,20 @@ fn is_check(name: &str) -> bool
     is_called(name, "plfs_check", "/plfs_check")
 }
 
+// Whether it is the name of the program that serves others.
+fn is_serve(name: &str) -> bool
+    ensures { IsTrue result ↔ ((name.now ≡ codes "plfs_serve") ⊎ ((folder : List ℕ) × (name.now ≡ folder ++ codes "/plfs_serve"))) }
+{
+    is_called(name, "plfs_serve", "/plfs_serve")
+}
+
 fn program_of(name: &str) -> Program {
     if is_copy(name) {
         Program::Copy
     } else if is_check(name) {
         Program::Check
+    } else if is_serve(name) {
+        Program::Serve
     } else {
         Program::Plfs
     }

@@ -1,4 +1,8 @@
 //! What `plfs_copy` reads: standard input, or files one behind the other.
+ghost use Rattle.std.specs.Prelude.{◌≡◌, ◌≢◌, ◌++◌, ◌↔◌, ℕ, List, IfOk, IsTrue, codes, length, vec_len};
+ghost use Rattle.std.specs.List.{All};
+ghost use Rattle.plfs.specs.Inputs.{BeginsWithFrom};
+
 use plfs_types::Word;
 use std::alloc::Global;
 use std::cell::RefCell;
@@ -12,18 +16,22 @@ pub struct Unopened<'a> {
     pub error: io::Error,
 }
 
-fn is_from(word: &Word) -> bool {
+// Whether files follow behind the word.
+fn is_from(word: &Word) -> bool
+    ensures { IsTrue result ↔ (word.now ≡ codes "--from") }
+{
     word.as_bytes() == b"--from".as_slice()
 }
 
 /// The words before the first `--from`, and those from it on.
-pub fn split_from(words: &[Word]) -> (&[Word], &[Word]) {
-    for (place, word) in words.iter().enumerate() {
-        if is_from(word) {
-            return (
-                words.get(..place).unwrap_or(words),
-                words.get(place..).unwrap_or(&[]),
-            );
+pub fn split_from(words: &[Word]) -> (&[Word], &[Word])
+    ensures whole { result.0.now ++ result.1.now ≡ words.now }
+    ensures before { All (λ (word : List ℕ). word ≢ codes "--from") result.0.now }
+    ensures behind { BeginsWithFrom result.1.now }
+{
+    for place in 0..words.len() {
+        if is_from(&words[place]) {
+            return words.split_at(place);
         }
     }
     (words, &[])
@@ -42,7 +50,9 @@ pub fn open_files<'a>(
     rt: &HostRuntime,
     alloc: Global,
     files: &'a [Word],
-) -> Result<Vec<File>, Unopened<'a>> {
+) -> Result<Vec<File>, Unopened<'a>>
+    ensures { IfOk result (λ opened. vec_len opened ≡ length files.now) }
+{
     let mut opened = Vec::new(alloc);
     for file in files.iter().rev() {
         match File::open(rt, file.as_str()) {
@@ -60,7 +70,9 @@ pub fn open_files<'a>(
 
 impl<'a> Files<'a> {
     /// These files, of which the last one comes first. How many were read to their ends is counted there.
-    pub fn new(opened: Vec<File>, read: &'a RefCell<usize>) -> Files<'a> {
+    pub fn new(opened: Vec<File>, read: &'a RefCell<usize>) -> Files<'a>
+        ensures { result.opened ≡ opened }
+    {
         Files { opened, read }
     }
 

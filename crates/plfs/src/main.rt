@@ -1,6 +1,6 @@
-//! The program `plfs`, which serves `plfs_copy` and `plfs_check` under their names too: the command of its words, over real
+//! The program `plfs`, which serves `plfs_copy`, `plfs_check` and `plfs_serve` under their names too: the command of its words, over real
 //! folders, the standard streams and the system's clock. It owns no rule of what lies there; all of them stand in
-//! `plfs_program`, `copy_program`, `check_program` and `drain_program`.
+//! `plfs_program`, `copy_program`, `export_program`, `check_program`, `drain_program` and `serve_program`.
 //! It owns the order in which a run takes things up: its words, its input, and only then the folders, which it locks. A run of
 //! `plfs_copy` reads its input behind that. Where a run ends with a status from 3 to 7, it says why on standard error, in one line.
 #![tactic(auto)]
@@ -10,12 +10,14 @@ ghost use Rattle.std.specs.Prelude.{◌≤◌, length};
 mod amount;
 mod called;
 mod entries;
+mod exporting;
 mod folders;
 mod inputs;
 mod lock;
 mod progress;
 mod reading;
 mod said;
+mod serving;
 mod spelled;
 mod standard;
 mod task;
@@ -23,6 +25,7 @@ mod telling;
 
 use crate::called::{Called, Program, read_called};
 use crate::entries::list_files;
+use crate::exporting::obey_export;
 use crate::folders::{MOST_FOLDERS, are_named, folders_of, stores_of};
 use crate::inputs::{open_files, split_from};
 use crate::lock::lock_folders;
@@ -36,7 +39,9 @@ use check_program::CheckCommand;
 use command_line::Command;
 use copy_program::{CopyCommand, ImportCommand};
 use drain_program::DrainCommand;
+use plfs_program::HeldInput;
 use plfs_types::Word;
+use serve_program::ServeCommand;
 use spread_store::{Backing, Spread};
 use std::cell::RefCell;
 use std::io;
@@ -78,13 +83,14 @@ fn main(rt: HostRuntime) -> ExitCode {
         Program::Plfs => obey(&rt, rt, root, &folders, words, &standard),
         Program::Copy => obey_copy(&rt, rt, root, &folders, words, &standard),
         Program::Check => obey_check(&rt, rt, root, &folders, words, &standard),
+        Program::Serve => obey_serve(&rt, rt, root, &folders, words, &standard),
     }
 }
 
 // The bytes of standard input, where the command reads them. The reader, which has a large buffer on the stack, ends with it.
 #[inline(never)]
-fn input_of(rt: &HostRuntime, command: &Command) -> io::Result<Vec<u8>> {
-    read_input(rt.alloc(), rt.reader(), command)
+fn input_of(rt: &HostRuntime, command: &Command) -> io::Result<HeldInput> {
+    Ok(HeldInput::new(read_input(rt.alloc(), rt.reader(), command)?))
 }
 
 // Does what the words of `plfs` ask for.
@@ -106,7 +112,7 @@ fn obey<H: Threads + Wait + Sync>(
         return obey_drain(handle, rt, root, folders, words, standard);
     };
     let input = match input_of(&rt, &command) {
-        Ok(input) => input,
+        Ok(input) => RefCell::new(input),
         Err(error) => return unread(&rt, error, standard),
     };
     let task = Task::Plfs {
@@ -203,7 +209,7 @@ fn obey_copy<H: Threads + Wait + Sync>(
     }
 }
 
-// Puts the files of a folder, where the words of `plfs_copy` ask for that.
+// Puts the files of a folder, where the words of `plfs_copy` ask for that, or writes all files out.
 #[inline(never)]
 fn obey_import<H: Threads + Wait + Sync>(
     handle: &H,
@@ -220,7 +226,7 @@ fn obey_import<H: Threads + Wait + Sync>(
         return usage(&rt, Program::Copy);
     }
     let Some(command) = ImportCommand::read(words) else {
-        return usage(&rt, Program::Copy);
+        return obey_export(handle, rt, root, folders, words, standard);
     };
     let Some(folder) = words.get(1) else {
         return usage(&rt, Program::Copy);
@@ -253,6 +259,25 @@ fn obey_check<H: Threads + Wait + Sync>(
         return usage(&rt, Program::Check);
     }
     serve(handle, rt, root, folders, &Task::Check { words }, standard)
+}
+
+// Answers requests, where the words are those of `plfs_serve`.
+#[inline(never)]
+fn obey_serve<H: Threads + Wait + Sync>(
+    handle: &H,
+    rt: HostRuntime,
+    root: &Word,
+    folders: &[&str],
+    words: &[Word],
+    standard: &Standard,
+) -> ExitCode
+    requires few { length folders.now ≤ MOST_FOLDERS }
+{
+    let Some(command) = ServeCommand::read(words) else {
+        return usage(&rt, Program::Serve);
+    };
+    let task = Task::Serve { host: command.host };
+    serve(handle, rt, root, folders, &task, standard)
 }
 
 // Locks the folders, and runs the command over them.

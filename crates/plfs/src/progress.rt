@@ -1,6 +1,7 @@
 //! How far a check is, on standard error where that is a terminal.
-ghost use Rattle.std.specs.Prelude.{◌≡◌, ◌<◌, ◌*◌, ◌/◌};
+ghost use Rattle.std.specs.Prelude.{◌≡◌};
 
+use crate::amount::hundredths;
 use check_program::Watcher;
 use std::io::IsTerminal;
 
@@ -15,21 +16,15 @@ pub struct Progress<'a> {
 
 impl<'a> Progress<'a> {
     /// It is shown where standard error is a terminal.
-    pub fn new(rt: &'a HostRuntime) -> Progress<'a> {
+    pub fn new(rt: &'a HostRuntime) -> Progress<'a>
+        ensures { result.told ≡ 0 }
+    {
         Progress {
             rt,
             is_shown: rt.stderr().is_terminal(),
             told: 0,
         }
     }
-}
-
-// How many hundredths of all these are, rounded down.
-fn hundredths(done: u64, all: u64) -> u64
-    requires { done < all }
-    ensures { result ≡ done * 100 / all }
-{
-    (u128::from(done) * 100 / u128::from(all)) as u64
 }
 
 impl<'a> Watcher for Progress<'a> {

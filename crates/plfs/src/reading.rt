@@ -59,11 +59,11 @@ pub fn read_input<R: Read + Drop>(
     read_front(alloc, reader)
 }
 
-// The bytes of a reader, up to one more than a script can have.
+// The bytes of a reader, up to one more than a script can have. All of their room is made at once, so that they aren't moved as they grow.
 fn read_front<R: Read + Drop>(alloc: Global, reader: R) -> io::Result<Vec<u8>>
     ensures bytes { IfOk result (λ input. IfSome (option_map (take (MAX_SCRIPT + 1)) (R.remaining reader)) (λ read. input.items ≡ read)) }
 {
-    let mut input = Vec::new(alloc);
+    let mut input = Vec::with_capacity(alloc, MAX_SCRIPT + 1)?;
     reader.take(MAX_SCRIPT as u64 + 1).read_to_end(&mut input)?;
     Ok(input)
 }

@@ -1,20 +1,22 @@
 //! A command, and its run over the folders, the standard streams and the system's clock.
 use crate::amount::{Amount, files_length, input_length};
 use crate::entries::Entries;
+use crate::exporting::export_files;
 use crate::inputs::{Files, Input};
 use crate::progress::Progress;
 use crate::reading::{copies_the_input, writes_a_file};
 use crate::said::{Said, Saying};
+use crate::serving::serve_requests;
 use check_program::check;
 use command_line::Command;
 use copy_program::{CopyCommand, ImportCommand, copy, import};
 use drain_program::{DrainEnded, drain};
 use edge_io::{NoGate, Sink, StdSink, StdSource, SystemClock};
-use plfs_program::plfs;
+use export_program::ExportCommand;
+use plfs_program::{HeldInput, plfs};
 use plfs_types::Word;
 use program_ends::Ended;
 use spread_store::Backing;
-use std::alloc::Global;
 use std::cell::RefCell;
 use std::fs::File;
 use std::io::{self, Read};
@@ -33,7 +35,7 @@ pub enum Task<'a> {
     Plfs {
         words: &'a [Word],
         command: Command,
-        input: &'a [u8],
+        input: &'a RefCell<HeldInput>,
     },
     /// Of `plfs_copy`: its words, which are of this kind. It reads its input as it goes: standard input, or these files, which are open
     /// where there are any, the last one first.
@@ -49,6 +51,11 @@ pub enum Task<'a> {
         folder: &'a Word,
         entries: &'a Entries,
     },
+    /// Of `plfs_copy`: how all files are written out, and the folder of those, which is locked.
+    Export {
+        command: ExportCommand,
+        folder: &'a Word,
+    },
     /// Of `plfs_check`: its words.
     Check {
         words: &'a [Word],
@@ -57,6 +64,10 @@ pub enum Task<'a> {
     Drain {
         words: &'a [Word],
         folder: &'a Word,
+    },
+    /// Of `plfs_serve`: the host of the writers. It reads its input as it goes.
+    Serve {
+        host: u32,
     },
 }
 
@@ -99,11 +110,11 @@ impl<'a, 'b, R: Read> Read for Hearing<'a, 'b, R> {
     }
 }
 
-// The files that stand there.
-fn taken(alloc: Global, files: &RefCell<Vec<File>>) -> Vec<File> {
-    match files.try_borrow_mut() {
-        Ok(mut files) => mem::replace(&mut *files, Vec::new(alloc)),
-        Err(_) => Vec::new(alloc),
+// What stands there, in whose place this comes.
+fn taken<T: Drop>(cell: &RefCell<T>, instead: T) -> T {
+    match cell.try_borrow_mut() {
+        Ok(mut it) => mem::replace(&mut *it, instead),
+        Err(_) => instead,
     }
 }
 
@@ -113,8 +124,9 @@ fn has_lines(task: &Task<'_>) -> bool {
         Task::Plfs { command, .. } => !writes_a_file(command),
         Task::Copy { command, .. } => copies_the_input(command),
         Task::Import { .. } => false,
-        Task::Check { .. } => true,
+        Task::Check { .. } | Task::Export { .. } => true,
         Task::Drain { .. } => true,
+        Task::Serve { .. } => false,
     }
 }
 
@@ -217,6 +229,25 @@ fn drain_to<O: Sink>(
     (Ended { store, status }, cause)
 }
 
+// Copies what is read there.
+#[inline(never)]
+fn copy_heard<R: Read + Drop, O: Sink>(
+    rt: &HostRuntime,
+    words: &[Word],
+    heard: Hearing<'_, '_, R>,
+    sink: &mut O,
+    store: Folders,
+) -> Ended<Folders> {
+    copy(
+        rt.alloc(),
+        words,
+        &mut StdSource::new(heard),
+        sink,
+        store,
+        SystemClock::new(*rt),
+    )
+}
+
 /// Runs the command over the store, its input, standard output and the system's clock.
 pub fn run<H: Threads + Wait + Sync>(
     handle: &H,
@@ -235,19 +266,16 @@ pub fn run<H: Threads + Wait + Sync>(
     });
     let mut target = None;
     let ended = match task {
-        Task::Plfs { words, input, .. } => {
-            let mut source = StdSource::new(*input);
-            plfs(
-                handle,
-                rt.alloc(),
-                words,
-                &mut source,
-                &mut sink,
-                store,
-                SystemClock::new(*rt),
-                &NoGate,
-            )
-        }
+        Task::Plfs { words, input, .. } => plfs(
+            handle,
+            rt.alloc(),
+            words,
+            &mut taken(input, HeldInput::new(Vec::new(rt.alloc()))),
+            &mut sink,
+            store,
+            SystemClock::new(*rt),
+            &NoGate,
+        ),
         Task::Copy {
             words,
             files,
@@ -257,20 +285,19 @@ pub fn run<H: Threads + Wait + Sync>(
             let reader = if files.is_empty() {
                 Input::Standard(rt.stdin())
             } else {
-                Input::Files(Files::new(taken(rt.alloc(), opened), &read))
+                Input::Files(Files::new(taken(opened, Vec::new(rt.alloc())), &read))
             };
-            let mut source = StdSource::new(Hearing {
-                reader,
-                error: &error,
-                amount: &amount,
-            });
-            copy(
-                rt.alloc(),
+            let (error, amount) = (&error, &amount);
+            copy_heard(
+                rt,
                 words,
-                &mut source,
+                Hearing {
+                    reader,
+                    error,
+                    amount,
+                },
                 &mut sink,
                 store,
-                SystemClock::new(*rt),
             )
         }
         Task::Import {
@@ -278,12 +305,16 @@ pub fn run<H: Threads + Wait + Sync>(
             folder,
             entries,
         } => put_files(rt, *command, folder, entries, &mut sink, store),
+        Task::Export { command, folder } => {
+            export_files(rt, *command, folder, &said, &amount, store)
+        }
         Task::Check { words } => check(rt.alloc(), words, &mut sink, &mut Progress::new(rt), store),
         Task::Drain { words, folder } => {
             let (ended, left) = drain_to(rt, words, folder, &mut sink, store);
             target = left;
             ended
         }
+        Task::Serve { host } => serve_requests(rt, *host, &error, &mut sink, store),
     };
     drop(sink);
     Ran {

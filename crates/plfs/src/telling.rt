@@ -1,9 +1,16 @@
 //! What is said of how a run ended: the usage line, the line of folders that can't be had, and one line on standard error.
+ghost use Rattle.std.specs.Prelude.{◌≡◌, ◌≢◌, ◌⊎◌};
+ghost use Rattle.std.specs.IoError.{error_kind};
+ghost use Rattle.std.specs.Process.{exit_status};
+ghost use Rattle.plfs.specs.Telling.{unopened_status};
+
 use crate::called::Program;
+use crate::exporting::tells_each;
 use crate::folders::{Stores, failed};
 use crate::inputs::Unopened;
 use crate::lock::{Denial, Denied};
 use crate::said::Said;
+use crate::serving::tells_requests;
 use crate::spelled::Spelled;
 use crate::standard::{INPUT, OUTPUT, Standard};
 use crate::task::{Ran, Task};
@@ -16,7 +23,7 @@ use std::str;
 use store_folder::{Cause, FolderStore, Place};
 
 /// What helps where something is damaged.
-const CURE: &str = "restore it from a copy";
+pub const CURE: &str = "restore it from a copy";
 
 /// What helps where a place of a file breaks a rule of small files. It may hold other bytes rightly.
 const CURE_OF_VIEW: &str = "restore it from a copy, unless more than small files was written to it";
@@ -50,7 +57,9 @@ pub fn tell_ran(
     task: &Task<'_>,
     ran: Ran,
     standard: &Standard,
-) -> ExitCode {
+) -> ExitCode
+    ensures { exit_status result ≡ ran.ended.status }
+{
     let Ran {
         ended,
         said,
@@ -61,6 +70,11 @@ pub fn tell_ran(
     let Ended { store, status } = ended;
     if is_told(rt, root, task, target, status, &said) {
         return ExitCode::from(status);
+    }
+    if let Task::Serve { .. } = task {
+        if tells_requests(rt, root.as_str(), status, &unread) {
+            return ExitCode::from(status);
+        }
     }
     if status == 5 && tells_file(rt, task, read, &unread) {
         return ExitCode::from(status);
@@ -125,6 +139,9 @@ fn is_told(
         let _ = eprintln!(rt; "plfs: {root}: it isn't sound");
         return true;
     }
+    if let Task::Export { .. } = task {
+        return tells_each(status, said);
+    }
     let Task::Drain { folder, .. } = task else {
         return false;
     };
@@ -168,7 +185,10 @@ fn tells_file(rt: &HostRuntime, task: &Task<'_>, read: usize, unread: &Option<io
 
 /// Says which file in the place of standard input can't be opened, and why. Nothing was done.
 #[inline(never)]
-pub fn tell_unread(rt: &HostRuntime, unopened: Unopened<'_>) -> ExitCode {
+pub fn tell_unread(rt: &HostRuntime, unopened: Unopened<'_>) -> ExitCode
+    ensures starved { error_kind unopened.entry.error ≡ ErrorKind.OutOfMemory → exit_status result ≡ 3 }
+    ensures failed { error_kind unopened.entry.error ≢ ErrorKind.OutOfMemory → exit_status result ≡ 5 }
+{
     let Unopened { file, error } = unopened;
     if error.kind() == ErrorKind::OutOfMemory {
         return starved(rt);
@@ -180,7 +200,10 @@ pub fn tell_unread(rt: &HostRuntime, unopened: Unopened<'_>) -> ExitCode {
 
 /// Says why a folder whose files are to be put can't be listed. Nothing was done.
 #[inline(never)]
-pub fn tell_unlisted(rt: &HostRuntime, folder: &Word, error: io::Error) -> ExitCode {
+pub fn tell_unlisted(rt: &HostRuntime, folder: &Word, error: io::Error) -> ExitCode
+    ensures starved { error_kind error ≡ ErrorKind.OutOfMemory → exit_status result ≡ 3 }
+    ensures failed { error_kind error ≢ ErrorKind.OutOfMemory → exit_status result ≡ 5 }
+{
     if error.kind() == ErrorKind::OutOfMemory {
         return starved(rt);
     }
@@ -211,7 +234,10 @@ pub fn tell_unopened(
     stores: &Stores,
     trouble: SpreadTrouble,
     standard: &Standard,
-) -> ExitCode {
+) -> ExitCode
+    ensures starved { trouble ≡ SpreadTrouble.NoMemory → exit_status result ≡ 3 }
+    ensures told { (exit_status result ≡ unopened_status trouble) ⊎ (exit_status result ≡ 6) }
+{
     match trouble {
         SpreadTrouble::NoMemory => starved(rt),
         SpreadTrouble::Fault => match println!(rt; "0 fault") {
@@ -247,7 +273,10 @@ pub fn tell_denied(
     folders: &[&str],
     denied: Denied,
     standard: &Standard,
-) -> ExitCode {
+) -> ExitCode
+    ensures starved { denied.why ≡ Denial.NoMemory → exit_status result ≡ 3 }
+    ensures denied { denied.why ≢ Denial.NoMemory → (exit_status result ≡ 4) ⊎ (exit_status result ≡ 6) }
+{
     if let Denial::NoMemory = denied.why {
         return starved(rt);
     }
@@ -262,7 +291,10 @@ pub fn tell_denied(
 
 /// Says why there is no input.
 #[inline(never)]
-pub fn unread(rt: &HostRuntime, error: io::Error, standard: &Standard) -> ExitCode {
+pub fn unread(rt: &HostRuntime, error: io::Error, standard: &Standard) -> ExitCode
+    ensures starved { error_kind error ≡ ErrorKind.OutOfMemory → exit_status result ≡ 3 }
+    ensures failed { error_kind error ≢ ErrorKind.OutOfMemory → exit_status result ≡ 5 }
+{
     if error.kind() == ErrorKind::OutOfMemory {
         return starved(rt);
     }
@@ -270,7 +302,9 @@ pub fn unread(rt: &HostRuntime, error: io::Error, standard: &Standard) -> ExitCo
     ExitCode::from(5)
 }
 
-fn unprinted(rt: &HostRuntime, error: io::Error, standard: &Standard) -> ExitCode {
+fn unprinted(rt: &HostRuntime, error: io::Error, standard: &Standard) -> ExitCode
+    ensures { exit_status result ≡ 6 }
+{
     tell_stream(rt, "output: write", standard.has(OUTPUT), Some(error));
     ExitCode::from(6)
 }
@@ -320,7 +354,9 @@ fn cure(what: &str) -> &'static str {
 }
 
 /// Prints the usage line of the program.
-pub fn usage(rt: &HostRuntime, program: Program) -> ExitCode {
+pub fn usage(rt: &HostRuntime, program: Program) -> ExitCode
+    ensures { exit_status result ≡ 2 }
+{
     let line = match program {
         Program::Plfs => {
             let _ = io::writer(rt).write_all(USAGE.strip_suffix(b"\n").unwrap_or(USAGE));
@@ -328,13 +364,16 @@ pub fn usage(rt: &HostRuntime, program: Program) -> ExitCode {
         }
         Program::Copy => copy_program::USAGE,
         Program::Check => check_program::USAGE,
+        Program::Serve => serve_program::USAGE,
     };
     let _ = io::writer(rt).write_all(line);
     ExitCode::from(2)
 }
 
 /// Says that memory was refused.
-pub fn starved(rt: &HostRuntime) -> ExitCode {
+pub fn starved(rt: &HostRuntime) -> ExitCode
+    ensures { exit_status result ≡ 3 }
+{
     say_starved(rt);
     ExitCode::from(3)
 }

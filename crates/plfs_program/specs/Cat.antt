@@ -16,7 +16,7 @@ use Rattle.program_ends.specs.Output.{IsPrinted, IsCutOff}
 
 -- in bytes
 abbrev pub piece_length : ℕ
-piece_length = 2 ^ 20
+piece_length = 2 ^ 19
 
 -- how many pieces a file of this size has
 abbrev pub pieces_of : ℕ → ℕ

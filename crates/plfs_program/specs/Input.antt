@@ -21,3 +21,7 @@ pub record IsWholeInput (limit : ℕ) (bytes : List ℕ) (old new : Given) : Typ
   pub faults : new.faults ≡ old.faults
   pub within : length bytes ≤ limit
   pub to_end : (length bytes ≡ limit) ⊎ IsAtEnd new.left
+
+-- bytes that were read before are all left, and no read has failed
+abbrev pub held : List ℕ → Given
+held bytes = record { left = Some bytes; faults = 0 }

@@ -1,5 +1,6 @@
 //! The input, read to its end or to its limit.
 ghost use Rattle.std.specs.Prelude.{◌≡◌, ◌≤◌, ◌+◌, ◌^◌, vec_len, IfOk, OnOk, IsErrOf};
+ghost use Rattle.edge_io.specs.Source.{Given};
 ghost use Rattle.plfs_types.specs.Counts.{HasRisen};
 ghost use Rattle.plfs_program.specs.Input.{IsWholeInput, HasMore};
 
@@ -12,7 +13,7 @@ const PIECE: usize = 1 << 16;
 
 /// Why there is no input.
 #[derive(Clone, Copy)]
-pub(crate) enum NoInput {
+pub enum NoInput {
     /// A read failed.
     Failed,
     /// Memory was refused.
@@ -41,8 +42,30 @@ impl From<AllocError> for NoInput {
     }
 }
 
-/// Reads the input to its end, or to one byte past the limit of a script.
-pub(crate) fn read_input<I: Source>(alloc: Global, input: &mut I) -> Result<Vec<u8>, NoInput>
+/// The input of a command, which is read at once.
+pub trait Input {
+    /// The bytes it has left, where it tells them, and its count of faults.
+    ghost given: { Self → Given };
+
+    /// Hands over the bytes left, up to one more than a script can have.
+    ///
+    /// `Failed` comes only where the count of faults rose.
+    fn rest(&mut self, alloc: Global) -> Result<Vec<u8>, NoInput>
+        ensures whole { IfOk result (λ bytes. IsWholeInput (2 ^ 20 + 1) bytes.items (given self.old) (given self.new)) }
+        ensures cause { IsErrOf result NoInput.Failed → HasRisen (given self.old).faults (given self.new).faults };
+}
+
+/// Each source is an input, whose bytes are copied.
+impl<I: Source> Input for I {
+    ghost given = { I.given };
+
+    fn rest(&mut self, alloc: Global) -> Result<Vec<u8>, NoInput> {
+        read_source(alloc, self)
+    }
+}
+
+// Reads a source to its end, or to one byte past the limit of a script.
+fn read_source<I: Source>(alloc: Global, input: &mut I) -> Result<Vec<u8>, NoInput>
     ensures whole { IfOk result (λ bytes. IsWholeInput (2 ^ 20 + 1) bytes.items (I.given input.old) (I.given input.new)) }
     ensures cause { IsErrOf result NoInput.Failed → HasRisen (I.given input.old).faults (I.given input.new).faults }
 {

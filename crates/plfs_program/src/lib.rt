@@ -4,6 +4,7 @@
 mod cat;
 mod commands;
 mod faults;
+mod held;
 mod input;
 mod laws;
 mod migrating;
@@ -17,6 +18,8 @@ mod summary;
 mod top;
 mod work;
 
+pub use held::HeldInput;
+pub use input::{Input, NoInput};
 pub use laws::a_run_leaves_a_sound_tree;
 pub use running::plfs;
 pub use top::single;

@@ -11,9 +11,9 @@ ghost use Rattle.plfs_program.specs.Course.{Course};
 ghost use Rattle.program_ends.specs.Ends.{ends_of};
 ghost use Rattle.plfs_program.specs.Packing.{PackCourse, PackInputCourse};
 
-use crate::input::{NoInput, read_input};
+use crate::input::{Input, NoInput};
 use crate::packing::{pack_fault_line, pack_mounted};
-use edge_io::{Clock, Sink, Source};
+use edge_io::{Clock, Sink};
 use mount_core::Mount;
 use pack_input::{FileList, InputTrouble, Kind, read};
 use packing_laws::{
@@ -99,7 +99,7 @@ fn pack_bytes<S: Store + Drop, C: Clock + Drop, O: Sink>(
 
 /// Reads the input, and packs the files that it says.
 #[inline(never)]
-pub(crate) fn pack<S: Store + Drop, C: Clock + Drop, I: Source, O: Sink>(
+pub(crate) fn pack<S: Store + Drop, C: Clock + Drop, I: Input, O: Sink>(
     alloc: Global,
     name: LogicalName,
     region: u64,
@@ -111,7 +111,7 @@ pub(crate) fn pack<S: Store + Drop, C: Clock + Drop, I: Source, O: Sink>(
     requires { region < REGIONS }
     ensures { (words : List (List ℕ)) → IsCommand words (Pack name region) → Course IsBuiltCommand words (I.given input.old) (I.given input.new) (ends_of (C.times clock) (O.taking out.old) (O.taking out.new) (S.stored store) (option_map S.stored result.store)) result.status }
 {
-    match read_input(alloc, input) {
+    match input.rest(alloc) {
         Ok(bytes) => pack_bytes(alloc, name, region, bytes.as_slice(), out, store, clock),
         Err(NoInput::Failed) => ends(store, 5),
         Err(NoInput::NoMemory) => ends(store, 3),

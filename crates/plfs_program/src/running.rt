@@ -17,13 +17,13 @@ ghost use Rattle.program_ends.specs.SoundTrees.{TellsSoundTree, LeavesSoundTree}
 ghost use Rattle.plfs_program.specs.UnitTrees.{AskForUnits};
 ghost use Rattle.plfs_program.specs.Ways.{on_threads};
 
-use crate::input::{NoInput, read_input};
+use crate::input::{Input, NoInput};
 use crate::reporting::report;
 use crate::showing::Shown;
 use crate::top::{end_faulty, obey, refuse};
 use crate::work::{Worked, work_on_threads};
 use command_line::Command;
-use edge_io::{Clock, Gate, Sink, Source};
+use edge_io::{Clock, Gate, Sink};
 use mount_sound::a_failed_mounting_leaves_a_sound_tree;
 use plfs_types::Word;
 use program_ends::{Ended, ends};
@@ -89,13 +89,13 @@ fn run<
     R: Threads + Wait + Sync,
     S: Store + Drop + Send,
     C: Clock + Drop + Send,
-    I: Source,
+    I: Input,
     O: Sink,
     G: Gate + Sync,
 >(rt: &R, alloc: Global, input: &mut I, out: &mut O, store: S, clock: C, gate: &G) -> Ended<S>
     ensures { (words : List (List ℕ)) → IsCommand words Run → Course IsServed words (I.given input.old) (I.given input.new) (ends_of (C.times clock) (O.taking out.old) (O.taking out.new) (S.stored store) (option_map S.stored result.store)) result.status }
 {
-    match read_input(alloc, input) {
+    match input.rest(alloc) {
         Ok(bytes) => run_input(rt, alloc, bytes.as_slice(), out, store, clock, gate),
         Err(NoInput::Failed) => ends(store, 5),
         Err(NoInput::NoMemory) => ends(store, 3),
@@ -115,7 +115,7 @@ fn follow<
     R: Threads + Wait + Sync,
     S: Store + Drop + Send,
     C: Clock + Drop + Send,
-    I: Source,
+    I: Input,
     O: Sink,
     G: Gate + Sync,
 >(
@@ -159,7 +159,7 @@ pub fn plfs<
     R: Threads + Wait + Sync,
     S: Store + Drop + Send,
     C: Clock + Drop + Send,
-    I: Source,
+    I: Input,
     O: Sink,
     G: Gate + Sync,
 >(

@@ -24,7 +24,7 @@ ghost use Rattle.plfs_program.specs.Ways.{Way, by_turns};
 use crate::cat::cat_mounted;
 use crate::commands::{Built, Plan, built_command};
 use crate::faults::fault_line;
-use crate::input::{NoInput, read_input};
+use crate::input::{Input, NoInput};
 use crate::migrating::migrate_mounted;
 use crate::pack_run::pack;
 use crate::reporting::report;
@@ -32,7 +32,7 @@ use crate::showing::Shown;
 use crate::small_files::{names_mounted, unpack_mounted};
 use crate::work::{Worked, work};
 use command_line::Command;
-use edge_io::{Clock, Sink, Source};
+use edge_io::{Clock, Sink};
 use mount_core::Mount;
 use mount_sound::a_failed_mounting_leaves_a_sound_tree;
 use packing_laws::{
@@ -115,7 +115,7 @@ fn play_input<S: Store + Drop, C: Clock + Drop, O: Sink>(
 }
 
 // Reads the input, and plays it.
-fn play<S: Store + Drop, C: Clock + Drop, I: Source, O: Sink>(
+fn play<S: Store + Drop, C: Clock + Drop, I: Input, O: Sink>(
     alloc: Global,
     input: &mut I,
     out: &mut O,
@@ -124,7 +124,7 @@ fn play<S: Store + Drop, C: Clock + Drop, I: Source, O: Sink>(
 ) -> Ended<S>
     ensures { (words : List (List ℕ)) → IsCommand words Play → Course IsBuiltCommand words (I.given input.old) (I.given input.new) (ends_of (C.times clock) (O.taking out.old) (O.taking out.new) (S.stored store) (option_map S.stored result.store)) result.status }
 {
-    match read_input(alloc, input) {
+    match input.rest(alloc) {
         Ok(bytes) => play_input(alloc, bytes.as_slice(), out, store, clock),
         Err(NoInput::Failed) => ends(store, 5),
         Err(NoInput::NoMemory) => ends(store, 3),
@@ -132,7 +132,7 @@ fn play<S: Store + Drop, C: Clock + Drop, I: Source, O: Sink>(
 }
 
 // Plays the script that the words of a command tell.
-fn play_plan<S: Store + Drop, C: Clock + Drop, I: Source, O: Sink>(
+fn play_plan<S: Store + Drop, C: Clock + Drop, I: Input, O: Sink>(
     alloc: Global,
     plan: &Plan,
     input: &mut I,
@@ -148,7 +148,7 @@ fn play_plan<S: Store + Drop, C: Clock + Drop, I: Source, O: Sink>(
 
 // Writes a file out. What one command has on the stack is not to stand in the frames of the others: so each stays out of line.
 #[inline(never)]
-fn cat<S: Store + Drop, C: Clock + Drop, I: Source, O: Sink>(
+fn cat<S: Store + Drop, C: Clock + Drop, I: Input, O: Sink>(
     alloc: Global,
     name: LogicalName,
     input: &mut I,
@@ -174,7 +174,7 @@ fn cat<S: Store + Drop, C: Clock + Drop, I: Source, O: Sink>(
 
 // Packs the closed writers of a file.
 #[inline(never)]
-fn migrate<S: Store + Drop, C: Clock + Drop, I: Source, O: Sink>(
+fn migrate<S: Store + Drop, C: Clock + Drop, I: Input, O: Sink>(
     alloc: Global,
     name: LogicalName,
     input: &mut I,
@@ -199,7 +199,7 @@ fn migrate<S: Store + Drop, C: Clock + Drop, I: Source, O: Sink>(
 
 // Writes one small file of a container out.
 #[inline(never)]
-fn unpack<S: Store + Drop, C: Clock + Drop, I: Source, O: Sink>(
+fn unpack<S: Store + Drop, C: Clock + Drop, I: Input, O: Sink>(
     alloc: Global,
     name: LogicalName,
     file: LogicalName,
@@ -229,7 +229,7 @@ fn unpack<S: Store + Drop, C: Clock + Drop, I: Source, O: Sink>(
 
 // Names the small files of a container.
 #[inline(never)]
-fn names<S: Store + Drop, C: Clock + Drop, I: Source, O: Sink>(
+fn names<S: Store + Drop, C: Clock + Drop, I: Input, O: Sink>(
     alloc: Global,
     name: LogicalName,
     input: &mut I,
@@ -268,7 +268,7 @@ pub(crate) fn refuse<S: Store, O: Sink>(out: &mut O, store: S) -> Ended<S>
 
 /// Does what the words of this command ask for, where no other command has them.
 #[inline(never)]
-pub(crate) fn obey<S: Store + Drop, C: Clock + Drop, I: Source, O: Sink>(
+pub(crate) fn obey<S: Store + Drop, C: Clock + Drop, I: Input, O: Sink>(
     alloc: Global,
     command: Command,
     input: &mut I,
@@ -298,7 +298,7 @@ pub(crate) fn obey<S: Store + Drop, C: Clock + Drop, I: Source, O: Sink>(
 }
 
 // Reads the words, and does what they ask for.
-fn follow<S: Store + Drop, C: Clock + Drop, I: Source, O: Sink>(
+fn follow<S: Store + Drop, C: Clock + Drop, I: Input, O: Sink>(
     alloc: Global,
     words: &[Word],
     input: &mut I,
@@ -345,7 +345,7 @@ fn follow<S: Store + Drop, C: Clock + Drop, I: Source, O: Sink>(
 /// line tells of damage, and the status is not 7.
 /// Where besides that the words are those of a command, the script or the small files have no fault, no count of the source, the sink or the
 /// store has risen and the sink took something of each piece, the status is 0, 1 or 3. A fault is told only where a count of the store has risen.
-pub fn single<S: Store + Drop, C: Clock + Drop, I: Source, O: Sink>(
+pub fn single<S: Store + Drop, C: Clock + Drop, I: Input, O: Sink>(
     alloc: Global,
     words: &[Word],
     input: &mut I,

@@ -169,13 +169,13 @@ const PIECES: &str = "\
 $ play: 0
 actor a
 a open f -> open 4294967297
-a write 0 fill:1048576:65 -> wrote 0 1048576 10
-a write 1048576 text:! -> wrote 1048576 1 11
+a write 0 fill:524288:65 -> wrote 0 524288 10
+a write 524288 text:! -> wrote 524288 1 11
 a close -> closed 2
 $ acts: 16
-$ cat f, sink-fault 9: 0 {A*1048576}!
+$ cat f, sink-fault 9: 0 {A*524288}!
 $ acts: 29
-$ cat f, sink-fault 1: 6 {A*1048576}
+$ cat f, sink-fault 1: 6 {A*524288}
 $ acts: 42
 $ cat f, sink-fault 0: 6
 $ acts: 54

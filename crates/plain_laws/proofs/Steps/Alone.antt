@@ -1,5 +1,5 @@
 -- A program's run in which nobody else calls, and which calls programs on a writer make.
-use Rattle.std.proofs.Common.{◌≡◌, ◌≢◌, ◌⊎◌, ℕ, Bool, true, false, nat_eq, nat_le, List, [], ◌∷◌, ◌++◌, None, refl, sym, ap, ◌∙◌, inl, inr, subst, if◌then◌else◌}
+use Rattle.std.proofs.Common.{◌≡◌, ◌⊎◌, ℕ, true, false, nat_eq, nat_le, List, [], ◌∷◌, ◌++◌, None, refl, sym, ap, inl, inr, subst, if◌then◌else◌}
 use Rattle.std.specs.List.{AllByRecursion}
 use Rattle.std.specs.Prelude.{Err, Ok, Result}
 use Rattle.mount_model.specs.declared.call.Ask.{Ask}
@@ -20,7 +20,6 @@ use Rattle.flow.specs.declared.stuck.Stuck.{Stuck}
 use Rattle.flow.specs.Running.{Runs, unbroken}
 use Rattle.flow.proofs.Facts.{runs_done, runs_next}
 use Rattle.writer_flow.specs.declared.handle.WriterHandle.{WriterHandle}
-use Rattle.writer_flow.specs.declared.handle.WriterOut.{WriterOut}
 use Rattle.writer_flow.specs.Handle.{flushed_of, opened_of}
 use Rattle.writer_flow.specs.Opening.{finds_floor, if_done, if_floored, makes_index, makes_log}
 use Rattle.writer_flow.specs.Syncing.{flushes_and_syncs, if_log_synced, if_synced, sync_program, syncs_index}

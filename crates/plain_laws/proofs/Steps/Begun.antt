@@ -1,10 +1,9 @@
 -- A mount over a store without rooms has what a machine has that begins.
-use Rattle.std.proofs.Common.{◌≡◌, ◌≤◌, ℕ, zero, suc, List, [], ◌∷◌, ◌++◌, get_or, length, Option, Some, None, Ok, refl, sym, ap, ◌∙◌, inl, inr, subst, arith}
+use Rattle.std.proofs.Common.{◌≡◌, ℕ, zero, suc, List, [], ◌∷◌, get_or, length, Option, Some, None, Ok, refl, sym, ap, ◌∙◌, inl, inr, subst, arith}
 use Rattle.std.specs.Prelude.{slice_get, slice_set}
 use Rattle.std.proofs.lemmas.List.Elements.{All-from_recursion}
 use Rattle.plfs_types.specs.declared.entries.Trunc.{Trunc}
 use Rattle.plfs_types.specs.declared.names.Path.{Path}
-use Rattle.container_layout.specs.declared.items.Item.{Item}
 use Rattle.container_layout.specs.declared.items.Item.TheVariants as item
 use Rattle.container_layout.specs.Paths.{path_of}
 use Rattle.container_layout.proofs.Facts.{elsewhere}
@@ -12,7 +11,7 @@ use Rattle.store_api.specs.Acts.{Stored}
 use Rattle.store_api.specs.declared.step.Answer.TheVariants.{Made, Names}
 use Rattle.store_api.specs.declared.tree.Room.{Room}
 use Rattle.store_api.specs.declared.tree.Tree.{Tree}
-use Rattle.store_laws.specs.Changes.{Created, RoomMade, with_room}
+use Rattle.store_laws.specs.Changes.{Created}
 use Rattle.store_laws.specs.Files.{file_at}
 use Rattle.store_laws.proofs.Facts.{acts_told, create_told, look_told, make_room_told}
 use Rattle.mount_model.specs.Mounting.{IsMounted, list_step, mark_step, marks_step}
@@ -20,11 +19,11 @@ use Rattle.mount_model.specs.Paths.{Name, mark_path, marks_folder, marks_name}
 use Rattle.mount_shape.specs.Marks.{IsMarksRoom}
 use Rattle.mount_sound.specs.Dropping.{bytes_of}
 use Rattle.mount_sound.specs.There.{entries_there}
-use Rattle.gathering.specs.Moments.{Dropping, HadItem, HadTrunc, IsNamed, IsSoundAt, Moment, file_in_room, file_then, file_told, index_then, landed, log_then}
-use Rattle.plain_machine.specs.Machine.{Plain, PlainActor}
+use Rattle.gathering.specs.Moments.{Dropping, HadItem, HadTrunc, IsSoundAt, Moment, file_then, file_told, landed, log_then}
+use Rattle.plain_machine.specs.Machine.{PlainActor}
 use Rattle.plain_machine.specs.Becoming.{empty_room}
 use Rattle.plain_laws.specs.Beginning.{bare_tree, first_machine}
-use Rattle.plain_laws.specs.Mirrors.{HasTrace, Mirrors, MirrorsAt, MirrorsRoom, room_then, room_told}
+use Rattle.plain_laws.specs.Mirrors.{HasTrace, Mirrors, MirrorsAt, MirrorsRoom, room_told}
 
 -- ---- one room
 

@@ -1,17 +1,11 @@
 -- The floor of a writer that opens is the greatest stamp of the truncates of its room.
-use Rattle.std.proofs.Common.{◌≡◌, ◌≤◌, max, ℕ, true, List, [], ◌∷◌, Option, Some, None, Ok, Err, refl, sym, ap, ◌∙◌, inl, inr, subst, arith}
-use Rattle.std.specs.Prelude.{slice_get}
-use Rattle.std.specs.List.{All, AllByRecursion}
-use Rattle.std.proofs.lemmas.List.Elements.{recursion_from_All}
+use Rattle.std.proofs.Common.{◌≡◌, ◌≤◌, ℕ, true, List, [], ◌∷◌, Some, Ok, Err, refl, sym, ap, ◌∙◌, inl, inr, subst, arith}
 use Rattle.plfs_types.specs.declared.entries.Trunc.{Trunc}
-use Rattle.container_layout.specs.declared.items.Item.{Item}
 use Rattle.container_layout.specs.declared.items.Item.TheVariants as item
-use Rattle.container_layout.specs.Paths.{path_of}
 use Rattle.container_layout.proofs.Facts.{same_items}
-use Rattle.plain_file.proofs.Facts.{All-Among, Among}
+use Rattle.plain_file.proofs.Facts.{Among}
 use Rattle.store_api.specs.declared.step.Answer.TheVariants as answer
 use Rattle.store_api.specs.declared.store.Trouble.TheVariants as trouble
-use Rattle.store_api.specs.declared.tree.Tree.{Tree}
 use Rattle.store_api.specs.Step.{list_folder}
 use Rattle.store_laws.specs.Files.{file_at}
 use Rattle.store_laws.specs.Says.{ListTells}
@@ -39,12 +33,12 @@ use Rattle.plain_laws.proofs.Truncating.{had_listed}
 
 -- ---- the greatest stamp of truncates
 
-below_last : (ts : List Trunc) (t : Trunc) → Among t ts → t.stamp ≤ last_trunc_of ts
+pub below_last : (ts : List Trunc) (t : Trunc) → Among t ts → t.stamp ≤ last_trunc_of ts
 below_last [] t a = absurd a
 below_last (x ∷ ts) t (inl same) = omega (arith, ap (λ (y : Trunc). y.stamp) same)
 below_last (x ∷ ts) t (inr a) = let l = below_last ts t a in omega (arith, l)
 
-last_below : (ts : List Trunc) (top : ℕ) → ((t : Trunc) → Among t ts → t.stamp ≤ top) → last_trunc_of ts ≤ top
+pub last_below : (ts : List Trunc) (top : ℕ) → ((t : Trunc) → Among t ts → t.stamp ≤ top) → last_trunc_of ts ≤ top
 last_below [] top each = omega arith
 last_below (x ∷ ts) top each = let a = each x (inl refl) in let b = last_below ts top (λ t m. each t (inr m)) in omega (arith, a, b)
 

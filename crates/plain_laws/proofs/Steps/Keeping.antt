@@ -1,7 +1,6 @@
 -- A sync and a write of an actor's writer are steps of a plain machine, where nobody else calls.
-use Rattle.std.proofs.Common.{◌≡◌, ◌≢◌, ◌≤◌, ◌<◌, ◌+◌, ◌-◌, ℕ, Bool, true, false, ◌||◌, nat_eq, nat_le, nat_lt, List, [], ◌∷◌, ◌++◌, length, map, Option, Some, None, Result, Ok, Err, refl, sym, ap, ◌∙◌, inl, inr, subst, arith, if◌then◌else◌}
+use Rattle.std.proofs.Common.{◌≡◌, ◌≤◌, ◌+◌, ◌-◌, ℕ, Bool, true, false, ◌||◌, nat_eq, nat_le, nat_lt, List, length, Option, Some, None, refl, sym, ap, ◌∙◌, subst, arith, if◌then◌else◌}
 use Rattle.std.specs.Prelude.{MatchOption, set, slice_get}
-use Rattle.std.specs.List.{AllByRecursion}
 use Rattle.std.proofs.lemmas.Bool.Decides.{nat_tests}
 use Rattle.plfs_types.specs.declared.limits.TheConstants.{MAX_LOG, MAX_SIZE, MAX_STAMP}
 use Rattle.plfs_types.specs.Stamps.{next_stamp}
@@ -12,7 +11,6 @@ use Rattle.script_lang.specs.declared.script.ActorDecl.{ActorDecl}
 use Rattle.script_lang.specs.declared.script.Data.{Data}
 use Rattle.script_lang.specs.declared.script.Statement.{Statement}
 use Rattle.script_lang.specs.declared.script.Statement.TheVariants.{Sync, Write as WriteData}
-use Rattle.mount_model.specs.declared.call.Call.{Call}
 use Rattle.mount_model.specs.declared.reply.Refusal.{Refusal}
 use Rattle.mount_model.specs.declared.reply.Refusal.TheVariants as refusal
 use Rattle.mount_model.specs.History.{Event}
@@ -20,7 +18,7 @@ use Rattle.mount_sound.specs.Entries.{logged}
 use Rattle.mount_sound.specs.Ledger.{entries_in}
 use Rattle.mount_sound.specs.Owed.{IsLawful}
 use Rattle.flow.specs.Running.{Runs}
-use Rattle.gathering.specs.Moments.{Dropping, IsNamed, IsSoundAt, Moment, moment_after}
+use Rattle.gathering.specs.Moments.{Dropping, IsNamed, Moment, moment_after}
 use Rattle.gathering.proofs.Facts.{All-weaker, sound_after}
 use Rattle.outcomes.specs.Data.{bytes_of}
 use Rattle.outcomes.specs.Outcomes.{sync_outcome, write_outcome}
@@ -28,7 +26,6 @@ use Rattle.writer_flow.specs.declared.handle.WriterHandle.{WriterHandle}
 use Rattle.writer_flow.specs.declared.handle.WriterOut.{WriterOut}
 use Rattle.writer_flow.specs.Syncing.{sync_program}
 use Rattle.writer_flow.specs.Writing.{write_program}
-use Rattle.writer_laws.specs.Waiting.{IsOn}
 use Rattle.plain_machine.specs.Machine.{Plain, PlainActor, PlainOwn, PlainRoom, PlainWriter}
 use Rattle.plain_machine.specs.Becoming.{all_landed, made_room, room_with, with_room}
 use Rattle.plain_machine.specs.Cases.{IsRefused, OnOwn, When}
@@ -43,11 +40,11 @@ use Rattle.plain_laws.specs.Plainly.{MirrorsOwn, RefusesOne, WritesOne, dropping
 use Rattle.plain_laws.specs.Served.{GoesWell}
 use Rattle.plain_laws.specs.Stepping.{HasActor, TakesStep}
 use Rattle.plain_laws.proofs.Steps.Alone.{IsInside, IsSyncing, asked_only, sync_asks, write_asks}
-use Rattle.plain_laws.proofs.Steps.Leaving.{AreItsCalls, IsNoExit, IsNoWrite, LeavesRun, last_later, leaves_run, times_run}
+use Rattle.plain_laws.proofs.Steps.Leaving.{AreItsCalls, LeavesRun, last_later, leaves_run, times_run}
 use Rattle.plain_laws.proofs.Steps.Owners.{handle_other, has_own, its_id, its_writer, live_now, opens_now, own_found, own_writer, owned_put}
 use Rattle.plain_laws.proofs.Plainly.{syncs_plainly}
 use Rattle.plain_laws.proofs.WritingPlainly.{writes_plainly}
-use Rattle.plain_laws.proofs.Steps.Rooms.{machine_put, writer_among}
+use Rattle.plain_laws.proofs.Steps.Rooms.{machine_put}
 
 -- what is done with the actor's writer
 pub on_own : (actor : PlainActor) (own : PlainOwn) (p : Plain) (outcome : Outcome) (new : Plain) (does : PlainOwn → PlainRoom → PlainWriter → Type 0) (room : PlainRoom) (w : PlainWriter) → actor.writer ≡ Some own → slice_get p.rooms own.room ≡ Some room → owned_writer p own ≡ Some w → does own room w → OnOwn actor p outcome new does

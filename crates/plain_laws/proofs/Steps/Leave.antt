@@ -1,15 +1,12 @@
 -- A close of an actor's writer is a step of a plain machine, where nobody else calls.
-use Rattle.std.proofs.Common.{◌≡◌, ◌≢◌, ◌≤◌, ◌<◌, ℕ, Bool, true, false, List, [], ◌∷◌, ◌++◌, length, Option, Some, None, Result, Ok, Err, refl, sym, ap, ◌∙◌, inl, inr, subst, arith}
-use Rattle.std.specs.Prelude.{is_some, set, slice_get}
-use Rattle.script_lang.specs.declared.line.Outcome.{Outcome}
+use Rattle.std.proofs.Common.{◌≡◌, ℕ, List, [], ◌∷◌, ◌++◌, length, Some, None, Result, Ok, Err, refl, sym, ap, ◌∙◌, inl, inr, subst, arith}
+use Rattle.std.specs.Prelude.{is_some, slice_get}
 use Rattle.script_lang.specs.declared.line.Outcome.TheVariants.{Closed}
 use Rattle.script_lang.specs.declared.script.ActorDecl.{ActorDecl}
 use Rattle.script_lang.specs.declared.script.Statement.TheVariants.{Close}
 use Rattle.store_api.specs.declared.step.Answer.TheVariants as answer
 use Rattle.store_api.specs.declared.store.Trouble.TheVariants as trouble
-use Rattle.store_api.specs.declared.tree.Room.{Room}
 use Rattle.store_api.specs.declared.tree.Tree.{Tree}
-use Rattle.store_laws.specs.Files.{file_at}
 use Rattle.store_laws.proofs.Facts.{acts_told, changed_room, remove_told}
 use Rattle.mount_model.specs.declared.call.Ask.{Ask}
 use Rattle.mount_model.specs.declared.call.Call.{Call}
@@ -42,12 +39,12 @@ use Rattle.outcomes.specs.Outcomes.{close_outcome}
 use Rattle.writer_flow.specs.declared.handle.WriterHandle.{WriterHandle}
 use Rattle.writer_flow.specs.declared.handle.WriterOut.{WriterOut}
 use Rattle.writer_flow.specs.Closing.{after_sync, close_from, close_program, exits, if_left, if_put, puts_meta}
-use Rattle.writer_flow.specs.Ending.{failed, gone_with, stays_with}
+use Rattle.writer_flow.specs.Ending.{failed, gone_with}
 use Rattle.writer_flow.specs.Handle.{closing_of}
 use Rattle.writer_flow.specs.Syncing.{sync_program}
 use Rattle.writer_laws.specs.Waiting.{IsOn}
 use Rattle.writer_laws.proofs.Stops.{whole_answers}
-use Rattle.plain_machine.specs.Machine.{Plain, PlainActor, PlainOwn, PlainRoom, PlainWriter}
+use Rattle.plain_machine.specs.Machine.{Plain, PlainActor, PlainWriter}
 use Rattle.plain_machine.specs.Becoming.{all_landed, room_with, with_actor, with_room}
 use Rattle.plain_machine.specs.Writers.{left}
 use Rattle.plain_laws.specs.Calls.{AreBy}

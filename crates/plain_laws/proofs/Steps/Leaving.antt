@@ -1,19 +1,18 @@
 -- A writer's calls leave all else as it was, from moment to moment.
-use Rattle.std.proofs.Common.{◌≡◌, ◌≢◌, ◌≤◌, ◌+◌, ◌*◌, ◌^◌, ℕ, Bool, true, false, ◌&&◌, nat_eq, List, [], ◌∷◌, ◌++◌, length, Option, Some, None, refl, sym, ap, ◌∙◌, inl, inr, subst, arith, if◌then◌else◌}
+use Rattle.std.proofs.Common.{◌≡◌, ◌≤◌, ℕ, Bool, true, false, ◌&&◌, nat_eq, List, [], ◌∷◌, ◌++◌, length, Option, Some, None, refl, sym, ap, ◌∙◌, subst, arith, if◌then◌else◌}
 use Rattle.std.specs.List.{AllByRecursion}
 use Rattle.std.proofs.lemmas.Bool.Decides.{nat_tests}
 use mathlib.Core.Logic.{dite}
 use native.Mathlib.Decide.{ℕ_discrete}
 use Rattle.plfs_types.specs.declared.names.Path.{Path}
 use Rattle.container_layout.specs.declared.items.Item.{Item}
-use Rattle.container_layout.specs.declared.items.Item.TheVariants.{Index, Log, OpenHost, Trunc}
+use Rattle.container_layout.specs.declared.items.Item.TheVariants.{Index, Log}
 use Rattle.container_layout.specs.Items.{IsItem}
 use Rattle.container_layout.specs.Paths.{path_of}
 use Rattle.store_api.specs.declared.tree.Room.{Room}
 use Rattle.store_api.specs.declared.tree.Tree.{Tree}
 use Rattle.store_api.specs.Step.{Step}
 use Rattle.plfs_types.specs.declared.entries.Entry.{Entry}
-use Rattle.mount_model.specs.declared.call.Ask.{Ask}
 use Rattle.mount_model.specs.declared.call.Call.{Call}
 use Rattle.mount_model.specs.declared.call.Call.TheVariants.{Enter, Exit, Floor, Flush, Hold, InstallFlat, MakeHostdir, MakeIndex, MakeLog, PutFlat, PutMeta, Release, StartFlat, StartPack, SyncFlat, SyncIndex, SyncLog, Write}
 use Rattle.mount_model.specs.declared.reply.Reply.{Reply}
@@ -23,9 +22,9 @@ use Rattle.mount_model.specs.Entering.{next_id}
 use Rattle.mount_model.specs.Flooring.{FloorsRow}
 use Rattle.mount_model.specs.Flushing.{FlushesRow}
 use Rattle.mount_model.specs.History.{Event}
-use Rattle.mount_model.specs.Making.{CallOutcome, MakesAct, Told, UnlessRefused}
-use Rattle.mount_model.specs.State.{State, Table, last_id}
-use Rattle.mount_model.specs.Step.{Answers, IsStep}
+use Rattle.mount_model.specs.Making.{CallOutcome, MakesAct, Told}
+use Rattle.mount_model.specs.State.{State, last_id}
+use Rattle.mount_model.specs.Step.{Answers}
 use Rattle.mount_model.specs.Table.{is_live, row_of}
 use Rattle.mount_model.specs.Writing.{WritesAt}
 use Rattle.mount_model.proofs.Facts.{IsElsewhere, answers_keep, on_writer, row_of_id, step_place, step_stays_dead, unless_refused}

@@ -1,10 +1,9 @@
 -- The container of an opening is found or made, as the plain machine finds or makes its room.
-use Rattle.std.proofs.Common.{◌≡◌, ◌≢◌, ◌≤◌, ◌<◌, ◌+◌, ℕ, zero, suc, Bool, true, false, not, List, [], ◌∷◌, ◌++◌, length, length-append, Option, Some, None, Ok, Err, refl, sym, ap, ◌∙◌, inl, inr, subst, arith, if◌then◌else◌}
+use Rattle.std.proofs.Common.{◌≡◌, ◌≤◌, ◌<◌, ◌+◌, ℕ, zero, suc, true, List, [], ◌∷◌, ◌++◌, length, length-append, Option, Some, None, Ok, Err, refl, sym, ap, ◌∙◌, inl, inr, subst, arith}
 use Rattle.std.specs.Prelude.{is_some, slice_get}
-use Rattle.std.specs.List.{AllByRecursion, Any}
 use Rattle.std.proofs.lemmas.Bool.{cases_eq, cases_lt}
 use Rattle.std.proofs.lemmas.List.Elements.{All-from_recursion, recursion_from_All}
-use Rattle.std.proofs.lemmas.Option.{slice_get_past, slice_get_within}
+use Rattle.std.proofs.lemmas.Option.{slice_get_past}
 use Rattle.plfs_types.specs.declared.entries.Trunc.{Trunc}
 use Rattle.plfs_types.specs.declared.names.Path.{Path}
 use Rattle.container_layout.specs.declared.items.Item.{Item}
@@ -14,7 +13,6 @@ use Rattle.store_api.specs.declared.step.Answer.TheVariants as answer
 use Rattle.store_api.specs.declared.store.Trouble.TheVariants as trouble
 use Rattle.store_api.specs.declared.tree.Room.{Room as RoomThere}
 use Rattle.store_api.specs.declared.tree.Tree.{Tree}
-use Rattle.store_api.specs.Names.{same_name}
 use Rattle.store_api.specs.Room.{has_folder}
 use Rattle.store_api.specs.Step.{make_room}
 use Rattle.store_laws.specs.Changes.{RoomMade}
@@ -22,7 +20,7 @@ use Rattle.store_laws.specs.Files.{file_at}
 use Rattle.store_laws.specs.Outcomes.{MadeOrNot}
 use Rattle.store_laws.specs.Says.{WhyNoRoomMade}
 use Rattle.store_laws.specs.There.{IsFree, IsRoomOf}
-use Rattle.store_laws.proofs.Facts.{acts_told, has_folder_same, item as place_item, make_room_told, name_other, name_same, slice_get_before, slice_get_last, slice_get_more}
+use Rattle.store_laws.proofs.Facts.{acts_told, has_folder_same, item as place_item, make_room_told, name_other, name_same, slice_get_before, slice_get_last}
 use Rattle.mount_model.specs.declared.call.Call.TheVariants.{MakeContainer}
 use Rattle.mount_model.specs.declared.reply.Reply.TheVariants.{Room}
 use Rattle.mount_model.specs.Finding.{make_outcome}
@@ -35,13 +33,13 @@ use Rattle.mount_model.specs.Table.{row_of}
 use Rattle.mount_sound.specs.Dropping.{bytes_of}
 use Rattle.mount_sound.specs.There.{entries_there}
 use Rattle.mount_sound.specs.Ledger.{Ledger}
-use Rattle.mount_sound.proofs.Facts.{IsBare, hostdir_below, made_bare, no_item}
+use Rattle.mount_sound.proofs.Facts.{IsBare, hostdir_below, made_bare}
 use Rattle.gathering.specs.Listing.{AreTruncsAt}
-use Rattle.gathering.specs.Moments.{Dropping, HadItem, HadTrunc, IsNamed, IsSoundAt, Moment, file_in_room, file_then, file_told, landed, log_then, index_then, next_moment}
+use Rattle.gathering.specs.Moments.{Dropping, HadItem, HadTrunc, IsSoundAt, Moment, file_in_room, file_then, file_told, landed, log_then, index_then, next_moment}
 use Rattle.gathering.proofs.Facts.{All-weaker}
-use Rattle.plain_machine.specs.Machine.{Plain, PlainActor, PlainOwn, PlainRoom, PlainWriter}
+use Rattle.plain_machine.specs.Machine.{Plain, PlainRoom, PlainWriter}
 use Rattle.plain_machine.specs.Becoming.{empty_room, made}
-use Rattle.plain_machine.specs.Finding.{find, find_from, owned_writer, writer_of_room}
+use Rattle.plain_machine.specs.Finding.{find, find_from}
 use Rattle.plain_laws.specs.Mirrors.{HasTrace, Mirrors, MirrorsAt, MirrorsRoom, MirrorsWriter, is_live_in, room_then, room_told}
 use Rattle.plain_laws.specs.Plainly.{dropping_of}
 
@@ -188,6 +186,20 @@ module _ (tree after : Tree) (name : Name) (table : Table) where
   found_so (Err trouble.Fault) n e m = absurd (cc)
   found_so (Err trouble.NoMemory) n e m = absurd (cc)
 
+-- ---- no room of the name
+
+pub none_there : (m : Moment) (p : Plain) (tree : Tree) (name : Name) → Mirrors m p → m.state.store.tree ≡ Some tree → IsFree tree name → find p name ≡ None
+none_there m p tree name o told free = find_none p.rooms 0 name (λ j other e is. taken j other e is (slice_get tree.rooms j) refl)
+  where
+    at : (k : ℕ) → MirrorsAt m k (slice_get tree.rooms k) (slice_get p.rooms k)
+    at k = subst (λ t. MirrorsAt m k (room_told t k) (slice_get p.rooms k)) told (o.rooms k)
+
+    taken : (j : ℕ) (other : PlainRoom) → slice_get p.rooms j ≡ Some other → other.name ≡ name → (r : Option RoomThere) → slice_get tree.rooms j ≡ r → ⊥
+    taken j other e is None none = both_there m j (slice_get tree.rooms j) other (subst (MirrorsAt m j (slice_get tree.rooms j)) e (at j)) none
+    taken j other e is (Some r) there =
+        let x : MirrorsRoom m j r other = subst (λ y. MirrorsAt m j (Some r) y) e (subst (λ y. MirrorsAt m j y (slice_get p.rooms j)) there (at j)) in
+        free j r there (x.name ∙ is)
+
 -- ---- the machine with one room more
 
 module _ (m next : Moment) (p : Plain) (o : Mirrors m p) (sound : IsSoundAt next) (tree after : Tree) (name : Name) (told : m.state.store.tree ≡ Some tree) (now : next.state.store.tree ≡ Some after) (c : RoomMade tree name new_folders new_files after) (issued : next.issued ≡ m.issued) (table : next.state.table ≡ m.state.table) (marks : next.state.marks ≡ m.state.marks) (mount : next.state.mount ≡ m.state.mount) (serial : next.state.serial ≡ m.state.serial) (times : next.state.times ≡ m.state.times) where
@@ -274,13 +286,7 @@ module _ (m next : Moment) (p : Plain) (o : Mirrors m p) (sound : IsSoundAt next
   }
 
   pub not_found : find p name ≡ None
-  not_found = find_none p.rooms 0 name (λ j other e is. taken j other e is (slice_get tree.rooms j) refl)
-    where
-      taken : (j : ℕ) (other : PlainRoom) → slice_get p.rooms j ≡ Some other → other.name ≡ name → (r : Option RoomThere) → slice_get tree.rooms j ≡ r → ⊥
-      taken j other e is None none = both_there m j (slice_get tree.rooms j) other (subst (MirrorsAt m j (slice_get tree.rooms j)) e (was_at j)) none
-      taken j other e is (Some r) there =
-          let x : MirrorsRoom m j r other = subst (λ y. MirrorsAt m j (Some r) y) e (subst (λ y. MirrorsAt m j y (slice_get p.rooms j)) there (was_at j)) in
-          c.free j r there (x.name ∙ is)
+  not_found = none_there m p tree name o told c.free
 
 -- ---- the room that was there
 

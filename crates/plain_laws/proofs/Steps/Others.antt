@@ -1,12 +1,11 @@
 -- The act of a writer's call leaves all of the tree but what is that writer's.
-use Rattle.std.proofs.Common.{◌≡◌, ℕ, Bool, true, false, List, get_or, Option, Some, None, refl, sym, ap, ◌∙◌, inl, inr, subst}
+use Rattle.std.proofs.Common.{◌≡◌, ℕ, get_or, Option, Some, None, refl, sym, ap, ◌∙◌, inl, inr, subst}
 use Rattle.std.specs.Prelude.{slice_get, Result}
 use Rattle.std.proofs.lemmas.Bool.{cases_eq}
-use Rattle.plfs_types.specs.declared.names.Path.{Path}
 use Rattle.container_layout.specs.declared.items.Item.{Item}
 use Rattle.container_layout.specs.declared.items.Item.TheVariants.{Access, Flat, Index, Log, Meta, OpenHost, Packed, TmpFlat, TmpPacked, Trunc}
 use Rattle.container_layout.specs.Items.{IsItem}
-use Rattle.container_layout.specs.Paths.{hostdir_of, path_of}
+use Rattle.container_layout.specs.Paths.{path_of}
 use Rattle.container_layout.proofs.Facts.{elsewhere, same_items}
 use Rattle.store_api.specs.declared.step.Answer.{Answer}
 use Rattle.store_api.specs.declared.store.Trouble.{Trouble}
@@ -23,7 +22,7 @@ use Rattle.store_laws.proofs.Facts.{create_told, cut_told, keeps_rooms, look_tol
 use Rattle.mount_model.specs.declared.call.Call.{Call}
 use Rattle.mount_model.specs.declared.call.Call.TheVariants.{Enter}
 use Rattle.mount_model.specs.declared.row.Row.{Row}
-use Rattle.mount_model.specs.Paths.{Name, index_path, log_path, metadata, open_path, openhosts}
+use Rattle.mount_model.specs.Paths.{Name, metadata, openhosts}
 use Rattle.mount_model.specs.State.{Table}
 use Rattle.mount_model.specs.Table.{row_of}
 use Rattle.mount_sound.proofs.Facts.{ActsOn, OfEachAct}

@@ -1,23 +1,22 @@
 -- What a machine that goes on has of each actor's writer: of the one whose writer changed, and of the others.
-use Rattle.std.proofs.Common.{◌≡◌, ◌≢◌, ◌≤◌, ◌<◌, ℕ, Bool, true, false, ◌&&◌, nat_eq, List, [], ◌∷◌, length, map, Option, Some, None, refl, sym, ap, ◌∙◌, inl, inr, subst, arith, if◌then◌else◌}
+use Rattle.std.proofs.Common.{◌≡◌, ◌≢◌, ◌≤◌, ℕ, true, false, nat_eq, List, [], ◌∷◌, map, Option, Some, None, refl, sym, ap, ◌∙◌, inl, inr, subst, arith, if◌then◌else◌}
 use Rattle.std.specs.Prelude.{is_some, set, slice_get}
 use Rattle.std.specs.List.{AllByRecursion}
 use Rattle.std.proofs.lemmas.Bool.{cases_eq}
 use Rattle.std.proofs.lemmas.Bool.Decides.{nat_tests}
 use Rattle.plain_file.proofs.Facts.{All-Among}
 use Rattle.store_api.specs.declared.tree.Room.{Room}
-use Rattle.store_api.specs.declared.tree.Tree.{Tree}
 use Rattle.store_laws.specs.Files.{file_at}
 use Rattle.mount_model.specs.declared.row.Row.{Row}
 use Rattle.mount_model.specs.declared.row.Stage.TheVariants as stage
 use Rattle.mount_model.specs.History.{Event}
 use Rattle.mount_model.specs.Paths.{open_path}
 use Rattle.mount_model.specs.State.{last_id}
-use Rattle.mount_model.specs.Table.{is_live, only, row_of}
+use Rattle.mount_model.specs.Table.{is_live, row_of}
 use Rattle.mount_model.proofs.Facts.{at_only, row_of_id}
 use Rattle.mount_sound.specs.Owed.{IsLawful}
 use Rattle.mount_sound.proofs.Facts.{live_stage}
-use Rattle.gathering.specs.Moments.{Dropping, IsNamed, IsSoundAt, Moment, file_in_room, file_then, file_told, moment_after, next_moment}
+use Rattle.gathering.specs.Moments.{Dropping, IsNamed, Moment, file_in_room, file_then, file_told, moment_after, next_moment}
 use Rattle.gathering.proofs.Facts.{sound_after}
 use Rattle.writer_flow.specs.declared.handle.WriterHandle.{WriterHandle}
 use Rattle.plain_machine.specs.Machine.{Plain, PlainOwn, PlainRoom, PlainWriter}
@@ -26,10 +25,8 @@ use Rattle.plain_machine.specs.Finding.{owned_writer, writer_in, writer_of_room}
 use Rattle.plain_laws.specs.Calls.{AreBy}
 use Rattle.plain_laws.specs.Mirrors.{Mirrors, MirrorsAt, MirrorsHandle, MirrorsRoom, MirrorsWriter, is_live_in, room_then}
 use Rattle.plain_laws.specs.Plainly.{MirrorsOwn, dropping_of}
-use Rattle.plain_laws.specs.Served.{HasOpen}
-use Rattle.plain_laws.proofs.Having.{Has, has_stays}
+use Rattle.plain_laws.proofs.Having.{has_stays}
 use Rattle.plain_laws.proofs.Steps.Leaving.{HasIt}
-use Rattle.plain_laws.proofs.Steps.Others.{its}
 use Rattle.plain_laws.proofs.Plainly.{has_it}
 use Rattle.plain_laws.proofs.Steps.Rooms.{in_place, set_here, set_there, writer_among}
 

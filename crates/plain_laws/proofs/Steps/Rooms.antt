@@ -1,7 +1,7 @@
 -- A plain machine goes on with the mount where one writer's calls were made: its room has another writer in its place, and all else is as it was.
-use Rattle.std.proofs.Common.{◌≡◌, ◌≤◌, ◌<◌, ℕ, zero, suc, Bool, true, false, nat_eq, List, [], ◌∷◌, ◌++◌, map, Option, Some, None, refl, sym, ap, ◌∙◌, inl, inr, subst, arith, if◌then◌else◌}
+use Rattle.std.proofs.Common.{◌≡◌, ◌≤◌, ◌<◌, ℕ, zero, suc, true, false, nat_eq, List, [], ◌∷◌, ◌++◌, map, Option, Some, None, refl, sym, ap, ◌∙◌, inl, inr, subst, arith, if◌then◌else◌}
 use Rattle.std.specs.Prelude.{◌==◌, is_some, set, slice_get}
-use Rattle.std.specs.List.{All, AllByRecursion, Any}
+use Rattle.std.specs.List.{AllByRecursion, Any}
 use Rattle.std.proofs.lemmas.Bool.{cases_eq}
 use Rattle.std.proofs.lemmas.Bool.Decides.{nat_tests}
 use Rattle.std.proofs.lemmas.List.Elements.{All-from_recursion, recursion_from_All}
@@ -9,12 +9,11 @@ use mathlib.Core.Logic.{dite}
 use native.Mathlib.Decide.{ℕ_discrete}
 use Rattle.plfs_types.specs.declared.entries.Trunc.{Trunc}
 use Rattle.container_layout.specs.declared.items.Item.TheVariants as item
-use Rattle.container_layout.specs.Items.{IsItem}
 use Rattle.plain_file.proofs.Facts.{All-Among, Among}
 use Rattle.store_api.specs.declared.tree.Room.{Room}
 use Rattle.mount_model.specs.State.{last_id}
 use Rattle.gathering.specs.Listing.{AreTruncsAt}
-use Rattle.gathering.specs.Moments.{Dropping, HadItem, HadTrunc, IsNamed, IsSoundAt, Moment}
+use Rattle.gathering.specs.Moments.{Dropping, HadTrunc, IsNamed, IsSoundAt, Moment}
 use Rattle.gathering.proofs.Facts.{All-weaker, among_left, among_right, any_found, found_any}
 use Rattle.plain_machine.specs.Machine.{Plain, PlainRoom, PlainWriter}
 use Rattle.plain_machine.specs.Becoming.{room_with}

@@ -1,8 +1,10 @@
 -- What two reads give together.
-use Rattle.std.proofs.Common.{ℕ, ◌≡◌, List, [], ◌++◌, length, Option, Some, None, refl, sym, ap, subst, ◌∙◌, append_assoc, arith}
+use Rattle.std.proofs.Common.{ℕ, ◌≡◌, ◌⊎◌, inl, inr, List, [], ◌++◌, length, min, take, drop, Option, Some, None, refl, sym, ap, subst, ◌∙◌, append_assoc, arith}
+use Rattle.std.proofs.lemmas.Bool.{cases_lt}
 use Rattle.std.proofs.lemmas.Grind.{common_steps}
+use Rattle.std.proofs.lemmas.List.{drop_all, length-take, take-append-drop}
 use Rattle.edge_io.specs.Source.{HandsOver, EndsAtLast}
-use Rattle.plfs_program.specs.Input.{IsAtEnd}
+use Rattle.plfs_program.specs.Input.{IsAtEnd, IsWholeInput, held}
 
 -- two pieces, one after the other, are one
 pub handed_both : (a b : List ℕ) (old mid new : Option (List ℕ)) → HandsOver a old mid → HandsOver b mid new → HandsOver (a ++ b) old new
@@ -20,3 +22,15 @@ ended piece (Some left) new none (rest, now, split) end =
     let whole : left ≡ [] = end.0 refl in
     let gone : rest ≡ [] = grind (arith, common_steps, split, whole, none) in
     subst P (sym now) gone
+
+-- a front of bytes that are held is all that is asked for
+pub front_held : (limit place : ℕ) (bytes front behind : List ℕ) → place ≡ min limit (length bytes) → front ≡ take place bytes → behind ≡ drop place bytes → IsWholeInput limit front (held bytes) (held behind)
+front_held limit place bytes front behind there is_front is_behind = record {
+  handed = (behind, refl, sym (take-append-drop place bytes) ∙ (ap (λ f. f ++ drop place bytes) (sym is_front) ∙ ap (λ b. front ++ b) (sym is_behind)));
+  faults = refl;
+  within = omega (arith, there, ap length is_front, length-take place bytes);
+  to_end = elim (cases_lt limit (length bytes)) as (λ _. (length front ≡ limit) ⊎ (behind ≡ [])) [
+    | inl less ↦ inl (omega (arith, less, there, ap length is_front, length-take place bytes))
+    | inr least ↦ inr (is_behind ∙ drop_all place bytes (omega (arith, least, there)))
+  ];
+}

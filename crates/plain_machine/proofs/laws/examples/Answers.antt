@@ -1,4 +1,6 @@
-use Rattle.plain_machine.proofs.Working.{far_said, flattened_said, full_said, hello_said, hole_said, late_clock_said, no_bytes_said, overlap_said, refreshed_said, rising_said, tie_said, tie_turned_said, waiting_said, without_said}
+use Rattle.plain_machine.proofs.Working.{far_said, hello_said, hole_said, no_bytes_said, rising_said, waiting_said, without_said}
+use Rattle.plain_machine.proofs.Together.{flattened_said, late_clock_said, overlap_said, refreshed_said, tie_said, tie_turned_said}
+use Rattle.plain_machine.proofs.Filling.{full_said}
 use Rattle.plain_machine.proofs.laws.examples.Goals as goal
 
 pub returns-clause-hello : goal.returns-clause-hello

@@ -13,5 +13,5 @@ front {R} remaining limit most inner reader start items limited its fresh told =
 
 pub returns : goal.returns
 returns g c = record {
-  bytes = front g.R.Read.remaining c.take.result.limit 1048577 c.take.result.inner c.args.reader c.new-input.result.items c.read_to_end.new.buf.items c.take.ensures.limit c.take.ensures.inner c.new-input.ensures.items c.in_ok-read_to_end.ensures.bytes;
+  bytes = front g.R.Read.remaining c.take.result.limit 1048577 c.take.result.inner c.args.reader c.in_ok-input.input.items c.read_to_end.new.buf.items c.take.ensures.limit c.take.ensures.inner c.in_ok-input.ensures.items c.in_ok-read_to_end.ensures.bytes;
 }

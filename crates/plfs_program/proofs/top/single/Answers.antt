@@ -8,14 +8,14 @@ use Rattle.plfs_program.proofs.top.single.Goals as goal
 pub returns-clause-undamaged : goal.returns-clause-undamaged
 returns-clause-undamaged g c =
     let e : Ends = ends_of (g.C.Clock.times c.args.clock) (g.O.Sink.taking c.args.out.now) (g.O.Sink.taking c.follow.new.out) (g.S.Store.stored c.args.store) (option_map g.S.Store.stored c.follow.result.store) in
-    course_undamaged IsBuiltCommand c.args.words.now (g.I.Source.given c.args.input.now) (g.I.Source.given c.follow.new.input) e c.follow.result.status c.follow.ensures
+    course_undamaged IsBuiltCommand c.args.words.now (g.I.Input.given c.args.input.now) (g.I.Input.given c.follow.new.input) e c.follow.result.status c.follow.ensures
 
 pub returns-clause-sound : goal.returns-clause-sound
 returns-clause-sound g c =
     let e : Ends = ends_of (g.C.Clock.times c.args.clock) (g.O.Sink.taking c.args.out.now) (g.O.Sink.taking c.follow.new.out) (g.S.Store.stored c.args.store) (option_map g.S.Store.stored c.follow.result.store) in
-    course_leaves c.a_failed_mounting_leaves_a_sound_tree.ensures IsBuiltCommand c.args.words.now (g.I.Source.given c.args.input.now) (g.I.Source.given c.follow.new.input) e c.follow.result.status c.follow.ensures
+    course_leaves c.a_failed_mounting_leaves_a_sound_tree.ensures IsBuiltCommand c.args.words.now (g.I.Input.given c.args.input.now) (g.I.Input.given c.follow.new.input) e c.follow.result.status c.follow.ensures
 
 pub returns-clause-complete : goal.returns-clause-complete
 returns-clause-complete g c sound units asked quiet =
     let e : Ends = ends_of (g.C.Clock.times c.args.clock) (g.O.Sink.taking c.args.out.now) (g.O.Sink.taking c.follow.new.out) (g.S.Store.stored c.args.store) (option_map g.S.Store.stored c.follow.result.store) in
-    course_done (g.I.Source.given c.args.input.now) (g.I.Source.given c.follow.new.input) e quiet sound IsBuiltCommand c.args.words.now c.follow.result.status units asked c.follow.ensures
+    course_done (g.I.Input.given c.args.input.now) (g.I.Input.given c.follow.new.input) e quiet sound IsBuiltCommand c.args.words.now c.follow.result.status units asked c.follow.ensures

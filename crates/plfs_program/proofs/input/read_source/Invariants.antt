@@ -1,6 +1,6 @@
 use Rattle.std.proofs.Common.{◌≡◌, ◌≤◌, ◌+◌, ◌-◌, ◌^◌, vec_len}
 use Rattle.edge_io.specs.Source.{HandsOver}
-use Rattle.plfs_program.proofs.input.read_input.Given as goal
+use Rattle.plfs_program.proofs.input.read_source.Given as goal
 
 -- the bytes so far were handed over
 abbrev pub invariant-loop-buffer : goal.invariant-loop-buffer

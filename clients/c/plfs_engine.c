@@ -1,0 +1,289 @@
+/* plfs_engine.c: starts plfs_serve, and sends it requests. Plain C11 and POSIX; no proof speaks of it. */
+#define _GNU_SOURCE
+#include "plfs_engine.h"
+#include "plfs.h"
+
+#include <errno.h>
+#include <fcntl.h>
+#include <signal.h>
+#include <spawn.h>
+#include <stdio.h>
+#include <stdlib.h>
+#include <string.h>
+#include <sys/uio.h>
+#include <sys/wait.h>
+#include <time.h>
+#include <unistd.h>
+
+extern char **environ;
+
+/* How an answer says that it went. */
+enum status { MADE = 0, REFUSED = 1, NO_REQUEST = 2, NO_MEMORY = 3, FAULT = 4, DAMAGED = 7 };
+
+/* LENT: from so many bytes on a request's bytes aren't copied into the pipe. */
+enum { HEAD = 48, ANSWER = 32, PIPE = 1 << 20, LENT = 1 << 15 };
+
+/* ---- bytes on pipes */
+
+static void put(unsigned char *at, uint64_t n) {
+    for (int i = 0; i < 8; i++) at[i] = (unsigned char)(n >> (8 * i));
+}
+
+static uint64_t get(const unsigned char *at) {
+    uint64_t n = 0;
+    for (int i = 0; i < 8; i++) n |= (uint64_t)at[i] << (8 * i);
+    return n;
+}
+
+/* Has the pipe refer to the program's own pages, so that they are copied once less. The answer comes only once they have been read,
+ * and the call waits for it. Answers how many bytes the pipe has taken: fewer than all where the system doesn't do it. */
+static size_t lend(int fd, const void *bytes, size_t len) {
+    size_t lent = 0;
+    while (lent < len) {
+        struct iovec part = {(char *)(uintptr_t)bytes + lent, len - lent};
+        ssize_t taken = vmsplice(fd, &part, 1, 0);
+        if (taken < 0 && errno == EINTR) continue;
+        if (taken <= 0) break;
+        lent += (size_t)taken;
+    }
+    return lent;
+}
+
+/* Sends the head and the bytes. -1 where the engine reads no more. */
+static int send_parts(int fd, void *head, const void *bytes, size_t len) {
+    struct iovec parts[2] = {{head, HEAD}, {(void *)(uintptr_t)bytes, len}};
+    int k = 0;
+    if (len >= LENT) {
+        if (send_parts(fd, head, NULL, 0)) return -1;
+        size_t lent = lend(fd, bytes, len);
+        parts[1].iov_base = (char *)parts[1].iov_base + lent;
+        parts[1].iov_len -= lent;
+        k = 1;
+    }
+    while (k < 2) {
+        if (parts[k].iov_len == 0) {
+            k++;
+            continue;
+        }
+        ssize_t sent = writev(fd, parts + k, 2 - k);
+        if (sent < 0 && errno == EINTR) continue;
+        if (sent < 0) return -1;
+        for (; k < 2 && (size_t)sent >= parts[k].iov_len; k++) sent -= (ssize_t)parts[k].iov_len;
+        if (k < 2) {
+            parts[k].iov_base = (char *)parts[k].iov_base + sent;
+            parts[k].iov_len -= (size_t)sent;
+        }
+    }
+    return 0;
+}
+
+/* The same, while a SIGPIPE that it makes doesn't come to the program. */
+static int send_all(int fd, void *head, const void *bytes, size_t len) {
+    sigset_t pipes, before, pending;
+    sigemptyset(&pipes);
+    sigaddset(&pipes, SIGPIPE);
+    pthread_sigmask(SIG_BLOCK, &pipes, &before);
+    int ours = 1; /* a signal that comes now is of this call */
+    if (sigismember(&before, SIGPIPE)) {
+        sigpending(&pending);
+        ours = !sigismember(&pending, SIGPIPE);
+    }
+    int failed = send_parts(fd, head, bytes, len);
+    if (failed && ours) {
+        struct timespec none = {0, 0};
+        while (sigtimedwait(&pipes, NULL, &none) < 0 && errno == EINTR) {}
+    }
+    pthread_sigmask(SIG_SETMASK, &before, NULL);
+    return failed;
+}
+
+static int take_all(int fd, void *into, size_t n) {
+    char *to = into;
+    while (n > 0) {
+        ssize_t got = read(fd, to, n);
+        if (got < 0 && errno == EINTR) continue;
+        if (got <= 0) return -1;
+        to += got;
+        n -= (size_t)got;
+    }
+    return 0;
+}
+
+/* Takes the n bytes that name a damaged item, and keeps those that there is room for. */
+static int take_item(struct plfs_engine *engine, uint64_t n) {
+    engine->item_len = n < PLFS_ITEM ? (size_t)n : PLFS_ITEM;
+    if (take_all(engine->from, engine->item, engine->item_len)) return -1;
+    char unwanted[PLFS_ITEM];
+    for (n -= engine->item_len; n > 0;) {
+        size_t part = n < PLFS_ITEM ? (size_t)n : PLFS_ITEM;
+        if (take_all(engine->from, unwanted, part)) return -1;
+        n -= part;
+    }
+    return 0;
+}
+
+/* ---- requests */
+
+/* The error that an answer tells. */
+static int error_of(enum plfs_kind kind, uint64_t status, uint64_t value) {
+    switch (status) {
+    case MADE: return 0;
+    case REFUSED: return value >= PLFS_NO_FILE && value <= PLFS_MOUNTS_SPENT ? (int)value : PLFS_STRANGE;
+    case NO_REQUEST: return kind == PLFS_OPEN || kind == PLFS_OPEN_READ || kind >= PLFS_STAT ? PLFS_BAD_NAME : PLFS_STRANGE;
+    case NO_MEMORY: return PLFS_ENGINE_MEMORY;
+    case FAULT: return PLFS_FAULT;
+    case DAMAGED: return PLFS_DAMAGED;
+    default: return PLFS_STRANGE;
+    }
+}
+
+/* Takes an answer's bytes into memory of their own. */
+static int take_made(struct plfs_engine *engine, char **made, uint64_t len) {
+    char *memory = len < SIZE_MAX ? malloc((size_t)len + 1) : NULL;
+    if (!memory) return PLFS_NO_MEMORY;
+    memory[len] = 0;
+    if (take_all(engine->from, memory, (size_t)len)) {
+        free(memory);
+        return PLFS_GONE;
+    }
+    *made = memory;
+    return 0;
+}
+
+/* Takes an answer's bytes where they are wanted. */
+static int take_payload(struct plfs_engine *engine, const struct plfs_asked *a, uint64_t status, uint64_t len) {
+    if (status == DAMAGED) return take_item(engine, len) ? PLFS_GONE : 0;
+    if (status == MADE && a->made) return take_made(engine, a->made, len);
+    if (len > a->room) return PLFS_STRANGE;
+    return take_all(engine->from, a->into, (size_t)len) ? PLFS_GONE : 0;
+}
+
+/* Sends the request, and takes its answer. */
+static int exchange(struct plfs_engine *engine, const struct plfs_asked *a) {
+    unsigned char head[HEAD], answer[ANSWER];
+    const uint64_t number = ++engine->number, numbers[HEAD / 8] = {a->kind, a->actor, number, a->place, a->extent, a->len};
+    for (int i = 0; i < HEAD / 8; i++) put(head + 8 * i, numbers[i]);
+    if (send_all(engine->to, head, a->bytes, a->len)) return PLFS_GONE;
+    if (take_all(engine->from, answer, ANSWER)) return PLFS_GONE;
+    uint64_t status = get(answer + 8), value = get(answer + 16), len = get(answer + 24);
+    int error = get(answer) == number ? error_of(a->kind, status, value) : PLFS_STRANGE;
+    if (error == PLFS_STRANGE || (error == 0 && a->kind == PLFS_READ && value != len)) return PLFS_STRANGE;
+    int failed = take_payload(engine, a, status, len);
+    if (failed) return failed;
+    if (error == PLFS_DAMAGED) engine->place = value;
+    if (error == 0 && a->out) *a->out = value;
+    return error;
+}
+
+/* Behind an error that leaves the pipes out of step no further request is made. */
+int plfs_engine_ask(struct plfs_engine *engine, const struct plfs_asked *asked) {
+    pthread_mutex_lock(&engine->lock);
+    int error = engine->gone ? engine->gone : exchange(engine, asked);
+    if (!engine->gone && (error == PLFS_NO_MEMORY || error >= PLFS_ENGINE_MEMORY)) {
+        engine->gone = error == PLFS_NO_MEMORY ? PLFS_GONE : error;
+    }
+    pthread_mutex_unlock(&engine->lock);
+    return error;
+}
+
+/* ---- the process */
+
+/* A pipe whose ends no program inherits, and neither of which has the number of a standard stream. */
+static int pipe_above(int ends[2]) {
+    int low[2];
+    if (pipe2(low, O_CLOEXEC)) return -1;
+    for (int i = 0; i < 2; i++) ends[i] = low[i] > 2 ? low[i] : fcntl(low[i], F_DUPFD_CLOEXEC, 3);
+    for (int i = 0; i < 2; i++) {
+        if (low[i] <= 2) close(low[i]);
+    }
+    if (ends[0] >= 0 && ends[1] >= 0) {
+        (void)fcntl(ends[1], F_SETPIPE_SZ, PIPE); /* quicker, where the system allows it */
+        return 0;
+    }
+    for (int i = 0; i < 2; i++) {
+        if (ends[i] >= 0) close(ends[i]);
+    }
+    return -1;
+}
+
+/* Starts the program with these as its input and output, and no signal blocked. 0, or an error of the system. */
+static int spawn(char *const words[], int input, int output, pid_t *process) {
+    const char *program = getenv("PLFS_SERVE");
+    if (!program || !*program) program = words[0];
+    posix_spawn_file_actions_t files;
+    posix_spawnattr_t attributes;
+    sigset_t none;
+    sigemptyset(&none);
+    int failed = posix_spawn_file_actions_init(&files);
+    if (failed) return failed;
+    failed = posix_spawnattr_init(&attributes);
+    if (failed) {
+        posix_spawn_file_actions_destroy(&files);
+        return failed;
+    }
+    failed = posix_spawnattr_setsigmask(&attributes, &none);
+    if (!failed) failed = posix_spawnattr_setflags(&attributes, POSIX_SPAWN_SETSIGMASK);
+    if (!failed) failed = posix_spawn_file_actions_adddup2(&files, input, 0);
+    if (!failed) failed = posix_spawn_file_actions_adddup2(&files, output, 1);
+    if (!failed) failed = posix_spawnp(process, program, &files, &attributes, words, environ);
+    posix_spawnattr_destroy(&attributes);
+    posix_spawn_file_actions_destroy(&files);
+    return failed;
+}
+
+/* Whether the folder is mounted: the engine answers as soon as it is. It refuses to close a reader that isn't there. */
+static int greet(struct plfs_engine *engine) {
+    int error = plfs_engine_ask(engine, &(struct plfs_asked){.kind = PLFS_CLOSE_READ});
+    if (error == PLFS_NOT_OPEN) return 0;
+    int ended = plfs_engine_end(engine);
+    if (error == PLFS_GONE && ended) return ended;
+    return error ? error : PLFS_STRANGE;
+}
+
+int plfs_engine_start(struct plfs_engine *engine, const char *root, uint32_t host) {
+    char number[16];
+    snprintf(number, sizeof number, "%lu", (unsigned long)host);
+    char *words[] = {(char *)(uintptr_t)"plfs_serve", (char *)(uintptr_t)root, number, NULL};
+    int to[2], from[2];
+    *engine = (struct plfs_engine){.to = -1};
+    if (pipe_above(to)) return PLFS_NOT_STARTED;
+    if (pipe_above(from)) {
+        close(to[0]);
+        close(to[1]);
+        return PLFS_NOT_STARTED;
+    }
+    int failed = pthread_mutex_init(&engine->lock, NULL);
+    if (!failed) {
+        failed = spawn(words, to[0], from[1], &engine->process);
+        if (failed) pthread_mutex_destroy(&engine->lock);
+    }
+    close(to[0]);
+    close(from[1]);
+    engine->to = to[1];
+    engine->from = from[0];
+    if (!failed) return greet(engine);
+    close(engine->to);
+    close(engine->from);
+    errno = failed;
+    return PLFS_NOT_STARTED;
+}
+
+int plfs_engine_end(struct plfs_engine *engine) {
+    int status = 0;
+    pid_t ended;
+    close(engine->to);
+    while ((ended = waitpid(engine->process, &status, 0)) < 0 && errno == EINTR) {}
+    close(engine->from);
+    pthread_mutex_destroy(&engine->lock);
+    if (ended < 0 || !WIFEXITED(status)) return PLFS_GONE;
+    switch (WEXITSTATUS(status)) {
+    case 0: return 0;
+    case 1: return PLFS_MOUNTS_SPENT;
+    case 2: return PLFS_NO_ROOT;
+    case 3: return PLFS_ENGINE_MEMORY;
+    case 4: return PLFS_FAULT;
+    case 7: return PLFS_DAMAGED;
+    case 127: return PLFS_NOT_STARTED;
+    default: return PLFS_GONE;
+    }
+}

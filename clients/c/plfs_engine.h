@@ -1,0 +1,51 @@
+/* plfs_engine.h: one engine that was started, and requests of it. For plfs_client.c alone. */
+#ifndef PLFS_ENGINE_H
+#define PLFS_ENGINE_H
+
+#include <pthread.h>
+#include <stddef.h>
+#include <stdint.h>
+#include <sys/types.h>
+
+/* The statements that are asked for, as docs/ENGINE.md numbers them. */
+enum plfs_kind {
+    PLFS_OPEN = 1, PLFS_WRITE, PLFS_SYNC, PLFS_CLOSE, PLFS_OPEN_READ, PLFS_READ, PLFS_REFRESH, PLFS_PIECES, PLFS_CLOSE_READ,
+    PLFS_STAT, PLFS_TRUNC, PLFS_RENAME, PLFS_FLATTEN, PLFS_RECOVER, PLFS_LIST
+};
+
+enum { PLFS_ITEM = 256 };
+
+struct plfs_engine {
+    pthread_mutex_t lock; /* a request and its answer go under it, and so does all that follows */
+    int to, from;
+    pid_t process;
+    uint64_t number;  /* of the last request */
+    int gone;         /* why no further request is made: 0, or an error */
+    size_t item_len;  /* the damage that was told last */
+    uint64_t place;
+    char item[PLFS_ITEM];
+};
+
+/* One request. Where an answer has bytes, they go to into, which has room for so many, or to memory that *made takes, with a zero
+ * byte behind them. *out takes the answer's value under the lock, where all goes well. */
+struct plfs_asked {
+    enum plfs_kind kind;
+    uint64_t actor, place, extent;
+    const void *bytes;
+    size_t len;
+    void *into;
+    size_t room;
+    char **made;
+    uint64_t *out;
+};
+
+/* Starts an engine on ROOT. 0, or an error of enum plfs_error, not negated. */
+int plfs_engine_start(struct plfs_engine *engine, const char *root, uint32_t host);
+
+/* Makes the request. 0, or an error of enum plfs_error, not negated. */
+int plfs_engine_ask(struct plfs_engine *engine, const struct plfs_asked *asked);
+
+/* Ends the engine's input, and waits for its end. 0, or the error that its status tells. */
+int plfs_engine_end(struct plfs_engine *engine);
+
+#endif

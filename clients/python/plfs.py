@@ -1,0 +1,400 @@
+"""Files of a store of Rigtolai, written and read by the standard library alone.
+
+    with plfs.Mount("/ckpt") as fs:
+        with fs.open("step", "wb") as out:      # a writer: in order, or at any place by pwrite
+            out.write(data)
+        with fs.open("step", "rb") as file:     # a reader: a binary file that can be sought
+            file.readinto(buffer)
+
+A mount starts the engine `plfs_serve`: the program that $PLFS_SERVE names, or else the one on the path. A folder belongs to one
+engine at a time. Any thread may call. A request and its answer go under one lock, and that order is the one that all see.
+
+`plfs.open(root, name, mode)` is a file with a mount of its own. Sizes and places are in bytes, stamps in nanoseconds since 1970.
+Buffers are handed to the system as they lie in memory, and have to be contiguous.
+"""
+
+import fcntl
+import io
+import os
+import struct
+import subprocess
+import threading
+
+__all__ = ["Error", "Mount", "Reader", "Why", "Writer", "open"]
+
+OPEN, WRITE, SYNC, CLOSE, OPEN_READ, READ, REFRESH, PIECES, CLOSE_READ, STAT, TRUNC, RENAME, FLATTEN, RECOVER, LIST = range(1, 16)
+# Actors are 0 to HANDLES, and the first makes the statements that need no handle. Bytes of one request: longer ones are several.
+HANDLES, NAMES, LONGEST, PIPE = 255, 0, 1 << 24, 1 << 20
+HEAD, ANSWER = struct.Struct("<6Q"), struct.Struct("<4Q")
+MADE, REFUSED, NO_REQUEST, NO_MEMORY, FAULT, DAMAGED = 0, 1, 2, 3, 4, 7
+
+
+class Why:
+    """Why a call did not do what it says. The numbers are those of plfs.h."""
+
+    (NO_FILE, HELD, BUSY, EXISTS, TOO_FAR, STAMPS_SPENT, IDS_SPENT, NOT_OPEN, ALREADY_OPEN, MOUNTS_SPENT, BAD_NAME, BAD_NUMBER, NO_HANDLE,
+     NO_MEMORY, NOT_STARTED, NO_ROOT, DAMAGED, FAULT, ENGINE_MEMORY, GONE, STRANGE) = range(1, 22)
+
+
+WORDS = ("done", "no such file", "the file is held", "a writer has the file open", "the name is taken", "past the greatest size", "no stamp is left",
+         "no id is left", "it isn't open", "it is open already", "no mount is left", "no name of a file", "a number is out of range",
+         "too many handles are open", "memory was refused", "the engine couldn't be started", "no list of folders", "an item is damaged",
+         "the store failed, or is in use", "the engine was refused memory", "the engine is gone", "the engine's answer is none")
+ENDS = {1: Why.MOUNTS_SPENT, 2: Why.NO_ROOT, 3: Why.ENGINE_MEMORY, 4: Why.FAULT, 7: Why.DAMAGED}
+
+
+class Error(OSError):
+    """A call that did not do what it says. `why` is one of Why. At damage `item` is the path of the item in its container, and `place` is that of
+    the damage in it."""
+
+    def __init__(self, why, item=None, place=None):
+        where = f": {item} at {place}" if item else ""
+        super().__init__(WORDS[why] + where)
+        self.why, self.item, self.place = why, item, place
+
+
+def _error_of(kind, status, value, payload):
+    if status == REFUSED and Why.NO_FILE <= value <= Why.MOUNTS_SPENT:
+        return Error(value)
+    if status == NO_REQUEST and (kind in (OPEN, OPEN_READ) or kind >= STAT):
+        return Error(Why.BAD_NAME)
+    if status == DAMAGED:
+        return Error(Why.DAMAGED, bytes(payload).decode(errors="replace"), value)
+    return Error({NO_MEMORY: Why.ENGINE_MEMORY, FAULT: Why.FAULT}.get(status, Why.STRANGE))
+
+
+def _flat(data):
+    """The bytes of a buffer as they lie in memory. A buffer without bytes may have a shape that can't be cast."""
+    view = memoryview(data)
+    return view.cast("B") if view.nbytes else memoryview(b"")
+
+
+def _named(name):
+    return name.encode() if isinstance(name, str) else bytes(name)
+
+
+def _pipe():
+    """A pipe whose ends no program inherits, and neither of which has the number of a standard stream."""
+    ends = list(os.pipe())
+    for k, low in enumerate(ends):
+        if low <= 2:
+            ends[k] = fcntl.fcntl(low, fcntl.F_DUPFD_CLOEXEC, 3)
+            os.close(low)
+    try:
+        fcntl.fcntl(ends[1], 1031, PIPE)  # F_SETPIPE_SZ: quicker, where the system allows it
+    except OSError:
+        pass
+    return ends
+
+
+class Mount:
+    """A folder, or 1 to 8 of them with colons between, whose files are opened here. It is a context: its end unmounts."""
+
+    def __init__(self, root, host=0, engine=None):
+        """Starts an engine. Its writers are of this host."""
+        program = engine or os.environ.get("PLFS_SERVE") or "plfs_serve"
+        self._lock, self._number, self._free, self._gone = threading.Lock(), 0, list(range(HANDLES, 0, -1)), None
+        to, self._to = _pipe()
+        self._from, out = _pipe()
+        try:
+            self.engine = subprocess.Popen(["plfs_serve", os.fspath(root), str(host)], executable=program, stdin=to, stdout=out)
+        except OSError as error:
+            os.close(self._to)
+            os.close(self._from)
+            raise Error(Why.NOT_STARTED) from error
+        finally:
+            os.close(to)
+            os.close(out)
+        self._greet()
+
+    def _greet(self):
+        """Waits until the folder is mounted: the engine answers as soon as it is. It refuses to close a reader that isn't there."""
+        try:
+            self.ask(CLOSE_READ, NAMES)
+            why = Why.STRANGE
+        except Error as error:
+            why = error.why
+        if why != Why.NOT_OPEN:
+            ended = self._end()
+            raise Error(ENDS.get(ended, why) if why == Why.GONE else why)
+
+    # ---- requests
+
+    def _send(self, head, payload):
+        parts = [memoryview(head), payload]
+        while parts:
+            sent = os.writev(self._to, parts)
+            while parts and sent >= len(parts[0]):
+                sent -= len(parts.pop(0))
+            if parts:
+                parts[0] = parts[0][sent:]
+
+    def _take(self, view):
+        while view:
+            got = os.readv(self._from, [view])
+            if not got:
+                raise Error(Why.GONE)
+            view = view[got:]
+
+    def _exchange(self, kind, actor, place, extent, payload, into):
+        self._number += 1
+        self._send(HEAD.pack(kind, actor, self._number, place, extent, len(payload)), payload)
+        head = bytearray(ANSWER.size)
+        self._take(memoryview(head))
+        number, status, value, length = ANSWER.unpack(head)
+        if number != self._number:
+            raise Error(Why.STRANGE)
+        if status == MADE and into is not None:
+            if value != length or length > len(into):
+                raise Error(Why.STRANGE)
+            view = into[:length]
+        else:
+            view = memoryview(bytearray(length))
+        self._take(view)
+        return status, value, view
+
+    def ask(self, kind, actor, place=0, extent=0, payload=b"", into=None):
+        """Makes one request. Gives the answer's value, and its bytes, which are those of `into` where that is given."""
+        payload = _flat(payload)
+        if not (0 <= place < 1 << 64 and 0 <= extent < 1 << 64):
+            raise Error(Why.BAD_NUMBER)
+        with self._lock:
+            if self._gone:
+                raise Error(self._gone)
+            try:
+                status, value, view = self._exchange(kind, actor, place, extent, payload, into)
+            except BaseException as error:  # the pipes are out of step
+                self._gone = error.why if isinstance(error, Error) else Why.GONE
+                if isinstance(error, OSError) and not isinstance(error, Error):
+                    raise Error(Why.GONE) from error
+                raise
+            if status == MADE:
+                return value, view
+            error = _error_of(kind, status, value, view)
+            if error.why in (Why.ENGINE_MEMORY, Why.STRANGE):
+                self._gone = error.why
+        raise error
+
+    def _actor(self):
+        with self._lock:
+            if not self._free:
+                raise Error(Why.NO_HANDLE)
+            return self._free.pop()
+
+    def _leave(self, actor):
+        with self._lock:
+            self._free.append(actor)
+
+    def _by_name(self, kind, name, place=0):
+        return self.ask(kind, NAMES, place, 0, _named(name))[0]
+
+    # ---- files
+
+    def open(self, name, mode="rb", workers=1):
+        """A reader (`rb`), whose indices are read in so many shares, 1 to 16; or a writer (`wb`). A writer cuts nothing: what its file had before
+        stays where it isn't written."""
+        if mode not in ("rb", "wb"):
+            raise ValueError(f"mode is rb or wb, and not {mode!r}")
+        return Reader(self, name, workers) if mode == "rb" else Writer(self, name)
+
+    def stat(self, name):
+        """The size of what has landed."""
+        return self._by_name(STAT, name)
+
+    def trunc(self, name, size):
+        """Cuts the file to this size, or lengthens it by zeros, for readers that are opened later. Gives its stamp."""
+        return self._by_name(TRUNC, name, size)
+
+    def rename(self, name, to):
+        """Gives the file a new name, which must be free."""
+        first = _named(name)
+        self.ask(RENAME, NAMES, 0, len(first), first + _named(to))
+
+    def flatten(self, name):
+        """Writes the index of all that has landed as one, from which later readers start."""
+        self._by_name(FLATTEN, name)
+
+    def recover(self, name):
+        """Mends what writers left that died, and takes them off the open ones. Gives how many there were."""
+        return self._by_name(RECOVER, name)
+
+    def list(self):
+        """The names of all files, in the order of their bytes."""
+        return bytes(self.ask(LIST, NAMES)[1]).decode().split("\n")[:-1]
+
+    def _end(self):
+        with self._lock:
+            if self._to is not None:
+                os.close(self._to)
+                self._to = None
+            ended = self.engine.wait()
+            if self._from is not None:
+                os.close(self._from)
+                self._from = None
+            self._gone = self._gone or Why.GONE
+        return ended
+
+    def close(self):
+        """Syncs and closes what is open, ends the engine and waits for its end."""
+        if self._to is None:
+            return
+        ended = self._end()
+        if ended:
+            raise Error(ENDS.get(ended, Why.GONE))
+
+    def __enter__(self):
+        return self
+
+    def __exit__(self, kind, *_):
+        try:
+            self.close()
+        except Error:
+            if kind is None:
+                raise
+
+
+class _File(io.RawIOBase):
+    """What writers and readers share: a place, which moves, and the actor of their requests."""
+
+    def __init__(self, fs, kind, name, place=0):
+        super().__init__()
+        self.fs, self.name, self._owns, self._place = fs, name, False, 0
+        self._actor = fs._actor()
+        try:
+            self._told = fs.ask(kind, self._actor, place, payload=_named(name))[0]
+        except BaseException:
+            fs._leave(self._actor)
+            self._actor = None
+            super().close()
+            raise
+
+    def _ask(self, kind, *numbers, **bytes_of):
+        if self._actor is None:
+            raise ValueError("I/O operation on closed file")
+        return self.fs.ask(kind, self._actor, *numbers, **bytes_of)
+
+    def seekable(self):
+        return True
+
+    def readinto(self, buffer):
+        raise io.UnsupportedOperation("a writer reads nothing")
+
+    def write(self, data):
+        raise io.UnsupportedOperation("a reader writes nothing")
+
+    def tell(self):
+        return self._place
+
+    def seek(self, offset, whence=os.SEEK_SET):
+        begin = {os.SEEK_SET: 0, os.SEEK_CUR: self._place, os.SEEK_END: self._end}[whence]
+        if begin + offset < 0:
+            raise ValueError(f"the place {begin + offset} is negative")
+        self._place = begin + offset
+        return self._place
+
+    def _close_by(self, kind):
+        if self._actor is None:
+            return None
+        actor, self._actor = self._actor, None
+        try:
+            told = self.fs.ask(kind, actor)[0]
+            self.fs._leave(actor)
+            return told
+        finally:
+            super().close()
+            if self._owns:
+                self.fs.close()
+
+
+class Writer(_File):
+    """A writer. `write` goes on behind the last one, `pwrite` writes at a place. Readers see what has landed."""
+
+    mode = "wb"
+
+    def __init__(self, fs, name):
+        super().__init__(fs, OPEN, name)
+        self.id, self.stamp, self.landed, self._end = self._told, 0, None, 0
+
+    def writable(self):
+        return True
+
+    def pwrite(self, data, at):
+        """Writes all of the data at this place. Gives how many bytes that are; `stamp` is then that of the last request."""
+        view = _flat(data)
+        for start in range(0, len(view), LONGEST):
+            self.stamp = self._ask(WRITE, at + start, payload=view[start : start + LONGEST])[0]
+            self._end = max(self._end, at + min(start + LONGEST, len(view)))
+        return len(view)
+
+    def write(self, data):
+        done = self.pwrite(data, self._place)
+        self._place += done
+        return done
+
+    def sync(self):
+        """Syncs what was written. Gives how many of its requests are there after any later kill or loss of power."""
+        return self._ask(SYNC)[0]
+
+    def close(self):
+        """Syncs and closes; `landed` is then what `sync` would give."""
+        told = self._close_by(CLOSE)
+        self.landed = self.landed if told is None else told
+
+
+class Reader(_File):
+    """A reader of what had landed as it was opened or last refreshed. `size` is that of its file."""
+
+    mode = "rb"
+
+    def __init__(self, fs, name, workers=1):
+        if not 1 <= workers <= 16:
+            raise Error(Why.BAD_NUMBER)
+        super().__init__(fs, OPEN_READ, name, workers)
+        self.size = self._end = self._told
+
+    def readable(self):
+        return True
+
+    def pread_into(self, buffer, at):
+        """Reads into the buffer from this place on. Gives how many bytes: fewer than it has only at the file's end."""
+        view, done = _flat(buffer), 0
+        while done < len(view):
+            part = view[done : done + LONGEST]
+            got = self._ask(READ, at + done, len(part), into=part)[0]
+            done += got
+            if got < len(part):
+                break
+        return done
+
+    def readinto(self, buffer):
+        done = self.pread_into(buffer, self._place)
+        self._place += done
+        return done
+
+    def readall(self):
+        left = bytearray(max(0, self.size - self._place))
+        return bytes(memoryview(left)[: self.readinto(left)])
+
+    def refresh(self):
+        """Brings the reader to what a new one would see, and gives its size. Where that fails it is as it was."""
+        self.size = self._end = self._ask(REFRESH)[0]
+        return self.size
+
+    def pieces(self):
+        """How many runs of bytes the file has that lie side by side in one log."""
+        return self._ask(PIECES)[0]
+
+    def close(self):
+        self._close_by(CLOSE_READ)
+
+
+def open(root, name, mode="rb", host=0, workers=1):
+    """A file with a mount of its own, which ends as it is closed."""
+    fs = Mount(root, host)
+    try:
+        file = fs.open(name, mode, workers)
+    except BaseException:
+        fs.close()
+        raise
+    file._owns = True
+    return file

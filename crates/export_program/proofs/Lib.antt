@@ -1,0 +1,7 @@
+mod Commands
+mod Cuts
+mod Leading
+mod Looks
+mod Passages
+mod Pieces
+mod Seeing

@@ -1,0 +1,14 @@
+use Rattle.actor_core.specs.Names.{names_program}
+use Rattle.pack_core.proofs.Broken.{begins_so}
+use Rattle.pack_core.proofs.Freely.{asks_so, makes_so}
+use Rattle.export_program.proofs.Looks.{names_free}
+use Rattle.export_program.proofs.naming.list_files.Goals as goal
+
+pub drive_freely-requires : goal.drive_freely-requires
+drive_freely-requires g c = record { free = asks_so _ _ c.new.ensures names_free; fine = c.requires }
+
+pub returns-clause-makes : goal.returns-clause-makes
+returns-clause-makes g c = makes_so c.drive_freely.result _ names_program c.args.mount.now c.drive_freely.new.mount c.new.ensures c.drive_freely.ensures.drives
+
+pub returns-clause-broken_off : goal.returns-clause-broken_off
+returns-clause-broken_off g c = begins_so c.drive_freely.result _ names_program c.args.mount.now c.drive_freely.new.mount c.new.ensures c.drive_freely.ensures.broken_off

@@ -1,0 +1,10 @@
+pub mod Course
+pub mod Exporting
+pub mod Filling
+pub mod Naming
+pub mod Passing
+pub mod Pieces
+pub mod Seen
+pub mod Shelf
+pub mod Telling
+pub mod Words

@@ -1,0 +1,362 @@
+//! Files are written out into a folder. What goes wrong with one is said on standard error as it does.
+//!
+//! Each is filled under a name that none of them has, and gets its own where it has all its bytes. So what stands under a name is whole,
+//! also after a kill.
+ghost use Rattle.std.specs.Prelude.{◌≤◌, length};
+ghost use Rattle.edge_io.specs.Sink.{Takes, taking_over};
+
+use crate::amount::Amount;
+use crate::called::Program;
+use crate::folders::MOST_FOLDERS;
+use crate::lock::{Denial, lock_folders};
+use crate::said::{Said, Saying};
+use crate::serve;
+use crate::spelled::Spelled;
+use crate::standard::Standard;
+use crate::task::{Folders, Task};
+use crate::telling::{CURE, starved, usage};
+use edge_io::{Failed, Sink, StdSink, SystemClock};
+use export_program::{ExportCommand, Shelf, Unmade, export};
+use plfs_types::{LogicalName, Word};
+use program_ends::Ended;
+use std::alloc::Global;
+use std::cell::RefCell;
+use std::fs::{self, File};
+use std::io::{self, ErrorKind, Write};
+use std::process::ExitCode;
+use std::str;
+use std::sync::Wait;
+use std::thread::Threads;
+
+/// The name of the file that is filled. It begins with a dot, so it is none of a file of ROOT.
+const FILLED: &str = ".plfs_export";
+
+/// The most bytes of a line that are remembered.
+const MOST_REMEMBERED: usize = 1024;
+
+/// A file that is filled. It tells no bytes.
+#[derive(Drop)]
+struct NewFile {
+    rt: HostRuntime,
+    // Where it is to stand.
+    path: String,
+    file: File,
+    faults: u64,
+    stalls: u64,
+}
+
+// Says what went wrong with a file.
+fn tell(rt: &HostRuntime, path: &str, what: &str, error: io::Error) {
+    let path = Spelled(path);
+    let _ = eprintln!(rt; "plfs: {path}: {what}: {error}");
+}
+
+impl Sink for NewFile {
+    ghost taking = { λ file. taking_over file.faults file.stalls };
+
+    fn write(&mut self, piece: &[u8]) -> Result<usize, Failed>
+        ensures { Takes piece.now (taking_over self.old.faults self.old.stalls) (taking_over self.new.faults self.new.stalls) result }
+    {
+        match self.file.write(piece) {
+            Ok(count) => {
+                if count == 0 && !piece.is_empty() {
+                    self.stalls = self.stalls.saturating_add(1);
+                }
+                Ok(count)
+            }
+            Err(error) => {
+                tell(&self.rt, self.path.as_str(), "write", error);
+                self.faults = self.faults.saturating_add(1);
+                Err(Failed)
+            }
+        }
+    }
+}
+
+/// A folder in which files are kept.
+#[derive(Drop)]
+struct FolderShelf<'a> {
+    rt: HostRuntime,
+    folder: &'a Word,
+    over: bool,
+    // The path of the file that is filled.
+    filled: String,
+}
+
+// The path of an item of this name.
+fn path_in(alloc: Global, folder: &Word, name: &str) -> io::Result<String> {
+    let mut path = String::from_str(alloc, folder.as_str())?;
+    path.push_str("/")?;
+    path.push_str(name)?;
+    Ok(path)
+}
+
+impl<'a> FolderShelf<'a> {
+    // The folder, and whether files that stand there are written over.
+    fn new(rt: HostRuntime, folder: &'a Word, over: bool) -> io::Result<FolderShelf<'a>> {
+        let filled = path_in(rt.alloc(), folder, FILLED)?;
+        Ok(FolderShelf {
+            rt,
+            folder,
+            over,
+            filled,
+        })
+    }
+
+    // Whether a file can be kept at this path: something that stands there may be written over, and is no folder.
+    fn is_free(&self, path: &str) -> Result<(), Unmade> {
+        match fs::symlink_metadata(&self.rt, path) {
+            Ok(_) if !self.over => Err(Unmade::Exists),
+            Ok(found) if found.is_dir() => {
+                tell(&self.rt, path, "open", io::Error::other("it is a folder"));
+                Err(Unmade::Failed)
+            }
+            Ok(_) => Ok(()),
+            Err(error) if error.kind() == ErrorKind::NotFound => Ok(()),
+            Err(error) => {
+                tell(&self.rt, path, "open", error);
+                Err(Unmade::Failed)
+            }
+        }
+    }
+
+    // Removes what a run that was killed has left.
+    fn clear(&self) -> io::Result<()> {
+        match fs::remove_file(&self.rt, self.filled.as_str()) {
+            Err(error) if error.kind() != ErrorKind::NotFound => Err(error),
+            _ => Ok(()),
+        }
+    }
+
+    // The file that is filled, anew and without bytes.
+    fn open_new(&self) -> io::Result<File> {
+        self.clear()?;
+        File::create_new(&self.rt, self.filled.as_str())
+    }
+
+    // A file that is to stand at this path.
+    fn make_at(&self, path: String) -> Result<NewFile, Unmade> {
+        self.is_free(path.as_str())?;
+        match self.open_new() {
+            Ok(file) => Ok(NewFile {
+                rt: self.rt,
+                path,
+                file,
+                faults: 0,
+                stalls: 0,
+            }),
+            Err(error) => {
+                tell(&self.rt, path.as_str(), "open", error);
+                Err(Unmade::Failed)
+            }
+        }
+    }
+
+    // A file that is to have this name.
+    fn make_named(&self, name: LogicalName) -> Result<NewFile, Unmade> {
+        let name = name.name();
+        let name = str::from_utf8(name.bytes()).unwrap_or("");
+        match path_in(self.rt.alloc(), self.folder, name) {
+            Ok(path) => self.make_at(path),
+            Err(error) => {
+                tell(&self.rt, self.folder.as_str(), "open", error);
+                Err(Unmade::Failed)
+            }
+        }
+    }
+
+    // Gives the file its own name, where all of its bytes are there for good.
+    fn keep_new(&self, new: &NewFile) -> bool {
+        let path = new.path.as_str();
+        if let Err(error) = new.file.sync_all() {
+            tell(&self.rt, path, "sync", error);
+            return false;
+        }
+        match fs::rename(&self.rt, self.filled.as_str(), path) {
+            Ok(()) => true,
+            Err(error) => {
+                tell(&self.rt, path, "rename", error);
+                false
+            }
+        }
+    }
+
+    // Removes the file that is filled, whose own name this would have been.
+    fn remove(&self, path: &str) {
+        if let Err(error) = self.clear() {
+            tell(&self.rt, path, "remove", error);
+        }
+    }
+
+    // Makes the names of the files last. Whether it could.
+    fn sync(&self) -> bool {
+        let end = match File::open(&self.rt, self.folder.as_str()) {
+            Ok(folder) => folder.sync_all(),
+            Err(error) => Err(error),
+        };
+        match end {
+            Ok(()) => true,
+            Err(error) => {
+                tell(&self.rt, self.folder.as_str(), "sync", error);
+                false
+            }
+        }
+    }
+}
+
+impl<'a> Shelf<NewFile> for FolderShelf<'a> {
+    ghost use Rattle.std.specs.Prelude.{None};
+
+    ghost deeds = { λ _. None };
+
+    fn make(&mut self, name: LogicalName) -> Result<NewFile, Unmade> {
+        self.make_named(name)
+    }
+
+    fn keep(&mut self, _name: LogicalName, file: NewFile) -> bool {
+        let is_kept = self.keep_new(&file);
+        if !is_kept {
+            self.remove(file.path.as_str());
+        }
+        is_kept
+    }
+
+    fn discard(&mut self, file: NewFile) {
+        self.remove(file.path.as_str());
+    }
+}
+
+/// A writer of lines, each of which begins with a name. Behind each that tells of damage it is said what helps.
+#[derive(Drop)]
+struct Lines<W> {
+    rt: HostRuntime,
+    writer: W,
+    line: Vec<u8>,
+}
+
+impl<W: Write> Lines<W> {
+    fn hear(&mut self, bytes: &[u8]) {
+        for byte in bytes {
+            if *byte == b'\n' {
+                self.tell();
+                self.line.clear();
+            } else if self.line.len() < MOST_REMEMBERED {
+                let _ = self.line.push(*byte);
+            }
+        }
+    }
+
+    // Says what is damaged, where the line tells of that.
+    fn tell(&self) {
+        let rt = &self.rt;
+        if let Some((name, what)) = str::from_utf8(self.line.as_slice())
+            .unwrap_or("")
+            .split_once(' ')
+        {
+            if let Some(what) = what.strip_prefix("0 damaged ") {
+                let _ = eprintln!(rt; "plfs: {name}: damaged {what}: {CURE}");
+            }
+        }
+    }
+}
+
+impl<W: Write> Write for Lines<W> {
+    fn write(&mut self, buf: &[u8]) -> io::Result<usize> {
+        let end = self.writer.write(buf);
+        if let Ok(count) = &end {
+            self.hear(&buf[..*count]);
+        }
+        end
+    }
+
+    fn flush(&mut self) -> io::Result<()> {
+        self.writer.flush()
+    }
+}
+
+/// Writes all files of the store out into the folder, and ends with the greatest status.
+#[inline(never)]
+pub fn export_files(
+    rt: &HostRuntime,
+    command: ExportCommand,
+    folder: &Word,
+    said: &RefCell<Said>,
+    amount: &RefCell<Amount>,
+    store: Folders,
+) -> Ended<Folders> {
+    let Ok(shelf) = FolderShelf::new(*rt, folder, command.over) else {
+        return Ended {
+            store: Some(store),
+            status: 3,
+        };
+    };
+    let mut shelf = shelf;
+    let mut sink = StdSink::new(Saying {
+        writer: Lines {
+            rt: *rt,
+            writer: io::writer(rt),
+            line: Vec::new(rt.alloc()),
+        },
+        said,
+        amount,
+    });
+    let Ended { store, status } = export(
+        rt.alloc(),
+        &mut shelf,
+        &mut sink,
+        store,
+        SystemClock::new(*rt),
+    );
+    let least = if shelf.sync() { 0 } else { 6 };
+    Ended {
+        store,
+        status: status.max(least),
+    }
+}
+
+/// Whether it was said why an export ended so, as it did: of each file that failed or is damaged it was.
+pub fn tells_each(status: u8, said: &Said) -> bool {
+    match status {
+        6 => said.error.is_none(),
+        7 => said.damage().is_empty(),
+        _ => false,
+    }
+}
+
+// Says why files can't be written into a folder. Nothing was done.
+fn tell_unhad(rt: &HostRuntime, folder: &Word, why: Denial) -> ExitCode {
+    if let Denial::NoMemory = why {
+        return starved(rt);
+    }
+    let folder = Spelled(folder.as_str());
+    let _ = eprintln!(rt; "plfs: {folder}: {why}");
+    ExitCode::from(6)
+}
+
+/// Writes all files out into a folder, where the words of `plfs_copy` ask for that. The folder is locked before ROOT.
+#[inline(never)]
+pub fn obey_export<H: Threads + Wait + Sync>(
+    handle: &H,
+    rt: HostRuntime,
+    root: &Word,
+    folders: &[&str],
+    words: &[Word],
+    standard: &Standard,
+) -> ExitCode
+    requires few { length folders.now ≤ MOST_FOLDERS }
+{
+    let Some(command) = ExportCommand::read(words) else {
+        return usage(&rt, Program::Copy);
+    };
+    let Some(folder) = words.get(1) else {
+        return usage(&rt, Program::Copy);
+    };
+    let locks = match lock_folders(&rt, &[folder.as_str()]) {
+        Ok(locks) => locks,
+        Err(denied) => return tell_unhad(&rt, folder, denied.why),
+    };
+    let task = Task::Export { command, folder };
+    let code = serve(handle, rt, root, folders, &task, standard);
+    drop(locks);
+    code
+}

@@ -1,0 +1,6 @@
+mod Actors
+mod Closings
+mod Exchanges
+mod Frames
+mod Runnings
+mod Soundness

@@ -1,0 +1,278 @@
+"""The clients that other programs write through: in C, Fortran and Python, as they are built and run."""
+
+import io
+import os
+import resource
+import shutil
+import subprocess
+import sys
+import threading
+
+import engine_model as model
+from engine_model import ANSWER
+from engines import client, engine, frame, has_no_dead, plfs
+from trial import SECONDS, Skipped, Wrong, check, same, true
+
+BLOCK = 47008
+# The programs in C that were built: by the name of the source and the options.
+BUILT = {}
+
+
+def surroundings(trial, **more):
+    return {"PATH": os.environ.get("PATH", "/usr/bin:/bin"), "PLFS_SERVE": engine(trial), "PYTHONPATH": str(trial.top / "clients" / "python"),
+            "PYTHONDONTWRITEBYTECODE": "1", "LANG": "C.UTF-8", **more}
+
+
+def ran(trial, words, seconds=6 * SECONDS, env=(), **how):
+    """The status of these words, and what they print, with the engine in their surroundings."""
+    how = {"stdout": subprocess.PIPE, "stderr": subprocess.PIPE, "cwd": trial.folder, **how}
+    ended = subprocess.run([str(it) for it in words], env=surroundings(trial, **dict(env)), timeout=seconds, **how)
+    return ended.returncode, (ended.stdout or b"").decode(), (ended.stderr or b"").decode()
+
+
+def built(trial, source, *options):
+    """A program in C with the client in it, with warnings as errors. It is built once for all checks."""
+    if not shutil.which("cc"):
+        raise Skipped("no compiler")
+    key = source.stem, *options
+    if key not in BUILT:
+        out, folder = trial.folder.parent / f"client{len(BUILT)}", trial.top / "clients" / "c"
+        words = ["cc", "-std=c11", "-Wall", "-Wextra", "-Werror", "-O1", "-g", *options, f"-I{folder}", source, *sorted(folder.glob("*.c")), "-o", out, "-pthread"]
+        same("what the compiler says", ran(trial, words), (0, "", ""))
+        BUILT[key] = out
+    return BUILT[key]
+
+
+def example(trial, name):
+    return trial.top / "clients" / "examples" / name
+
+
+# ---- clients
+
+
+@check
+def four_threads_of_a_c_program_write_one_checkpoint_that_is_read_meanwhile(trial):
+    blocks = 512
+    status, out, err = ran(trial, [built(trial, example(trial, "checkpoint.c")), trial.root, "step", blocks, BLOCK])
+    same("how it ends", (status, out, err), (0, f"step: {blocks} blocks of {BLOCK} bytes by 4 threads are as they were written\n", ""))
+    whole = plfs(trial, "cat", "step")
+    same("the length of the file", len(whole), blocks * BLOCK)
+    for k in (0, 1, 255, blocks - 1):
+        same(f"block {k}", whole[k * BLOCK : (k + 1) * BLOCK], bytes((k * 31 + i + 1) & 255 for i in range(BLOCK)))
+    has_no_dead(trial, "step")
+
+
+@check
+def a_fortran_program_goes_on_from_its_checkpoint(trial):
+    fortran = shutil.which("gfortran")
+    if not fortran:
+        raise Skipped("no Fortran compiler")
+    folder = trial.top / "clients"
+    if not shutil.which("cc"):
+        raise Skipped("no compiler")
+    words = [fortran, "-O1", "-std=f2018", "-J", trial.folder, folder / "fortran" / "plfs.f90", example(trial, "stencil.f90")]
+    same("what the compiler says", ran(trial, ["cc", "-std=c11", "-c", *sorted((folder / "c").glob("*.c"))]), (0, "", ""))
+    words += [*sorted(trial.folder.glob("plfs_*.o")), "-o", trial.folder / "stencil", "-pthread"]
+    same("what the Fortran compiler says", ran(trial, words), (0, "", ""))
+    same("how it ends", ran(trial, [trial.folder / "stencil", trial.root, "grid"]), (0, "grid: a grid of 256 by 256 went on as it would have\n", ""))
+    has_no_dead(trial, "grid")
+
+
+@check
+def a_python_program_is_restarted(trial):
+    out = "state: went on from 100000 numbers; files: state state.copy\n"
+    python = next(it for it in (sys.executable, "/usr/bin/python3", shutil.which("python3")) if it and os.access(it, os.X_OK))
+    same("how it ends", ran(trial, [python, example(trial, "restart.py"), trial.root, "state"]), (0, out, ""))
+    same("the copy", plfs(trial, "cat", "state.copy"), plfs(trial, "cat", "state"))
+
+
+@check
+def what_numpy_saves_it_loads(trial):
+    try:
+        import numpy
+    except ImportError:
+        raise Skipped("no numpy") from None
+    grid = numpy.arange(300_000, dtype="f8").reshape(300, 1000)
+    with client(trial).Mount(trial.root, engine=engine(trial)) as fs:
+        with fs.open("grid", "wb") as out:
+            numpy.save(out, grid)
+        with fs.open("pair", "wb") as out:
+            numpy.savez(out, grid=grid, row=grid[3])
+        with fs.open("grid", "rb") as file:
+            true("another grid", (numpy.load(file) == grid).all())
+        with fs.open("pair", "rb") as file:
+            pair = numpy.load(file)
+            true("another pair", (pair["grid"] == grid).all() and (pair["row"] == grid[3]).all())
+
+
+@check
+def files_of_the_python_client_are_binary_files(trial):
+    plfs_client = client(trial)
+    text = "".join(f"line {k}\n" for k in range(1000))
+    with plfs_client.Mount(trial.root, engine=engine(trial)) as fs:
+        with fs.open("f", "wb") as out:
+            shutil.copyfileobj(io.BytesIO(text.encode()), out, 100)
+            same("what stands", (out.tell(), out.sync(), out.writable(), out.readable(), out.closed), (len(text), -(-len(text) // 100), True, False, False))
+            out.seek(0)
+            same("how many are written", out.write(memoryview(bytearray(b"LINE"))), 4)
+        same("what has landed", (out.landed, out.closed), (-(-len(text) // 100) + 1, True))
+        text = "LINE" + text[4:]
+        with fs.open("f", "rb", workers=3) as file:
+            same("its lines", list(io.TextIOWrapper(io.BufferedReader(file))), text.splitlines(True))
+        with fs.open("f", "rb") as file:
+            got = bytearray(7)
+            same("what is read", (file.seek(-5, 2), file.read(), file.seek(2), file.readinto(got), bytes(got)), (len(text) - 5, text[-5:].encode(), 2, 7, text[2:9].encode()))
+            same("all of it", (file.seek(0), file.readall()), (0, text.encode()))
+            same("past the end", (file.seek(10**6), file.read(), file.read(5)), (10**6, b"", b""))
+            wrongs = [(lambda: file.seek(-1), ValueError), (lambda: file.write(b"x"), io.UnsupportedOperation), (lambda: fs.open("f", "r+b"), ValueError)]
+            for call, kind in wrongs:
+                try:
+                    call()
+                    raise Wrong("a call that can't be was made")
+                except kind:
+                    pass
+        whys = [("away", "rb", 1, plfs_client.Why.NO_FILE), ("a/b", "wb", 1, plfs_client.Why.BAD_NAME), ("f", "rb", 17, plfs_client.Why.BAD_NUMBER)]
+        for name, mode, workers, why in whys:
+            try:
+                fs.open(name, mode, workers)
+                raise Wrong(f"{name} was opened")
+            except plfs_client.Error as error:
+                same("why", error.why, why)
+        same("size, pieces and names", (fs.stat("f"), fs.list()), (len(text), ["f"]))
+        fs.rename("f", "g")
+        fs.flatten("g")
+        fs.trunc("g", 4)
+        same("what is left", (fs.stat("g"), fs.recover("g"), fs.list()), (4, 0, ["g"]))
+    with plfs_client.open(trial.root, "h", "wb") if not os.environ.update(PLFS_SERVE=engine(trial)) else None as out:
+        out.write(b"alone")
+    with plfs_client.open(trial.root, "h") as file:
+        same("what is read back", file.read(), b"alone")
+
+
+@check
+def several_handles_of_one_engine_write_one_file_that_is_read_meanwhile(trial):
+    """Four threads with two writers each, by turns; a reader sees whole blocks alone, and at least those that were told as synced."""
+    threads, each, size = 4, 40, 3000
+    plfs_client, synced, troubles = client(trial), [0] * threads, []
+    block = lambda k: bytes([k % 255 + 1]) * size
+
+    def write(fs, rank):
+        try:
+            with fs.open("f", "wb") as one, fs.open("f", "wb") as other:
+                for k in range(each):
+                    place = k * threads + rank
+                    (one, other)[k & 1].pwrite(block(place), place * size)
+                    if k % 8 == 7:
+                        one.sync()
+                        other.sync()
+                        synced[rank] = k + 1
+        except Exception as error:
+            troubles.append(error)
+
+    with plfs_client.Mount(trial.root, engine=engine(trial)) as fs:
+        fs.open("f", "wb").close()
+        writers = [threading.Thread(target=write, args=(fs, rank)) for rank in range(threads)]
+        for writer in writers:
+            writer.start()
+        with fs.open("f", "rb") as file:
+            looks = 0
+            while looks < 3 or any(it.is_alive() for it in writers):
+                told = list(synced)
+                file.refresh()
+                file.seek(0)
+                whole = file.readall()
+                for place in range(threads * each):
+                    got = whole[place * size : (place + 1) * size]
+                    is_told = place // threads < told[place % threads]
+                    true(f"block {place} is {got[:9]!r} ..", got == block(place) or not is_told and not any(got))
+                looks += 1
+        for writer in writers:
+            writer.join()
+        same("the troubles of writers", troubles, [])
+    same("the file", plfs(trial, "cat", "f"), b"".join(block(k) for k in range(threads * each)))
+
+
+# ---- the client in C
+
+
+def in_use(trial, root):
+    """An engine that has the folder until its input is closed."""
+    started = subprocess.Popen([engine(trial), str(root)], stdin=subprocess.PIPE, stdout=subprocess.PIPE, stderr=subprocess.PIPE)
+    started.stdin.write(frame(model.LIST, 0))
+    started.stdin.flush()
+    same("its answer", started.stdout.read(ANSWER.size), ANSWER.pack(0, 0, 0, 0))
+    return started
+
+
+def calls_are_right(trial, program, *before, env=(), root="root"):
+    """Makes all calls of the client in C, before the name of which these words stand."""
+    root, other = trial.folder / root, trial.folder / "other"
+    root.mkdir(exist_ok=True)
+    other.mkdir(exist_ok=True)
+    user = in_use(trial, other)
+    try:
+        status, out, _ = ran(trial, [*before, program, root, other, trial.folder / "away"], env=env)
+    finally:
+        user.communicate()
+    same("what the calls say", (status, out), (0, ""))
+
+
+@check
+def each_call_of_the_c_client_and_its_errors(trial):
+    calls_are_right(trial, built(trial, trial.top / "clients" / "tests" / "calls.c"))
+
+
+@check
+def the_c_client_is_clean_under_sanitizers(trial):
+    options = ["-fsanitize=address,undefined", "-fno-sanitize-recover=all"]
+    probe = trial.folder / "probe.c"
+    probe.write_text("int main(void) { return 0; }\n")
+    if not shutil.which("cc"):
+        raise Skipped("no compiler")
+    if subprocess.run(["cc", *options, probe, "-o", trial.folder / "probe"], stderr=subprocess.DEVNULL).returncode or subprocess.run([trial.folder / "probe"]).returncode:
+        raise Skipped("no sanitizers")
+    calls_are_right(trial, built(trial, trial.top / "clients" / "tests" / "calls.c", *options))
+    program = built(trial, example(trial, "checkpoint.c"), "-fsanitize=thread")
+    same("how it ends", ran(trial, [program, trial.root, "step", 64, 5000]), (0, "step: 64 blocks of 5000 bytes by 4 threads are as they were written\n", ""))
+
+
+@check
+def the_c_client_is_clean_under_valgrind(trial):
+    if not shutil.which("valgrind"):
+        raise Skipped("no valgrind")
+    words = ["valgrind", "-q", "--error-exitcode=9", "--leak-check=full", "--track-fds=yes", "--child-silent-after-fork=yes"]
+    program = built(trial, example(trial, "checkpoint.c"))
+    status, out, err = ran(trial, [*words, program, trial.root, "step", 16, 5000])
+    same("how it ends", (status, out), (0, "step: 16 blocks of 5000 bytes by 4 threads are as they were written\n"))
+    true(f"valgrind says {err!r}", "definitely lost" not in err and "uninitialised" not in err)
+
+
+@check
+def the_c_client_works_without_standard_streams_and_with_little_stack(trial):
+    program = built(trial, example(trial, "checkpoint.c"))
+    for number, closed in enumerate([(0,), (0, 2), (0, 1, 2), (2,)]):
+        status, _, _ = ran(trial, [program, trial.root, f"step{number}", 16, 5000], preexec_fn=lambda: [os.close(it) for it in closed])
+        same(f"the status without {closed}", status, 0)
+        same(f"the length of step{number}", len(plfs(trial, "cat", f"step{number}")), 16 * 5000)
+    limit = lambda: resource.setrlimit(resource.RLIMIT_STACK, (256 * 1024, 256 * 1024))
+    same("the status with little stack", ran(trial, [program, trial.root, "little", 16, 5000], preexec_fn=limit)[0], 0)
+
+
+@check
+def the_clients_are_installed_and_found_by_pkg_config(trial):
+    for tool in ("make", "cc", "pkg-config", "install"):
+        if not shutil.which(tool):
+            raise Skipped(f"no {tool}")
+    prefix = trial.folder / "prefix"
+    status, out, err = ran(trial, ["make", "-s", "-C", trial.top / "clients", f"OUT={trial.folder / 'made'}", f"PREFIX={prefix}", "install"])
+    same("how make ends", (status, err), (0, ""))
+    env = {"PKG_CONFIG_PATH": str(prefix / "lib" / "pkgconfig")}
+    status, flags, err = ran(trial, ["pkg-config", "--cflags", "--libs", "plfs"], env=env)
+    same("how pkg-config ends", (status, err), (0, ""))
+    version = (trial.top / "plfs").read_text().split("\nversion=")[1].split("\n")[0]
+    same("the version", ran(trial, ["pkg-config", "--modversion", "plfs"], env=env)[1], f"{version}\n")
+    words = ["cc", "-std=c11", example(trial, "checkpoint.c"), *flags.split(), "-o", trial.folder / "installed"]
+    same("what the compiler says", ran(trial, words), (0, "", ""))
+    same("the status", ran(trial, [trial.folder / "installed", trial.root, "step", 8, 100])[0], 0)
+    for name in ("share/plfs/python/plfs.py", "include/plfs/plfs.f90", "share/man/man1/plfs_serve.1"):
+        true(f"{name} isn't there", (prefix / name).exists())
