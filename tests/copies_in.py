@@ -96,18 +96,24 @@ def a_file_is_put_as_well_as_a_pipe_and_read_by_scripts(trial):
     same("cat", trial.run("", words=("cat", "f")).out, "hello")
 
 
-@check
-def a_gigabyte_comes_in_and_goes_out_again(trial):
-    if shutil.disk_usage(trial.folder).free < 3 * GIGABYTE:
+def put_gigabyte(trial, name, room):
+    """Puts a gigabyte of random bytes, where the disk has room for so many gigabytes, and returns their sum."""
+    if shutil.disk_usage(trial.folder).free < room * GIGABYTE:
         raise Skipped("the disk has too little room")
     sum_in, block = hashlib.blake2b(), 2**20
-    started = start(trial, "put", "f", stdin=subprocess.PIPE)
+    started = start(trial, "put", name, stdin=subprocess.PIPE)
     for _ in range(GIGABYTE // block):
         piece = os.urandom(block)
         sum_in.update(piece)
         started.stdin.write(piece)
     out, err = started.communicate(timeout=LONG)
     same("the end of put", (started.returncode, out.split()[:2], err), (0, [b"put", str(GIGABYTE).encode()], b""))
+    return sum_in.hexdigest()
+
+
+@check
+def a_gigabyte_comes_in_and_goes_out_again(trial):
+    sum_in, block = put_gigabyte(trial, "f", 3), 2**20
     sum_out, count = hashlib.blake2b(), 0
     started = start(trial, "get", "f")
     while piece := started.stdout.read(block):
@@ -115,7 +121,7 @@ def a_gigabyte_comes_in_and_goes_out_again(trial):
         count += len(piece)
     started.stderr.close()
     same("the end of get", (started.wait(LONG), count), (0, GIGABYTE))
-    same("the sum of what went out", sum_out.hexdigest(), sum_in.hexdigest())
+    same("the sum of what went out", sum_out.hexdigest(), sum_in)
 
 
 @check

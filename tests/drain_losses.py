@@ -12,7 +12,7 @@ from soundness import is_sound
 from trial import SECONDS, check, listed, same, true
 
 # The most bytes that a drain reads of a log at once.
-PART = 1 << 17
+PART = 1 << 18
 # Behind a first drain two writers come, one of which has synced twice and doesn't close.
 LATER = "actor x 3\nactor y 3\nx open f\nx write 2 text:CCC\nx sync\nx write 9 text:D\nx sync\ny open f\ny write 5 text:EE\ny close\n"
 

@@ -5,10 +5,9 @@ import os
 import re
 import shutil
 import signal
-import subprocess
 import time
 
-from copies_in import BLOCK, GIGABYTE, KILLS, LONG, USAGE, gets, puts, run, start
+from copies_in import BLOCK, GIGABYTE, KILLS, LONG, USAGE, gets, put_gigabyte, puts, run, start
 from imports import folder_of, imports, lines_of, random_contents
 from trial import Skipped, check, ignore, listed, same, size_limit, true
 
@@ -333,16 +332,7 @@ def peak_of(process):
 
 @check
 def a_gigabyte_is_written_out_in_little_memory(trial):
-    if shutil.disk_usage(trial.folder).free < 4 * GIGABYTE:
-        raise Skipped("the disk has too little room")
-    sum_in, block = hashlib.blake2b(), 2**20
-    started = start(trial, "put", "f", stdin=subprocess.PIPE)
-    for _ in range(GIGABYTE // block):
-        piece = os.urandom(block)
-        sum_in.update(piece)
-        started.stdin.write(piece)
-    out, err = started.communicate(timeout=LONG)
-    same("the end of put", (started.returncode, err), (0, b""))
+    sum_in, block = put_gigabyte(trial, "f", 4), 2**20
     folder = out_folder(trial)
     started = start(trial, "export", str(folder))
     peak = peak_of(started)
@@ -353,4 +343,4 @@ def a_gigabyte_is_written_out_in_little_memory(trial):
     with open(folder / "f", "rb") as file:
         while piece := file.read(block):
             sum_out.update(piece)
-    same("the sum of what was written out", sum_out.hexdigest(), sum_in.hexdigest())
+    same("the sum of what was written out", sum_out.hexdigest(), sum_in)

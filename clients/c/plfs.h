@@ -8,8 +8,9 @@
  * order is the one that all see. A handle or a mount that is being closed must not be used by another thread. Threads that write
  * one file at once each open a writer of their own.
  *
- * Processes: a child of fork must not use its parent's mounts. A program that waits for all of its children, or ignores SIGCHLD,
- * takes the engine's end from plfs_unmount, which then answers PLFS_GONE.
+ * Processes: a child of fork must not use its parent's mounts. It has their pipes until it ends or starts another program, and
+ * plfs_unmount of the parent waits that long. A program that waits for all of its children, or ignores SIGCHLD, takes the engine's
+ * end from plfs_unmount, which then answers PLFS_GONE.
  *
  * Answers: 0 or more where the call did what it says, else one of enum plfs_error, negated. Sizes, places and lengths are in
  * bytes, stamps in nanoseconds since 1970. */

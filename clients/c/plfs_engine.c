@@ -139,7 +139,7 @@ static int error_of(enum plfs_kind kind, uint64_t status, uint64_t value) {
 
 /* Takes an answer's bytes into memory of their own. */
 static int take_made(struct plfs_engine *engine, char **made, uint64_t len) {
-    char *memory = len < SIZE_MAX ? malloc((size_t)len + 1) : NULL;
+    char *memory = len < PTRDIFF_MAX ? malloc((size_t)len + 1) : NULL;
     if (!memory) return PLFS_NO_MEMORY;
     memory[len] = 0;
     if (take_all(engine->from, memory, (size_t)len)) {
@@ -206,7 +206,8 @@ static int pipe_above(int ends[2]) {
     return -1;
 }
 
-/* Starts the program with these as its input and output, and no signal blocked. 0, or an error of the system. */
+/* Starts the program with these as its input and output, and no signal blocked. It has a process group of its own: what is typed to
+ * interrupt this program doesn't end it, and it closes what was left open. 0, or an error of the system. */
 static int spawn(char *const words[], int input, int output, pid_t *process) {
     const char *program = getenv("PLFS_SERVE");
     if (!program || !*program) program = words[0];
@@ -222,7 +223,8 @@ static int spawn(char *const words[], int input, int output, pid_t *process) {
         return failed;
     }
     failed = posix_spawnattr_setsigmask(&attributes, &none);
-    if (!failed) failed = posix_spawnattr_setflags(&attributes, POSIX_SPAWN_SETSIGMASK);
+    if (!failed) failed = posix_spawnattr_setpgroup(&attributes, 0);
+    if (!failed) failed = posix_spawnattr_setflags(&attributes, POSIX_SPAWN_SETSIGMASK | POSIX_SPAWN_SETPGROUP);
     if (!failed) failed = posix_spawn_file_actions_adddup2(&files, input, 0);
     if (!failed) failed = posix_spawn_file_actions_adddup2(&files, output, 1);
     if (!failed) failed = posix_spawnp(process, program, &files, &attributes, words, environ);
@@ -272,8 +274,8 @@ int plfs_engine_end(struct plfs_engine *engine) {
     int status = 0;
     pid_t ended;
     close(engine->to);
+    close(engine->from); /* so no answer that nobody takes keeps it from its end */
     while ((ended = waitpid(engine->process, &status, 0)) < 0 && errno == EINTR) {}
-    close(engine->from);
     pthread_mutex_destroy(&engine->lock);
     if (ended < 0 || !WIFEXITED(status)) return PLFS_GONE;
     switch (WEXITSTATUS(status)) {
@@ -283,7 +285,7 @@ int plfs_engine_end(struct plfs_engine *engine) {
     case 3: return PLFS_ENGINE_MEMORY;
     case 4: return PLFS_FAULT;
     case 7: return PLFS_DAMAGED;
-    case 127: return PLFS_NOT_STARTED;
+    case 127: errno = ENOENT; return PLFS_NOT_STARTED;
     default: return PLFS_GONE;
     }
 }

@@ -13,8 +13,10 @@ engine at a time. Any thread may call. A request and its answer go under one loc
 Buffers are handed to the system as they lie in memory, and have to be contiguous.
 """
 
+import contextlib
 import fcntl
 import io
+import operator
 import os
 import struct
 import subprocess
@@ -80,10 +82,8 @@ def _pipe():
         if low <= 2:
             ends[k] = fcntl.fcntl(low, fcntl.F_DUPFD_CLOEXEC, 3)
             os.close(low)
-    try:
+    with contextlib.suppress(OSError):
         fcntl.fcntl(ends[1], 1031, PIPE)  # F_SETPIPE_SZ: quicker, where the system allows it
-    except OSError:
-        pass
     return ends
 
 
@@ -91,20 +91,21 @@ class Mount:
     """A folder, or 1 to 8 of them with colons between, whose files are opened here. It is a context: its end unmounts."""
 
     def __init__(self, root, host=0, engine=None):
-        """Starts an engine. Its writers are of this host."""
+        """Starts an engine, whose writers are of this host. What is typed to interrupt this program doesn't end it: it has a session of its own."""
         program = engine or os.environ.get("PLFS_SERVE") or "plfs_serve"
         self._lock, self._number, self._free, self._gone = threading.Lock(), 0, list(range(HANDLES, 0, -1)), None
-        to, self._to = _pipe()
-        self._from, out = _pipe()
+        words, ends = ["plfs_serve", os.fspath(root), str(host)], []
         try:
-            self.engine = subprocess.Popen(["plfs_serve", os.fspath(root), str(host)], executable=program, stdin=to, stdout=out)
-        except OSError as error:
-            os.close(self._to)
-            os.close(self._from)
-            raise Error(Why.NOT_STARTED) from error
-        finally:
-            os.close(to)
-            os.close(out)
+            ends += _pipe()
+            ends += _pipe()
+            to, self._to, self._from, out = ends
+            self.engine = subprocess.Popen(words, executable=program, stdin=to, stdout=out, start_new_session=True)
+        except BaseException as error:
+            for end in ends:
+                os.close(end)
+            raise Error(Why.NOT_STARTED) if isinstance(error, OSError) else error
+        os.close(to)
+        os.close(out)
         self._greet()
 
     def _greet(self):
@@ -155,7 +156,7 @@ class Mount:
 
     def ask(self, kind, actor, place=0, extent=0, payload=b"", into=None):
         """Makes one request. Gives the answer's value, and its bytes, which are those of `into` where that is given."""
-        payload = _flat(payload)
+        payload, place, extent = _flat(payload), operator.index(place), operator.index(extent)
         if not (0 <= place < 1 << 64 and 0 <= extent < 1 << 64):
             raise Error(Why.BAD_NUMBER)
         with self._lock:
@@ -165,9 +166,7 @@ class Mount:
                 status, value, view = self._exchange(kind, actor, place, extent, payload, into)
             except BaseException as error:  # the pipes are out of step
                 self._gone = error.why if isinstance(error, Error) else Why.GONE
-                if isinstance(error, OSError) and not isinstance(error, Error):
-                    raise Error(Why.GONE) from error
-                raise
+                raise Error(self._gone) if isinstance(error, OSError) else error
             if status == MADE:
                 return value, view
             error = _error_of(kind, status, value, view)
@@ -226,13 +225,10 @@ class Mount:
         with self._lock:
             if self._to is not None:
                 os.close(self._to)
+                os.close(self._from)  # so no answer that nobody takes keeps it from its end
                 self._to = None
-            ended = self.engine.wait()
-            if self._from is not None:
-                os.close(self._from)
-                self._from = None
             self._gone = self._gone or Why.GONE
-        return ended
+            return self.engine.wait()
 
     def close(self):
         """Syncs and closes what is open, ends the engine and waits for its end."""
@@ -255,6 +251,8 @@ class Mount:
 
 class _File(io.RawIOBase):
     """What writers and readers share: a place, which moves, and the actor of their requests."""
+
+    _actor = None
 
     def __init__(self, fs, kind, name, place=0):
         super().__init__()
@@ -358,6 +356,8 @@ class Reader(_File):
     def pread_into(self, buffer, at):
         """Reads into the buffer from this place on. Gives how many bytes: fewer than it has only at the file's end."""
         view, done = _flat(buffer), 0
+        if view.readonly and len(view):
+            raise TypeError("the buffer is read-only")
         while done < len(view):
             part = view[done : done + LONGEST]
             got = self._ask(READ, at + done, len(part), into=part)[0]

@@ -188,6 +188,8 @@ static void mounts(const char *root, const char *other, const char *away) {
     is(errno, ENOENT);
     setenv("PLFS_SERVE", "/bin/cat", 1); /* its answer is the request itself, whose number is no status */
     is(plfs_mount(root, 0, &fs) < 0, 1);
+    setenv("PLFS_SERVE", "yes", 1); /* it says more than anybody reads */
+    is(plfs_mount(root, 0, &fs), -PLFS_STRANGE);
     setenv("PLFS_SERVE", "/bin/true", 1);
     is(plfs_mount(root, 0, &fs), -PLFS_GONE);
     if (kept) setenv("PLFS_SERVE", kept, 1); else unsetenv("PLFS_SERVE");

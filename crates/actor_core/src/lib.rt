@@ -27,3 +27,4 @@ pub use laws::{
     listed_names_are_logical, statements_owe_nothing,
     truncates_flattenings_and_recoveries_ask_along,
 };
+pub use names::NamesRead;

@@ -1,7 +1,7 @@
 //! The names of all files.
 ghost use Rattle.std.specs.Prelude.{◌≡◌};
-ghost use Rattle.flow.specs.Standing.{next_of};
-ghost use Rattle.actor_core.specs.Names.{logical_among, names_told};
+ghost use Rattle.flow.specs.Standing.{next_of, ready};
+ghost use Rattle.actor_core.specs.Names.{logical_among, names_program, names_told};
 ghost use Rattle.actor_core.specs.Naming.{names_standing, names_left};
 
 use flow::{Flow, Stuck, failure};
@@ -9,10 +9,12 @@ use mount_model::{Call, Reply};
 use plfs_types::{NameList, NoMemory};
 use std::mem;
 
-/// Names all files by one call.
+/// The machine that names all files by one call.
 #[derive(Drop)]
-pub(crate) enum NamesRead {
+pub enum NamesRead {
+    /// The call is to be made.
     Asking,
+    /// It was answered.
     Told(Result<NameList, Stuck>),
 }
 
@@ -40,6 +42,13 @@ fn told(reply: Reply) -> Result<NameList, Stuck>
 }
 
 impl NamesRead {
+    /// Before its call.
+    pub fn new() -> NamesRead
+        ensures { names_standing result ≡ ready names_program }
+    {
+        NamesRead::Asking
+    }
+
     /// The call that is to be made, where there is one.
     fn call(&self) -> Option<Call>
         ensures { result ≡ next_of (names_standing self.now) }

@@ -60,7 +60,7 @@ impl Actor {
             Statement::Recover { name } => {
                 Ok(Doing::Recovering(RecoverFlow::new(self.alloc, name)))
             }
-            Statement::Ls => Ok(Doing::Naming(NamesRead::Asking)),
+            Statement::Ls => Ok(Doing::Naming(NamesRead::new())),
             Statement::Stop { call, bytes } => Ok(self.arm(call, bytes)),
             Statement::Flatten { name } => {
                 Ok(Doing::Flattening(FlattenFlow::new(self.alloc, name)))

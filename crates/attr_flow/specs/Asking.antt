@@ -6,7 +6,8 @@ use Rattle.flow.specs.declared.stuck.Stuck.{Stuck}
 use Rattle.story.specs.Program.{done, ask}
 use Rattle.mount_model.specs.declared.call.Call.TheVariants.{Find, Look}
 use Rattle.mount_model.specs.declared.call.Look.TheVariants.{List as ListFolder}
-use Rattle.mount_model.specs.Paths.{Name, openhosts, metadata, truncs}
+use Rattle.mount_model.specs.Paths.{Name, metadata, truncs}
+use Rattle.container_layout.specs.Paths.{openhosts}
 use Rattle.flow.specs.declared.names.Metadata.{Metadata}
 use Rattle.flow.specs.Replies.{Tries, given, on_ok, room_in, failure}
 use Rattle.flow.specs.Listed.{told_by}

@@ -6,17 +6,12 @@ ghost use Rattle.attr_flow.specs.Listings.{has_entry as has_entry_in, is_open as
 
 use container_layout::{metadata, openhosts, truncs};
 use flow::{
-    MetadataList, Stuck, damage, is_no_folder, meta_in, names_in, open_in, trouble, trunc_in,
+    MetadataList, Stuck, damage, file_in, is_no_folder, meta_in, names_in, open_in, trouble,
+    trunc_in,
 };
 use mount_model::Reply;
-use plfs_types::{Name, NoMemory, Path, TruncList};
+use plfs_types::{Name, NoMemory, TruncList};
 use std::alloc::Global;
-
-fn file_in(folder: Name, file: Name) -> Path
-    ensures { result ≡ record { folder = folder; file = file } }
-{
-    Path { folder, file }
-}
 
 /// Whether there is an entry of a writer.
 fn has_entry(names: &[Name]) -> Result<bool, Stuck>

@@ -10,7 +10,8 @@ use Rattle.store_api.specs.Names.{same_name}
 use Rattle.store_laws.specs.Differ.{is_listed}
 use Rattle.store_laws.specs.There.{IsFree}
 use Rattle.store_laws.proofs.Facts.{name_eq, name_refl}
-use Rattle.mount_model.specs.Paths.{Name, marks_name}
+use Rattle.mount_model.specs.Paths.{Name}
+use Rattle.store_api.specs.Names.{marks_name}
 use Rattle.mount_sound.specs.Sound.{IsSoundTree}
 use Rattle.tree_laws.specs.Checked.{HoldsBytes, IsCheckedTree}
 use Rattle.tree_laws.specs.Complaints.{Complaint as Kind, InRoomOf, IsBroken}

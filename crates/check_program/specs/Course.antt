@@ -6,7 +6,8 @@ use Rattle.store_api.specs.Acts.{Stored}
 use Rattle.store_laws.specs.Differ.{is_listed}
 use Rattle.store_laws.specs.Says.{AreRoomNames}
 use Rattle.store_laws.specs.There.{IsFree}
-use Rattle.mount_model.specs.Paths.{Name, marks_name}
+use Rattle.mount_model.specs.Paths.{Name}
+use Rattle.store_api.specs.Names.{marks_name}
 use Rattle.tree_laws.specs.Listable.{IsListable}
 use Rattle.shape_check.specs.declared.finding.Complaint.{Complaint}
 use Rattle.shape_check.specs.Seeing.{IsSeen, IsLookedAt}

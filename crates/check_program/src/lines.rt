@@ -1,14 +1,14 @@
 //! The lines that tell what is complained of.
-ghost use Rattle.std.specs.Prelude.{◌≡◌, ◌<◌, ◌++◌, IfOk, OnOk, slice_index};
-ghost use Rattle.hex.specs.Hex.{upper_digits};
-ghost use Rattle.report_text.specs.Items.{escaped, escaped_byte, place_text};
+ghost use Rattle.std.specs.Prelude.{◌≡◌, ◌<◌, ◌++◌, IfOk, OnOk};
+ghost use Rattle.report_text.specs.Items.{place_text};
 ghost use Rattle.shape_check.specs.Rightness.{room_of};
 ghost use Rattle.check_program.specs.Lines.{complaint_line, complaint_lines, item_word, kind_word as kind_word_of, line_head, line_tail, name_word, place_word, unreadable_line as unreadable_text};
 
 use plfs_types::{Name, NoMemory, Path};
 use program_ends::push_number;
-use shape_check::marks_name;
+use report_text::escape;
 use std::alloc::Global;
+use store_api::marks_name;
 use tree_check::Complaint;
 
 fn kind_word(complaint: &Complaint) -> &'static [u8]
@@ -60,36 +60,6 @@ fn room_of(complaint: &Complaint) -> Name
     }
 }
 
-fn upper_digit(value: u8) -> u8
-    requires { value < 16 }
-    ensures { result ≡ slice_index upper_digits value }
-{
-    b"0123456789ABCDEF"[value as usize]
-}
-
-// A byte that would be unclear in a name is told by its digits.
-fn push_byte(text: &mut Vec<u8>, byte: u8) -> Result<(), NoMemory>
-    ensures { OnOk result (text.new.items ≡ text.old.items ++ escaped_byte byte) }
-{
-    if matches!(byte, b'A'..=b'Z' | b'a'..=b'z' | b'0'..=b'9' | b'_' | b'-' | b'.') {
-        text.push(byte)?;
-        return Ok(());
-    }
-    text.push(b'%')?;
-    text.push(upper_digit(byte / 16))?;
-    text.push(upper_digit(byte % 16))?;
-    Ok(())
-}
-
-fn push_escaped(text: &mut Vec<u8>, name: &[u8]) -> Result<(), NoMemory>
-    ensures { OnOk result (text.new.items ≡ text.old.items ++ escaped name.now) }
-{
-    for byte in name {
-        push_byte(text, *byte)?;
-    }
-    Ok(())
-}
-
 // A name as one word.
 fn push_name(text: &mut Vec<u8>, name: &[u8]) -> Result<(), NoMemory>
     ensures { OnOk result (text.new.items ≡ text.old.items ++ name_word name.now) }
@@ -98,7 +68,7 @@ fn push_name(text: &mut Vec<u8>, name: &[u8]) -> Result<(), NoMemory>
         text.push(b'-')?;
         return Ok(());
     }
-    push_escaped(text, name)
+    escape(text, name)
 }
 
 fn push_folder(text: &mut Vec<u8>, folder: Name) -> Result<(), NoMemory>
@@ -111,10 +81,10 @@ fn push_place_of(text: &mut Vec<u8>, folder: &[u8], file: &[u8]) -> Result<(), N
     ensures { OnOk result (text.new.items ≡ text.old.items ++ place_text folder.now file.now) }
 {
     if !folder.is_empty() {
-        push_escaped(text, folder)?;
+        escape(text, folder)?;
         text.push(b'/')?;
     }
-    push_escaped(text, file)
+    escape(text, file)
 }
 
 fn push_path(text: &mut Vec<u8>, path: Path) -> Result<(), NoMemory>

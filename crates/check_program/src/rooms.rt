@@ -10,9 +10,8 @@ use crate::watching::Watcher;
 use edge_io::Sink;
 use plfs_types::Name;
 use program_ends::say_text;
-use shape_check::marks_name;
 use std::alloc::Global;
-use store_api::Store;
+use store_api::{Store, marks_name};
 use tree_check::{Complaint, check_room, room_number};
 
 // Checks the room of this name, and says what is complained of it: whether anything is. Where it can't, it answers the status.

@@ -1,6 +1,7 @@
 -- The table of items: where each one stands, and how its file is named.
 use Rattle.std.specs.Prelude.{◌≡◌, ℕ, ◌%◌, List, [], ◌∷◌, ◌++◌, codes}
 use Rattle.std.specs.Fmt.{decimal}
+use Rattle.std.specs.List.{range_with_len}
 use Rattle.plfs_types.specs.declared.names.Path.{Path}
 use Rattle.container_layout.specs.declared.items.Item.{Item}
 use Rattle.container_layout.specs.declared.items.Item.TheVariants.{Access, OpenHost, Meta, Trunc, Flat, TmpFlat, Index, Log, Packed, TmpPacked}
@@ -11,6 +12,14 @@ use Rattle.container_layout.specs.Numbers.{dotted}
 abbrev pub hostdir_of : ℕ → List ℕ
 hostdir_of host = codes "hostdir." ++ decimal (host % 32)
 
+-- the numbers of folders of droppings
+abbrev pub hostdirs : List ℕ
+hostdirs = range_with_len 0 32
+
+-- the folder of the marks of who has a container open
+abbrev pub openhosts : List ℕ
+openhosts = codes "openhosts"
+
 -- a folder, what the file's name begins with, and the numbers behind that
 pub record Row : Type 0 where
   pub folder : List ℕ
@@ -19,7 +28,7 @@ pub record Row : Type 0 where
 
 abbrev pub path_parts : Item → Row
 path_parts Access = record { folder = []; word = codes "access"; numbers = [] }
-path_parts (OpenHost host writer) = record { folder = codes "openhosts"; word = []; numbers = host ∷ writer ∷ [] }
+path_parts (OpenHost host writer) = record { folder = openhosts; word = []; numbers = host ∷ writer ∷ [] }
 path_parts (Meta last bytes stamp host writer) = record { folder = codes "metadata"; word = []; numbers = last ∷ bytes ∷ stamp ∷ host ∷ writer ∷ [] }
 path_parts (Trunc stamp size) = record { folder = codes "truncs"; word = []; numbers = stamp ∷ size ∷ [] }
 path_parts (Flat id) = record { folder = codes "flats"; word = []; numbers = id ∷ [] }

@@ -1,15 +1,11 @@
 -- What was read of a source.
-use Rattle.std.specs.Prelude.{◌≡◌, ◌<◌, ℕ, List, [], length, Option, Some, None}
+use Rattle.std.specs.Prelude.{◌≡◌, ◌<◌, ℕ, List, length}
 use Rattle.plfs_types.specs.Counts.{HasRisen}
 use Rattle.plfs_types.specs.declared.bytes.TheConstants.{MAX_BLOCK}
 use Rattle.edge_io.specs.Source.{Given, HandsOver}
 use Rattle.copy_core.specs.declared.reading.Ending.{Ending}
 use Rattle.copy_core.specs.declared.reading.Ending.TheVariants.{Full, AtEnd, Failed}
-
--- no byte is left, where they are told
-abbrev pub IsAtEnd : Option (List ℕ) → Type 0
-IsAtEnd None = Unit {0}
-IsAtEnd (Some left) = left ≡ []
+use Rattle.edge_io.specs.Source.{IsAtEnd}
 
 -- A block was read in full. Or the source has no further byte, or a read failed, before that.
 abbrev pub EndsReading : List ℕ → Ending → Given → Given → Type 0

@@ -22,7 +22,7 @@ use Rattle.copy_core.specs.declared.writing.Written.TheVariants as written
 use Rattle.copy_core.specs.declared.writing.Wrote.{Wrote}
 use Rattle.copy_core.specs.declared.writing.Wrote.TheVariants.{Made, Stopped}
 use Rattle.copy_core.specs.Blocks.{AreBlocks, AreFull, IsBlock, joined}
-use Rattle.copy_core.specs.Reading.{IsAtEnd}
+use Rattle.edge_io.specs.Source.{IsAtEnd}
 
 -- what the end of a write comes to: the writer, and the place behind the block
 abbrev pub wrote_of : ℕ → Option WriterHandle → Result ℕ Stuck → Wrote

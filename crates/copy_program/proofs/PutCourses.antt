@@ -1,5 +1,5 @@
 -- From a copying on a mount to the run that made it.
-use Rattle.std.proofs.Common.{◌≡◌, ℕ, ◌⊎◌, inl, inr, Bool, true, List, Option, Some, Result, Ok, Err, IfOk, refl, sym, subst}
+use Rattle.std.proofs.Common.{◌≡◌, ℕ, ◌⊎◌, inl, inr, Bool, true, List, Some, Result, Ok, Err, IfOk, refl, sym, subst}
 use Rattle.edge_io.specs.Source.{Given}
 use Rattle.store_api.specs.Acts.{Stored}
 use Rattle.mount_model.specs.State.{State}
@@ -12,7 +12,7 @@ use Rattle.copy_core.specs.declared.copying.Copied.{Copied}
 use Rattle.copy_core.specs.Blocks.{joined}
 use Rattle.copy_core.specs.Copying.{Copies}
 use Rattle.copy_core.proofs.Facts.{begun_copying_called, copied_called}
-use Rattle.mount_sound.proofs.Facts.{mounted_sound}
+use Rattle.mount_sound.specs.Sound.{IsFine}
 use Rattle.gathering.specs.Moments.{IsSoundAt, Moment}
 use Rattle.copying_laws.specs.Copied.{HasCopied, IsKeptCopy}
 use Rattle.copying_laws.specs.Seen.{LaterReadersSee}
@@ -21,7 +21,7 @@ use Rattle.script_lang.specs.declared.line.Outcome.{Outcome}
 use Rattle.report_text.specs.Text.{text_of}
 use Rattle.run_core.specs.Leading.{GoesOn}
 use Rattle.pack_puts.specs.Calling.{HasCalled}
-use Rattle.program_ends.specs.Leaving.{broke_off as unmounted_left, ran, IsStoreLeft}
+use Rattle.program_ends.specs.Leaving.{broke_off as unmounted_left, ran, IsRun, IsStoreLeft}
 use Rattle.program_ends.specs.Ends.{Ends}
 use Rattle.program_ends.specs.Reported.{IsReported}
 use Rattle.program_ends.specs.Mounting.{unmounted_of}
@@ -30,7 +30,7 @@ use Rattle.program_ends.specs.Output.{IsPrinted, IsCutOff}
 use Rattle.program_ends.specs.SoundTrees.{LeavesSoundTree, TellsSoundTree}
 use Rattle.program_ends.proofs.Facts.{FailingLeavesSound, SaidUnmounted, all_leave_sound, was_run}
 use Rattle.copy_program.specs.Seen.{IsSeen}
-use Rattle.copy_program.specs.Putting.{HasBegunToPut, IsEndOf, IsPutAs, PutCourse, PutEnd, PutsOn, broke_off, cut_off, end_of, ended_so, exhausted, mounted, printed, put_status, put_text, unmounted}
+use Rattle.copy_program.specs.Putting.{HasBegunToPut, IsEndOf, IsPutAs, PutCourse, PutEnd, PutsOn, broke_off, cut_off, end_of, ended_so, exhausted, mounted, printed, put_status, put_text, starved, unmounted}
 
 -- ---- what later readers see
 
@@ -40,40 +40,41 @@ pub record CopyLaws : Type 0 where
   pub seen : (name : Name) (blocks : List (List ℕ)) (id : ℕ) (start : Moment) (end : State) → IsSoundAt start → (c : HasCopied name blocks id start end) → LaterReadersSee start c (joined blocks)
   pub whole : (name : Name) (start : Moment) (old : Given) (copied : Copied) (end : State) (new : Given) (bytes : List ℕ) → (k : IsKeptCopy name start old copied end new) → copied.is_whole ≡ true → old.left ≡ Some bytes → joined k.blocks ≡ bytes
 
-seen_so : CopyLaws → (times : Option (List ℕ)) (before : Stored) (name : List ℕ) (host : ℕ) (over : Bool) (start : State) (given : Given) (result : Result Copied Stuck) (end : State) (given_after : Given) → IsMounted 0 times before start → Copies name host over start given result end given_after → TellsSoundTree before
+-- from a mount that is fine
+pub seen_so : CopyLaws → (name : List ℕ) (host : ℕ) (over : Bool) (start : State) (given : Given) (result : Result Copied Stuck) (end : State) (given_after : Given) → IsFine start → Copies name host over start given result end given_after → TellsSoundTree start.opened
     → IfOk result (λ copied. IsSeen name start given copied end given_after)
-seen_so laws times before name host over start given (Err why) end given_after made copies told = tt
-seen_so laws times before name host over start given (Ok copied) end given_after made copies (tree, is, of) =
-    let m : Moment = record { state = start; issued = of.issued } in
-    let sound : IsSoundAt m = mounted_sound 0 times before start tree made is of in
-    let kept : IsKeptCopy name m given copied end given_after = laws.kept name host over m given copied end given_after sound copies in
+seen_so laws name host over start given (Err why) end given_after fine copies told = tt
+seen_so laws name host over start given (Ok copied) end given_after fine copies told =
+    let s = fine.sound told in
+    let m : Moment = record { state = start; issued = s.0 } in
+    let kept : IsKeptCopy name m given copied end given_after = laws.kept name host over m given copied end given_after s.1 copies in
     record {
       moment = m;
       here = refl;
-      sound = sound;
+      sound = s.1;
       kept = kept;
-      seen = laws.seen name kept.blocks copied.writer m end sound kept.copy;
+      seen = laws.seen name kept.blocks copied.writer m end s.1 kept.copy;
       whole = λ bytes whole all. laws.whole name m given copied end given_after bytes kept whole all;
     }
 
 module _ (name : List ℕ) (host : ℕ) (over : Bool) (given given_after : Given) (e : Ends) (status : ℕ) where
   -- ---- on a mount
 
-  was_left : (start end : State) (after : Stored) → e.stored_after ≡ Some after → IsMounted 0 e.times e.stored start → after ≡ end.store → HasBegunToPut name host over given given_after start end → IsStoreLeft (HasBegunToPut name host over given given_after) e
-  was_left start end after is made left begun = record { after = after; left = is; lawful = ran (was_run (HasBegunToPut name host over given given_after) e.times e.stored after start end made begun left) }
+  was_put : (start end : State) (after : Stored) → IsMounted 0 e.times e.stored start → after ≡ end.store → HasBegunToPut name host over given given_after start end → IsRun (HasBegunToPut name host over given given_after) e.times e.stored after
+  was_put start end after made left begun = was_run (HasBegunToPut name host over given given_after) e.times e.stored after start end made begun left
 
-  put_as : CopyLaws → (start end : State) (after : Stored) (result : Result Copied Stuck) → e.stored_after ≡ Some after → IsMounted 0 e.times e.stored start → after ≡ end.store → Copies name host over start given result end given_after → IsPutAs name host over given given_after (end_of result) e
-  put_as laws start end after result is made left copies = record { after = after; left = is; came = mounted result (record { start = start; end = end; mounted = made; copies = copies; left = sym left; seen = seen_so laws e.times e.stored name host over start given result end given_after made copies }) refl }
+  put_as : (start end : State) (after : Stored) (result : Result Copied Stuck) → e.stored_after ≡ Some after → IsMounted 0 e.times e.stored start → after ≡ end.store → Copies name host over start given result end given_after → (TellsSoundTree e.stored → IfOk result (λ copied. IsSeen name start given copied end given_after)) → IsPutAs name host over given given_after (end_of result) e
+  put_as start end after result is made left copies seen = record { after = after; left = is; came = mounted result (record { start = start; end = end; mounted = made; copies = copies; left = sym left; seen = seen }) refl }
 
   -- what was said became of it
-  said_so : (ended : PutEnd) → IsPutAs name host over given given_after ended e → IsStoreLeft (HasBegunToPut name host over given given_after) e → IsReported (put_text ended) (put_status ended) e.taking e.taking_after status → PutCourse name host over given given_after e status
-  said_so ended p left (inl (told, all)) = printed ended p all told
-  said_so ended p left (inr (inl (told, part))) = cut_off ended p part told
-  said_so ended p left (inr (inr (told, untold))) = exhausted left untold told
+  said_so : (ended : PutEnd) (after : Stored) → e.stored_after ≡ Some after → IsPutAs name host over given given_after ended e → IsRun (HasBegunToPut name host over given given_after) e.times e.stored after → IsReported (put_text ended) (put_status ended) e.taking e.taking_after status → PutCourse name host over given given_after e status
+  said_so ended after is p run (inl (told, all)) = printed ended p all told
+  said_so ended after is p run (inr (inl (told, part))) = cut_off ended p part told
+  said_so ended after is p run (inr (inr (told, untold))) = exhausted after is run untold told
 
-  pub put_so : CopyLaws → (start end : State) (after : Stored) → e.stored_after ≡ Some after → IsMounted 0 e.times e.stored start → after ≡ end.store → PutsOn name host over start given e.taking end given_after e.taking_after status → PutCourse name host over given given_after e status
-  put_so laws start end after is made left (ended_so result copies said) = said_so (end_of result) (put_as laws start end after result is made left copies) (was_left start end after is made left (inl (result, copies))) said
-  put_so laws start end after is made left (broke_off begun same told) = exhausted (was_left start end after is made left (inr begun)) same told
+  pub put_so : (start end : State) (after : Stored) → e.stored_after ≡ Some after → IsMounted 0 e.times e.stored start → after ≡ end.store → PutsOn e.stored name host over start given e.taking end given_after e.taking_after status → PutCourse name host over given given_after e status
+  put_so start end after is made left (ended_so result copies seen said) = said_so (end_of result) after is (put_as start end after result is made left copies seen) (was_put start end after made left (inl (result, copies))) said
+  put_so start end after is made left (broke_off begun same told) = exhausted after is (was_put start end after made left (inr begun)) same told
 
   -- ---- without a mount
 
@@ -88,7 +89,7 @@ module _ (name : List ℕ) (host : ℕ) (over : Bool) (given given_after : Given
         | inl all ↦ printed (Err outcome) p all.1 all.0
         | inr part ↦ cut_off (Err outcome) p part.1 part.0
       ]
-  not_put_so why after is failed same (inr (told, untold)) = exhausted (record { after = after; left = is; lawful = unmounted_left why failed }) untold told
+  not_put_so why after is failed same (inr (told, untold)) = starved why after is failed same untold told
 
   -- ---- a sound tree is left
 
@@ -105,9 +106,10 @@ module _ (name : List ℕ) (host : ℕ) (over : Bool) (given given_after : Given
   -- the calls that what was said tells of
   came_left : (after : Stored) (ended : PutEnd) → e.stored_after ≡ Some after → IsEndOf e.times e.stored after name host over given given_after ended → IsStoreLeft (HasBegunToPut name host over given given_after) e
   came_left after ended is (unmounted why outcome failed told same ended_as) = record { after = after; left = is; lawful = unmounted_left why failed }
-  came_left after ended is (mounted result on ended_as) = was_left on.start on.end after is on.mounted (sym on.left) (inl (result, on.copies))
+  came_left after ended is (mounted result on ended_as) = record { after = after; left = is; lawful = ran (was_put on.start on.end after on.mounted (sym on.left) (inl (result, on.copies))) }
 
   pub put_leaves : FailingLeavesSound → PutCourse name host over given given_after e status → TellsSoundTree e.stored → LeavesSoundTree e.stored_after
   put_leaves failing (printed ended p all is) told = left_so failing (came_left p.after ended p.left p.came) told
   put_leaves failing (cut_off ended p part is) told = left_so failing (came_left p.after ended p.left p.came) told
-  put_leaves failing (exhausted left same is) told = left_so failing left told
+  put_leaves failing (starved why after is failed same untold said) told = left_so failing (record { after = after; left = is; lawful = unmounted_left why failed }) told
+  put_leaves failing (exhausted after is run untold said) told = left_so failing (record { after = after; left = is; lawful = ran run }) told

@@ -7,14 +7,12 @@ use Rattle.mount_model.specs.State.{State}
 use Rattle.mount_model.specs.Mounting.{IsMounted}
 use Rattle.mount_model.specs.Failing.{FailsToMount}
 use Rattle.mount_model.specs.declared.trouble.MountTrouble.{MountTrouble}
-use Rattle.script_lang.specs.declared.line.Line.{Line}
-use Rattle.report_text.specs.Text.{text_of}
 use Rattle.program_ends.specs.Ends.{Ends}
-use Rattle.program_ends.specs.Mounting.{IsUnmounted}
-use Rattle.program_ends.specs.Outcomes.{status_of}
 use Rattle.program_ends.specs.Output.{IsPrinted, IsCutOff}
+use Rattle.copying_laws.specs.Others.{LeavesOthersStill}
 use Rattle.copy_program.specs.declared.importing.Named.{Named}
 use Rattle.copy_program.specs.Putting.{PutsOn}
+use Rattle.program_ends.specs.Unmounted.{IsUnmountedSaid}
 
 -- a file's name, and what its source has
 pub record Sourced : Type 0 where
@@ -33,41 +31,36 @@ name_text name = name ++ codes " "
 abbrev pub is_minor : ℕ → Bool
 is_minor status = (status == 0) || (status == 1) || (status == 5)
 
--- The name was printed, and then its source was put as by itself. Or the name was not printed, and nothing was put.
-pub data NamedPut (name : List ℕ) (host : ℕ) (over : Bool) (given : Given) (start : State) (taking : Taking) (end : State) (taking_after : Taking) (status : ℕ) : Type 0 where
-  named : (mid : Taking) (given_after : Given) → IsPrinted (name_text name) taking mid → PutsOn name host over start given mid end given_after taking_after status → NamedPut name host over given start taking end taking_after status
-  unnamed : IsCutOff (name_text name) taking taking_after → end ≡ start → status ≡ 6 → NamedPut name host over given start taking end taking_after status
-  starved : taking_after ≡ taking → end ≡ start → status ≡ 3 → NamedPut name host over given start taking end taking_after status
+-- The name was printed, and then its source was put as by itself, which left each container of another name still. Or the name was not printed, and nothing was put.
+pub data NamedPut (before : Stored) (name : List ℕ) (host : ℕ) (over : Bool) (given : Given) (start : State) (taking : Taking) (end : State) (taking_after : Taking) (status : ℕ) : Type 0 where
+  named : (mid : Taking) (given_after : Given) → IsPrinted (name_text name) taking mid → PutsOn before name host over start given mid end given_after taking_after status → LeavesOthersStill name start end → NamedPut before name host over given start taking end taking_after status
+  unnamed : IsCutOff (name_text name) taking taking_after → end ≡ start → status ≡ 6 → NamedPut before name host over given start taking end taking_after status
+  starved : taking_after ≡ taking → end ≡ start → status ≡ 3 → NamedPut before name host over given start taking end taking_after status
 
 -- These were put, the last of them first. None but the first of them ended with another status than a minor one: that was the last status, and this is the
 -- greatest.
-abbrev pub HavePut : ℕ → Bool → State → Taking → List Sourced → State → Taking → ℕ → ℕ → Type 0
-HavePut host over start taking [] end taking_after last greatest = (end ≡ start) × (taking_after ≡ taking) × (last ≡ 0) × (greatest ≡ 0)
-HavePut host over start taking (s ∷ sources) end taking_after last greatest =
-    (mid : State) × (taken : Taking) × (before : ℕ) × (so_far : ℕ) × HavePut host over start taking sources mid taken before so_far × (is_minor before ≡ true)
-    × NamedPut s.name host over s.given mid taken end taking_after last × (greatest ≡ max so_far last)
+abbrev pub HavePut : Stored → ℕ → Bool → State → Taking → List Sourced → State → Taking → ℕ → ℕ → Type 0
+HavePut before host over start taking [] end taking_after last greatest = (end ≡ start) × (taking_after ≡ taking) × (last ≡ 0) × (greatest ≡ 0)
+HavePut before host over start taking (s ∷ sources) end taking_after last greatest =
+    (mid : State) × (taken : Taking) × (one_before : ℕ) × (so_far : ℕ) × HavePut before host over start taking sources mid taken one_before so_far × (is_minor one_before ≡ true)
+    × NamedPut before s.name host over s.given mid taken end taking_after last × (greatest ≡ max so_far last)
 
 -- The last sources were put, up to all of them or to the first one that ended with a status that isn't minor. This is the greatest status.
-pub record PutsEach (host : ℕ) (over : Bool) (sources : List Sourced) (start : State) (taking : Taking) (end : State) (taking_after : Taking) (status : ℕ) : Type 0 where
+pub record PutsEach (before : Stored) (host : ℕ) (over : Bool) (sources : List Sourced) (start : State) (taking : Taking) (end : State) (taking_after : Taking) (status : ℕ) : Type 0 where
   pub left : List Sourced
   pub put : List Sourced
   pub are : sources ≡ left ++ put
   pub last : ℕ
-  pub have : HavePut host over start taking put end taking_after last status
+  pub have : HavePut before host over start taking put end taking_after last status
   pub ends : (left ≡ []) ⊎ (is_minor last ≡ false)
 
--- what was said of a mounting that broke off: its line, or a front of it where the sink broke; nothing where memory was refused
-abbrev pub IsUnmountedSaid : MountTrouble → Taking → Taking → ℕ → Type 0
-IsUnmountedSaid why taking taking_after status =
-    ((lines : List Line) × IsUnmounted why lines × (((status ≡ status_of lines) × IsPrinted (text_of lines) taking taking_after) ⊎ ((status ≡ 6) × IsCutOff (text_of lines) taking taking_after)))
-    ⊎ ((status ≡ 3) × (taking_after ≡ taking))
-
--- a mount was made of the store as it was, and the sources were put on it, which led to what is left of the store
+-- A mount was made of the store as it was, and the sources were put on it, which led to what is left of the store. Where the store told a sound tree, who opens
+-- one of the files later sees just what was put into it.
 pub record IsImported (host : ℕ) (over : Bool) (sources : List Sourced) (e : Ends) (after : Stored) (status : ℕ) : Type 0 where
   pub start : State
   pub end : State
   pub mounted : IsMounted 0 e.times e.stored start
-  pub puts : PutsEach host over sources start e.taking end e.taking_after status
+  pub puts : PutsEach e.stored host over sources start e.taking end e.taking_after status
   pub left : end.store ≡ after
 
 -- The mounting broke off, and that was said. Or the sources were put, each as by itself.

@@ -19,7 +19,7 @@ use Rattle.program_ends.specs.Reported.{IsReported, line_zero}
 use Rattle.program_ends.specs.Mounting.{unmounted_of}
 use Rattle.program_ends.specs.Outcomes.{status_of}
 use Rattle.program_ends.specs.Output.{IsPrinted, IsCutOff}
-use Rattle.program_ends.specs.Leaving.{IsStoreLeft}
+use Rattle.program_ends.specs.Leaving.{IsRun}
 use Rattle.program_ends.specs.SoundTrees.{TellsSoundTree}
 use Rattle.copy_program.specs.Seen.{IsSeen}
 
@@ -72,16 +72,19 @@ pub record IsPutAs (name : List ℕ) (host : ℕ) (over : Bool) (given given_aft
 abbrev pub HasBegunToPut : List ℕ → ℕ → Bool → Given → Given → State → State → Type 0
 HasBegunToPut name host over given given_after start end = ((result : Result Copied Stuck) × Copies name host over start given result end given_after) ⊎ BeginsToCopy name host over start given end given_after
 
--- What becomes of it: one line is printed, or a front of it where the sink broke. Where memory was refused there is none.
+-- What becomes of it: one line is printed, or a front of it where the sink broke. Where memory was refused there is none: in the mounting, where nothing was read,
+-- or on a mount.
 pub data PutCourse (name : List ℕ) (host : ℕ) (over : Bool) (given given_after : Given) (e : Ends) (status : ℕ) : Type 0 where
   printed : (ended : PutEnd) → IsPutAs name host over given given_after ended e → IsPrinted (put_text ended) e.taking e.taking_after → status ≡ put_status ended → PutCourse name host over given given_after e status
   cut_off : (ended : PutEnd) → IsPutAs name host over given given_after ended e → IsCutOff (put_text ended) e.taking e.taking_after → status ≡ 6 → PutCourse name host over given given_after e status
-  exhausted : IsStoreLeft (HasBegunToPut name host over given given_after) e → e.taking_after ≡ e.taking → status ≡ 3 → PutCourse name host over given given_after e status
+  starved : (trouble : MountTrouble) (after : Stored) → e.stored_after ≡ Some after → FailsToMount e.stored trouble after → given_after ≡ given → e.taking_after ≡ e.taking → status ≡ 3 → PutCourse name host over given given_after e status
+  exhausted : (after : Stored) → e.stored_after ≡ Some after → IsRun (HasBegunToPut name host over given given_after) e.times e.stored after → e.taking_after ≡ e.taking → status ≡ 3 → PutCourse name host over given given_after e status
 
 -- ---- on a mount
 
--- so the source was copied, and that was reported; or memory was refused in it
-pub data PutsOn (name : List ℕ) (host : ℕ) (over : Bool) (start : State) (given : Given) (taking : Taking) (end : State) (given_after : Given) (taking_after : Taking) (status : ℕ) : Type 0 where
-  ended_so : (result : Result Copied Stuck) → Copies name host over start given result end given_after → IsReported (put_text (end_of result)) (put_status (end_of result)) taking taking_after status
-      → PutsOn name host over start given taking end given_after taking_after status
-  broke_off : BeginsToCopy name host over start given end given_after → taking_after ≡ taking → status ≡ 3 → PutsOn name host over start given taking end given_after taking_after status
+-- So the source was copied, and that was reported; or memory was refused in it. Where it was copied, and the store told a sound tree before it was mounted, each
+-- later reader sees just what was put.
+pub data PutsOn (before : Stored) (name : List ℕ) (host : ℕ) (over : Bool) (start : State) (given : Given) (taking : Taking) (end : State) (given_after : Given) (taking_after : Taking) (status : ℕ) : Type 0 where
+  ended_so : (result : Result Copied Stuck) → Copies name host over start given result end given_after → (TellsSoundTree before → IfOk result (λ copied. IsSeen name start given copied end given_after))
+      → IsReported (put_text (end_of result)) (put_status (end_of result)) taking taking_after status → PutsOn before name host over start given taking end given_after taking_after status
+  broke_off : BeginsToCopy name host over start given end given_after → taking_after ≡ taking → status ≡ 3 → PutsOn before name host over start given taking end given_after taking_after status

@@ -17,6 +17,9 @@ use store_api::Store;
 /// A file that is there is written over only where that is said, and else refused. Before the line of each put it prints the file's name
 /// and a space. It goes on behind a file that was refused, and behind one whose source failed. Behind any other trouble it ends. The
 /// status is the greatest of those of the puts.
+///
+/// Where the store told a sound tree, who opens one of the files later sees just what was put into it, where nothing has landed there since
+/// that put. A sound tree is left.
 #[inline(never)]
 pub fn import<S: Store + Drop, C: Clock + Drop, I: Source + Drop, O: Sink>(
     alloc: Global,

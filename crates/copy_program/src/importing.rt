@@ -1,14 +1,15 @@
 //! Sources are put into files, one after the other, on one mount.
-ghost use Rattle.std.specs.Prelude.{◌≡◌, IfOk, max};
+ghost use Rattle.std.specs.Prelude.{◌≡◌, IfOk};
 ghost use Rattle.mount_sound.specs.Sound.{IsFine};
 ghost use Rattle.program_ends.specs.Reported.{IsReported};
 ghost use Rattle.copy_program.specs.Importing.{NamedPut, PutsEach, is_minor, name_text as text_of_name, sources_of};
 
 use crate::putting::put_mounted;
+use copying_laws::a_copying_leaves_other_containers_still;
 use edge_io::{Clock, Sink, Source};
 use mount_core::Mount;
 use plfs_types::{LogicalName, NoMemory};
-use program_ends::say_text;
+use program_ends::{greater, say_text};
 use std::alloc::Global;
 use store_api::Store;
 
@@ -52,9 +53,10 @@ fn put_named<S: Store + Drop, C: Clock + Drop, I: Source, O: Sink>(
     out: &mut O,
 ) -> u8
     requires { IsFine mount.old }
-    ensures put { NamedPut name host over (I.given input.old) mount.old (O.taking out.old) mount.new (O.taking out.new) result }
+    ensures put { NamedPut mount.old.opened name host over (I.given input.old) mount.old (O.taking out.old) mount.new (O.taking out.new) result }
     ensures fine { IsFine mount.new }
 {
+    a_copying_leaves_other_containers_still();
     let said = say_name(alloc, out, name);
     if said != 0 {
         return said;
@@ -69,13 +71,6 @@ fn goes_on(status: u8) -> bool
     matches!(status, 0 | 1 | 5)
 }
 
-/// The greater of two statuses.
-fn greater(a: u8, b: u8) -> u8
-    ensures { result ≡ max a b }
-{
-    if a < b { b } else { a }
-}
-
 /// Puts each source into its file, the last one of them first. It ends behind one whose put broke off, or when all are put, and answers
 /// the greatest status.
 pub(crate) fn put_each<S: Store + Drop, C: Clock + Drop, I: Source + Drop, O: Sink>(
@@ -87,7 +82,7 @@ pub(crate) fn put_each<S: Store + Drop, C: Clock + Drop, I: Source + Drop, O: Si
     out: &mut O,
 ) -> u8
     requires { IsFine mount.old }
-    ensures put { PutsEach host over (sources_of I.given files.items) mount.old (O.taking out.old) mount.new (O.taking out.new) result }
+    ensures put { PutsEach mount.old.opened host over (sources_of I.given files.items) mount.old (O.taking out.old) mount.new (O.taking out.new) result }
     ensures fine { IsFine mount.new }
 {
     let mut rest = files;

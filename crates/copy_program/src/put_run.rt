@@ -4,7 +4,6 @@ ghost use Rattle.program_ends.specs.Ends.{ends_of};
 ghost use Rattle.copy_program.specs.Putting.{PutCourse};
 
 use crate::putting::put_mounted;
-use copying_laws::{a_copied_source_is_kept, later_readers_see_a_copied_source};
 use edge_io::{Clock, Sink, Source};
 use mount_core::Mount;
 use plfs_types::LogicalName;
@@ -26,8 +25,6 @@ pub(crate) fn put<S: Store + Drop, C: Clock + Drop, I: Source, O: Sink>(
 ) -> Ended<S>
     ensures { PutCourse name host over (I.given input.old) (I.given input.new) (ends_of (C.times clock) (O.taking out.old) (O.taking out.new) (S.stored store) (option_map S.stored result.store)) result.status }
 {
-    a_copied_source_is_kept();
-    later_readers_see_a_copied_source();
     match Mount::open(alloc, store, clock) {
         Ok(mount) => {
             let mut mount = mount;

@@ -5,6 +5,7 @@ ghost use Rattle.program_ends.specs.Reported.{IsReported};
 ghost use Rattle.copy_program.specs.Putting.{PutsOn, end_of, put_line as line_of, put_status as status_of, put_text as text_of};
 
 use copy_core::{Copied, copy};
+use copying_laws::{a_copied_source_is_kept, later_readers_see_a_copied_source};
 use edge_io::{Clock, Sink, Source};
 use flow::Stuck;
 use mount_core::Mount;
@@ -70,9 +71,11 @@ pub(crate) fn put_mounted<S: Store + Drop, C: Clock + Drop, I: Source, O: Sink>(
     out: &mut O,
 ) -> u8
     requires { IsFine mount.old }
-    ensures puts { PutsOn name host over mount.old (I.given input.old) (O.taking out.old) mount.new (I.given input.new) (O.taking out.new) result }
+    ensures puts { PutsOn mount.old.opened name host over mount.old (I.given input.old) (O.taking out.old) mount.new (I.given input.new) (O.taking out.new) result }
     ensures fine { IsFine mount.new }
 {
+    a_copied_source_is_kept();
+    later_readers_see_a_copied_source();
     let Ok(told) = copy(alloc, mount, name, host, over, input) else {
         return 3;
     };

@@ -1,11 +1,11 @@
 //! The words of `plfs_copy`.
-ghost use Rattle.std.specs.Prelude.{◌≡◌, ◌<◌, ◌^◌, ◌↔◌, ◌∷◌, [], ℕ, Bool, IfNone, IfSome, IsTrue, codes};
-ghost use Rattle.std.specs.Fmt.{decimal};
+ghost use Rattle.std.specs.Prelude.{◌≡◌, ◌<◌, ◌↔◌, ◌∷◌, [], ℕ, Bool, IfNone, IfSome, IsTrue, codes};
 ghost use Rattle.copy_program.specs.Words.{AreOptions, IsCopyCommand, IsImportCommand};
 ghost use Rattle.copy_program.specs.declared.words.CopyCommand.{CopyCommand as Asked};
 ghost use Rattle.copy_program.specs.declared.words.ImportCommand.{ImportCommand as ImportAsked};
 
-use plfs_types::{LogicalName, Word, read_decimal};
+use plfs_types::{LogicalName, Word};
+use program_ends::{host_of, is_over};
 
 /// A command.
 #[derive(Clone, Copy)]
@@ -35,24 +35,6 @@ pub struct ImportCommand {
 struct Options {
     host: u32,
     over: bool,
-}
-
-/// The host that a word spells.
-fn host_of(word: &Word) -> Option<u32>
-    ensures found { IfSome result (λ host. word.now ≡ decimal host) }
-    ensures none { IfNone result ((host : ℕ) → host < 2 ^ 32 → word.now ≡ decimal host → ⊥) }
-{
-    match read_decimal(word.as_bytes()) {
-        Some(number) => u32::try_from(number).ok(),
-        None => None,
-    }
-}
-
-/// Whether a word says that a file may be written over.
-fn is_over(word: &Word) -> bool
-    ensures { IsTrue result ↔ (word.now ≡ codes "--over") }
-{
-    word.as_bytes() == b"--over".as_slice()
 }
 
 /// What one word behind a name says.

@@ -71,6 +71,21 @@ write_asks handle at block = elim (nat_le handle.cap handle.pending) as (λ b. A
   | false ↦ writes_ask handle at block handle.writer
 ]
 
+-- the call takes no writer out
+abbrev pub ExitsNone : Call → Type 0
+ExitsNone (call.Exit writer) = ⊥
+ExitsNone q = Unit {0}
+
+wrote_stays : (handle : WriterHandle) (rep : Reply) → Asks ExitsNone (if_wrote handle rep)
+wrote_stays handle (reply.Wrote stamp) = tt
+wrote_stays handle rep = tt
+
+pub write_stays : (handle : WriterHandle) (at : ℕ) (block : List ℕ) → Asks ExitsNone (write_program handle at block)
+write_stays handle at block = elim (nat_le handle.cap handle.pending) as (λ b. Asks ExitsNone (if b then flush_then handle (writes (flushed_of handle) at block) else writes handle at block)) [
+  | true ↦ (tt, flushed_then ExitsNone handle (writes (flushed_of handle) at block) (tt, wrote_stays (flushed_of handle)))
+  | false ↦ (tt, wrote_stays handle)
+]
+
 synced_done : (w : ℕ) (handle : WriterHandle) (rep : Reply) → Asks (Settles w) (if_synced handle rep)
 synced_done w handle (reply.Synced landed) = tt
 synced_done w handle rep = tt
@@ -125,31 +140,31 @@ MakesNone q = Unit {0}
 
 -- it is one of those behind the first call of an opening
 abbrev pub Enters : ℕ → Call → Type 0
-Enters w q = Spares w q × MakesNone q
+Enters w q = Spares w q × MakesNone q × IssuesNone q
 
 done_asks : (w id : ℕ) (next : Opening) → Asks (Enters w) next → (rep : Reply) → Asks (Enters w) (if_done id next rep)
 done_asks w id next asks reply.Done = asks
-done_asks w id next asks rep = (((tt, tt, tt), tt), λ other. tt)
+done_asks w id next asks rep = (((tt, tt, tt), tt, tt), λ other. tt)
 
 log_asks : (w id most : ℕ) → Asks (Enters w) (makes_log id most)
-log_asks w id most = (((tt, tt, tt), tt), done_asks w id (done (Ok (opened_of id most))) tt)
+log_asks w id most = (((tt, tt, tt), tt, tt), done_asks w id (done (Ok (opened_of id most))) tt)
 
 index_makes : (w id most : ℕ) → Asks (Enters w) (makes_index id most)
-index_makes w id most = (((tt, tt, tt), tt), done_asks w id (makes_log id most) (log_asks w id most))
+index_makes w id most = (((tt, tt, tt), tt, tt), done_asks w id (makes_log id most) (log_asks w id most))
 
 hostdir_asks : (w id most : ℕ) → Asks (Enters w) (makes_hostdir id most)
-hostdir_asks w id most = (((tt, tt, tt), tt), done_asks w id (makes_index id most) (index_makes w id most))
+hostdir_asks w id most = (((tt, tt, tt), tt, tt), done_asks w id (makes_index id most) (index_makes w id most))
 
 floored_asks : (w id most : ℕ) (rep : Reply) → Asks (Enters w) (if_floored id most rep)
 floored_asks w id most (reply.Floored floor) = hostdir_asks w id most
-floored_asks w id most rep = (((tt, tt, tt), tt), λ other. tt)
+floored_asks w id most rep = (((tt, tt, tt), tt, tt), λ other. tt)
 
 entered_asks : (w most : ℕ) (rep : Reply) → Asks (Enters w) (if_entered most rep)
-entered_asks w most (reply.Entered id) = (((tt, tt, tt), tt), floored_asks w id most)
+entered_asks w most (reply.Entered id) = (((tt, tt, tt), tt, tt), floored_asks w id most)
 entered_asks w most rep = tt
 
 pub made_asks : (w host most : ℕ) (rep : Reply) → Asks (Enters w) (if_made host most rep)
-made_asks w host most (reply.Room room) = (((tt, tt, tt), tt), entered_asks w most)
+made_asks w host most (reply.Room room) = (((tt, tt, tt), tt, tt), entered_asks w most)
 made_asks w host most rep = tt
 
 -- ---- a truncate

@@ -11,7 +11,7 @@ use Rattle.plain_file.specs.File.{applied, file_after, plain, sized}
 use Rattle.plain_file.specs.Order.{newest_first}
 use Rattle.mount_sound.specs.Entries.{AreEntriesOf}
 use Rattle.mount_sound.specs.Ledger.{AreFull, Written, entries_in}
-use Rattle.gathering.specs.View.{change_of}
+use Rattle.mount_sound.specs.Ledger.{change_of}
 use Rattle.copy_core.specs.Blocks.{joined}
 use Rattle.copying_laws.specs.Copied.{ArePlaced}
 use Rattle.copying_laws.proofs.Newest.{IsBefore, all_sorted, insert_last}

@@ -1,10 +1,14 @@
+mod Apart
 mod Asked
 mod Cleared
 mod Copying
+mod Elsewhere
 mod Emptied
 mod Files
+mod Marking
 mod Newest
 mod Opened
 mod Readers
 mod Spared
+mod Staying
 mod Views

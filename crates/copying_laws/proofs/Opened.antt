@@ -333,6 +333,16 @@ module _ (m : Moment) (name : Name) (host : ℕ) (handle : WriterHandle) (end : 
   then_first : IsLawful m.state (b.greeting ∷ p.first ∷ [])
   then_first = (b.lawful.0, b.lawful.1, (lawful_p.0, lawful_p.1, tt))
 
+  -- it is another container than one with another name
+  pub apart : (number : ℕ) (x : Name) → HasContainer m number x → (x ≡ name → ⊥) → d.room ≡ number → ⊥
+  apart number x c other same =
+      let there : HasContainer mk_moment number x = named_later m (b.greeting ∷ p.first ∷ []) number x then_first (greeting_moves, (first_moves, tt)) c in
+      let q = made g sound_g name host handle p.first p.later lawful_p p.own p.asks p.on d h.is_writer found_room in
+      let is : IsRoomOf q.0 name d.room = first_named g sound_g name host handle p.first p.later lawful_p p.own p.asks p.on d h.is_writer found_room q.0 q.2 in
+      let both : Some there.room ≡ Some is.room = sym (ap (λ (t : Tree). slice_get t.rooms number) (one_tree q.0 there.tree mk_moment.state.store.tree q.1 there.told) ∙ there.there) ∙ ap (λ n. slice_get q.0.rooms n) (sym same) ∙ is.has_room in
+      let one : there.room ≡ is.room = cc in
+      other (sym there.is ∙ ap (λ (r : Room). r.name) one ∙ is.named)
+
   module _ (e : Emptied m name) where
     here_later : (number : ℕ) (x : Name) → HasContainer e.found number x → HasContainer m number x
     here_later number x c = subst (λ y. HasContainer y number x) e.ends (named_later e.found e.onward number x e.lawful e.moves c)

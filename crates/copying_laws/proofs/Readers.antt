@@ -12,7 +12,8 @@ use Rattle.mount_sound.specs.Owed.{IsLawful}
 use Rattle.mount_sound.proofs.Facts.{lawful_first, writes_take}
 use Rattle.gathering.specs.Gathering.{Gathered}
 use Rattle.gathering.specs.Moments.{Dropping, IsSoundAt, Moment, file_told, issued_by, landed_by, moment_after, next_moment}
-use Rattle.gathering.specs.View.{change_of, changes_in, cut_off, view, writes_in}
+use Rattle.gathering.specs.View.{changes_in, cut_off, view, writes_in}
+use Rattle.mount_sound.specs.Ledger.{change_of}
 use Rattle.gathering.proofs.Facts.{legal_rest, sound_after}
 use Rattle.index_reader.specs.declared.opened.OpenReader.{OpenReader}
 use Rattle.reader_laws.specs.Opened.{HasOpenedIn}
@@ -30,7 +31,7 @@ use Rattle.store_laws.proofs.Facts.{look_told}
 use Rattle.pack_core.specs.Looking.{GreetsOrLooks}
 use Rattle.copy_core.specs.declared.copying.Copied.{Copied}
 use Rattle.copy_core.specs.Blocks.{joined}
-use Rattle.copy_core.specs.Reading.{IsAtEnd}
+use Rattle.edge_io.specs.Source.{IsAtEnd}
 use Rattle.copy_core.specs.Writing.{EndsAs}
 use Rattle.copying_laws.specs.Alone.{HasAlone}
 use Rattle.copying_laws.specs.Copied.{ArePlaced, HasCopied, IsKeptCopy, copied_by}

@@ -74,7 +74,7 @@ Spares call step = (LeavesTruncs step ⊎ ((MarksNone call → ⊥) × NamesOne 
 first_byte : (a b : Name) → a ≡ b → get_or a 0 0 ≡ get_or b 0 0
 first_byte a b e = ap (λ (n : Name). get_or n 0 0) e
 
-no_flattening : (f : Flattening) (stamp size : ℕ) → IsPathOf (temporary f).folder (temporary f).file (trunc_path stamp size) ⊎ IsPathOf (temporary f).folder (installed f).file (trunc_path stamp size) → ⊥
+pub no_flattening : (f : Flattening) (stamp size : ℕ) → IsPathOf (temporary f).folder (temporary f).file (trunc_path stamp size) ⊎ IsPathOf (temporary f).folder (installed f).file (trunc_path stamp size) → ⊥
 no_flattening f stamp size (inl from) = (trunc_no_flattenings stamp size).from f from
 no_flattening f stamp size (inr to) = (trunc_no_flattenings stamp size).to f to
 

@@ -21,7 +21,8 @@ use Rattle.gathering.specs.Gathering.{Gathered, IsPrefixOf}
 use Rattle.gathering.specs.Listing.{AreTruncsAt}
 use Rattle.gathering.specs.Moments.{Dropping, HadTrunc, IsSoundAt, Moment, issued_by, landed, landed_by}
 use Rattle.gathering.specs.Opening.{HasView}
-use Rattle.gathering.specs.View.{WritersRise, change_of, cut_off, own_entries, view, writes_in}
+use Rattle.gathering.specs.View.{WritersRise, cut_off, own_entries, view, writes_in}
+use Rattle.mount_sound.specs.Ledger.{change_of}
 use Rattle.gathering.proofs.Facts.{All-append, all_at, among, among_right, any_found, in_a_room, in_tree, landed_is_first, prefix_of}
 use Rattle.gathering.proofs.Logs.Fronts.{landed_whole}
 use Rattle.gathering.proofs.OpenReaders.Viewing.{All-take, entries_in-take}

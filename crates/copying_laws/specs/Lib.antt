@@ -1,4 +1,5 @@
 pub mod Alone
 pub mod Copied
+pub mod Others
 pub mod Seen
 pub mod Shown

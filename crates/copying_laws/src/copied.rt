@@ -1,11 +1,12 @@
 //! The laws of a source that was copied.
-ghost use Rattle.std.specs.Prelude.{◌≡◌, ℕ, Bool, true, Some, List, [], ◌∷◌, length, Ok};
+ghost use Rattle.std.specs.Prelude.{◌≡◌, ℕ, Bool, true, Some, List, [], ◌∷◌, length, Ok, Result};
 ghost use Rattle.std.specs.List.{AllByRecursion};
 ghost use Rattle.edge_io.specs.Source.{Given};
 ghost use Rattle.mount_model.specs.History.{Event};
 ghost use Rattle.mount_model.specs.Paths.{Name};
 ghost use Rattle.mount_model.specs.State.{State};
 ghost use Rattle.mount_sound.specs.Owed.{IsLawful};
+ghost use Rattle.flow.specs.declared.stuck.Stuck.{Stuck};
 ghost use Rattle.index_reader.specs.declared.opened.OpenReader.{OpenReader};
 ghost use Rattle.gathering.specs.Moments.{IsSoundAt, Moment, moment_after};
 ghost use Rattle.gathering.specs.View.{view};
@@ -13,10 +14,11 @@ ghost use Rattle.reader_laws.specs.Opened.{HasOpenedIn};
 ghost use Rattle.packing_laws.specs.Lasting.{HoldsWrites, IsLater};
 ghost use Rattle.copy_core.specs.declared.copying.Copied.{Copied};
 ghost use Rattle.copy_core.specs.Blocks.{joined};
-ghost use Rattle.copy_core.specs.Copying.{Copies};
+ghost use Rattle.copy_core.specs.Copying.{BeginsToCopy, Copies};
 ghost use Rattle.copying_laws.specs.Alone.{HasAlone};
 ghost use Rattle.pack_core.specs.Looking.{GreetsOrLooks};
 ghost use Rattle.copying_laws.specs.Copied.{HasCopied, IsKeptCopy, copied_by};
+ghost use Rattle.copying_laws.specs.Others.{LeavesOthersStill};
 ghost use Rattle.copying_laws.specs.Seen.{LaterReadersSee};
 ghost use Rattle.copying_laws.specs.Shown.{IsStill};
 
@@ -65,4 +67,10 @@ pub fn later_readers_see_a_copied_source()
 /// A law: looks leave each container still. So a reader that opens while others only look sees a copy.
 pub fn looks_leave_a_container_still()
     ensures { (m : Moment) (events : List Event) (room : ℕ) → IsSoundAt m → IsLawful m.state events → AllByRecursion (λ (e : Event). GreetsOrLooks e.ask.call) events → IsStill m (moment_after m events) room }
+{}
+
+/// A law: a copying leaves each container still that has another name. So it does where memory was refused in it.
+pub fn a_copying_leaves_other_containers_still()
+    ensures copied { (name : Name) (host : ℕ) (over : Bool) (start end : State) (old : Given) (told : Result Copied Stuck) (new : Given) → Copies name host over start old told end new → LeavesOthersStill name start end }
+    ensures broken_off { (name : Name) (host : ℕ) (over : Bool) (start end : State) (old new : Given) → BeginsToCopy name host over start old end new → LeavesOthersStill name start end }
 {}

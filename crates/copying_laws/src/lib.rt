@@ -7,7 +7,7 @@
 mod copied;
 
 pub use copied::{
-    a_copied_source_is_kept, a_reader_of_the_copy_alone_sees_the_source,
-    later_readers_hold_a_copied_source, later_readers_see_a_copied_source,
-    looks_leave_a_container_still,
+    a_copied_source_is_kept, a_copying_leaves_other_containers_still,
+    a_reader_of_the_copy_alone_sees_the_source, later_readers_hold_a_copied_source,
+    later_readers_see_a_copied_source, looks_leave_a_container_still,
 };

@@ -4,7 +4,8 @@ use Rattle.mount_model.specs.declared.call.Call.{Call}
 use Rattle.mount_model.specs.declared.reply.Reply.{Reply}
 use Rattle.store_api.specs.declared.owned.OwnedStep.{OwnedStep}
 use Rattle.drain_copy.specs.declared.points.DrainNext.TheVariants.{Source, Target, End}
-use Rattle.drain_copy.specs.Asking.{Told, acts, calls, ends}
+use Rattle.drain_copy.specs.Asking.{acts, calls, ends}
+use Rattle.mount_model.specs.Making.{Told}
 use Rattle.drain_copy.specs.Standing.{Standing, awaits_answer, awaits_reply, ready, AwaitsAnswer, AwaitsReply, GoesOnAfter, GoesOnTold, HasEnded, IsGiven, IsReady}
 
 pub given_call : (old : Standing) (call : Call) (new : Standing) → IsGiven old (Source call) new → AwaitsReply new

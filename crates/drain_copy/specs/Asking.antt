@@ -1,8 +1,6 @@
 -- A program with two sides: it calls the mount of its source, and makes steps at its target, a second store.
-use Rattle.std.specs.Prelude.{ℕ, [], Result, Ok, Err}
-use Rattle.store_api.specs.declared.step.Answer.{Answer}
+use Rattle.std.specs.Prelude.{ℕ, [], Ok, Err}
 use Rattle.store_api.specs.declared.step.Answer.TheVariants.{NoFolder, Beyond}
-use Rattle.store_api.specs.declared.store.Trouble.{Trouble}
 use Rattle.store_api.specs.declared.store.Trouble.TheVariants as trouble
 use Rattle.store_api.specs.Step.{Step, rooms, list_folder, length_of, read_at}
 use Rattle.mount_model.specs.declared.call.Call.{Call}
@@ -12,10 +10,7 @@ use Rattle.mount_model.specs.declared.call.Look.TheVariants.{Top, List as ListFo
 use Rattle.mount_model.specs.declared.reply.Reply.{Reply}
 use Rattle.mount_model.specs.declared.reply.Reply.TheVariants.{Fault, Looked, NoMemory}
 use Rattle.story.specs.Program.{Program, done, ask}
-
--- what an act told
-abbrev pub Told : Type 0
-Told = Result Answer Trouble
+use Rattle.mount_model.specs.Making.{Told}
 
 -- It ends so; or it calls the source, and goes on with the reply; or it makes a step at the target, and goes on with what that told.
 pub data Drains (X : Type 0) : Type 0 where

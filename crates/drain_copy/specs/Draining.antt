@@ -4,7 +4,9 @@ use Rattle.std.specs.Prelude.{ℕ, true, false, List, [], ◌∷◌, Option, Som
 use Rattle.store_api.specs.Step.{create, find_room, make_room}
 use Rattle.flow.specs.declared.stuck.Stuck.{Stuck}
 use Rattle.mount_model.specs.declared.call.Call.TheVariants.{Find, SyncDropping}
-use Rattle.mount_model.specs.Paths.{Name, mark_path, marks_folder, marks_name, new_files, new_folders}
+use Rattle.mount_model.specs.Paths.{Name, mark_path, new_files, new_folders}
+use Rattle.store_api.specs.Names.{marks_folder}
+use Rattle.store_api.specs.Names.{marks_name}
 use Rattle.drain_read.specs.declared.held.Held.{Held}
 use Rattle.drain_read.specs.declared.read.Contained.{Contained}
 use Rattle.drain_read.specs.declared.read.Known.{Known}

@@ -25,7 +25,8 @@ use Rattle.drain_copy.specs.declared.stages.Turn.TheVariants.{Acts, Calls, Over}
 use Rattle.drain_copy.specs.declared.work.EntriesPart.{EntriesPart}
 use Rattle.drain_copy.specs.declared.work.LogPart.{LogPart}
 use Rattle.drain_copy.specs.declared.work.Work.{Work}
-use Rattle.drain_copy.specs.Asking.{Told, acts, at_source, at_target, calls, ends, look_reply}
+use Rattle.drain_copy.specs.Asking.{acts, at_source, at_target, calls, ends, look_reply}
+use Rattle.mount_model.specs.Making.{Told}
 use Rattle.drain_copy.specs.Telling.{DrainsOn, entry_made, folder_alone, found_room, kept, made_now, made_or_old, on_good, roomed, sought, told_well}
 use Rattle.drain_copy.specs.Copying.{copies, copies_bytes, entries_part, copies_log, copies_writer, entry_of, index_of, log_of, makes_hostdir, makes_index, makes_log, part_told, puts_truncs, syncs_index, syncs_log, trunc_file, writes_entries, writes_index}
 use Rattle.drain_copy.specs.Draining.{copies_to, gathers, if_gathered, if_held, makes_all_marks, makes_marks, makes_marks_room, reads_target, syncs, syncs_second}

@@ -5,7 +5,8 @@ use Rattle.mount_model.specs.declared.reply.Reply.{Reply}
 use Rattle.mount_model.specs.Step.{OwedBy}
 use Rattle.drain_copy.specs.declared.points.DrainNext.{DrainNext}
 use Rattle.drain_copy.specs.declared.points.DrainNext.TheVariants.{Source, Target, End}
-use Rattle.drain_copy.specs.Asking.{Told, acts, calls, ends}
+use Rattle.drain_copy.specs.Asking.{acts, calls, ends}
+use Rattle.mount_model.specs.Making.{Told}
 use Rattle.drain_copy.specs.Telling.{DrainsOn, Outcome}
 
 -- It is to go on with this program; or a call was given, or a step, after whose reply or answer it goes on so.

@@ -8,11 +8,13 @@ use Rattle.flow.specs.declared.stuck.Stuck.TheVariants as stuck
 use Rattle.flow.specs.Replies.{failure, room_in}
 use Rattle.mount_model.specs.declared.reply.Reply.{Reply}
 use Rattle.mount_model.specs.declared.reply.Reply.TheVariants.{Done}
-use Rattle.mount_model.specs.Paths.{Name, openhosts}
+use Rattle.mount_model.specs.Paths.{Name}
+use Rattle.container_layout.specs.Paths.{openhosts}
 use Rattle.drain_copy.specs.declared.outcome.Drained.{Drained}
 use Rattle.drain_copy.specs.declared.outcome.DrainStuck.{DrainStuck}
 use Rattle.drain_copy.specs.declared.outcome.DrainStuck.TheVariants.{Source, TargetDamaged, TargetFault}
-use Rattle.drain_copy.specs.Asking.{Drains, Told, ends}
+use Rattle.drain_copy.specs.Asking.{Drains, ends}
+use Rattle.mount_model.specs.Making.{Told}
 
 -- what a drain comes to
 abbrev pub Outcome : Type 0

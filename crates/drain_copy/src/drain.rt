@@ -19,7 +19,7 @@ use store_api::{Answer, Trouble};
 ///    the index dropping of each writer with such entries are synced, so that no loss of power takes a copied entry from the source.
 /// 3. At the target the room of marks, the mark of each writer's mount, and the container, where they are missing.
 /// 4. At the target, for each writer by ascending id: its entry among those that have the container open, the folder of its
-///    droppings, its index dropping and its log; the bytes of its log, from where the target's ends, 2^17 by a Read at the source;
+///    droppings, its index dropping and its log; the bytes of its log, from where the target's ends, 2^18 by a Read at the source;
 ///    the sync of the log; its entries, from the landed ones on, 4096 by a write; the sync of its index dropping.
 /// 5. At the target the truncates.
 ///

@@ -2,6 +2,7 @@
 ghost use Rattle.std.specs.Prelude.{◌≡◌, ◌≤◌, ◌<◌, ◌+◌, ◌∷◌, [], codes, length, IfOk};
 ghost use Rattle.drain_copy.specs.Bounds.{job_left, turn_left};
 ghost use Rattle.mount_model.specs.Paths as paths;
+ghost use Rattle.store_api.specs.Names as names;
 ghost use Rattle.drain_copy.specs.Draining.{copies_to, makes_container, makes_marks, makes_marks_room};
 ghost use Rattle.drain_copy.specs.Stages.{target_rest, turn_program, IsOwedTurn};
 
@@ -13,19 +14,7 @@ use crate::work::Ahead;
 use container_layout::{flats, metadata, openhosts, print_number, truncs};
 use plfs_types::{Name, NameList, NoMemory, Path, Queue};
 use std::alloc::Global;
-use store_api::{Answer, OwnedStep, Trouble};
-
-fn marks_name() -> Name
-    ensures { result ≡ paths.marks_name }
-{
-    Name::from_bytes(b".plfs").unwrap()
-}
-
-fn marks_folder() -> Name
-    ensures { result ≡ paths.marks_folder }
-{
-    Name::from_bytes(b"mounts").unwrap()
-}
+use store_api::{Answer, OwnedStep, Trouble, marks_folder, marks_name};
 
 fn access() -> Name
     ensures { result ≡ codes "access" }
@@ -196,7 +185,7 @@ pub(crate) fn after_marks_room(
 }
 
 fn marks_step(alloc: Global) -> Result<OwnedStep, NoMemory>
-    ensures { IfOk result (λ step. step ≡ OwnedStep.MakeRoom paths.marks_name (paths.marks_folder ∷ []) []) }
+    ensures { IfOk result (λ step. step ≡ OwnedStep.MakeRoom names.marks_name (names.marks_folder ∷ []) []) }
 {
     let folders = names(alloc, &[marks_folder()])?;
     Ok(OwnedStep::MakeRoom {

@@ -17,7 +17,8 @@ use Rattle.mount_model.specs.declared.call.Look.TheVariants.{Read}
 use Rattle.mount_model.specs.declared.reply.Refusal.{Refusal}
 use Rattle.mount_model.specs.declared.reply.Reply.{Reply}
 use Rattle.mount_model.specs.declared.reply.Reply.TheVariants as reply_of
-use Rattle.mount_model.specs.Paths.{Name, mark_path, openhosts}
+use Rattle.mount_model.specs.Paths.{Name, mark_path}
+use Rattle.container_layout.specs.Paths.{openhosts}
 use Rattle.mount_model.specs.Replies.{FitsCall, IsTrouble, damaged, fault, no_memory, refused}
 use Rattle.flow.specs.declared.stuck.Stuck.{Stuck}
 use Rattle.flow.specs.declared.stuck.Stuck.TheVariants as stuck
@@ -36,7 +37,8 @@ use Rattle.drain_copy.specs.declared.plan.Copying.{Copying}
 use Rattle.drain_copy.specs.declared.plan.Due.{Due}
 use Rattle.drain_copy.specs.declared.plan.Job.{Job}
 use Rattle.drain_copy.specs.declared.plan.Owner.{Owner}
-use Rattle.drain_copy.specs.Asking.{Told, acts, at_source as on_source, at_target as on_target, calls, ends, look_reply}
+use Rattle.drain_copy.specs.Asking.{acts, at_source as on_source, at_target as on_target, calls, ends, look_reply}
+use Rattle.mount_model.specs.Making.{Told}
 use Rattle.drain_copy.specs.Copying.{copies, copies_bytes, copies_log, copies_writer, entry_of, given_part, index_of, log_of, makes_hostdir, makes_index, makes_log, part_told, parts_of, puts_truncs, trunc_file, writes_entries, writes_index}
 use Rattle.drain_copy.specs.Draining.{copies_to, drain_program, finds_source, gathers, if_gathered, if_held, job_of, known_at, makes_all_marks, makes_marks, makes_marks_room, reads_target, syncs, syncs_second, unless_taken}
 use Rattle.drain_copy.specs.Planning.{count_there, is_taken, mounts_of, nothing_held, owners_of, taken}

@@ -29,8 +29,10 @@ use Rattle.index_reader.specs.Packs.{no_tail, packed_path}
 use Rattle.index_reader.specs.Replies.{log_length_in, number_in}
 use Rattle.index_reader.specs.Scanning.{foreign_in, has_writer, nothing_found, scanned, taken, taken_all, unless_foreign}
 use Rattle.index_reader.specs.Searching.{has_name}
-use Rattle.index_reader.specs.Tails.{if_checked, if_logged, if_told, log_then, looked, next_read, reads, reads_left, reads_of, tail_program}
-use Rattle.index_reader.specs.Tops.{access, foreign_at_top, hostdirs, required, shown, top_shows}
+use Rattle.index_reader.specs.Tails.{if_checked, if_logged, if_told, log_then, looked, reads, reads_left, tail_program}
+use Rattle.flow.specs.Entries.{next_read, reads_of}
+use Rattle.index_reader.specs.Tops.{access, foreign_at_top, required, shown, top_shows}
+use Rattle.container_layout.specs.Paths.{hostdirs}
 use Rattle.index_reader.specs.Truncs.{if_trunc, inserted, trunc_program, truncs_of, truncs_path}
 use Rattle.drain_read.specs.declared.held.Mirror.{Mirror}
 use Rattle.drain_read.specs.declared.read.Known.{Known}

@@ -22,7 +22,8 @@ use Rattle.index_reader.specs.Opening.{no_flat, scan_program, scans}
 use Rattle.index_reader.specs.Packs.{no_tail}
 use Rattle.index_reader.specs.Replies.{log_length_in, number_in}
 use Rattle.index_reader.specs.Scanning.{nothing_found, scanned}
-use Rattle.index_reader.specs.Tails.{if_logged, if_told, log_then, looked, next_read, reads, reads_left, reads_of, tail_program}
+use Rattle.index_reader.specs.Tails.{if_logged, if_told, log_then, looked, reads, reads_left, tail_program}
+use Rattle.flow.specs.Entries.{next_read, reads_of}
 use Rattle.index_reader.specs.Tops.{top_shows}
 use Rattle.index_reader.specs.Truncs.{trunc_program, truncs_of, truncs_path}
 use Rattle.index_reader.proofs.Facts.{if_checked_asks}
@@ -38,7 +39,8 @@ use Rattle.drain_copy.specs.declared.plan.Copying.{Copying}
 use Rattle.drain_copy.specs.declared.plan.Due.{Due}
 use Rattle.drain_copy.specs.declared.plan.Job.{Job}
 use Rattle.drain_copy.specs.declared.plan.Owner.{Owner}
-use Rattle.drain_copy.specs.Asking.{Told, acts, at_source as on_source, calls, ends}
+use Rattle.drain_copy.specs.Asking.{acts, at_source as on_source, calls, ends}
+use Rattle.mount_model.specs.Making.{Told}
 use Rattle.drain_copy.specs.Copying.{copies, copies_bytes, copies_log, copies_writer, entry_of, index_of, log_of, makes_hostdir, makes_index, makes_log, part_told, parts_of, puts_truncs, trunc_file, writes_entries, writes_index}
 use Rattle.drain_copy.specs.Draining.{copies_to, gathers, if_gathered, job_of, known_at, makes_all_marks, makes_marks, makes_marks_room, syncs, syncs_second, unless_taken}
 use Rattle.drain_copy.specs.Planning.{mounts_of, owners_of, taken}

@@ -14,7 +14,8 @@ use Rattle.mount_model.proofs.Facts.{step_causes, step_fits}
 use Rattle.flow.specs.declared.stuck.Stuck.TheVariants as stuck
 use Rattle.gathering.specs.Moments.{Moment, next_moment}
 use Rattle.drain_copy.specs.declared.outcome.DrainStuck.TheVariants.{Source, TargetFault}
-use Rattle.drain_copy.specs.Asking.{Told, acts, calls, ends}
+use Rattle.drain_copy.specs.Asking.{acts, calls, ends}
+use Rattle.mount_model.specs.Making.{Told}
 use Rattle.drain_copy.specs.Draining.{drain_program}
 use Rattle.drain_copy.specs.Telling.{DrainsOn, Outcome}
 use Rattle.drain_sound.specs.Draining.{Act, Happening, at_source, at_target, source_after, target_after}

@@ -8,7 +8,8 @@ use Rattle.store_laws.specs.There.{IsFree}
 use Rattle.turn_object.specs.Callers.{made_by}
 use Rattle.mount_model.specs.declared.reply.Refusal.TheVariants.{NoRoom}
 use Rattle.mount_model.specs.History.{Event}
-use Rattle.mount_model.specs.Paths.{Name, openhosts}
+use Rattle.mount_model.specs.Paths.{Name}
+use Rattle.container_layout.specs.Paths.{openhosts}
 use Rattle.mount_sound.specs.Items.{HasMeta}
 use Rattle.gathering.specs.Moments.{Moment, Stood, landed, moment_after}
 use Rattle.flow.specs.declared.stuck.Stuck.TheVariants as stuck

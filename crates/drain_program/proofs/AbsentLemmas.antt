@@ -14,7 +14,9 @@ use Rattle.mount_model.specs.declared.call.Call.TheVariants.{Find}
 use Rattle.mount_model.specs.declared.reply.Reply.TheVariants.{Room as RoomReply}
 use Rattle.mount_model.specs.Making.{Told as StoreTold}
 use Rattle.mount_model.specs.Mounting.{IsMounted, list_step, mark_step, marks_step}
-use Rattle.mount_model.specs.Paths.{Name, mark_path, marks_folder, marks_name}
+use Rattle.mount_model.specs.Paths.{Name, mark_path}
+use Rattle.store_api.specs.Names.{marks_folder}
+use Rattle.store_api.specs.Names.{marks_name}
 use Rattle.mount_model.specs.State.{State}
 use Rattle.mount_sound.proofs.Facts.{mounted_sound, one_tree}
 use Rattle.flow.specs.Running.{unbroken}

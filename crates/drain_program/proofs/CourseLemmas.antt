@@ -5,7 +5,8 @@ use Rattle.store_api.specs.declared.tree.Tree.{Tree}
 use Rattle.store_api.specs.Acts.{Stored}
 use Rattle.mount_model.specs.Failing.{FailsToMount}
 use Rattle.mount_model.specs.History.{Event, state_after}
-use Rattle.mount_model.specs.Paths.{Name, marks_folder}
+use Rattle.mount_model.specs.Paths.{Name}
+use Rattle.store_api.specs.Names.{marks_folder}
 use Rattle.mount_model.specs.State.{State}
 use Rattle.mount_model.specs.declared.trouble.MountTrouble.{MountTrouble}
 use Rattle.mount_model.specs.declared.trouble.MountTrouble.TheVariants as trouble

@@ -21,7 +21,8 @@ use Rattle.store_laws.specs.There.{ListsFolder, has_entry}
 use Rattle.store_laws.proofs.Facts.{list_tells, name_eq, name_same}
 use Rattle.mount_model.specs.Listed.{IsLeastOther, IsMarkOf}
 use Rattle.mount_model.specs.Mounting.{list_step}
-use Rattle.mount_model.specs.Paths.{marks_folder, marks_name}
+use Rattle.store_api.specs.Names.{marks_folder}
+use Rattle.store_api.specs.Names.{marks_name}
 use Rattle.mount_shape.specs.Container.{IsContainer}
 use Rattle.mount_shape.specs.Marks.{IsMarksRoom, IsOfMark}
 use Rattle.mount_sound.specs.Sound.{IsSoundTree}

@@ -18,7 +18,8 @@ use Rattle.mount_sound.specs.Owed.{IsLawful, May}
 use Rattle.mount_sound.specs.Sound.{IsFine}
 use Rattle.flow.specs.Running.{unbroken}
 use Rattle.gathering.specs.Moments.{Moment, next_moment}
-use Rattle.drain_copy.specs.Asking.{Told, acts, calls, ends}
+use Rattle.drain_copy.specs.Asking.{acts, calls, ends}
+use Rattle.mount_model.specs.Making.{Told}
 use Rattle.drain_copy.specs.Draining.{drain_program}
 use Rattle.drain_copy.specs.declared.points.DrainNext.TheVariants.{Source, Target, End}
 use Rattle.drain_copy.specs.Standing.{GoesOnAfter, HasEnded, IsGiven, IsReady, Standing, awaits_answer, awaits_reply, ended, ready}

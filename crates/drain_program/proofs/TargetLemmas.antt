@@ -38,7 +38,8 @@ use Rattle.gathering.specs.Moments.{IsSoundAt, Moment, next_moment}
 use Rattle.gathering.proofs.Facts.{answers_as, sound_after}
 use Rattle.drain_copy.specs.declared.outcome.Drained.{Drained}
 use Rattle.drain_copy.specs.declared.outcome.DrainStuck.{DrainStuck}
-use Rattle.drain_copy.specs.Asking.{Told, acts, at_target as on_target, calls, ends, look_reply}
+use Rattle.drain_copy.specs.Asking.{acts, at_target as on_target, calls, ends, look_reply}
+use Rattle.mount_model.specs.Making.{Told}
 use Rattle.drain_copy.specs.Draining.{drain_program, finds_source, gathers, if_held, reads_target}
 use Rattle.drain_copy.specs.Planning.{nothing_drained, nothing_held}
 use Rattle.drain_copy.specs.Telling.{DrainsOn, Outcome, folder_alone, found_room, on_good, sought, told_well}

@@ -11,7 +11,8 @@ use Rattle.mount_model.specs.Paths.{Name}
 use Rattle.mount_model.specs.State.{State}
 use Rattle.mount_model.specs.Step.{IsStep}
 use Rattle.flow.specs.Running.{unbroken}
-use Rattle.drain_copy.specs.Asking.{Told, acts, calls}
+use Rattle.drain_copy.specs.Asking.{acts, calls}
+use Rattle.mount_model.specs.Making.{Told}
 use Rattle.drain_copy.specs.Standing.{GoesOnAfter, GoesOnTold, HasEnded, Standing, awaits_answer, awaits_reply, ready}
 use Rattle.drain_copy.specs.Telling.{DrainsOn}
 use Rattle.drain_laws.specs.Allowed.{MayDrain}

@@ -5,19 +5,10 @@ ghost use Rattle.mount_model.specs.Paths as paths;
 ghost use Rattle.drain_read.specs.Holding.{settled_named};
 
 use container_layout::metadata;
-use flow::{Stuck, damage, meta_in, names_in, trouble};
+use flow::{Stuck, damage, file_in, meta_in, names_in, trouble};
 use mount_model::Reply;
-use plfs_types::{IdList, Name, NoMemory, Path};
+use plfs_types::{IdList, Name, NoMemory};
 use std::alloc::Global;
-
-fn file_in(file: Name) -> Path
-    ensures { result ≡ record { folder = paths.metadata; file = file } }
-{
-    Path {
-        folder: metadata(),
-        file,
-    }
-}
 
 fn settled_in(alloc: Global, names: &[Name]) -> Result<Result<IdList, Stuck>, NoMemory>
     ensures { IfOk result (λ found. found ≡ settled_named names.now []) }
@@ -26,7 +17,7 @@ fn settled_in(alloc: Global, names: &[Name]) -> Result<Result<IdList, Stuck>, No
     for name in names {
         let Some(meta) = meta_in(*name) else {
             drop(list);
-            return Ok(Err(damage(&file_in(*name), 0)));
+            return Ok(Err(damage(&file_in(metadata(), *name), 0)));
         };
         let Ok(()) = list.push(meta.writer) else {
             drop(list);
@@ -40,7 +31,7 @@ fn settled_in(alloc: Global, names: &[Name]) -> Result<Result<IdList, Stuck>, No
 pub(crate) fn settled(alloc: Global, reply: Reply) -> Result<Result<IdList, Stuck>, NoMemory>
     ensures { IfOk result (λ found. found ≡ told_by paths.metadata (λ names. settled_named names []) reply) }
 {
-    let why = trouble(&file_in(Name::empty()), &reply);
+    let why = trouble(&file_in(metadata(), Name::empty()), &reply);
     let Some(names) = names_in(reply) else {
         return Ok(Err(why));
     };

@@ -15,7 +15,9 @@ use Rattle.store_laws.specs.Files.{AreTwo, file_at}
 use Rattle.store_laws.specs.Prefix.{IsPrefix}
 use Rattle.store_laws.specs.There.{IsFree}
 use Rattle.store_laws.proofs.Facts.{create_told, each_room, each_with_added, make_room_told, path_cases}
-use Rattle.mount_model.specs.Paths.{Name, mark_path, marks_folder, marks_name, new_files, new_folders}
+use Rattle.mount_model.specs.Paths.{Name, mark_path, new_files, new_folders}
+use Rattle.store_api.specs.Names.{marks_folder}
+use Rattle.store_api.specs.Names.{marks_name}
 use Rattle.mount_shape.specs.Container.{IsContainer}
 use Rattle.mount_shape.specs.Marks.{IsMarksRoom, IsOfMark}
 use Rattle.mount_sound.specs.Dropping.{bytes_of}

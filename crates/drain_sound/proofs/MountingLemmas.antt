@@ -10,7 +10,9 @@ use Rattle.store_laws.specs.Tells.{Tells}
 use Rattle.store_laws.proofs.Facts.{acts_told, added_room, look_told, make_room_told}
 use Rattle.mount_model.specs.Making.{Told}
 use Rattle.mount_model.specs.Mounting.{IsMounted, list_step, mark_step, marks_step, room_told}
-use Rattle.mount_model.specs.Paths.{Name, marks_folder, marks_name}
+use Rattle.mount_model.specs.Paths.{Name}
+use Rattle.store_api.specs.Names.{marks_folder}
+use Rattle.store_api.specs.Names.{marks_name}
 use Rattle.mount_model.specs.State.{State}
 use Rattle.mount_sound.proofs.Facts.{one_tree}
 use Rattle.gathering.specs.Moments.{IsSoundAt, Moment}

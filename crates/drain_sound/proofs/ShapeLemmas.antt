@@ -22,7 +22,10 @@ use Rattle.store_laws.specs.Differ.{FoldersDiffer, PathsDiffer, is_listed}
 use Rattle.store_laws.specs.Files.{AreTwo, SameButFile, SameButFolder, file_at}
 use Rattle.store_laws.specs.There.{IsFree}
 use Rattle.store_laws.proofs.Facts.{changed_room, each_file, each_folder, each_new_file, each_room, each_with_added, earlier_room, file_kept, folder_kept, folders_differ_kept, has_new_file, has_new_folder, name_cases, name_eq, new_folders_differ, other_room, path_eq, paths_differ_kept, rooms_differ_added, rooms_differ_kept, with_folder}
-use Rattle.mount_model.specs.Paths.{Name, access_path, flats, mark_path, marks_folder, marks_name, metadata, new_files, new_folders, openhosts, truncs}
+use Rattle.mount_model.specs.Paths.{Name, access_path, flats, mark_path, metadata, new_files, new_folders, truncs}
+use Rattle.store_api.specs.Names.{marks_folder}
+use Rattle.container_layout.specs.Paths.{openhosts}
+use Rattle.store_api.specs.Names.{marks_name}
 use Rattle.mount_shape.specs.Container.{IsContainer, IsContainerFolder, IsItemFile, IsOfId}
 use Rattle.mount_shape.specs.Marks.{HasMark, IsMarkFile, IsMarksRoom, IsOfMark}
 use Rattle.mount_shape.specs.Shape.{IsShapedTree}

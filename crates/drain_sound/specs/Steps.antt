@@ -7,7 +7,9 @@ use Rattle.store_api.specs.declared.tree.Tree.{Tree}
 use Rattle.store_api.specs.Step.{Step, create, make_folder, make_room, sync, write_at}
 use Rattle.store_laws.specs.Files.{file_at}
 use Rattle.store_laws.specs.Outcomes.{IsLook}
-use Rattle.mount_model.specs.Paths.{Name, index_path, log_path, mark_path, marks_folder, marks_name, new_files, new_folders, open_path, trunc_path}
+use Rattle.mount_model.specs.Paths.{Name, index_path, log_path, mark_path, new_files, new_folders, open_path, trunc_path}
+use Rattle.store_api.specs.Names.{marks_folder}
+use Rattle.store_api.specs.Names.{marks_name}
 use Rattle.mount_shape.specs.Marks.{IsOfMark}
 use Rattle.mount_sound.specs.Dropping.{bytes_of, log_bytes}
 use Rattle.mount_sound.specs.Items.{HasMeta}

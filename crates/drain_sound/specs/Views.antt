@@ -15,7 +15,7 @@ use Rattle.mount_sound.specs.Items.{HasItem}
 use Rattle.mount_sound.specs.Ledger.{entries_in}
 use Rattle.mount_sound.specs.Sound.{IsSoundTree}
 use Rattle.gathering.specs.Gathering.{Gathered}
-use Rattle.gathering.specs.Listing.{IsAmong}
+use Rattle.plfs_types.specs.Places.{IsAmong}
 use Rattle.gathering.specs.Moments.{HadTrunc, Moment, landed}
 use Rattle.gathering.specs.View.{view}
 use Rattle.drain_sound.specs.Fronts.{dropping_in}

@@ -35,3 +35,8 @@ pub record HasNotRead (old new : Given) : Type 0 where
 abbrev pub Reads : List ℕ → Given → Given → Result ℕ Failed → Type 0
 Reads into old new (Ok n) = HasRead n into old new
 Reads into old new (Err _) = HasNotRead old new
+
+-- no byte is left, where they are told
+abbrev pub IsAtEnd : Option (List ℕ) → Type 0
+IsAtEnd None = Unit {0}
+IsAtEnd (Some left) = left ≡ []

@@ -11,7 +11,7 @@ use Rattle.mount_model.specs.Mounting.{IsMounted}
 use Rattle.mount_sound.proofs.Facts.{mounted_sound}
 use Rattle.gathering.specs.Moments.{IsSoundAt, Moment, moment_after}
 use Rattle.gathering.proofs.Facts.{follows, sound_after}
-use Rattle.run_core.specs.Leading.{GoesOn}
+use Rattle.actor_core.specs.Names.{names_program}
 use Rattle.program_ends.specs.Ends.{Ends}
 use Rattle.program_ends.specs.SoundTrees.{TellsSoundTree}
 use Rattle.export_program.specs.declared.filling.Filled.{Filled}
@@ -19,17 +19,15 @@ use Rattle.export_program.specs.Course.{IsExported}
 use Rattle.export_program.specs.Exporting.{WritesFile}
 use Rattle.export_program.specs.Filling.{Fills, FillsMade, KeepsWhole}
 use Rattle.export_program.specs.Filling as filling
+use Rattle.export_program.specs.Looking.{HasOnlyLooked}
 use Rattle.export_program.specs.Passing.{At, HavePassed, Passes, PassesFile, WritesAll, at}
 use Rattle.export_program.specs.Passing as passing
 use Rattle.export_program.specs.Seen.{HoldCuts, HoldsCut, IsCut, IsSeenWhole}
 use Rattle.export_program.specs.Shelf.{Adds, Deed, IsEmpty, kept, unkept, unmade}
-use Rattle.export_program.proofs.Leading.{called_both, have_lead, makes_lead}
+use Rattle.export_program.proofs.Leading.{all_both, all_lead, called_both, have_lead, makes_lead}
+use Rattle.export_program.proofs.Looks.{names_look}
 
 -- ---- deeds one behind the other
-
-all_both : {A : Type 0} (P : A → Type 0) (first second : List A) → AllByRecursion P first → AllByRecursion P second → AllByRecursion P (first ++ second)
-all_both P [] second one other = other
-all_both P (x ∷ first) second one other = (one.0, all_both P first second one.1 other)
 
 hold_still : (start : State) (old new : Option (List Deed)) → new ≡ old → HoldCuts start old new
 hold_still start None new same = same
@@ -58,49 +56,49 @@ abbrev pub WholeLaw : Type 0
 WholeLaw = (name : Name) (start : Moment) (taking : Taking) (size : ℕ) (end : State) (taking_after : Taking) → IsSoundAt start → WritesFile name start.state taking (Ok size) end taking_after → IsSeenWhole name start taking size taking_after
 
 module _ (law : WholeLaw) (m : Moment) (sound : IsSoundAt m) where
-  kept_cut : (name : Name) (taking : Taking) (start : State) (size : ℕ) (end : State) (after : Taking) → GoesOn m.state start → IsEmpty taking → WritesFile name start taking (Ok size) end after → IfSome after.taken (IsCut m.state name)
+  kept_cut : (name : Name) (taking : Taking) (start : State) (size : ℕ) (end : State) (after : Taking) → HasOnlyLooked m.state start → IsEmpty taking → WritesFile name start taking (Ok size) end after → IfSome after.taken (IsCut m.state name)
   kept_cut name taking start size end after reached empty writes =
       let now : Moment = moment_after m reached.events in
       let here : now.state ≡ state_after m.state reached.events = (follows m reached.events).0 in
-      let there : now.state ≡ start = here ∙ reached.leads.ends in
-      let fine : IsSoundAt now = sound_after m reached.events reached.leads.lawful sound in
+      let there : now.state ≡ start = here ∙ reached.made.ends in
+      let fine : IsSoundAt now = sound_after m reached.events reached.made.lawful sound in
       let seen : IsSeenWhole name now taking size after = law name now taking size end after fine (subst (λ (s : State). WritesFile name s taking (Ok size) end after) (sym there) writes) in
       taken_is (IsCut m.state name) _ taking.taken after.taken empty seen.written.bytes
-      (record { moment = now; reached = record { events = reached.events; leads = record { lawful = reached.leads.lawful; ends = sym here } }; sound = fine; sees = seen.sees; is = refl })
+      (record { moment = now; reached = record { events = reached.events; made = record { lawful = reached.made.lawful; ends = sym here; own = reached.made.own }; look = reached.look }; sound = fine; sees = seen.sees; is = refl })
 
-  keeps_hold : (name : Name) (taking : Taking) (start : State) (size : ℕ) (end : State) (after : Taking) (deeds : Option (List Deed)) (told : Filled) (deeds_after : Option (List Deed)) → GoesOn m.state start → IsEmpty taking → WritesFile name start taking (Ok size) end after → KeepsWhole name size after deeds told deeds_after
+  keeps_hold : (name : Name) (taking : Taking) (start : State) (size : ℕ) (end : State) (after : Taking) (deeds : Option (List Deed)) (told : Filled) (deeds_after : Option (List Deed)) → HasOnlyLooked m.state start → IsEmpty taking → WritesFile name start taking (Ok size) end after → KeepsWhole name size after deeds told deeds_after
       → HoldCuts m.state deeds deeds_after
   keeps_hold name taking start size end after deeds told deeds_after reached empty writes (filling.was_kept adds is) = hold_one m.state (kept name after.taken) deeds deeds_after (kept_cut name taking start size end after reached empty writes) adds
   keeps_hold name taking start size end after deeds told deeds_after reached empty writes (filling.was_lost adds is) = hold_one m.state (unkept name) deeds deeds_after tt adds
 
-  made_holds : (name : Name) (taking : Taking) (start : State) (deeds : Option (List Deed)) (told : Filled) (end : State) (deeds_after : Option (List Deed)) → GoesOn m.state start → IsEmpty taking → FillsMade name taking start deeds told end deeds_after → HoldCuts m.state deeds deeds_after
+  made_holds : (name : Name) (taking : Taking) (start : State) (deeds : Option (List Deed)) (told : Filled) (end : State) (deeds_after : Option (List Deed)) → HasOnlyLooked m.state start → IsEmpty taking → FillsMade name taking start deeds told end deeds_after → HoldCuts m.state deeds deeds_after
   made_holds name taking start deeds told end deeds_after reached empty (filling.whole size after writes keeps) = keeps_hold name taking start size end after deeds told deeds_after reached empty writes keeps
   made_holds name taking start deeds told end deeds_after reached empty (filling.stuck why after writes same is) = hold_still m.state deeds deeds_after same
   made_holds name taking start deeds told end deeds_after reached empty (filling.broken after writes same is) = hold_still m.state deeds deeds_after same
 
-  fill_holds : (name : Name) (start : State) (deeds : Option (List Deed)) (told : Filled) (end : State) (deeds_after : Option (List Deed)) → GoesOn m.state start → Fills name start deeds told end deeds_after → HoldCuts m.state deeds deeds_after
+  fill_holds : (name : Name) (start : State) (deeds : Option (List Deed)) (told : Filled) (end : State) (deeds_after : Option (List Deed)) → HasOnlyLooked m.state start → Fills name start deeds told end deeds_after → HoldCuts m.state deeds deeds_after
   fill_holds name start deeds told end deeds_after reached (filling.fills taking empty f) = made_holds name taking start deeds told end deeds_after reached empty f
   fill_holds name start deeds told end deeds_after reached (filling.exists adds same is) = hold_one m.state (unmade name _) deeds deeds_after tt adds
   fill_holds name start deeds told end deeds_after reached (filling.failed adds same is) = hold_one m.state (unmade name _) deeds deeds_after tt adds
 
   -- ---- one behind the other
 
-  passed_file_holds : (name : Name) (old new : At) (status : ℕ) (ends : Bool) → GoesOn m.state old.state → PassesFile name old new status ends → HoldCuts m.state old.deeds new.deeds
+  passed_file_holds : (name : Name) (old new : At) (status : ℕ) (ends : Bool) → HasOnlyLooked m.state old.state → PassesFile name old new status ends → HoldCuts m.state old.deeds new.deeds
   passed_file_holds name old new status ends reached (passing.fills told f line) = fill_holds name old.state old.deeds told new.state new.deeds reached f
   passed_file_holds name old new status ends reached (passing.broke_off (taking, empty, (after, begins, same)) untold is last) = hold_still m.state old.deeds new.deeds same
 
-  passes_hold : (name : Name) (old new : At) (status : ℕ) (ends : Bool) → GoesOn m.state old.state → Passes name old new status ends → HoldCuts m.state old.deeds new.deeds
+  passes_hold : (name : Name) (old new : At) (status : ℕ) (ends : Bool) → HasOnlyLooked m.state old.state → Passes name old new status ends → HoldCuts m.state old.deeds new.deeds
   passes_hold name old new status ends reached (passing.passes logical f) = passed_file_holds name old new status ends reached f
   passes_hold name old new status ends reached (passing.none other same is last) = hold_still m.state old.deeds new.deeds (ap (λ (a : At). a.deeds) same)
 
-  have_hold : (old : At) (names : List (List ℕ)) (new : At) (ends : Bool) (greatest : ℕ) → GoesOn m.state old.state → HavePassed old names new ends greatest → HoldCuts m.state old.deeds new.deeds
+  have_hold : (old : At) (names : List (List ℕ)) (new : At) (ends : Bool) (greatest : ℕ) → HasOnlyLooked m.state old.state → HavePassed old names new ends greatest → HoldCuts m.state old.deeds new.deeds
   have_hold old [] new ends greatest reached h = hold_still m.state old.deeds new.deeds (ap (λ (a : At). a.deeds) h.0)
   have_hold old (name ∷ names) new ends greatest reached (mid, so_far, status, earlier, one, is) =
       hold_both m.state old.deeds mid.deeds new.deeds (have_hold old names mid false so_far reached earlier)
       (passes_hold name mid new status ends (called_both m.state old.state mid.state reached (have_lead old names mid false so_far earlier)) one)
 
   all_hold : (deeds : Option (List Deed)) (taking : Taking) (new : At) (status : ℕ) → WritesAll (at m.state deeds taking) new status → HoldCuts m.state deeds new.deeds
-  all_hold deeds taking new status (passing.listed names mid makes each) = have_hold (at mid deeds taking) each.passed new each.ends status (makes_lead _ m.state _ mid makes) each.have
+  all_hold deeds taking new status (passing.listed names mid makes each) = have_hold (at mid deeds taking) each.passed new each.ends status (makes_lead names_program names_look m.state _ mid makes) each.have
   all_hold deeds taking new status (passing.unlisted why makes same said) = hold_still m.state deeds new.deeds same
   all_hold deeds taking new status (passing.unnamed begins same untold is) = hold_still m.state deeds new.deeds same
 
@@ -117,5 +115,6 @@ exported_so law deeds deeds_after e after status start end mounted writes left =
   mounted = mounted;
   writes = writes;
   left = left;
+  looks = all_lead (at start deeds e.taking) (at end deeds_after e.taking_after) status writes;
   seen = cuts_held law deeds deeds_after e status start end mounted writes;
 }

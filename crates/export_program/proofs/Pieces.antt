@@ -1,5 +1,5 @@
 -- Pieces that were written, one behind the other.
-use Rattle.std.proofs.Common.{◌≡◌, ℕ, ◌+◌, List, [], ◌∷◌, length, Result, Ok, Err, refl, sym, ap, ◌∙◌, subst, arith}
+use Rattle.std.proofs.Common.{◌≡◌, ℕ, ◌+◌, ◌<◌, List, [], ◌∷◌, length, Result, Ok, Err, refl, sym, ap, ◌∙◌, subst, arith}
 use Rattle.std.specs.Prelude.{OnErr, Option}
 use Rattle.edge_io.specs.Sink.{Taking}
 use Rattle.mount_model.specs.State.{State}
@@ -39,12 +39,13 @@ pub ends_so : (reader : OpenReader) (start : State) (taking : Taking) (k : ℕ) 
     → WritesOut reader start taking (Err why) end after
 ends_so reader start taking k now taken end after why s writes = ended s.pieces why now taken s.written (subst (λ (n : ℕ). WritesPiece reader n now taken (Err why) end after) (sym s.count) writes) refl
 
-pub breaks_so : (reader : OpenReader) (start : State) (taking : Taking) (k : ℕ) (now : State) (taken : Taking) (end : State) (after : Taking) → SoFar reader start taking k now taken → BeginsToMake (piece_program reader k) now end → after ≡ taken
+pub breaks_so : (reader : OpenReader) (start : State) (taking : Taking) (k : ℕ) (now : State) (taken : Taking) (end : State) (after : Taking) → SoFar reader start taking k now taken → k < pieces_of reader.size → BeginsToMake (piece_program reader k) now end → after ≡ taken
     → BeginsToWriteOut reader start taking end after
-breaks_so reader start taking k now taken end after s begins same = record {
+breaks_so reader start taking k now taken end after s more begins same = record {
   pieces = s.pieces;
   mid = now;
   written = subst (λ (t : Taking). HaveWritten reader start taking s.pieces now t) (sym same) s.written;
+  not_all = subst (λ (n : ℕ). n < pieces_of reader.size) (sym s.count) more;
   begins = subst (λ (n : ℕ). BeginsToMake (piece_program reader n) now end) (sym s.count) begins;
 }
 

@@ -82,6 +82,7 @@ record IsBehind {R : Type 0} (program : Program Call Reply R) (start : State) (r
   greeting : Event
   events : List Event
   lawful : IsLawful start (greeting ∷ events)
+  own : AllByRecursion (λ (e : Event). e.caller ≡ 0) (greeting ∷ events)
   runs : Runs 0 program events result
   ends : state_after start (greeting ∷ events) ≡ end
 
@@ -90,7 +91,7 @@ behind_greeting : {R : Type 0} (program : Program Call Reply R) (start : State) 
 behind_greeting program start [] result lawful own runs = absurd runs
 behind_greeting program start (e ∷ es) result lawful own runs = elim (runs_next 0 Greet (λ reply. program) e es result runs) as (λ _. IsBehind program start result (state_after e.after es)) [
   | inl (other, on) ↦ absurd (other own.0)
-  | inr (mine, asked, on) ↦ record { greeting = e; events = es; lawful = lawful; runs = on; ends = refl }
+  | inr (mine, asked, on) ↦ record { greeting = e; events = es; lawful = lawful; own = own; runs = on; ends = refl }
 ]
 
 behind : {R : Type 0} (program : Program Call Reply R) (start : State) (result : R) (end : State) → Makes program start result end → IsBehind program start result end
@@ -115,5 +116,5 @@ seen_whole opening_law read_law name start taking size end after sound (opens re
     let o : HasOpenedIn 0 begun b.events reader = opening_law 0 1 name begun b.events (Ok reader) (omega arith) b.lawful.2 fine b.runs in
     let s : HasSeen (moment_seen begun b.events reader o) at = subst (λ (z : State). HasSeen (moment_seen begun b.events reader o) z) b.ends (has_seen begun b.events reader o b.lawful.2 fine) in
     let told = seen_so reader (file_seen begun b.events reader o) (moment_seen begun b.events reader o).state (reads_tell begun b.events reader o s.sound read_law) at taking size end after s.reached o.has.size writes in
-    record { sees = record { greeting = b.greeting; opening = b.events; reader = reader; lawful = b.lawful; runs = b.runs; opened = o }; written = told.0; long = told.1 }
+    record { sees = record { greeting = b.greeting; opening = b.events; reader = reader; lawful = b.lawful; alone = b.own; runs = b.runs; opened = o }; written = told.0; long = told.1 }
 seen_whole opening_law read_law name start taking size end after sound (opens_stuck why told same makes) = absurd (cc)

@@ -1,5 +1,5 @@
 -- A file that a caller by itself writes out.
-use Rattle.std.specs.Prelude.{ℕ, ◌≡◌, List, length, Result, Ok, Err}
+use Rattle.std.specs.Prelude.{ℕ, ◌≡◌, ◌<◌, List, length, Result, Ok, Err}
 use Rattle.edge_io.specs.Sink.{Taking}
 use Rattle.mount_model.specs.State.{State}
 use Rattle.mount_model.specs.Paths.{Name}
@@ -24,11 +24,12 @@ pub data WritesFile (name : Name) (start : State) (taking : Taking) (told : Resu
 
 -- ---- broken off, since memory was wanting
 
--- behind these pieces, in the read of the next one
+-- behind these pieces, which are not all, in the read of the next one
 pub record BeginsToWriteOut (reader : OpenReader) (start : State) (taking : Taking) (end : State) (taking_after : Taking) : Type 0 where
   pub pieces : List (List ℕ)
   pub mid : State
   pub written : HaveWritten reader start taking pieces mid taking_after
+  pub not_all : length pieces < pieces_of reader.size
   pub begins : BeginsToMake (piece_program reader (length pieces)) mid end
 
 -- in the opening, or behind it

@@ -1,7 +1,7 @@
 pub mod Course
 pub mod Exporting
 pub mod Filling
-pub mod Naming
+pub mod Looking
 pub mod Passing
 pub mod Pieces
 pub mod Seen

@@ -10,17 +10,18 @@ use Rattle.gathering.specs.Moments.{IsSoundAt, Moment, next_moment}
 use Rattle.index_reader.specs.declared.opened.OpenReader.{OpenReader}
 use Rattle.opening_flow.specs.Opening.{opening_program}
 use Rattle.reader_laws.specs.Opened.{HasOpenedIn}
-use Rattle.run_core.specs.Leading.{GoesOn}
 use Rattle.unpack_laws.specs.Seen.{file_seen}
 use Rattle.program_ends.specs.Output.{IsPrinted}
+use Rattle.export_program.specs.Looking.{HasOnlyLooked}
 use Rattle.export_program.specs.Shelf.{Deed, kept, unkept, unmade}
 
--- Behind a greeting a reader of the file of this name was opened.
+-- Behind a greeting caller 0 by itself opened a reader of the file of this name.
 pub record SeesFile (name : List ℕ) (start : Moment) : Type 0 where
   pub greeting : Event
   pub opening : List Event
   pub reader : OpenReader
   pub lawful : IsLawful start.state (greeting ∷ opening)
+  pub alone : AllByRecursion (λ (e : Event). e.caller ≡ 0) (greeting ∷ opening)
   pub runs : Runs 0 (opening_program name 1) opening (Ok reader)
   pub opened : HasOpenedIn 0 (next_moment start greeting) opening reader
 
@@ -34,10 +35,10 @@ pub record IsSeenWhole (name : List ℕ) (start : Moment) (taking : Taking) (siz
   pub written : IsPrinted (seen_file name start sees) taking taking_after
   pub long : size ≡ length (seen_file name start sees)
 
--- behind such calls that lead from there a reader of this name was opened, and shows these bytes
+-- behind calls from there that change nothing a reader of this name was opened, and shows these bytes
 pub record IsCut (start : State) (name bytes : List ℕ) : Type 0 where
   pub moment : Moment
-  pub reached : GoesOn start moment.state
+  pub reached : HasOnlyLooked start moment.state
   pub sound : IsSoundAt moment
   pub sees : SeesFile name moment
   pub is : bytes ≡ seen_file name moment sees

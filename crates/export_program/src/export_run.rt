@@ -20,6 +20,9 @@ use store_api::Store;
 /// Of each it prints a line: its name, and how many bytes it has or why it wasn't kept. It goes on behind one that is there, that can't be
 /// made or written, or of which an item is damaged. Behind a fault of the store, and where a line can't be printed or memory is refused,
 /// it ends. The status is the greatest of those of the files.
+///
+/// No call changes anything in the store but the mounting's own. Where the store told a sound tree, a file that is kept has the bytes of
+/// one cut of its container as the mounting left it.
 #[inline(never)]
 pub fn export<S: Store + Drop, C: Clock + Drop, F: Sink, H: Shelf<F>, O: Sink>(
     alloc: Global,

@@ -1,5 +1,5 @@
 //! Files are written out, one after the other, on one mount.
-ghost use Rattle.std.specs.Prelude.{◌≡◌, max, reverse, true};
+ghost use Rattle.std.specs.Prelude.{◌≡◌, reverse, true};
 ghost use Rattle.mount_sound.specs.Sound.{IsFine};
 ghost use Rattle.program_ends.specs.Reported.{IsReported};
 ghost use Rattle.export_program.specs.Passing.{Passes, PassesFile, SaysFilled, WritesAll, WritesEach, at};
@@ -14,7 +14,7 @@ use flow::Stuck;
 use mount_core::Mount;
 use outcomes::stuck_outcome;
 use plfs_types::{LogicalName, Name, NameList};
-use program_ends::{say_line, write_out};
+use program_ends::{greater, say_line, write_out};
 use script_lang::Line;
 use std::alloc::Global;
 use store_api::Store;
@@ -94,13 +94,6 @@ fn pass_told<S: Store + Drop, C: Clock + Drop, F: Sink, H: Shelf<F>, O: Sink>(
             ends: false,
         },
     }
-}
-
-/// The greater of two statuses.
-fn greater(a: u8, b: u8) -> u8
-    ensures { result ≡ max a b }
-{
-    if a < b { b } else { a }
 }
 
 /// Writes out the files of these names, the last one of them first. It ends behind one with which the run ends, or when all are

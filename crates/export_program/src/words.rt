@@ -4,6 +4,7 @@ ghost use Rattle.export_program.specs.Words.{IsExportCommand};
 ghost use Rattle.export_program.specs.declared.words.ExportCommand.{ExportCommand as Asked};
 
 use plfs_types::Word;
+use program_ends::is_over;
 
 /// A command that writes each file out into a folder: whether one that is there is written over.
 #[derive(Clone, Copy)]
@@ -16,13 +17,6 @@ fn is_export(word: &Word) -> bool
     ensures { IsTrue result ↔ (word.now ≡ codes "export") }
 {
     word.as_bytes() == b"export".as_slice()
-}
-
-/// Whether a word says that files may be written over.
-fn is_over(word: &Word) -> bool
-    ensures { IsTrue result ↔ (word.now ≡ codes "--over") }
-{
-    word.as_bytes() == b"--over".as_slice()
 }
 
 impl ExportCommand {

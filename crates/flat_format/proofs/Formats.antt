@@ -1,5 +1,5 @@
 -- Covers and pieces are formats.
-use Rattle.std.proofs.Common.{◌≡◌, ℕ, List, ◌++◌, refl, ap, ◌∙◌, arith, append_assoc}
+use Rattle.std.proofs.Common.{◌≡◌, ℕ, List, ◌++◌, refl, ap, arith}
 use Rattle.std.proofs.lemmas.Nat.{from_le_bytes-to_le_bytes_8}
 use Rattle.plfs_types.specs.declared.entries.Cover.{Cover}
 use Rattle.plain_file.specs.declared.pieces.Piece.{Piece}
@@ -37,9 +37,3 @@ pieces_format = record {
   back = λ bytes are long. entries_format.back bytes are long;
   fits = λ bytes are. entries_format.fits bytes are;
 }
-
--- four numbers, each behind what is there
-pub four_in_turn : (old w x y z a b c d : List ℕ) → a ≡ old ++ w → b ≡ a ++ x → c ≡ b ++ y → d ≡ c ++ z → d ≡ old ++ (w ++ x ++ y ++ z)
-four_in_turn old w x y z a b c d one two three four =
-    let regrouped : old ++ w ++ x ++ y ++ z ≡ old ++ (w ++ x ++ y ++ z) = simp append_assoc in
-    four ∙ ap (λ (l : List ℕ). l ++ z) (three ∙ ap (λ (l : List ℕ). l ++ y) (two ∙ ap (λ (l : List ℕ). l ++ x) one)) ∙ regrouped

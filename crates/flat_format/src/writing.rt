@@ -1,30 +1,36 @@
 //! A flattened index as bytes.
-ghost use Rattle.std.specs.Prelude.{◌≡◌, ◌++◌, All, IfOk, OnOk};
+ghost use Rattle.std.specs.Prelude.{◌≡◌, ◌++◌, IfOk, OnOk};
 ghost use Rattle.std.specs.List.{flat_map};
-ghost use Rattle.plain_file.specs.declared.pieces.Piece.{Piece};
-ghost use Rattle.index_entry.specs.Valid.{IsValidEntry};
-ghost use Rattle.flat_format.specs.Covers.{as_entry};
 ghost use Rattle.flat_format.specs.Spelling.{cover_spelling, piece_spelling, flat_spelling};
-ghost use Rattle.flat_format.specs.Valid.{IsFlat};
 
 use crate::flat::{Flat, LETTERS};
 use index_entry::push_number;
 use plain_file::Piece;
-use plfs_types::{Bytes, Cover, Entry, NoMemory};
+use plfs_types::{Bytes, Cover, NoMemory};
 use std::alloc::Global;
 
-/// The bytes of a valid flattened index.
-pub fn encode(alloc: Global, flat: &Flat) -> Result<Bytes, NoMemory>
-    requires { IsFlat flat.now }
-    ensures { IfOk result (λ bytes. bytes ≡ flat_spelling flat.now) }
+/// The bytes of this flattened index. It needs not be valid: who gathered a container that keeps no rule has one too.
+pub fn encode(alloc: Global, index: &Flat) -> Result<Bytes, NoMemory>
+    ensures { IfOk result (λ bytes. bytes ≡ flat_spelling index.now) }
 {
-    let mut bytes = Vec::new(alloc);
+    let covers = index.covers.as_slice();
+    let pieces = index.pieces.as_slice();
+    let mut bytes = Vec::with_capacity(alloc, size_of(covers.len(), pieces.len()))?;
     bytes.extend_from_slice(&LETTERS)?;
-    push_number(&mut bytes, flat.covers.as_slice().len() as u64)?;
-    push_number(&mut bytes, flat.pieces.as_slice().len() as u64)?;
-    push_covers(&mut bytes, flat.covers.as_slice())?;
-    push_pieces(&mut bytes, flat.pieces.as_slice())?;
+    push_number(&mut bytes, covers.len() as u64)?;
+    push_number(&mut bytes, pieces.len() as u64)?;
+    push_covers(&mut bytes, covers)?;
+    push_pieces(&mut bytes, pieces)?;
     Ok(Bytes::from_vec(bytes))
+}
+
+/// How many bytes a flattened index of so many covers and pieces has, or more than there can be.
+fn size_of(covers: usize, pieces: usize) -> usize {
+    let pieces = pieces.saturating_mul(40);
+    covers
+        .saturating_mul(32)
+        .saturating_add(pieces)
+        .saturating_add(24)
 }
 
 fn push_covers(bytes: &mut Vec<u8>, covers: &[Cover]) -> Result<(), NoMemory>
@@ -39,26 +45,35 @@ fn push_covers(bytes: &mut Vec<u8>, covers: &[Cover]) -> Result<(), NoMemory>
 fn push_cover(bytes: &mut Vec<u8>, cover: &Cover) -> Result<(), NoMemory>
     ensures { OnOk result (bytes.new.items ≡ bytes.old.items ++ cover_spelling cover.now) }
 {
-    push_number(bytes, cover.writer)?;
-    push_number(bytes, cover.count)?;
-    push_number(bytes, cover.bytes)?;
-    push_number(bytes, cover.stamp)?;
+    let numbers = [
+        cover.writer.to_le_bytes(),
+        cover.count.to_le_bytes(),
+        cover.bytes.to_le_bytes(),
+        cover.stamp.to_le_bytes(),
+    ];
+    bytes.extend_from_slice(numbers.as_flattened())?;
     Ok(())
 }
 
 fn push_pieces(bytes: &mut Vec<u8>, pieces: &[Piece]) -> Result<(), NoMemory>
-    requires { All (λ (p : Piece). IsValidEntry (as_entry p)) pieces.now }
     ensures { OnOk result (bytes.new.items ≡ bytes.old.items ++ flat_map piece_spelling pieces.now) }
 {
     for piece in pieces {
-        let entry = Entry {
-            at: piece.at,
-            len: piece.len,
-            physical: piece.physical,
-            stamp: piece.stamp,
-            writer: piece.writer,
-        };
-        bytes.extend_from_slice(&index_entry::encode(&entry))?;
+        push_piece(bytes, piece)?;
     }
+    Ok(())
+}
+
+fn push_piece(bytes: &mut Vec<u8>, piece: &Piece) -> Result<(), NoMemory>
+    ensures { OnOk result (bytes.new.items ≡ bytes.old.items ++ piece_spelling piece.now) }
+{
+    let numbers = [
+        piece.at.to_le_bytes(),
+        piece.len.to_le_bytes(),
+        piece.physical.to_le_bytes(),
+        piece.stamp.to_le_bytes(),
+        piece.writer.to_le_bytes(),
+    ];
+    bytes.extend_from_slice(numbers.as_flattened())?;
     Ok(())
 }

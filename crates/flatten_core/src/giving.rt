@@ -3,7 +3,7 @@ ghost use Rattle.std.specs.Prelude.{◌≡◌, true, Some, IfOk, IfSome};
 ghost use Rattle.flow.specs.Standing.{ready, next_of, rest_of};
 ghost use Rattle.flow.specs.Composed.{is_awaiting};
 ghost use Rattle.mount_model.specs.Step.{OwedBy};
-ghost use Rattle.index_reader.specs.OpenStages.{open_calls_left, open_standing};
+ghost use Rattle.index_reader.specs.OpenStages.{open_standing};
 ghost use Rattle.flatten_core.specs.Parts.{parted, parts_left, IsPartUnderway};
 ghost use Rattle.flatten_core.specs.Stages.{IsUnderway, installing};
 ghost use Rattle.flatten_core.specs.StartStages.{starting};
@@ -14,7 +14,7 @@ use crate::stages::Stage as Ending;
 use crate::starting::{Stage as Beginning, Started};
 use flow::Flow;
 use gather_flow::Gathering;
-use index_reader::OpenRead;
+use index_reader::{OpenRead, look_on};
 use mount_model::Call;
 use plfs_types::NoMemory;
 
@@ -28,25 +28,6 @@ pub(crate) fn give_start(stage: Beginning) -> (Part, Option<Call>)
     let same = stage;
     let asked = same.call();
     (Part::Beginning(stage), asked)
-}
-
-/// The next call of a listing, and where that stands once it was given.
-fn look_on(scan: OpenRead) -> Result<(OpenRead, Option<Call>), NoMemory>
-    ensures call { IfOk result (λ given. given.1 ≡ next_of (open_standing scan)) }
-    ensures owed { IfOk result (λ given. IfSome given.1 OwedBy) }
-    ensures rest { IfOk result (λ given. rest_of (open_standing given.0) ≡ rest_of (open_standing scan)) }
-    ensures again { IfOk result (λ given. IfSome (next_of (open_standing given.0)) (λ call. next_of (open_standing scan) ≡ Some call)) }
-    ensures left { IfOk result (λ given. open_calls_left given.0 ≡ open_calls_left scan) }
-{
-    let mut scan = scan;
-    let asked = match scan.next() {
-        Ok(asked) => asked,
-        Err(why) => {
-            drop(scan);
-            return Err(why);
-        }
-    };
-    Ok((scan, asked))
 }
 
 /// The next call of the listing.

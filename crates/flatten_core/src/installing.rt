@@ -5,10 +5,9 @@ ghost use Rattle.flow.specs.Standing.{ready};
 ghost use Rattle.flatten_core.specs.Installing.{install_program};
 ghost use Rattle.flatten_core.specs.Stages.{installing, installs_left, IsUnderway};
 
-use crate::spelling::spelled;
 use crate::stages::Stage;
 use crate::starting::Started;
-use flat_format::Flat;
+use flat_format::{Flat, encode};
 use flow::{Flow, Stuck};
 use index_reader::OpenRead;
 use mount_model::{Call, Reply};
@@ -50,7 +49,7 @@ pub(crate) fn first_stage(
     ensures underway { IfOk result IsUnderway }
 {
     let covers = copied(alloc, content.covers.as_slice())?;
-    let bytes = spelled(alloc, content)?;
+    let bytes = encode(alloc, content)?;
     let _count = covers.as_slice().len();
     Ok(Stage::Scanning {
         scan: OpenRead::top(alloc, started.room),

@@ -11,7 +11,6 @@ mod flattening;
 mod giving;
 mod installing;
 mod parts;
-mod spelling;
 mod stages;
 mod starting;
 mod underway;

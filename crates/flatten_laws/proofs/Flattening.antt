@@ -54,7 +54,7 @@ use Rattle.flatten_core.specs.Installing.{install_program, syncs_covered, syncs_
 use Rattle.flatten_core.specs.Starting.{begins, begun}
 use Rattle.gathering.specs.Moments.{Moment, IsSoundAt, moment_after}
 use Rattle.gathering.specs.Seen.{calls_of}
-use Rattle.gathering.specs.Listing.{IsAmong}
+use Rattle.plfs_types.specs.Places.{IsAmong}
 use Rattle.gathering.proofs.Facts.{follows, is_among, legal_first, sound_after}
 use Rattle.holding_laws.proofs.Facts.{LastsOne, fine_lasts, may_free, safe_ask, safe_free}
 use Rattle.recovery_laws.proofs.Facts.{Cleanly, Stays, cleanly_then}

@@ -13,7 +13,8 @@ use Rattle.index_reader.specs.declared.listing.Listing.{Listing}
 use Rattle.index_reader.specs.Opening.{no_flat, scan_program}
 use Rattle.gathering.specs.Moments.{Moment, IsSoundAt, Dropping, Stood, moment_after}
 use Rattle.gathering.specs.Seen.{calls_of}
-use Rattle.gathering.specs.Listing.{AreFound, IsAmong}
+use Rattle.gathering.specs.Listing.{AreFound}
+use Rattle.plfs_types.specs.Places.{IsAmong}
 use Rattle.gathering.proofs.Facts.{all_at, among, any_found, scan_finds, seen, sound_after}
 use Rattle.reader_laws.specs.Sharing.{in_room}
 use Rattle.reader_laws.proofs.Facts.{HasTop, top_run}

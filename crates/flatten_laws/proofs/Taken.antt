@@ -27,7 +27,7 @@ use Rattle.index_reader.specs.Gathered.{IsGatheredOf, pieces_of_each}
 use Rattle.gathering.specs.Moments.{Moment, IsSoundAt, Dropping, Grows, Stood, issued_by, landed, landed_by, moment_after}
 use Rattle.gathering.specs.Seen.{Asked, asked_in, calls_of}
 use Rattle.gathering.specs.Gathering.{Gathered, GathersAll, IsPrefixOf}
-use Rattle.gathering.specs.Listing.{IsAmong}
+use Rattle.plfs_types.specs.Places.{IsAmong}
 use Rattle.gathering.specs.Flats.{pieces_of}
 use Rattle.gathering.specs.Opening.{IsOpening, HasView, ListsTruncs}
 use Rattle.gathering.specs.View.{covered_in, own_entries, writes_in, WritersRise}

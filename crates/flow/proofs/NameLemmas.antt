@@ -9,7 +9,8 @@ use Rattle.container_layout.specs.declared.items.Item.TheVariants as item
 use Rattle.container_layout.specs.Items.{IsItem, IsMetaRange}
 use Rattle.container_layout.specs.Paths.{path_of, IsIn}
 use Rattle.container_layout.proofs.Facts.{one_item}
-use Rattle.mount_model.specs.Paths.{Name, truncs, metadata, openhosts}
+use Rattle.mount_model.specs.Paths.{Name, truncs, metadata}
+use Rattle.container_layout.specs.Paths.{openhosts}
 use Rattle.flow.specs.declared.names.Metadata.{Metadata}
 use Rattle.flow.specs.declared.names.OpenEntry.{OpenEntry}
 use Rattle.flow.specs.Names.{find_below, same_bytes, named, all_or_none, meta_at, meta_in, trunc_at, trunc_in, open_at, open_in}

@@ -14,9 +14,11 @@ mod order;
 mod replies;
 mod stuck;
 
-pub use entries::{first_entry, is_next};
+pub use entries::{first_entry, is_next, next_read, past_first};
 pub use machine::Flow;
 pub use names::{Metadata, MetadataList, OpenEntry, OpenEntryList, meta_in, open_in, trunc_in};
 pub use order::{entries_by_writer, metadata_by_writer, truncs_by_stamp};
-pub use replies::{bytes_in, damage, failure, is_no_folder, length_in, names_in, room_in, trouble};
+pub use replies::{
+    bytes_in, damage, failure, file_in, is_no_folder, length_in, names_in, room_in, trouble,
+};
 pub use stuck::Stuck;

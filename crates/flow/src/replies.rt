@@ -1,5 +1,6 @@
 //! What a reply gives, and which trouble it is where it gives nothing.
 ghost use Rattle.std.specs.Prelude.{◌≡◌};
+ghost use Rattle.flow.specs.Listed.{file_in as path_in};
 ghost use Rattle.flow.specs.Replies.{room_in as room_of, length_in as length_of, bytes_in as bytes_of, names_in as names_of, is_no_folder as is_no_folder_of, damage as damage_of, trouble as trouble_of, failure as failure_of};
 
 use crate::stuck::Stuck;
@@ -118,4 +119,11 @@ pub fn failure(reply: &Reply) -> Stuck
         },
         _ => Stuck::Fault,
     }
+}
+
+/// The path of a file in a folder.
+pub fn file_in(folder: Name, file: Name) -> Path
+    ensures { result ≡ path_in folder file }
+{
+    Path { folder, file }
 }

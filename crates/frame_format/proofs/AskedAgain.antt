@@ -12,7 +12,8 @@ use Rattle.script_lang.specs.declared.script.Statement.{Statement}
 use Rattle.script_lang.specs.declared.script.Statement.TheVariants as statement
 use Rattle.script_lang.specs.Ranges.{FitsStatement}
 use Rattle.frame_format.specs.declared.head.Head.{Head}
-use Rattle.frame_format.specs.Asking.{name_of, alone_name, if_bare, of_name, written, opened, read_from, cut_to, both_names, renamed, asked_in, numbered, request_of}
+use Rattle.frame_format.specs.Asking.{alone_name, if_bare, of_name, written, opened, read_from, cut_to, both_names, renamed, asked_in, numbered, request_of}
+use Rattle.plfs_types.specs.Names.{name_of}
 use Rattle.frame_format.specs.Requests.{Shape, shaped, shape_of, IsAsked, IsRequest, head_of, payload_of}
 use Rattle.frame_format.proofs.NameTests.{name_again, name_found}
 

@@ -1,15 +1,11 @@
 -- What is read of a request's numbers and bytes.
-use Rattle.std.specs.Prelude.{ℕ, ◌≤◌, ◌<◌, ◌^◌, ◌==◌, ◌&&◌, nat_le, nat_lt, Bool, if◌then◌else◌, List, length, take, drop, Option, Some, None, option_map}
-use Rattle.plfs_types.specs.Names.{is_logical}
+use Rattle.std.specs.Prelude.{ℕ, ◌^◌, ◌==◌, ◌&&◌, nat_le, nat_lt, if◌then◌else◌, List, length, take, drop, Option, Some, None, option_map}
 use Rattle.script_lang.specs.declared.script.Data.TheVariants as data_of
 use Rattle.script_lang.specs.declared.script.Numbered.{Numbered}
 use Rattle.script_lang.specs.declared.script.Statement.{Statement}
 use Rattle.script_lang.specs.declared.script.Statement.TheVariants as statement
 use Rattle.frame_format.specs.declared.head.Head.{Head}
-
--- the logical name that the bytes are
-abbrev pub name_of : List ℕ → Option (List ℕ)
-name_of bytes = if is_logical bytes then Some bytes else None
+use Rattle.plfs_types.specs.Names.{name_of}
 
 -- no numbers and no bytes
 abbrev pub if_bare : Statement → ℕ → ℕ → List ℕ → Option Statement

@@ -3,8 +3,7 @@ ghost use Rattle.std.specs.Prelude.{◌≡◌, ◌==◌, ◌&&◌, length};
 ghost use Rattle.frame_format.specs.Asking.{alone_name, if_bare, of_name, written as written_in, opened as opened_in, read_from as read_in, cut_to as cut_in, renamed as renamed_in, asked_in};
 ghost use Rattle.script_lang.specs.declared.script.Statement.TheVariants as statement;
 
-use crate::names::name_in;
-use plfs_types::{Bytes, LogicalName, MAX_BLOCK};
+use plfs_types::{Bytes, LogicalName, MAX_BLOCK, name_in};
 use script_lang::{Data, Statement};
 
 fn is_bare(place: u64, extent: u64, payload: &[u8]) -> bool

@@ -8,7 +8,6 @@ mod answering;
 mod asking;
 mod head;
 mod laws;
-mod names;
 mod reading;
 
 pub use answering::{ANSWER_HEAD_SIZE, Answer, answer_of};

@@ -1,6 +1,6 @@
 -- A head, and what came behind it.
-use Rattle.std.proofs.Common.{ℕ, ◌≡◌, ◌≢◌, ◌<◌, List, [], ◌++◌, length, Result, Ok, Err, refl, sym, ap, subst, ◌∙◌, append-nil, arith, length-append}
-use Rattle.std.specs.Prelude.{IfOk}
+use Rattle.std.proofs.Common.{ℕ, ◌≡◌, ◌≢◌, ◌<◌, inl, inr, List, [], ◌++◌, length, Result, Ok, Err, refl, sym, ap, subst, ◌∙◌, append-nil, arith, length-append}
+use Rattle.std.specs.Prelude.{IfOk, OnErr}
 use Rattle.plfs_types.specs.Counts.{HasRisen}
 use Rattle.edge_io.specs.Source.{Given, HandsOver}
 use Rattle.frame_format.specs.declared.head.Head.{Head}
@@ -8,9 +8,10 @@ use Rattle.frame_format.specs.Heads.{head_bytes}
 use Rattle.frame_streams.specs.declared.arriving.Arrival.{Arrival}
 use Rattle.frame_streams.specs.declared.arriving.Arrival.TheVariants.{Frame, End, Cut, Long, Failed}
 use Rattle.frame_streams.specs.declared.filling.Ending.TheVariants as endings
-use Rattle.frame_streams.specs.Arriving.{Arrives, ArrivesBehind, Ends, IsBehind, IsFront, IsOf, in_head, in_payload}
-use Rattle.frame_streams.specs.Filling.{HasFilled, IsAtEnd}
-use Rattle.frame_streams.proofs.Readings.{handed_both}
+use Rattle.frame_streams.specs.Arriving.{Arrives, ArrivesBehind, Begins, Ends, HasNoRoom, IsBehind, IsFront, IsOf, in_head, in_payload}
+use Rattle.frame_streams.specs.Filling.{HasFilled}
+use Rattle.edge_io.specs.Source.{IsAtEnd}
+use Rattle.frame_streams.proofs.Readings.{handed_both, handed_none}
 
 some_bytes : (head : Head) (rest : List ℕ) → head_bytes head ++ rest ≢ []
 unfolding head_bytes
@@ -56,3 +57,16 @@ failed_so front old new f = record { bytes = front; are = in_head f.ends.0; hand
 pub joined_if : {E : Type 0} (read : Result Arrival E) (front : List ℕ) (head : Head) (old mid new : Given) → HasFilled 48 front endings.Full old mid → front ≡ head_bytes head → IfOk read (λ arrival. ArrivesBehind head arrival mid new) → IfOk read (λ arrival. Arrives arrival old new)
 joined_if (Ok arrival) front head old mid new f is b = joined front head arrival old mid new f is b
 joined_if (Err why) front head old mid new f is b = tt
+
+-- ---- where memory was refused
+
+pub none_begun : (old new : Given) → new ≡ old → Begins old new
+none_begun old new same = subst (λ (z : Given). Begins old z) (sym same) (record { bytes = []; are = inl refl; handed = handed_none old.left; unfailed = refl })
+
+-- behind the head
+begun : (front : List ℕ) (head : Head) (old mid new : Given) → HasFilled 48 front endings.Full old mid → front ≡ head_bytes head → HasNoRoom head mid new → Begins old new
+begun front head old mid new f is none = subst (λ (z : Given). Begins old z) (sym none.1) (record { bytes = front; are = inr (head, is, none.0); handed = f.handed; unfailed = f.ends.1 })
+
+pub begun_if : {X E : Type 0} (read : Result X E) (front : List ℕ) (head : Head) (old mid new : Given) → HasFilled 48 front endings.Full old mid → front ≡ head_bytes head → OnErr read (HasNoRoom head mid new) → OnErr read (Begins old new)
+begun_if (Ok arrival) front head old mid new f is none = tt
+begun_if (Err why) front head old mid new f is none = begun front head old mid new f is none

@@ -5,7 +5,7 @@ use Rattle.std.proofs.lemmas.List.{length-take-le, take-append-le}
 use Rattle.std.proofs.Math.Seq.{take-append-add}
 use borrow.Rule.Slice.PartMut.{put_mid}
 use Rattle.edge_io.specs.Source.{HandsOver, EndsAtLast}
-use Rattle.frame_streams.specs.Filling.{IsAtEnd}
+use Rattle.edge_io.specs.Source.{IsAtEnd}
 
 -- two pieces, one after the other, are one
 pub handed_both : (a b : List ℕ) (old mid new : Option (List ℕ)) → HandsOver a old mid → HandsOver b mid new → HandsOver (a ++ b) old new

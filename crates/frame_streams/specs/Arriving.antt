@@ -1,5 +1,5 @@
 -- The next frame of a source.
-use Rattle.std.specs.Prelude.{◌≡◌, ◌≢◌, ◌≤◌, ◌<◌, ℕ, List, [], ◌++◌, length}
+use Rattle.std.specs.Prelude.{◌≡◌, ◌≢◌, ◌≤◌, ◌<◌, ◌⊎◌, ℕ, List, [], ◌++◌, length}
 use Rattle.plfs_types.specs.Counts.{HasRisen}
 use Rattle.plfs_types.specs.declared.bytes.TheConstants.{MAX_BLOCK}
 use Rattle.edge_io.specs.Source.{Given, HandsOver}
@@ -8,7 +8,7 @@ use Rattle.frame_format.specs.declared.head.TheConstants.{HEAD_SIZE}
 use Rattle.frame_format.specs.Heads.{head_bytes}
 use Rattle.frame_streams.specs.declared.arriving.Arrival.{Arrival}
 use Rattle.frame_streams.specs.declared.arriving.Arrival.TheVariants.{Frame, End, Cut, Long, Failed}
-use Rattle.frame_streams.specs.Filling.{IsAtEnd}
+use Rattle.edge_io.specs.Source.{IsAtEnd}
 
 -- The bytes are a front of a frame and not all of it: they end within its head, or within what follows.
 pub data IsFront (bytes : List ℕ) : Type 0 where
@@ -37,6 +37,13 @@ pub record Arrives (arrival : Arrival) (old new : Given) : Type 0 where
   pub handed : HandsOver bytes old.left new.left
   pub ends : Ends arrival old new
 
+-- no byte was handed over, or a frame's head alone, and no read failed
+pub record Begins (old new : Given) : Type 0 where
+  pub bytes : List ℕ
+  pub are : (bytes ≡ []) ⊎ ((head : Head) × (bytes ≡ head_bytes head) × (head.len ≤ MAX_BLOCK))
+  pub handed : HandsOver bytes old.left new.left
+  pub unfailed : new.faults ≡ old.faults
+
 -- ---- behind a head
 
 abbrev pub IsBehind : Head → Arrival → List ℕ → Type 0
@@ -51,3 +58,7 @@ pub record ArrivesBehind (head : Head) (arrival : Arrival) (old new : Given) : T
   pub are : IsBehind head arrival rest
   pub handed : HandsOver rest old.left new.left
   pub ends : Ends arrival old new
+
+-- memory was refused for what follows, and none of it was read
+abbrev pub HasNoRoom : Head → Given → Given → Type 0
+HasNoRoom head old new = (head.len ≤ MAX_BLOCK) × (new ≡ old)

@@ -1,14 +1,10 @@
 -- What was read of a source.
-use Rattle.std.specs.Prelude.{◌≡◌, ◌<◌, ℕ, List, [], length, Option, Some, None}
+use Rattle.std.specs.Prelude.{◌≡◌, ◌<◌, ℕ, List, length}
 use Rattle.plfs_types.specs.Counts.{HasRisen}
 use Rattle.edge_io.specs.Source.{Given, HandsOver}
 use Rattle.frame_streams.specs.declared.filling.Ending.{Ending}
 use Rattle.frame_streams.specs.declared.filling.Ending.TheVariants.{Full, AtEnd, Failed}
-
--- no byte is left, where they are told
-abbrev pub IsAtEnd : Option (List ℕ) → Type 0
-IsAtEnd None = Unit {0}
-IsAtEnd (Some left) = left ≡ []
+use Rattle.edge_io.specs.Source.{IsAtEnd}
 
 -- All came that were wanted. Or the source has no further byte, or a read failed, before that.
 abbrev pub EndsReading : ℕ → List ℕ → Ending → Given → Given → Type 0

@@ -1,6 +1,6 @@
 //! The next request of a source.
-ghost use Rattle.std.specs.Prelude.{IfOk};
-ghost use Rattle.frame_streams.specs.Arriving.{Arrives, ArrivesBehind};
+ghost use Rattle.std.specs.Prelude.{IfOk, OnErr};
+ghost use Rattle.frame_streams.specs.Arriving.{Arrives, ArrivesBehind, Begins, HasNoRoom};
 
 use crate::filling::{Ending, read_bytes};
 use edge_io::Source;
@@ -25,7 +25,8 @@ pub enum Arrival {
 
 // What comes behind a head.
 fn behind_head<I: Source>(alloc: Global, input: &mut I, head: Head) -> Result<Arrival, NoMemory>
-    ensures { IfOk result (λ arrival. ArrivesBehind head arrival (I.given input.old) (I.given input.new)) }
+    ensures arrives { IfOk result (λ arrival. ArrivesBehind head arrival (I.given input.old) (I.given input.new)) }
+    ensures unread { OnErr result (HasNoRoom head (I.given input.old) (I.given input.new)) }
 {
     if head.len > MAX_BLOCK as u64 {
         return Ok(Arrival::Long { head });
@@ -41,9 +42,10 @@ fn behind_head<I: Source>(alloc: Global, input: &mut I, head: Head) -> Result<Ar
     })
 }
 
-/// Reads the next frame of the source, and no byte behind it. Where memory is refused a part of the frame may be read.
+/// Reads the next frame of the source, and no byte behind it. Where memory is refused no byte behind the frame's head was read.
 pub fn next_frame<I: Source>(alloc: Global, input: &mut I) -> Result<Arrival, NoMemory>
-    ensures { IfOk result (λ arrival. Arrives arrival (I.given input.old) (I.given input.new)) }
+    ensures arrives { IfOk result (λ arrival. Arrives arrival (I.given input.old) (I.given input.new)) }
+    ensures begun { OnErr result (Begins (I.given input.old) (I.given input.new)) }
 {
     let front = read_bytes(alloc, input, HEAD_SIZE)?;
     match front.ending {

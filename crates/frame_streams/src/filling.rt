@@ -1,5 +1,5 @@
 //! So many bytes of a source.
-ghost use Rattle.std.specs.Prelude.{◌≡◌, ◌≤◌, length, take, vec_len, IfOk};
+ghost use Rattle.std.specs.Prelude.{◌≡◌, ◌≤◌, length, take, vec_len, IfOk, OnErr};
 ghost use Rattle.frame_streams.specs.Filling.{HasFilled};
 
 use edge_io::Source;
@@ -65,13 +65,14 @@ fn room(alloc: Global, len: usize) -> Result<Vec<u8>, AllocError>
     vec![in alloc; 0; len]
 }
 
-/// Reads so many bytes of the source, or those up to its end or to a read that failed.
+/// Reads so many bytes of the source, or those up to its end or to a read that failed. Where memory is refused none was read.
 pub(crate) fn read_bytes<I: Source>(
     alloc: Global,
     input: &mut I,
     len: usize,
 ) -> Result<Piece, NoMemory>
-    ensures { IfOk result (λ piece. HasFilled len piece.bytes piece.ending (I.given input.old) (I.given input.new)) }
+    ensures fills { IfOk result (λ piece. HasFilled len piece.bytes piece.ending (I.given input.old) (I.given input.new)) }
+    ensures unread { OnErr result (I.given input.new ≡ I.given input.old) }
 {
     let mut bytes = room(alloc, len)?;
     let filled = fill(input, &mut bytes);

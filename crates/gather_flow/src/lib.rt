@@ -15,6 +15,7 @@ mod listed;
 mod work_list;
 
 pub use all_read::AllRead;
+pub use copying::copied;
 pub use gathering::{Called, Gathering};
 pub use laws::a_joined_share_stands_for_its_parts;
 pub use listed::Listed;

@@ -15,7 +15,7 @@ use Rattle.index_entry.specs.Within.{within_log}
 use Rattle.gathering.specs.Moments.{Moment, Dropping, IsNamed, Stood, issued_by, landed}
 use Rattle.gathering.specs.Seen.{Asked, calls_of}
 use Rattle.gathering.specs.Packs.{ReadsPack}
-use Rattle.gathering.specs.Listing.{IsAmong}
+use Rattle.plfs_types.specs.Places.{IsAmong}
 
 -- the length of the index dropping was asked and told
 pub record IsLength (d : Dropping) (length : ℕ) (asked : Asked) : Type 0 where

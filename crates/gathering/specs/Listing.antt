@@ -1,6 +1,6 @@
 -- What listings of a container's folders tell of its droppings and truncates.
 use Rattle.std.specs.Prelude.{◌≡◌, ◌≢◌, ◌⊎◌, ◌<◌, ◌%◌, ℕ, List, [], ◌∷◌, ◌++◌}
-use Rattle.std.specs.List.{All, Any, AllByRecursion, range_with_len}
+use Rattle.std.specs.List.{All, Any, AllByRecursion}
 use Rattle.plfs_types.specs.declared.entries.Trunc.{Trunc}
 use Rattle.container_layout.specs.declared.items.Item.TheVariants as item
 use Rattle.container_layout.specs.Paths.{IsIn, hostdir_of, path_of}
@@ -12,14 +12,13 @@ use Rattle.mount_model.specs.declared.reply.Reply.TheVariants.{Looked}
 use Rattle.mount_model.specs.Paths.{Name, truncs}
 use Rattle.gathering.specs.Moments.{Moment, Dropping, Stood, HadTrunc}
 use Rattle.gathering.specs.Seen.{Asked}
+use Rattle.plfs_types.specs.Places.{IsAmong}
+use Rattle.container_layout.specs.Paths.{hostdirs}
 
 -- names were asked and told
 pub record IsListed (room : ℕ) (look : Sight) (names : List Name) (asked : Asked) : Type 0 where
   pub call : asked.ask.call ≡ Look room look
   pub reply : asked.reply ≡ Looked (Names names)
-
-abbrev pub IsAmong : {X : Type 0} → X → List X → Type 0
-IsAmong x xs = Any (λ y. y ≡ x) xs
 
 -- ---- truncates
 
@@ -76,10 +75,6 @@ abbrev pub ListsHostdirs : ℕ → List Name → List ℕ → List Asked → Lis
 ListsHostdirs room top [] asked ds = (asked ≡ []) × (ds ≡ [])
 ListsHostdirs room top (k ∷ ks) asked ds =
     (mine rest : List Asked) × (here others : List Dropping) × (asked ≡ mine ++ rest) × (ds ≡ here ++ others) × ShowsHostdir room top k mine here × ListsHostdirs room top ks rest others
-
--- the numbers of folders of droppings
-abbrev pub hostdirs : List ℕ
-hostdirs = range_with_len 0 32
 
 -- The scan of a container: its top, then each folder of droppings.
 pub record IsScan (room : ℕ) (ds : List Dropping) (asked : List Asked) : Type 0 where

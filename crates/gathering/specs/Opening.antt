@@ -14,7 +14,8 @@ use Rattle.mount_sound.specs.Ledger.{entries_in}
 use Rattle.gathering.specs.Moments.{Moment, moment_after, Dropping, Stood}
 use Rattle.gathering.specs.Seen.{Asked, calls_of}
 use Rattle.gathering.specs.Gathering.{Gathered, GathersAll, AreGathered, Share, GatherShares, AreShared, IsAdmissible}
-use Rattle.gathering.specs.Listing.{IsAmong, IsListed, IsScan, NamesPack, AreTruncsOf, AreTruncsAt}
+use Rattle.gathering.specs.Listing.{IsListed, IsScan, NamesPack, AreTruncsOf, AreTruncsAt}
+use Rattle.plfs_types.specs.Places.{IsAmong}
 use Rattle.gathering.specs.Flats.{IsCoveredSo, ReadsFlat, covers_of}
 use Rattle.gathering.specs.View.{writes_in, tails_in, tails_of, changes_in, WritersRise, IsAnswer}
 

@@ -7,7 +7,7 @@ use Rattle.index_entry.specs.Valid.{IsValidEntry}
 use Rattle.index_entry.specs.Spelling.{FitsPlaces}
 use Rattle.store_api.specs.declared.step.Answer.TheVariants.{Bytes}
 use Rattle.plain_file.specs.declared.changes.Change.{Change}
-use Rattle.plain_file.specs.declared.changes.Change.TheVariants.{Write, Truncate}
+use Rattle.plain_file.specs.declared.changes.Change.TheVariants.{Truncate}
 use Rattle.plain_file.specs.File.{plain}
 use Rattle.read_plan.specs.declared.part.Part.{Part}
 use Rattle.read_plan.specs.declared.part.Part.TheVariants.{Hole, From}
@@ -20,9 +20,7 @@ use Rattle.mount_sound.specs.Ledger.{Written, entries_in, content}
 use Rattle.gathering.specs.Moments.{Moment, issued_by}
 use Rattle.gathering.specs.Seen.{Asked}
 use Rattle.gathering.specs.Gathering.{Gathered}
-
-abbrev pub change_of : Written → Change
-change_of w = Write w.entry w.bytes
+use Rattle.mount_sound.specs.Ledger.{change_of}
 
 abbrev pub cut_off : Trunc → Change
 cut_off t = Truncate t

@@ -11,7 +11,8 @@ use Rattle.script_lang.specs.declared.line.Why.TheVariants.{AlreadyOpen, Busy, E
 use Rattle.script_lang.specs.declared.script.Statement.{Statement}
 use Rattle.script_lang.specs.declared.script.Statement.TheVariants.{Close, Map, Open, Rclose, Read, Recover, Refresh, Rename, Ropen, Sync, Trunc, Verify, Write}
 use Rattle.outcomes.specs.Data.{length_of}
-use Rattle.headline.specs.Run.{IsAmong, IsLine, Run, Told, before, own, surely_before}
+use Rattle.headline.specs.Run.{IsLine, Run, Told, before, own, surely_before}
+use Rattle.plfs_types.specs.Places.{IsAmong}
 use Rattle.headline.specs.Trees.{Has}
 use Rattle.headline.specs.Writers.{account}
 use Rattle.headline.specs.Names.{IsFree, MayStand, Name, Named, Story, name_of}

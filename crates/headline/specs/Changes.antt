@@ -14,12 +14,14 @@ use Rattle.script_lang.specs.declared.script.Data.{Data}
 use Rattle.script_lang.specs.declared.script.Statement.{Statement}
 use Rattle.script_lang.specs.declared.script.Statement.TheVariants.{Close, Open, Rename, Write, Trunc as Truncates}
 use Rattle.outcomes.specs.Data.{bytes_of}
-use Rattle.headline.specs.Run.{IsAmong, IsLine, Run, Told, before, own, so_far, surely_before}
+use Rattle.headline.specs.Run.{IsLine, Run, Told, before, own, so_far, surely_before}
+use Rattle.plfs_types.specs.Places.{IsAmong}
 use Rattle.headline.specs.Trees.{Has, landed_writes}
 use Rattle.headline.specs.Writers.{Writer, account, host_of}
 use Rattle.store_api.specs.declared.tree.Room.{Room}
 use Rattle.store_api.specs.Room.{has_folder}
-use Rattle.headline.specs.Names.{BrokeOff, Named, Story, openhosts}
+use Rattle.headline.specs.Names.{BrokeOff, Named, Story}
+use Rattle.container_layout.specs.Paths.{openhosts}
 use Rattle.headline.specs.Views.{IdsRise, IsWriter, stamp_of}
 
 -- ---- a writer

@@ -9,11 +9,13 @@ use Rattle.plain_file.specs.File.{plain, plain_size}
 use Rattle.plain_file.specs.Runs.{ArePiecesOf}
 use Rattle.container_layout.specs.Items.{IsItem}
 use Rattle.script_lang.specs.declared.line.Outcome.TheVariants.{Map as Mapped, Reader}
-use Rattle.headline.specs.Run.{IsAmong, IsLine, Run, Says, Told}
+use Rattle.headline.specs.Run.{IsLine, Run, Says, Told}
+use Rattle.plfs_types.specs.Places.{IsAmong}
 use Rattle.headline.specs.Trees.{Has}
 use Rattle.headline.specs.Names.{Story}
 use Rattle.headline.specs.Views.{IsCut, Seen, changes_of, counted, item_of, stamp_of, writes_of}
-use Rattle.headline.specs.Files.{Answers, entry_of, reader_at}
+use Rattle.headline.specs.Files.{Answers, reader_at}
+use Rattle.outcomes.specs.Outcomes.{entry_of}
 
 -- The cut is one that the line may see: each count is of a writer of the container, no less than what is sure to have landed of it before the line, and no more than
 -- what may have by its end. It is of the first writes of the writer, as the lines tell them, or as the tree before has them. With the truncates of the

@@ -17,6 +17,7 @@ use Rattle.headline.specs.Run.{IsLine, Run, Told, before, own}
 use Rattle.headline.specs.Trees.{Has}
 use Rattle.headline.specs.Names.{Named, Story}
 use Rattle.headline.specs.Views.{AreTruncs, IsCut, Seen, changes_of, counted, shared, writes_of}
+use Rattle.outcomes.specs.Outcomes.{entry_of}
 
 -- the reader's last line, once this line was told
 abbrev pub reader_next : Option Told → Told → Outcome → Option Told
@@ -39,9 +40,6 @@ pub record DiffersAt (at : ℕ) (wanted found : List ℕ) (place : ℕ) : Type 0
   pub within : same < length wanted
   pub agree : take same found ≡ take same wanted
   pub differ : slice_get found same ≡ slice_get wanted same → ⊥
-
-abbrev pub entry_of : Piece → Entry
-entry_of p = record { at = p.at; len = p.len; physical = p.physical; stamp = p.stamp; writer = p.writer }
 
 -- Of a file of these bytes a read gives those from a place on, and a verify compares them.
 abbrev pub Answers : List ℕ → Statement → Outcome → Type 0

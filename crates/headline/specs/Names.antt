@@ -1,13 +1,15 @@
 -- Which container a line speaks of. Containers get names by `open` and `rename` lines, in some order that agrees with that of the lines.
-use Rattle.std.specs.Prelude.{◌≡◌, ◌⊎◌, ◌<◌, ℕ, ◌+◌, false, List, [], ◌∷◌, ◌++◌, map, length, take, drop, Option, Some, None, slice_get, codes}
+use Rattle.std.specs.Prelude.{◌≡◌, ◌⊎◌, ◌<◌, ℕ, ◌+◌, false, List, [], ◌∷◌, ◌++◌, map, length, take, drop, Option, Some, None, slice_get}
 use Rattle.std.specs.List.{All, AllByRecursion, Any}
 use Rattle.store_api.specs.declared.tree.Tree.{Tree}
+use Rattle.store_api.specs.Names.{marks_name}
 use Rattle.script_lang.specs.declared.line.Outcome.{Outcome}
 use Rattle.script_lang.specs.declared.line.Outcome.TheVariants.{Fault, Opened, Refused, Renamed, Stopped}
 use Rattle.script_lang.specs.declared.line.Why.TheVariants.{Held}
 use Rattle.script_lang.specs.declared.script.Statement.{Statement}
 use Rattle.script_lang.specs.declared.script.Statement.TheVariants.{Flatten, Open, Recover, Refresh, Rename, Ropen, Stat, Trunc}
-use Rattle.headline.specs.Run.{IsAmong, IsLine, Run, Told, surely_before}
+use Rattle.headline.specs.Run.{IsLine, Run, Told, surely_before}
+use Rattle.plfs_types.specs.Places.{IsAmong}
 
 abbrev pub Name : Type 0
 Name = List ℕ
@@ -28,22 +30,16 @@ abbrev pub named : List Name → List Naming → List Name
 named names [] = names
 named names (n ∷ namings) = named (take n.number names ++ n.name ∷ drop (n.number + 1) names) namings
 
--- those at first; the marks of mounts have a room of their own
-abbrev pub marks_room : Name
-marks_room = codes ".plfs"
-
-abbrev pub openhosts : Name
-openhosts = codes "openhosts"
-
 abbrev pub names_in : Tree → List Name
 names_in tree = map (λ room. room.name) tree.rooms
 
 abbrev pub IsFree : Name → List Name → Type 0
 IsFree name names = IsAmong name names → ⊥
 
+-- those at first; the marks of mounts have a room of their own
 pub data AreFirstNames (run : Run) (names : List Name) : Type 0 where
-  marked : IsAmong marks_room (names_in run.before) → names ≡ names_in run.before → AreFirstNames run names
-  fresh : IsFree marks_room (names_in run.before) → names ≡ names_in run.before ++ marks_room ∷ [] → AreFirstNames run names
+  marked : IsAmong marks_name (names_in run.before) → names ≡ names_in run.before → AreFirstNames run names
+  fresh : IsFree marks_name (names_in run.before) → names ≡ names_in run.before ++ marks_name ∷ [] → AreFirstNames run names
 
 -- a line that may have changed something before it broke
 pub data BrokeOff (outcome : Outcome) : Type 0 where

@@ -9,7 +9,8 @@ use Rattle.script_lang.specs.declared.line.Outcome.{Outcome}
 use Rattle.script_lang.specs.declared.line.Outcome.TheVariants as line
 use Rattle.script_lang.specs.declared.script.Statement.{Statement}
 use Rattle.script_lang.specs.declared.script.Statement.TheVariants.{Flatten, Open, Recover, Refresh, Rename, Ropen, Stat, Trunc as Truncate}
-use Rattle.headline.specs.Run.{IsAmong, IsLine, Run, Says, Told, surely_before}
+use Rattle.headline.specs.Run.{IsLine, Run, Says, Told, surely_before}
+use Rattle.plfs_types.specs.Places.{IsAmong}
 use Rattle.headline.specs.Trees.{Has, landed_writes}
 use Rattle.headline.specs.Names.{Story, names_in}
 use Rattle.headline.specs.Views.{IdsRise, item_of}

@@ -7,7 +7,8 @@ use Rattle.plain_file.specs.File.{plain_size, stored_bytes}
 use Rattle.container_layout.specs.Items.{IsItem}
 use Rattle.script_lang.specs.declared.line.Outcome.TheVariants.{Stat, Truncated}
 use Rattle.script_lang.specs.declared.script.Statement.TheVariants.{Trunc as Truncate}
-use Rattle.headline.specs.Run.{IsAmong, Run, Says, Told, surely_before}
+use Rattle.headline.specs.Run.{Run, Says, Told, surely_before}
+use Rattle.plfs_types.specs.Places.{IsAmong}
 use Rattle.headline.specs.Trees.{Has}
 use Rattle.headline.specs.Names.{Story}
 use Rattle.headline.specs.Views.{IdsRise, IsCut, Seen, changes_of, item_of, shared, stamp_of, writes_of}

@@ -12,7 +12,8 @@ use Rattle.container_layout.specs.declared.items.Item.{Item}
 use Rattle.container_layout.specs.declared.items.Item.TheVariants.{Index, Trunc as TruncItem}
 use Rattle.script_lang.specs.declared.line.Outcome.TheVariants.{Opened, Truncated}
 use Rattle.script_lang.specs.declared.script.Statement.TheVariants.{Trunc as TruncStatement}
-use Rattle.headline.specs.Run.{IsAmong, IsLine, Run, Told, before, so_far, surely_before, told}
+use Rattle.headline.specs.Run.{IsLine, Run, Told, before, so_far, surely_before, told}
+use Rattle.plfs_types.specs.Places.{IsAmong}
 use Rattle.headline.specs.Trees.{Has}
 use Rattle.headline.specs.Writers.{Writer, new_writer, old_writer}
 use Rattle.headline.specs.Names.{BrokeOff, Story}

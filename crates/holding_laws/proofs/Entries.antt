@@ -10,7 +10,8 @@ use Rattle.store_api.specs.declared.tree.Room.{Room}
 use Rattle.store_api.specs.Room.{has_folder}
 use Rattle.store_laws.specs.Files.{file_at}
 use Rattle.mount_model.specs.declared.row.Holder.{Holder}
-use Rattle.mount_model.specs.Paths.{openhosts, open_path}
+use Rattle.mount_model.specs.Paths.{open_path}
+use Rattle.container_layout.specs.Paths.{openhosts}
 use Rattle.mount_model.specs.State.{State, last_id}
 use Rattle.mount_model.specs.Table.{holder_at}
 use Rattle.mount_model.proofs.Facts.{holder_apart}

@@ -7,7 +7,8 @@ use Rattle.story.specs.Program.{done}
 use Rattle.story.specs.Safe.{IsSafe}
 use Rattle.mount_model.specs.declared.call.Call.TheVariants.{Find, Look}
 use Rattle.mount_model.specs.declared.call.Look.TheVariants.{List as ListFolder}
-use Rattle.mount_model.specs.Paths.{openhosts, metadata, truncs}
+use Rattle.mount_model.specs.Paths.{metadata, truncs}
+use Rattle.container_layout.specs.Paths.{openhosts}
 use Rattle.mount_model.specs.State.{State}
 use Rattle.mount_model.specs.Step.{IsStep}
 use Rattle.mount_sound.specs.Sound.{IsFine}

@@ -20,7 +20,8 @@ use Rattle.mount_model.specs.declared.row.Holder.{Holder}
 use Rattle.mount_model.specs.Entering.{draw_check, next_id}
 use Rattle.mount_model.specs.Holding.{HoldsRoom, HoldOutcome, holding}
 use Rattle.mount_model.specs.Making.{Told, Refuses, otherwise}
-use Rattle.mount_model.specs.Paths.{Name, metadata, truncs, openhosts, trunc_path, meta_path}
+use Rattle.mount_model.specs.Paths.{Name, metadata, truncs, trunc_path, meta_path}
+use Rattle.container_layout.specs.Paths.{openhosts}
 use Rattle.mount_model.specs.State.{State, Table}
 use Rattle.mount_model.specs.Step.{IsStep}
 use Rattle.mount_model.specs.Table.{holder_at}

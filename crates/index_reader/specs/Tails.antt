@@ -1,7 +1,7 @@
 -- The calls that read what a flattened index doesn't cover of one writer's index dropping: its length, its log's, and
 -- Reads of the whole entries.
-use Rattle.std.specs.Prelude.{ℕ, zero, suc, ◌+◌, ◌-◌, ◌*◌, ◌/◌, nat_le, nat_lt, min, Bool, true, false, if◌then◌else◌, List, length, Ok, Err}
-use Rattle.plfs_types.specs.declared.limits.TheConstants.{ENTRIES_A_READ, ENTRY_SIZE}
+use Rattle.std.specs.Prelude.{ℕ, zero, suc, ◌-◌, ◌*◌, ◌/◌, nat_le, nat_lt, min, Bool, true, false, if◌then◌else◌, List, length, Ok, Err}
+use Rattle.plfs_types.specs.declared.limits.TheConstants.{ENTRY_SIZE}
 use Rattle.flow.specs.Replies.{Tries, given, bytes_in, damage, trouble}
 use Rattle.story.specs.Program.{done, ask}
 use Rattle.mount_model.specs.declared.call.Call.TheVariants.{Look}
@@ -13,14 +13,7 @@ use Rattle.index_reader.specs.declared.entries.Went.{Went}
 use Rattle.index_reader.specs.declared.entries.Went.TheVariants.{On, Ends, Breaks}
 use Rattle.index_reader.specs.Replies.{number_in, log_length_in}
 use Rattle.index_reader.specs.Entries.{checked}
-
--- how many Reads so many entries take, 4096 by each
-abbrev pub reads_of : ℕ → ℕ
-reads_of left = (left + (ENTRIES_A_READ - 1)) / ENTRIES_A_READ
-
--- how many entries the next Read asks for
-abbrev pub next_read : ℕ → ℕ
-next_read left = min left ENTRIES_A_READ
+use Rattle.flow.specs.Entries.{reads_of, next_read}
 
 -- the entries of the bytes that a Read of so many entries gave
 abbrev pub check : ℕ → ℕ → List ℕ → Tail → Went × Tail

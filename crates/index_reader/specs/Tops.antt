@@ -1,18 +1,15 @@
 -- The top of a container: which names it has, and which folders of droppings it shows.
 use Rattle.std.specs.Prelude.{ℕ, if◌then◌else◌, List, [], ◌∷◌, map, Option, Some, None, Result, Ok, Err, codes}
-use Rattle.std.specs.List.{range_with_len}
 use Rattle.plfs_types.specs.declared.names.Path.{Path}
 use Rattle.container_layout.specs.Paths.{hostdir_of}
 use Rattle.flow.specs.declared.stuck.Stuck.{Stuck}
 use Rattle.flow.specs.Replies.{damage}
 use Rattle.flow.specs.Listed.{file_in}
-use Rattle.mount_model.specs.Paths.{Name, openhosts, metadata, truncs, flats}
+use Rattle.mount_model.specs.Paths.{Name, metadata, truncs, flats}
+use Rattle.container_layout.specs.Paths.{openhosts}
 use Rattle.index_reader.specs.Searching.{has_name}
 use Rattle.index_reader.specs.Scanning.{unless_foreign}
-
--- the numbers of the folders of droppings
-abbrev pub hostdirs : List ℕ
-hostdirs = range_with_len 0 32
+use Rattle.container_layout.specs.Paths.{hostdirs}
 
 abbrev pub access : Name
 access = codes "access"

@@ -1,11 +1,11 @@
 //! The entries of an index dropping, which are checked in order.
-ghost use Rattle.std.specs.Prelude.{All, ◌≡◌, ◌+◌, ◌*◌, ◌≤◌, ◌<◌, ◌^◌, length, drop, true, OnOk, IfOk};
+ghost use Rattle.std.specs.Prelude.{All, ◌≡◌, ◌+◌, ◌*◌, ◌≤◌, ◌<◌, ◌^◌, length, true, OnOk, IfOk};
 ghost use Rattle.flow.specs.Entries.{is_next as next_of};
 ghost use Rattle.index_reader.specs.declared.entries.Went.TheVariants.{On};
 ghost use Rattle.interval_merge.specs.Writer.{HasPiece};
 ghost use Rattle.index_reader.specs.Entries.{longer as longer_of, checked};
 
-use flow::{first_entry, is_next};
+use flow::{first_entry, is_next, past_first};
 use plfs_types::{Cover, ENTRY_SIZE, Entry, EntryList, NoMemory};
 
 /// What was read of an index dropping: the entries that a flattened index doesn't cover, and a cover of all.
@@ -24,14 +24,6 @@ pub(crate) enum Went {
     Ends,
     /// The next one breaks a rule.
     Breaks,
-}
-
-/// The bytes after those of the first entry.
-fn past_first(bytes: &[u8]) -> &[u8]
-    requires { ENTRY_SIZE ≤ length bytes.now }
-    ensures { result.now ≡ drop ENTRY_SIZE bytes.now }
-{
-    &bytes[ENTRY_SIZE..]
 }
 
 impl Tail {

@@ -13,6 +13,7 @@ mod firsts;
 mod flats;
 mod flattened;
 mod gathered;
+mod giving;
 mod hosts;
 mod listed;
 mod listing;
@@ -36,6 +37,7 @@ mod truncs;
 
 pub use entries::Tail;
 pub use gathered::{Gathered, ShareList, gather, join_shares};
+pub use giving::look_on;
 pub use hosts::found as host_found;
 pub use listing::{Dropping, DroppingList, Listing};
 pub use opened::OpenReader;

@@ -1,9 +1,9 @@
 //! Reading what a flattened index doesn't cover of one writer's index dropping.
-ghost use Rattle.std.specs.Prelude.{All, ℕ, ◌≡◌, ◌≤◌, ◌<◌, ◌+◌, ◌*◌, ◌^◌, [], Some, IfOk, OnOk};
+ghost use Rattle.std.specs.Prelude.{All, ℕ, ◌≡◌, ◌≤◌, ◌<◌, ◌+◌, ◌*◌, ◌^◌, Some, IfOk, OnOk};
 ghost use Rattle.interval_merge.specs.Writer.{HasPiece};
 ghost use Rattle.flow.specs.Standing.{ready, next_of, rest_of, replied};
 ghost use Rattle.mount_model.specs.Paths.{index_path as path_of_index, log_path as path_of_log};
-ghost use Rattle.index_reader.specs.Tails.{next_read as read_next, tail_program, looked, reads_left};
+ghost use Rattle.index_reader.specs.Tails.{tail_program, looked, reads_left};
 ghost use Rattle.index_reader.specs.Packs.{no_tail};
 ghost use Rattle.index_reader.specs.Stages.{tail_left, after_left, IsOfPieces, step_calls, after_calls};
 
@@ -12,9 +12,9 @@ use crate::listing::Dropping;
 use crate::replies::{log_length_in, number_in};
 use crate::steps::{DroppingRead, Step, TailRead};
 use container_layout::{Item, print};
-use flow::{Stuck, bytes_in, damage, trouble};
+use flow::{Stuck, bytes_in, damage, next_read, trouble};
 use mount_model::{Call, Look, Reply};
-use plfs_types::{Cover, ENTRIES_A_READ, ENTRY_SIZE, EntryList, NoMemory, Path};
+use plfs_types::{Cover, ENTRY_SIZE, EntryList, NoMemory, Path};
 use std::alloc::Global;
 
 /// The bytes of an entry.
@@ -40,12 +40,6 @@ pub(crate) fn log_path(host: u32, writer: u64) -> Path
     ensures { result ≡ path_of_log host writer }
 {
     print(&Item::Log { host, writer })
-}
-
-fn next_read(left: u64) -> u64
-    ensures { result ≡ read_next left }
-{
-    left.min(ENTRIES_A_READ)
 }
 
 impl TailRead {

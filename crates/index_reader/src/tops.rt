@@ -3,7 +3,8 @@ ghost use Rattle.std.specs.Prelude.{◌≡◌, ◌≤◌, ◌++◌, ◌∷◌, L
 ghost use Rattle.flow.specs.declared.stuck.Stuck.{Stuck as Trouble};
 ghost use Rattle.index_reader.specs.Replies.{on_trouble};
 ghost use Rattle.index_reader.specs.Searching.{has_name as has};
-ghost use Rattle.index_reader.specs.Tops.{access as access_name, hostdirs, top_names as names_of_top, foreign_at_top as foreign, required, shown as shown_of, top_shows};
+ghost use Rattle.index_reader.specs.Tops.{access as access_name, top_names as names_of_top, foreign_at_top as foreign, required, shown as shown_of, top_shows};
+ghost use Rattle.container_layout.specs.Paths.{hostdirs};
 
 use crate::scanning::file_in;
 use container_layout::{flats, hostdir, metadata, openhosts, truncs};

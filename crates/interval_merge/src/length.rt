@@ -65,8 +65,8 @@ fn later_of(last: Option<Trunc>, trunc: Trunc) -> Option<Trunc>
     }
 }
 
-/// The truncate that comes after all others.
-fn last_of(truncs: &[Trunc]) -> Option<Trunc>
+/// The truncate that comes after all others, None where there is none.
+pub fn last_of(truncs: &[Trunc]) -> Option<Trunc>
     ensures { result ≡ last_trunc truncs.now }
 {
     let mut last = None;
@@ -76,8 +76,8 @@ fn last_of(truncs: &[Trunc]) -> Option<Trunc>
     last
 }
 
-/// Whether what has this stamp was written after the truncate.
-fn wrote_after(last: Option<Trunc>, stamp: u64) -> bool
+/// Whether what has this stamp was written after the truncate; where there is none, it was.
+pub fn wrote_after(last: Option<Trunc>, stamp: u64) -> bool
     ensures { result ≡ is_after last stamp }
 {
     match last {

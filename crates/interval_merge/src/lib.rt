@@ -14,7 +14,7 @@ mod tournament;
 mod writer;
 
 pub use clipping::clip;
-pub use length::size;
+pub use length::{last_of, size, wrote_after};
 pub use sweep::merge;
 pub use threads::merge_on;
 pub use tournament::{PiecesList, merge_all};

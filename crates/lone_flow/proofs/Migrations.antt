@@ -29,14 +29,17 @@ use Rattle.index_reader.specs.Scanning as scanning
 use Rattle.index_reader.specs.Scanning.{foreign_in, has_writer, nothing_found, scanned, taken, taken_all, unless_foreign}
 use Rattle.index_reader.specs.Items.{hostdir_item}
 use Rattle.index_reader.specs.Searching.{has_name}
-use Rattle.index_reader.specs.Tops.{access, foreign_at_top, hostdirs, required, shown, top_shows}
+use Rattle.index_reader.specs.Tops.{access, foreign_at_top, required, shown, top_shows}
+use Rattle.container_layout.specs.Paths.{hostdirs}
 use Rattle.migrate_core.specs.declared.migrated.Migrated.{Migrated}
 use Rattle.migrate_core.specs.Chosen.{chosen, metas_named}
 use Rattle.migrate_core.specs.Counting.{noted, nothing}
 use Rattle.migrate_core.specs.Entries.{checked, no_entries}
 use Rattle.migrate_core.specs.Migrating.{lists_metadata, migrate_at_program, migrate_program, migrates, migrates_listed, migrates_shown}
 use Rattle.migrate_core.specs.Words.{Fate, Packed, Tail, is_packed, passed_over}
-use Rattle.migrate_core.specs.Writers.{counts_of, flat_in, if_done, installs, next_read, number_in, or_damage, puts, reads, reads_of, reads_then, sized, starts, syncs, writer_program}
+use Rattle.migrate_core.specs.Writers.{counts_of, flat_in, if_done, installs, or_damage, puts, reads, reads_then, sized, starts, syncs, writer_program}
+use Rattle.flow.specs.Entries.{next_read, reads_of}
+use Rattle.index_reader.specs.Replies.{number_in}
 use Rattle.lone_flow.proofs.Causes.{EndsWell, HasNoFault, IsAnswered, IsNoFault, either_well, failure_plain, given_well, look_plain, on_ok_well, then_well}
 
 either_fine : {X : Type 0} (b : Bool) (x y : Result X Stuck) → HasNoFault x → HasNoFault y → HasNoFault (if b then x else y)

@@ -21,7 +21,8 @@ use Rattle.mount_model.specs.declared.call.Look.TheVariants.{List as ListFolder}
 use Rattle.mount_model.specs.declared.reply.Reply.TheVariants.{Looked, Refused}
 use Rattle.mount_model.specs.Looking.{listing_reply, look_outcome, look_step}
 use Rattle.mount_model.specs.Making.{MakesAct, Refuses, Told, room_check}
-use Rattle.mount_model.specs.Paths.{Name, metadata, open_path, openhosts}
+use Rattle.mount_model.specs.Paths.{Name, metadata, open_path}
+use Rattle.container_layout.specs.Paths.{openhosts}
 use Rattle.mount_model.specs.State.{State, last_id}
 use Rattle.mount_model.specs.Step.{Answers}
 use Rattle.mount_model.proofs.Facts.{is_container, match_cases}

@@ -10,7 +10,8 @@ use Rattle.mount_model.specs.declared.call.Look.TheVariants.{List as ListFolder}
 use Rattle.mount_model.specs.declared.reply.Reply.{Reply}
 use Rattle.mount_model.specs.declared.reply.Reply.TheVariants.{Looked, Room}
 use Rattle.mount_model.specs.History.{Event}
-use Rattle.mount_model.specs.Paths.{Name, metadata, openhosts, truncs}
+use Rattle.mount_model.specs.Paths.{Name, metadata, truncs}
+use Rattle.container_layout.specs.Paths.{openhosts}
 use Rattle.mount_model.specs.Step.{IsStep}
 use Rattle.mount_sound.specs.Owed.{IsLawful}
 use Rattle.turn_object.specs.Callers.{made_by}

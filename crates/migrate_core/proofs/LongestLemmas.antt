@@ -14,7 +14,8 @@ use Rattle.index_pack.specs.Valid.{CanBePacked}
 use Rattle.index_pack.proofs.Facts.{head_spelled}
 use Rattle.migrate_core.specs.declared.entries.Tail.{Tail}
 use Rattle.migrate_core.specs.Entries.{IsTold}
-use Rattle.migrate_core.specs.Longest.{can_go_on, longest_runs, packing, run_count, runs_from, same_entry, single, with_entry}
+use Rattle.migrate_core.specs.Longest.{can_go_on, longest_runs, packing, run_count, runs_from, single, with_entry}
+use Rattle.index_reader.specs.PackRules.{same_entry}
 
 -- ---- whether a run goes on
 

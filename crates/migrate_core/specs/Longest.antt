@@ -4,14 +4,11 @@ use Rattle.plfs_types.specs.declared.entries.Entry.{Entry}
 use Rattle.index_pack.specs.declared.runs.Run.{Run}
 use Rattle.index_pack.specs.Runs.{entry_of}
 use Rattle.index_pack.specs.Spelling.{pack_spelling}
+use Rattle.index_reader.specs.PackRules.{same_entry}
 
 -- the run of this one entry
 abbrev pub single : Entry → Run
 single e = record { start = e.at; stride = 0; len = e.len; count = 1; physical = e.physical; stamp = e.stamp; step = 0; writer = e.writer }
-
--- all five numbers of them are the same
-abbrev pub same_entry : Entry → Entry → Bool
-same_entry e f = (e.at == f.at) && ((e.len == f.len) && ((e.physical == f.physical) && ((e.stamp == f.stamp) && (e.writer == f.writer))))
 
 -- the run can go on with this entry: the second one sets stride and step, a later one has to meet them
 abbrev pub can_go_on : Run → Entry → Bool

@@ -1,15 +1,14 @@
 -- The calls that pack one writer: Length of its index dropping, Reads of its whole entries, StartPack, PutFlat, SyncFlat,
 -- InstallFlat. A writer with too many entries is passed over after its Length.
-use Rattle.std.specs.Prelude.{ℕ, zero, suc, ◌+◌, ◌-◌, ◌*◌, ◌/◌, ◌==◌, nat_lt, min, if◌then◌else◌, List, length, Option, Some, None, Result, Ok, Err}
+use Rattle.std.specs.Prelude.{ℕ, zero, suc, ◌-◌, ◌*◌, ◌/◌, ◌==◌, nat_lt, if◌then◌else◌, List, length, Option, Some, None, Result, Ok, Err}
 use Rattle.plfs_types.specs.declared.names.Path.{Path}
 use Rattle.plfs_types.specs.declared.entries.Entry.{Entry}
-use Rattle.store_api.specs.declared.step.Answer.TheVariants.{Number}
-use Rattle.plfs_types.specs.declared.limits.TheConstants.{ENTRIES_A_READ, MAX_PACKED}
+use Rattle.plfs_types.specs.declared.limits.TheConstants.{MAX_PACKED}
 use Rattle.story.specs.Program.{done, ask}
 use Rattle.mount_model.specs.declared.call.Call.TheVariants.{Look, StartPack, PutFlat, SyncFlat, InstallFlat}
 use Rattle.mount_model.specs.declared.call.Look.TheVariants.{Length, Read}
 use Rattle.mount_model.specs.declared.reply.Reply.{Reply}
-use Rattle.mount_model.specs.declared.reply.Reply.TheVariants.{Done, Looked, Started}
+use Rattle.mount_model.specs.declared.reply.Reply.TheVariants.{Done, Started}
 use Rattle.mount_model.specs.Paths.{index_path}
 use Rattle.flow.specs.declared.names.Metadata.{Metadata}
 use Rattle.flow.specs.Replies.{Tries, given, bytes_in, damage, trouble, failure}
@@ -19,11 +18,8 @@ use Rattle.migrate_core.specs.declared.migrated.Fate.{Fate}
 use Rattle.migrate_core.specs.declared.migrated.Fate.TheVariants as fate
 use Rattle.migrate_core.specs.Entries.{no_entries, checked}
 use Rattle.migrate_core.specs.Longest.{packing, run_count}
-
--- the length of a file that is there
-abbrev pub number_in : Reply → Option ℕ
-number_in (Looked (Number value)) = Some value
-number_in reply = None
+use Rattle.index_reader.specs.Replies.{number_in}
+use Rattle.flow.specs.Entries.{reads_of, next_read}
 
 -- the number of a flattening that was begun
 abbrev pub flat_in : Reply → Option ℕ
@@ -58,14 +54,6 @@ abbrev pub packs : ℕ → Metadata → List Entry → Tries Fate
 packs room m entries = starts room m (packing entries) (counts_of entries)
 
 -- ---- the entries are read
-
--- how many Reads so many entries take, 4096 by each
-abbrev pub reads_of : ℕ → ℕ
-reads_of left = (left + (ENTRIES_A_READ - 1)) / ENTRIES_A_READ
-
--- how many entries the next Read asks for
-abbrev pub next_read : ℕ → ℕ
-next_read left = min left ENTRIES_A_READ
 
 -- it goes on with what was read, or this is the place of what breaks a rule
 abbrev pub or_damage : Path → (Tail → Tries Fate) → Result Tail ℕ → Tries Fate

@@ -1,25 +1,18 @@
 //! Which writers of a container are packed.
-ghost use Rattle.std.specs.Prelude.{◌≡◌, ◌<◌, ◌≤◌, ◌^◌, [], length, Option, IfOk};
+ghost use Rattle.std.specs.Prelude.{◌≡◌, ◌<◌, [], Option, IfOk};
 ghost use Rattle.index_reader.specs.Listing.{AreByWriter};
 ghost use Rattle.flow.specs.Listed.{told_by};
 ghost use Rattle.mount_model.specs.Paths as paths;
 ghost use Rattle.migrate_core.specs.Chosen.{chosen as chosen_of, chosen_behind, is_again as is_again_of, is_open_to as is_open_to_of, metas_named};
 
 use container_layout::metadata;
-use flow::{Metadata, MetadataList, Stuck, damage, meta_in, metadata_by_writer, names_in, trouble};
+use flow::{
+    Metadata, MetadataList, Stuck, damage, file_in, meta_in, metadata_by_writer, names_in, trouble,
+};
 use index_reader::{Dropping, dropping_of};
 use mount_model::Reply;
-use plfs_types::{Name, NoMemory, Path};
+use plfs_types::{Name, NoMemory};
 use std::alloc::Global;
-
-fn file_in(file: Name) -> Path
-    ensures { result ≡ record { folder = paths.metadata; file = file } }
-{
-    Path {
-        folder: metadata(),
-        file,
-    }
-}
 
 fn metas_in(alloc: Global, names: &[Name]) -> Result<Result<MetadataList, Stuck>, NoMemory>
     ensures { IfOk result (λ found. found ≡ metas_named names.now []) }
@@ -28,7 +21,7 @@ fn metas_in(alloc: Global, names: &[Name]) -> Result<Result<MetadataList, Stuck>
     for name in names {
         let Some(meta) = meta_in(*name) else {
             drop(list);
-            return Ok(Err(damage(&file_in(*name), 0)));
+            return Ok(Err(damage(&file_in(metadata(), *name), 0)));
         };
         let Ok(()) = list.push(meta) else {
             drop(list);
@@ -42,7 +35,7 @@ fn metas_in(alloc: Global, names: &[Name]) -> Result<Result<MetadataList, Stuck>
 pub(crate) fn listed(alloc: Global, reply: Reply) -> Result<Result<MetadataList, Stuck>, NoMemory>
     ensures { IfOk result (λ found. found ≡ told_by paths.metadata (λ names. metas_named names []) reply) }
 {
-    let why = trouble(&file_in(Name::empty()), &reply);
+    let why = trouble(&file_in(metadata(), Name::empty()), &reply);
     let Some(names) = names_in(reply) else {
         return Ok(Err(why));
     };

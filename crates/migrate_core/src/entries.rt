@@ -1,9 +1,9 @@
 //! The entries of an index dropping, which are checked in order.
-ghost use Rattle.std.specs.Prelude.{◌≡◌, ◌+◌, ◌≤◌, ◌<◌, ◌^◌, length, drop, true, OnOk, IfOk};
+ghost use Rattle.std.specs.Prelude.{◌≡◌, ◌+◌, ◌<◌, ◌^◌, true, OnOk, IfOk};
 ghost use Rattle.flow.specs.Entries.{is_next as next_of};
 ghost use Rattle.migrate_core.specs.Entries.{no_entries, longer as longer_of, checked as checked_of, IsTold};
 
-use flow::{first_entry, is_next};
+use flow::{first_entry, is_next, past_first};
 use plfs_types::{Cover, Entry, EntryList, NoMemory};
 use std::alloc::Global;
 use std::marker::Model;
@@ -90,14 +90,6 @@ impl Told {
         }
         Ok(Ok(Told { tail }))
     }
-}
-
-/// The bytes after those of the first entry.
-fn past_first(bytes: &[u8]) -> &[u8]
-    requires { 40 ≤ length bytes.now }
-    ensures { result.now ≡ drop 40 bytes.now }
-{
-    &bytes[40..]
 }
 
 impl Tail {

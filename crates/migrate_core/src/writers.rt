@@ -10,16 +10,17 @@ ghost use Rattle.story.specs.Program.{done};
 ghost use Rattle.migrate_core.specs.declared.migrated.Fate.{Fate as Became};
 ghost use Rattle.migrate_core.specs.declared.migrated.Fate.TheVariants.{Packs};
 ghost use Rattle.migrate_core.specs.Steps.{step_standing, after_standing, step_calls, after_calls};
-ghost use Rattle.migrate_core.specs.Writers.{number_in as number_of, flat_in as flat_of, next_read as read_next, reads_left, reads_on, or_damage, sized as sized_of, if_done as if_done_of, writer_program};
+ghost use Rattle.index_reader.specs.Replies.{number_in as number_of};
+ghost use Rattle.migrate_core.specs.Writers.{flat_in as flat_of, reads_left, reads_on, or_damage, sized as sized_of, if_done as if_done_of, writer_program};
 
 use crate::entries::Told;
 use crate::migrated::{Fate, Packed};
 use crate::packing::pack_read;
 use crate::steps::{Reads, Step};
 use container_layout::{Item, print};
-use flow::{Metadata, Stuck, bytes_in, damage, failure, trouble};
+use flow::{Metadata, Stuck, bytes_in, damage, failure, next_read, trouble};
 use mount_model::{Call, Look, Reply};
-use plfs_types::{ENTRIES_A_READ, MAX_PACKED, NoMemory, Path};
+use plfs_types::{MAX_PACKED, NoMemory, Path};
 use std::alloc::Global;
 use store_api::Answer;
 
@@ -60,12 +61,6 @@ fn flat_in(reply: &Reply) -> Option<u64>
         Reply::Started { flat } => Some(*flat),
         _ => None,
     }
-}
-
-fn next_read(left: u64) -> u64
-    ensures { result ≡ read_next left }
-{
-    left.min(ENTRIES_A_READ)
 }
 
 impl Step {

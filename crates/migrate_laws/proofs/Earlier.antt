@@ -27,7 +27,8 @@ use Rattle.mount_model.specs.declared.call.Call.TheVariants.{Look}
 use Rattle.mount_model.specs.declared.call.Look.TheVariants.{List as ListFolder, Top}
 use Rattle.mount_model.specs.declared.reply.Reply.{Reply}
 use Rattle.mount_model.specs.declared.reply.Reply.TheVariants.{Looked}
-use Rattle.mount_model.specs.Paths.{Name, flats, marks_folder, metadata, truncs}
+use Rattle.mount_model.specs.Paths.{Name, flats, metadata, truncs}
+use Rattle.store_api.specs.Names.{marks_folder}
 use Rattle.mount_model.specs.State.{State}
 use Rattle.mount_model.specs.Step.{IsStep}
 use Rattle.mount_sound.specs.Items.{HasItem}
@@ -45,7 +46,8 @@ use Rattle.index_reader.specs.Items.{hostdir_item}
 use Rattle.index_reader.specs.Opening.{dropping_of, has_owner, is_of_host, listing_of, lone_pack, no_flat, scans, unless_lone}
 use Rattle.index_reader.specs.Scanning.{foreign_in, has_writer, owner, owner_of, placed, scanned, taken, taken_all, unless_foreign}
 use Rattle.index_reader.specs.Searching.{has_name, same_bytes}
-use Rattle.index_reader.specs.Tops.{access, foreign_at_top, hostdirs, required, shown, top_shows}
+use Rattle.index_reader.specs.Tops.{access, foreign_at_top, required, shown, top_shows}
+use Rattle.container_layout.specs.Paths.{hostdirs}
 use Rattle.index_reader.proofs.Facts.{hostdir_item-here, same_bytes-itself}
 use Rattle.migrate_core.specs.Chosen.{is_packed}
 use Rattle.migrate_laws.specs.Closed.{IsPacked, WriterOf}

@@ -39,7 +39,7 @@ use Rattle.flow.specs.declared.names.Metadata.{Metadata}
 use Rattle.flow.specs.Names.{meta_in}
 use Rattle.flow.specs.Replies.{bytes_in, names_in}
 use Rattle.flow.proofs.Facts.{meta_in-is}
-use Rattle.migrate_core.specs.Writers.{number_in}
+use Rattle.index_reader.specs.Replies.{number_in}
 use Rattle.migrate_laws.specs.Closed.{HasClosed, WriterOf}
 use Rattle.migrate_laws.proofs.Left.{IsLeft}
 

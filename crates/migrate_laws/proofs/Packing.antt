@@ -45,7 +45,9 @@ use Rattle.recovery_laws.proofs.Facts.{Stays}
 use Rattle.migrate_core.specs.Entries.{checked, no_entries}
 use Rattle.migrate_core.specs.Longest.{packing}
 use Rattle.migrate_core.specs.Words.{Fate, Tail, is_packed, passed_over}
-use Rattle.migrate_core.specs.Writers.{counts_of, flat_in, if_done, installs, next_read, number_in, or_damage, puts, reads, reads_left, reads_of, sized, starts, syncs, writer_program}
+use Rattle.migrate_core.specs.Writers.{counts_of, flat_in, if_done, installs, or_damage, puts, reads, reads_left, sized, starts, syncs, writer_program}
+use Rattle.flow.specs.Entries.{next_read, reads_of}
+use Rattle.index_reader.specs.Replies.{number_in}
 use Rattle.migrate_laws.proofs.Ends.{Ends, ends_ask, ends_done}
 use Rattle.migrate_laws.proofs.Left.{IsLeft, IsWhole, left_stays, whole_stays}
 use Rattle.migrate_laws.proofs.Looking.{of_bytes, of_number}

@@ -30,7 +30,7 @@ use Rattle.mount_sound.proofs.Facts.{is_index, one_tree, some_room}
 use Rattle.recovery_laws.proofs.Facts.{Stays}
 use Rattle.migrate_core.specs.Entries.{checked, longer, no_entries}
 use Rattle.migrate_core.specs.Words.{Tail}
-use Rattle.migrate_core.specs.Writers.{next_read}
+use Rattle.flow.specs.Entries.{next_read}
 use Rattle.migrate_laws.proofs.Left.{IsLeft, IsWhole, IsWholeIn, whole_now, whole_stays}
 use Rattle.migrate_laws.proofs.Looking.{length_told, read_told}
 

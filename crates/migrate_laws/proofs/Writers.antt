@@ -28,7 +28,9 @@ use Rattle.migrate_core.specs.Entries.{checked, no_entries}
 use Rattle.migrate_core.specs.Longest.{packing}
 use Rattle.migrate_core.specs.Migrating.{migrates}
 use Rattle.migrate_core.specs.Words.{Fate, Packed, Tail, is_packed, passed_over}
-use Rattle.migrate_core.specs.Writers.{counts_of, flat_in, if_done, installs, next_read, number_in, or_damage, puts, reads, reads_left, reads_of, sized, starts, syncs, writer_program}
+use Rattle.migrate_core.specs.Writers.{counts_of, flat_in, if_done, installs, or_damage, puts, reads, reads_left, sized, starts, syncs, writer_program}
+use Rattle.flow.specs.Entries.{next_read, reads_of}
+use Rattle.index_reader.specs.Replies.{number_in}
 use Rattle.migrate_laws.proofs.Left.{AreLeft, IsLeft, all_left_stay, left_stays}
 use Rattle.migrate_laws.proofs.Looking.{of_bytes, of_number}
 use Rattle.migrate_laws.proofs.Reading.{Measured, Reading, Ready, begins, measured_at, measured_stays, read_at, reading_stays, ready_now, ready_stays}

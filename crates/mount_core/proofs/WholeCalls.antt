@@ -6,7 +6,8 @@ use Rattle.store_api.specs.Step.{Step, create, remove}
 use Rattle.mount_model.specs.declared.row.Row.{Row}
 use Rattle.mount_model.specs.declared.reply.Refusal.{Refusal}
 use Rattle.mount_model.specs.Table.{writer_of}
-use Rattle.mount_model.specs.Paths.{Name, metadata, openhosts, open_path}
+use Rattle.mount_model.specs.Paths.{Name, metadata, open_path}
+use Rattle.container_layout.specs.Paths.{openhosts}
 use Rattle.mount_model.specs.Acting.{unless}
 use Rattle.mount_model.specs.Leaving.{put_meta_check, meta_file, exit_check}
 use Rattle.mount_model.specs.State.{State}

@@ -3,7 +3,8 @@ ghost use Rattle.std.specs.Prelude.{◌≡◌, ◌≤◌, List, [], ◌∷◌, �
 ghost use Rattle.store_api.specs.Step.{create};
 ghost use Rattle.mount_model.specs.declared.row.Row.{Row};
 ghost use Rattle.mount_model.specs.Making.{MakesAct};
-ghost use Rattle.mount_model.specs.Paths.{openhosts as openhosts_name, open_path as open_path_of};
+ghost use Rattle.container_layout.specs.Paths.{openhosts as openhosts_name};
+ghost use Rattle.mount_model.specs.Paths.{open_path as open_path_of};
 ghost use Rattle.mount_model.specs.Entering.{enter_outcome, Enters};
 
 use crate::mount::Mount;

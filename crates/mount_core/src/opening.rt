@@ -5,7 +5,6 @@ ghost use Rattle.store_api.specs.declared.step.Answer.TheVariants.{Made, Names};
 ghost use Rattle.store_api.specs.Acts.{Acts};
 ghost use Rattle.mount_model.specs.Mounting.{marks_step, list_step, mark_step, room_told, TellsRoom, IsNextMark, DrawsMark, IsMounted};
 ghost use Rattle.mount_model.specs.Failing.{names_told, made_told, FailsAt, LeavesNone, FailsToMount};
-ghost use Rattle.mount_model.specs.Paths.{marks_name as marks_room_name, marks_folder as marks_folder_name};
 
 use crate::mount::Mount;
 use container_layout::print_number;
@@ -15,22 +14,10 @@ use mount_table::{Listing, Roster, greatest};
 use plfs_types::{Name, NameList};
 use std::alloc::Global;
 use std::snapshot::Snapshot;
-use store_api::{Answer, Step, Store, Trouble};
+use store_api::{Answer, Step, Store, Trouble, marks_folder, marks_name};
 
 /// The greatest number of a mount.
 const LAST_MARK: u64 = u32::MAX as u64;
-
-fn marks_name() -> Name
-    ensures { result ≡ marks_room_name }
-{
-    Name::from_bytes(b".plfs").unwrap()
-}
-
-fn marks_folder() -> Name
-    ensures { result ≡ marks_folder_name }
-{
-    Name::from_bytes(b"mounts").unwrap()
-}
 
 /// Makes the room of the marks, where there is none, and gives its number.
 fn find_marks<S: Store>(store: &mut S) -> Result<u64, MountTrouble>

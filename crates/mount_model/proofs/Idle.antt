@@ -28,7 +28,8 @@ use Rattle.mount_model.specs.declared.reply.Refusal.{Refusal}
 use Rattle.mount_model.specs.declared.reply.Refusal.TheVariants.{NoRoom}
 use Rattle.mount_model.specs.declared.reply.Reply.{Reply}
 use Rattle.mount_model.specs.declared.reply.Reply.TheVariants.{Looked, Damaged, Holding, Done, Refused, NoMemory}
-use Rattle.mount_model.specs.Paths.{Name, truncs, openhosts, metadata, dropping_path, open_path, index_path, log_path, trunc_path, temporary}
+use Rattle.mount_model.specs.Paths.{Name, truncs, metadata, dropping_path, open_path, index_path, log_path, trunc_path, temporary}
+use Rattle.container_layout.specs.Paths.{openhosts}
 use Rattle.container_layout.specs.Paths.{hostdir_of}
 use Rattle.mount_model.specs.Table.{may_close, writer_of}
 use Rattle.mount_model.specs.State.{State, Table, put, drawn, timed}

@@ -28,7 +28,8 @@ use Rattle.mount_model.specs.declared.reply.Refusal.TheVariants as refusal
 use Rattle.mount_model.specs.declared.reply.Reply.{Reply}
 use Rattle.mount_model.specs.declared.reply.Reply.TheVariants as reply_of
 use Rattle.container_layout.specs.Paths.{hostdir_of}
-use Rattle.mount_model.specs.Paths.{Name, truncs, openhosts, metadata, dropping_path, open_path, index_path, log_path, trunc_path, temporary}
+use Rattle.mount_model.specs.Paths.{Name, truncs, metadata, dropping_path, open_path, index_path, log_path, trunc_path, temporary}
+use Rattle.container_layout.specs.Paths.{openhosts}
 use Rattle.mount_model.specs.State.{State, Table, drawn, timed}
 use Rattle.mount_model.specs.Making.{Told, CallOutcome, otherwise, MakesAct, room_check, or_reason, OnWriter, UnlessRefused}
 use Rattle.mount_model.specs.Finding.{find_outcome, make_outcome, RoomsReply}

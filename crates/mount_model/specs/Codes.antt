@@ -1,7 +1,6 @@
 -- How proofs store the state of a mount.
 use Rattle.std.specs.Prelude.{ℕ, List, Option, refl}
 use Rattle.std.specs.Coded.{Coded, code_by, coded×, coded_ℕ, coded_list, coded_option}
-use Rattle.store_api.specs.declared.tree.Tree.{Tree}
 use Rattle.store_api.specs.contracts.tree.Tree as tree
 use Rattle.store_api.specs.Acts.{Stored}
 use Rattle.mount_model.specs.declared.row.Row.{Row}
@@ -11,11 +10,7 @@ use Rattle.mount_model.specs.contracts.row.Row as row
 use Rattle.mount_model.specs.contracts.row.Holder as holder
 use Rattle.mount_model.specs.contracts.row.Flattening as flattening
 use Rattle.mount_model.specs.State.{State, Table}
-
-abbrev pub stored_code : Coded Stored
-stored_code = code_by (Option Tree × (ℕ × ℕ))
-    (coded× (coded_option tree.the_row.coded) (coded× coded_ℕ coded_ℕ))
-    (λ s. (s.tree, (s.acts, s.faults))) (λ p. record { tree = p.0; acts = p.1.0; faults = p.1.1 }) (λ _. refl)
+use Rattle.store_api.specs.Codes.{stored_code}
 
 abbrev pub table_code : Coded Table
 table_code = code_by (List Row × (List Holder × List Flattening))

@@ -8,7 +8,8 @@ use Rattle.mount_model.specs.declared.reply.Reply.{Reply}
 use Rattle.mount_model.specs.declared.reply.Reply.TheVariants.{Entered, Refused}
 use Rattle.mount_model.specs.declared.reply.Refusal.{Refusal}
 use Rattle.mount_model.specs.declared.reply.Refusal.TheVariants.{Held, IdsSpent}
-use Rattle.mount_model.specs.Paths.{openhosts, open_path}
+use Rattle.mount_model.specs.Paths.{open_path}
+use Rattle.container_layout.specs.Paths.{openhosts}
 use Rattle.mount_model.specs.State.{State, Table, id_of, drawn}
 use Rattle.mount_model.specs.Making.{Told, CallOutcome, says, otherwise, MakesAct, room_check, or_reason, UnlessRefused}
 

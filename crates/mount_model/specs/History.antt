@@ -1,5 +1,6 @@
 -- Histories of calls.
-use Rattle.std.specs.Prelude.{List, [], ◌∷◌, Option}
+use Rattle.std.specs.Prelude.{◌≡◌, ℕ, List, [], ◌∷◌, Option}
+use Rattle.std.specs.List.{AllByRecursion}
 use Rattle.store_api.specs.declared.tree.Tree.{Tree}
 use Rattle.turn_object.specs.declared.history.Entry as turn
 use Rattle.turn_object.specs.History as history
@@ -24,3 +25,7 @@ state_after start events = history.state_after start events
 -- the tree that the store tells after them
 abbrev pub told_tree_after : State → List Event → Option Tree
 told_tree_after start events = (state_after start events).store.tree
+
+-- all of them are this caller's: nobody else calls
+abbrev pub AreBy : ℕ → List Event → Type 0
+AreBy caller events = AllByRecursion (λ (event : Event). event.caller ≡ caller) events

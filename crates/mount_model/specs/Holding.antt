@@ -15,7 +15,8 @@ use Rattle.mount_model.specs.declared.reply.Reply.{Reply}
 use Rattle.mount_model.specs.declared.reply.Reply.TheVariants.{Holding, Marked, Done, Refused, Damaged, Fault}
 use Rattle.mount_model.specs.declared.reply.Refusal.{Refusal}
 use Rattle.mount_model.specs.declared.reply.Refusal.TheVariants.{Held, Busy, Exists, NotHolder, TooFar, StampsSpent}
-use Rattle.mount_model.specs.Paths.{Name, openhosts, truncs, trunc_path}
+use Rattle.mount_model.specs.Paths.{Name, truncs, trunc_path}
+use Rattle.container_layout.specs.Paths.{openhosts}
 use Rattle.mount_model.specs.Table.{holder_of, without_holder}
 use Rattle.mount_model.specs.State.{State, Table, drawn, timed}
 use Rattle.mount_model.specs.Making.{Told, CallOutcome, says, otherwise, MakesAct, Refuses, UnlessRefused}

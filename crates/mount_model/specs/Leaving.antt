@@ -9,7 +9,8 @@ use Rattle.mount_model.specs.declared.reply.Reply.{Reply}
 use Rattle.mount_model.specs.declared.reply.Reply.TheVariants.{Done, Fault, NoMemory}
 use Rattle.mount_model.specs.declared.reply.Refusal.{Refusal}
 use Rattle.mount_model.specs.declared.reply.Refusal.TheVariants.{NotFlushed, NoMeta}
-use Rattle.mount_model.specs.Paths.{Name, metadata, openhosts, meta_path, open_path}
+use Rattle.mount_model.specs.Paths.{Name, metadata, meta_path, open_path}
+use Rattle.container_layout.specs.Paths.{openhosts}
 use Rattle.mount_model.specs.Table.{may_close, is_live, at_stage}
 use Rattle.mount_model.specs.State.{State, Table, put, take_out}
 use Rattle.mount_model.specs.Making.{Told, CallOutcome, says, otherwise, MakesAct, OnWriter, UnlessRefused}

@@ -3,7 +3,9 @@ use Rattle.std.specs.Prelude.{◌≡◌, ℕ, ◌+◌, ◌^◌, ◌<◌, List, [
 use Rattle.store_api.specs.declared.step.Answer.TheVariants.{Made, Old, Number, Names}
 use Rattle.store_api.specs.Step.{Step, make_room, list_folder, create}
 use Rattle.store_api.specs.Acts.{Stored, Acts}
-use Rattle.mount_model.specs.Paths.{Name, marks_name, marks_folder, mark_name}
+use Rattle.mount_model.specs.Paths.{Name, mark_name}
+use Rattle.store_api.specs.Names.{marks_folder}
+use Rattle.store_api.specs.Names.{marks_name}
 use Rattle.mount_model.specs.Listed.{IsGreatest, IsMarkOf}
 use Rattle.mount_model.specs.State.{State}
 use Rattle.mount_model.specs.Making.{Told}

@@ -8,12 +8,11 @@ use Rattle.container_layout.specs.Paths.{path_of}
 use Rattle.mount_model.specs.declared.row.Flattening.{Flattening}
 use Rattle.mount_model.specs.declared.row.Making.{Making}
 use Rattle.mount_model.specs.declared.row.Making.TheVariants as making
+pub use Rattle.container_layout.specs.Paths.{openhosts}
+use Rattle.store_api.specs.Names.{marks_folder}
 
 abbrev pub Name : Type 0
 Name = List ℕ
-
-abbrev pub openhosts : Name
-openhosts = codes "openhosts"
 
 abbrev pub metadata : Name
 metadata = codes "metadata"
@@ -31,13 +30,7 @@ new_folders = openhosts ∷ metadata ∷ truncs ∷ flats ∷ []
 abbrev pub new_files : List Name
 new_files = codes "access" ∷ []
 
--- the room of the mounts' marks, its folder, and the name of a mount's mark in it
-abbrev pub marks_name : Name
-marks_name = codes ".plfs"
-
-abbrev pub marks_folder : Name
-marks_folder = codes "mounts"
-
+-- the name of a mount's mark
 abbrev pub mark_name : ℕ → Name
 mark_name mount = decimal mount
 

@@ -10,7 +10,8 @@ use Rattle.mount_model.specs.declared.reply.Reply.{Reply}
 use Rattle.mount_model.specs.declared.reply.Reply.TheVariants.{Done, Mended}
 use Rattle.mount_model.specs.declared.reply.Refusal.{Refusal}
 use Rattle.mount_model.specs.declared.reply.Refusal.TheVariants.{Alive, Held}
-use Rattle.mount_model.specs.Paths.{Name, openhosts, metadata, dropping_path, index_path, meta_path, open_path}
+use Rattle.mount_model.specs.Paths.{Name, metadata, dropping_path, index_path, meta_path, open_path}
+use Rattle.container_layout.specs.Paths.{openhosts}
 use Rattle.mount_model.specs.Table.{row_of, is_live, is_held_room}
 use Rattle.mount_model.specs.State.{State, Table}
 use Rattle.mount_model.specs.Making.{Told, CallOutcome, says, otherwise, MakesAct, room_check, or_reason, UnlessRefused}

@@ -24,7 +24,8 @@ use Rattle.store_laws.specs.Tells.{Tells}
 use Rattle.store_laws.specs.Changes.{with_room, beside, Wrote, FolderMade, FolderRemoved}
 use Rattle.store_laws.specs.Outcomes.{IsLook}
 use Rattle.store_laws.proofs.Facts.{look_told, create_told, remove_told, replace_told, make_room_told, rename_room_told, write_told, cut_told, sync_told, with_folder, make_folder_cases, remove_folder_cases, changed_room, none_kept, prefix_take}
-use Rattle.mount_model.specs.Paths.{Name, openhosts, new_folders, new_files, access_path}
+use Rattle.mount_model.specs.Paths.{Name, new_folders, new_files, access_path}
+use Rattle.container_layout.specs.Paths.{openhosts}
 use Rattle.mount_shape.specs.Container.{IsContainerFolder, MayHold, IsOfId, IsItemFile}
 use Rattle.mount_shape.specs.Shape.{IsDrawnBy}
 use Rattle.mount_shape.proofs.Items.{MayHoldAny, may_lose}

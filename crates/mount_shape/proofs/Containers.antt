@@ -15,7 +15,8 @@ use Rattle.store_laws.specs.Files.{file_at, AreTwo, SameButFile, SameButFolder}
 use Rattle.store_laws.specs.Differ.{is_listed, NamesDiffer, FoldersDiffer, FilesDiffer, PathsDiffer}
 use Rattle.store_laws.specs.Changes.{RoomMade, Moved, beside}
 use Rattle.store_laws.proofs.Facts.{name_eq, name_cases, path_cases, path_eq, folder_kept, file_at_same, has_folder_same, each_file, file_kept, paths_differ_kept, each_folder, each_new_file, has_new_file, has_new_folder, new_folders_differ}
-use Rattle.mount_model.specs.Paths.{Name, openhosts, metadata, truncs, flats, new_folders, new_files, access_path}
+use Rattle.mount_model.specs.Paths.{Name, metadata, truncs, flats, new_folders, new_files, access_path}
+use Rattle.container_layout.specs.Paths.{openhosts}
 use Rattle.mount_shape.specs.Container.{IsContainerFolder, IsOfId, IsItemFile, IsContainer}
 use Rattle.mount_shape.proofs.Items.{access_is_at, access_holds}
 

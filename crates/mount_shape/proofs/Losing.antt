@@ -9,7 +9,8 @@ use Rattle.store_laws.specs.Files.{file_at}
 use Rattle.store_laws.specs.Differ.{is_listed, NamesDiffer, RoomsDiffer}
 use Rattle.store_laws.specs.Losing.{HasLost, HaveLost}
 use Rattle.store_laws.proofs.Facts.{file_back, room_back, has_folder_same}
-use Rattle.mount_model.specs.Paths.{Name, metadata, truncs, flats, access_path, marks_folder}
+use Rattle.mount_model.specs.Paths.{Name, metadata, truncs, flats, access_path}
+use Rattle.store_api.specs.Names.{marks_folder}
 use Rattle.mount_shape.specs.Marks.{IsMarksRoom, HasMark, IsOfMark}
 use Rattle.mount_shape.specs.Container.{IsContainer}
 use Rattle.mount_shape.specs.Shape.{IsShapedTree}

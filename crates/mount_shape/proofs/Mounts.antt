@@ -18,7 +18,9 @@ use Rattle.store_laws.specs.Changes.{with_room, Created, RoomMade}
 use Rattle.store_laws.specs.Says.{ListTells}
 use Rattle.store_laws.specs.Tells.{Tells}
 use Rattle.store_laws.proofs.Facts.{path_cases, acts_told, make_room_told, create_told, list_tells, look_answered, look_told, changed_room, each_room, added_room, each_with_added, rooms_differ_kept, rooms_differ_added, folder_kept, folders_differ_kept, each_file, each_new_file, has_new_folder, new_folders_differ}
-use Rattle.mount_model.specs.Paths.{Name, marks_name, marks_folder, mark_name, mark_path}
+use Rattle.mount_model.specs.Paths.{Name, mark_name, mark_path}
+use Rattle.store_api.specs.Names.{marks_folder}
+use Rattle.store_api.specs.Names.{marks_name}
 use Rattle.mount_model.specs.State.{State, id_of}
 use Rattle.mount_model.specs.declared.trouble.MountTrouble.{MountTrouble}
 use Rattle.mount_model.specs.Failing.{FailsToMount, no_room, no_names, no_next, no_mark}

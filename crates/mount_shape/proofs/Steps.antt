@@ -29,7 +29,8 @@ use Rattle.mount_model.specs.declared.call.Ask.{Ask}
 use Rattle.mount_model.specs.declared.reply.Refusal.{Refusal}
 use Rattle.mount_model.specs.declared.reply.Reply.{Reply}
 use Rattle.mount_model.specs.declared.reply.Reply.TheVariants.{Done}
-use Rattle.mount_model.specs.Paths.{Name, openhosts, truncs, open_path, index_path, log_path, meta_path, trunc_path, temporary_item, temporary_of, temporary, installed, dropping_path}
+use Rattle.mount_model.specs.Paths.{Name, truncs, open_path, index_path, log_path, meta_path, trunc_path, temporary_item, temporary_of, temporary, installed, dropping_path}
+use Rattle.container_layout.specs.Paths.{openhosts}
 use Rattle.mount_model.specs.State.{State, id_of, last_id, drawn, timed}
 use Rattle.mount_model.specs.Making.{Told, CallOutcome, MakesAct, OnWriter, UnlessRefused}
 use Rattle.mount_model.specs.Finding.{NamesRooms, MakesContainer}

@@ -7,7 +7,8 @@ use Rattle.store_laws.specs.There.{IsFree}
 use Rattle.store_laws.specs.Changes.{with_room}
 use Rattle.store_laws.specs.Differ.{RoomsDiffer}
 use Rattle.store_laws.proofs.Facts.{other_room, each_room, earlier_room, each_with_added, rooms_differ_kept, rooms_differ_renamed, rooms_differ_added}
-use Rattle.mount_model.specs.Paths.{marks_name, mark_path}
+use Rattle.mount_model.specs.Paths.{mark_path}
+use Rattle.store_api.specs.Names.{marks_name}
 use Rattle.mount_model.specs.State.{State, id_of, last_id}
 use Rattle.mount_shape.specs.Marks.{IsMarksRoom, HasMark, IsOfMark}
 use Rattle.mount_shape.specs.Container.{IsContainer}

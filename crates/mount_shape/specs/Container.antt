@@ -9,7 +9,8 @@ use Rattle.store_api.specs.declared.tree.Room.{Room}
 use Rattle.store_api.specs.Room.{has_folder}
 use Rattle.store_laws.specs.Files.{file_at}
 use Rattle.store_laws.specs.Differ.{is_listed, FoldersDiffer, PathsDiffer}
-use Rattle.mount_model.specs.Paths.{Name, openhosts, metadata, truncs, flats, access_path}
+use Rattle.mount_model.specs.Paths.{Name, metadata, truncs, flats, access_path}
+use Rattle.container_layout.specs.Paths.{openhosts}
 
 -- the top, or a folder that a container may have
 abbrev pub IsContainerFolder : Name → Type 0

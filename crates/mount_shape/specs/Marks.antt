@@ -6,7 +6,9 @@ use Rattle.store_api.specs.declared.tree.Tree.{Tree}
 use Rattle.store_api.specs.Room.{has_folder}
 use Rattle.store_laws.specs.Files.{file_at}
 use Rattle.store_laws.specs.Differ.{is_listed, FoldersDiffer, PathsDiffer}
-use Rattle.mount_model.specs.Paths.{Name, marks_name, marks_folder, mark_path}
+use Rattle.mount_model.specs.Paths.{Name, mark_path}
+use Rattle.store_api.specs.Names.{marks_folder}
+use Rattle.store_api.specs.Names.{marks_name}
 use Rattle.mount_model.specs.State.{id_of}
 
 -- the file is an empty mark

@@ -4,7 +4,7 @@ use Rattle.store_api.specs.declared.tree.Room.{Room}
 use Rattle.store_api.specs.declared.tree.Tree.{Tree}
 use Rattle.store_api.specs.Room.{has_folder}
 use Rattle.mount_model.specs.declared.row.Holder.{Holder}
-use Rattle.mount_model.specs.Paths.{openhosts}
+use Rattle.container_layout.specs.Paths.{openhosts}
 use Rattle.mount_model.specs.Table.{holder_at}
 
 -- the room is there, and has no folder of who has the container open

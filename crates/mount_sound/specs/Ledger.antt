@@ -2,6 +2,8 @@
 use Rattle.std.specs.Prelude.{◌≡◌, ◌≤◌, ℕ, List, [], ◌∷◌, ◌++◌, length, map}
 use Rattle.plfs_types.specs.declared.limits.TheConstants.{MAX_LOG}
 use Rattle.plfs_types.specs.declared.entries.Entry.{Entry}
+use Rattle.plain_file.specs.declared.changes.Change.{Change}
+use Rattle.plain_file.specs.declared.changes.Change.TheVariants.{Write}
 use Rattle.mount_sound.specs.Entries.{AreEntriesOf, logged}
 
 -- one write: its entry, and its bytes
@@ -31,3 +33,7 @@ pub record AreWritesOf (writer : ℕ) (writes : List Written) : Type 0 where
 -- for each room and writer, the writes that it issued, in order
 abbrev pub Ledger : Type 0
 Ledger = ℕ → ℕ → List Written
+
+-- what it changes in a plain file
+abbrev pub change_of : Written → Change
+change_of w = Write w.entry w.bytes

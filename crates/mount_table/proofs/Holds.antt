@@ -11,7 +11,8 @@ use Rattle.container_layout.specs.Paths.{IsAt, IsIn}
 use Rattle.mount_model.specs.declared.row.Holder.{Holder}
 use Rattle.mount_model.specs.declared.row.Flattening.{Flattening}
 use Rattle.mount_model.specs.declared.row.FlatStage.{FlatStage}
-use Rattle.mount_model.specs.Paths.{Name, openhosts}
+use Rattle.mount_model.specs.Paths.{Name}
+use Rattle.container_layout.specs.Paths.{openhosts}
 use Rattle.mount_model.specs.Table.{holder_at, without_holder, is_held_room, flattening_at, with_flattening, without_flattening}
 use Rattle.mount_model.specs.Holding.{IsNoWriters, let_go}
 use Rattle.mount_model.specs.Flattening.{come_to, drop_flat}

@@ -9,7 +9,7 @@ use Rattle.std.proofs.lemmas.Option.{none-some, same_Some}
 use Rattle.std.proofs.lemmas.List.Elements.{All-head, All-tail, All-take}
 use Rattle.mount_model.specs.Regular.{Ascend}
 use Rattle.mount_model.proofs.Facts.{all-unmap}
-use Rattle.mount_table.specs.Places.{HasPassed}
+use Rattle.plfs_types.specs.Places.{HasPassed}
 use Rattle.mount_table.proofs.Rows.{same_test, other_test}
 
 -- the first item of this number

@@ -10,7 +10,7 @@ use Rattle.std.proofs.lemmas.List.Elements.{All-nil, All-cons, All-head, All-tai
 use Rattle.mount_model.specs.declared.row.Row.{Row}
 use Rattle.mount_model.specs.Table.{row_of, with_row, without_row}
 use Rattle.mount_model.specs.Regular.{AreAscending}
-use Rattle.mount_table.specs.Places.{HasPassed}
+use Rattle.plfs_types.specs.Places.{HasPassed}
 
 pub same_test : (a b : ℕ) → a ≡ b → nat_eq a b ≡ true
 same_test a b e = grind (arith, nat_tests)

@@ -1,4 +1,3 @@
-pub mod Places
 pub mod Roll
 pub mod Stages
 pub mod Writable

@@ -5,7 +5,7 @@ ghost use Rattle.container_layout.specs.declared.items.Item.TheVariants.{OpenHos
 ghost use Rattle.container_layout.specs.Paths.{IsIn};
 ghost use Rattle.mount_model.specs.declared.row.Holder.{Holder};
 ghost use Rattle.mount_model.specs.declared.reply.Refusal.TheVariants.{Busy};
-ghost use Rattle.mount_model.specs.Paths.{openhosts as openhosts_name};
+ghost use Rattle.container_layout.specs.Paths.{openhosts as openhosts_name};
 ghost use Rattle.mount_model.specs.Holding.{HoldOutcome, IsNoWriters, NotEmptyReply, truncate_check as truncate_refusal, truncate_stamp as truncate_stamp_of, release_outcome};
 ghost use Rattle.mount_table.specs.Roll.{with_table};
 ghost use Rattle.mount_table.specs.Admitting.{IsHolderAdmitted, IsTurnedAway};

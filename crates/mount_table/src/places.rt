@@ -1,8 +1,8 @@
 //! Looking a writer up.
-ghost use Rattle.std.specs.Prelude.{◌≡◌, ◌<◌, ◌≤◌, length, drop, None, IfNone, IfSome, slice_get};
+ghost use Rattle.std.specs.Prelude.{◌≡◌, ◌<◌, ◌≤◌, length, None, IfNone, IfSome, slice_get};
 ghost use Rattle.mount_model.specs.Regular.{AreAscending};
 ghost use Rattle.mount_model.specs.Table.{row_of, writer_of};
-ghost use Rattle.mount_table.specs.Places.{HasPassed};
+ghost use Rattle.plfs_types.specs.Places.{HasPassed};
 ghost use Rattle.mount_table.specs.Stages.{allowed};
 
 use crate::stages::Stages;

@@ -22,7 +22,8 @@ use Rattle.mount_model.specs.declared.call.Call.TheVariants.{Mark}
 use Rattle.mount_model.specs.Entering.{draw_check}
 use Rattle.mount_model.specs.Holding.{hold_step, holding, IsNoWriters, NotEmptyReply, HoldOutcome, HoldsRoom, HoldsContainer, truncate_check, truncate_stamp, truncate_step, truncate_outcome, TruncatesAt, Truncates, rename_step, rename_outcome, RenamesRoom, Renames, release_step, release_outcome, Releases}
 use Rattle.mount_model.specs.Making.{Told, MakesAct, UnlessRefused}
-use Rattle.mount_model.specs.Paths.{Name, openhosts, truncs, trunc_path}
+use Rattle.mount_model.specs.Paths.{Name, truncs, trunc_path}
+use Rattle.container_layout.specs.Paths.{openhosts}
 use Rattle.mount_model.specs.Recovering.{mend_hold_check, mend_hold_step, mend_hold_outcome, MendsHold}
 use Rattle.mount_model.specs.State.{State, Table, last_id, timed}
 use Rattle.mount_model.proofs.Facts.{MayTruncate, holder_apart, is_holding, may_enter, may_truncate}

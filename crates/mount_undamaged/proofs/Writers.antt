@@ -35,7 +35,8 @@ use Rattle.mount_model.proofs.Facts.{no_item, IsHeld, at_only, may_enter, row_of
 use Rattle.mount_model.specs.Flushing.{flush_step, flush_outcome, FlushesRow, Flushes, sync_log_step, sync_log_outcome, SyncsLog, sync_index_step, sync_index_outcome, SyncsIndex}
 use Rattle.mount_model.specs.Leaving.{put_meta_check, put_meta_step, put_meta_outcome, meta_file, PutsMeta, exit_check, exit_step, exit_outcome, Exits}
 use Rattle.mount_model.specs.Making.{Told, otherwise, MakesAct, UnlessRefused}
-use Rattle.mount_model.specs.Paths.{Name, openhosts, metadata, truncs, open_path, index_path, log_path, meta_path}
+use Rattle.mount_model.specs.Paths.{Name, metadata, truncs, open_path, index_path, log_path, meta_path}
+use Rattle.container_layout.specs.Paths.{openhosts}
 use Rattle.mount_model.specs.State.{State, Table, last_id, drawn, timed}
 use Rattle.mount_model.specs.Table.{rank, only, may_close, is_live}
 use Rattle.mount_model.specs.Writing.{write_check, stamp_at, write_step, write_outcome, WritesAt, Writes}

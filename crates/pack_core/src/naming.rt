@@ -1,6 +1,6 @@
 //! The names of all small files.
 ghost use Rattle.std.specs.Prelude.{◌≡◌, ◌++◌, IfOk, OnErr, OnOk};
-ghost use Rattle.store_api.specs.Names.{in_byte_order};
+ghost use Rattle.store_api.specs.Names.{in_byte_order as byte_order};
 ghost use Rattle.mount_sound.specs.Sound.{IsFine};
 ghost use Rattle.pack_core.specs.Looking.{HasLooked};
 ghost use Rattle.pack_core.specs.Naming.{BeginsToName, Names, NamesIn, names_in, names_of};
@@ -14,24 +14,8 @@ use mount_core::Mount;
 use pack_files::ScanStuck;
 use plfs_types::{LogicalName, Name, NameList, NoMemory};
 use std::alloc::Global;
-use std::collections::BTreeSet;
-use store_api::Store;
+use store_api::{Store, in_byte_order};
 use unit_format::{Region, RegionList, Unit};
-
-/// The names in byte order, each once.
-fn in_byte_order(alloc: Global, names: &[Name]) -> Result<NameList, NoMemory>
-    ensures { IfOk result (λ list. list ≡ in_byte_order names.now) }
-{
-    let mut ordered = BTreeSet::new(alloc);
-    for name in names {
-        ordered.insert(*name)?;
-    }
-    let mut list = NameList::new(alloc);
-    for name in ordered.iter() {
-        list.push(*name)?;
-    }
-    Ok(list)
-}
 
 /// Adds the names of these units.
 fn add_names(names: &mut Vec<Name>, units: &[Unit]) -> Result<(), NoMemory>
@@ -56,7 +40,7 @@ fn all_names(alloc: Global, regions: &[Region]) -> Result<Vec<Name>, NoMemory>
 
 /// The names of all units, in byte order, each once.
 fn ordered_names(alloc: Global, regions: &RegionList) -> Result<NameList, NoMemory>
-    ensures { IfOk result (λ names. names ≡ in_byte_order (names_in regions.now)) }
+    ensures { IfOk result (λ names. names ≡ byte_order (names_in regions.now)) }
 {
     let names = all_names(alloc, regions.as_slice())?;
     in_byte_order(alloc, names.as_slice())

@@ -1,17 +1,19 @@
 -- The word of a content: what is written is read, and what is read is so written.
-use Rattle.std.proofs.Common.{◌≡◌, ◌≢◌, ℕ, suc, ◌/◌, ◌%◌, ◌<◌, ◌&&◌, true, false, List, [], ◌∷◌, get_or, Some, None, Result, Ok, Err, refl, sym, ap, subst, ◌∙◌, inl, inr, arith}
+use Rattle.std.proofs.Common.{◌≡◌, ◌≢◌, ℕ, suc, ◌/◌, ◌%◌, ◌<◌, ◌&&◌, true, false, List, [], ◌∷◌, get_or, Some, None, Ok, refl, sym, ap, subst, ◌∙◌, inl, inr, arith}
 use Rattle.std.specs.List.{AllByRecursion, list_all}
 use Rattle.std.proofs.lemmas.Bool.{and_from, and_parts, cases_Bool}
 use Rattle.std.proofs.lemmas.Bool.Decides.{nat_tests}
 use Rattle.std.proofs.lemmas.List.Elements.{All-from_recursion}
 use Rattle.std.proofs.lemmas.List.Sums.{AllPass-from_list_all}
-use Rattle.hex.specs.declared.error.FromHexError.{FromHexError}
 use Rattle.hex.specs.Hex.{encode_with, encode_lower, decode_of, lower_digits, IsBytes}
 use Rattle.hex.proofs.HexLemmas.{decode_of-encode_lower, decode_of-ok}
 use Rattle.pack_input.specs.Input.{content_word, SaysNothing}
-use Rattle.pack_input.specs.Layout.{Lacks}
-use Rattle.pack_input.specs.Reading.{is_lower_digit, decoded, is_dash, content_of}
+use Rattle.plfs_types.specs.Parts.{Lacks}
+use Rattle.pack_input.specs.Digits.{decoded}
+use Rattle.pack_input.specs.Reading.{is_dash, content_of}
+use Rattle.plfs_types.specs.Parts.{is_lower_digit}
 use Rattle.pack_input.proofs.Digits.{lower_pairs}
+use Rattle.pack_input.proofs.SaidBytes.{decoded_so}
 
 -- ---- what is written is read
 
@@ -51,10 +53,6 @@ digits_found word content lower read =
     let again : decode_of word ≡ Ok pairs.0 = ap decode_of (sym pairs.2) ∙ decode_of-encode_lower pairs.0 pairs.1 in
     let same : pairs.0 ≡ content = cc in
     (ok.3, ap encode_lower (sym same) ∙ pairs.2)
-  where
-    decoded_so : (read : Result (List ℕ) FromHexError) (bytes : List ℕ) → decoded read ≡ Some bytes → read ≡ Ok bytes
-    decoded_so (Ok some) bytes is = let same : some ≡ bytes = cc in ap Ok same
-    decoded_so (Err why) bytes is = cc
 
 as_word : (word content : List ℕ) → word ≢ [] → encode_lower content ≡ word → word ≡ content_word content
 unfolding encode_with

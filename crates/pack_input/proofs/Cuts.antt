@@ -5,7 +5,8 @@ use Rattle.std.specs.List.{join_with_byte, position_or_len, slice_split, onto_fi
 use Rattle.std.proofs.Math.Seq.{take-length}
 use Rattle.std.proofs.lemmas.Bool.Decides.{nat_tests}
 use Rattle.std.proofs.lemmas.List.Splits.{join_with_byte-slice_split, length-slice_split, slice_split_first, slice_split-cons_no}
-use Rattle.pack_input.specs.Words.{lines_of, parts_of, without_empty_last}
+use Rattle.pack_input.specs.Words.{lines_of, without_empty_last}
+use Rattle.plfs_types.specs.Parts.{parts_of}
 
 guarded : (n len i : ℕ) (b : Bool) → nat_lt n len ≡ b → cond b (Some n) None ≡ Some i → (i ≡ n) × (i < len)
 guarded n len i true below is = let same : n ≡ i = cc in let less : n < len = grind (arith, nat_tests) in (sym same, omega arith)

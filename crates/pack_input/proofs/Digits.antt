@@ -5,7 +5,7 @@ use Rattle.std.specs.List.{list_all}
 use Rattle.std.proofs.lemmas.Bool.{and_parts}
 use Rattle.std.proofs.lemmas.Bool.Decides.{nat_tests}
 use Rattle.hex.specs.Hex.{encode_with, encode_lower, lower_digits, IsBytes}
-use Rattle.pack_input.specs.Reading.{is_lower_digit}
+use Rattle.plfs_types.specs.Parts.{is_lower_digit}
 
 low_digit : (k : ℕ) → k < 10 → get_or lower_digits k 0 ≡ 48 + k
 low_digit zero small = refl

@@ -11,7 +11,7 @@ use Rattle.pack_input.specs.declared.trouble.Kind.{Kind}
 use Rattle.pack_input.specs.declared.trouble.Kind.TheVariants.{Long, Spaces, Count, Name, Data}
 use Rattle.pack_input.specs.Input.{HasKind, IsFirst, order}
 use Rattle.pack_input.specs.Reading.{content_of, with_content, judged, two_words, file_of}
-use Rattle.pack_input.specs.Words.{is_empty}
+use Rattle.plfs_types.specs.Parts.{is_empty}
 use Rattle.pack_input.proofs.Contents.{content_found, no_content}
 use Rattle.pack_input.proofs.SaidFiles.{words_found}
 use Rattle.pack_input.proofs.Layouts.{empty_word, full_words}

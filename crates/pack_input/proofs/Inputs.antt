@@ -13,7 +13,8 @@ use Rattle.pack_input.specs.Answers.{AnswersAsRead, IsAnswered, IsTrouble, AddsA
 use Rattle.pack_input.specs.Input.{AreFiles, Fault, HasFault, HasFaultyLine, IsInput, long, faulty}
 use Rattle.pack_input.specs.Layout.{AreLines}
 use Rattle.pack_input.specs.Reading.{in_front, behind_line, file_of, files_of, input_of}
-use Rattle.pack_input.specs.Words.{lines_of, words_of}
+use Rattle.pack_input.specs.Words.{lines_of}
+use Rattle.plfs_types.specs.Parts.{words_of}
 use Rattle.pack_input.proofs.SaidFiles.{file_again, file_found}
 use Rattle.pack_input.proofs.FirstKinds.{kind_again, kind_found}
 use Rattle.pack_input.proofs.Layouts.{are_lines, are_words, lines_are, words_are}

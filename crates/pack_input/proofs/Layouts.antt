@@ -5,8 +5,10 @@ use Rattle.std.specs.List.{AllByRecursion, join_with_byte, list_any, onto_first}
 use Rattle.std.proofs.lemmas.Bool.Decides.{nat_tests}
 use Rattle.std.proofs.lemmas.List.Elements.{All-nil, All-cons, All-weaker, All-from_recursion, recursion_from_All}
 use Rattle.std.proofs.lemmas.List.Splits.{slice_split_none, slice_split_at, join_with_byte-slice_split}
-use Rattle.pack_input.specs.Layout.{Lacks, ended, unless_empty, AreLines, AreWords}
-use Rattle.pack_input.specs.Words.{parts_of, lines_of, words_of, is_empty, without_empty_last}
+use Rattle.pack_input.specs.Layout.{unless_empty, AreLines}
+use Rattle.plfs_types.specs.Parts.{Lacks, ended, AreWords}
+use Rattle.pack_input.specs.Words.{lines_of, without_empty_last}
+use Rattle.plfs_types.specs.Parts.{parts_of, words_of, is_empty}
 use Rattle.pack_input.proofs.Cuts.{some_parts}
 
 -- ---- parts

@@ -3,6 +3,7 @@ mod Layouts
 mod Digits
 mod FirstBytes
 mod Worths
+mod SaidBytes
 mod Contents
 mod SaidFiles
 mod FirstKinds

@@ -10,9 +10,9 @@ use Rattle.pack_input.specs.declared.files.NamedFile.{NamedFile}
 use Rattle.pack_input.specs.declared.trouble.Kind.{Kind}
 use Rattle.pack_input.specs.declared.trouble.Kind.TheVariants.{Count, Name, Spaces}
 use Rattle.pack_input.specs.Input.{content_word, SaysFile}
-use Rattle.pack_input.specs.Layout.{Lacks}
+use Rattle.plfs_types.specs.Parts.{Lacks}
 use Rattle.pack_input.specs.Reading.{content_of, with_content, judged, two_words, file_of}
-use Rattle.pack_input.specs.Words.{is_empty, parts_of, words_of}
+use Rattle.plfs_types.specs.Parts.{is_empty, parts_of, words_of}
 use Rattle.pack_input.proofs.Cuts.{some_parts}
 use Rattle.pack_input.proofs.Contents.{content_found, content_lacks, content_some, read_again}
 use Rattle.pack_input.proofs.Layouts.{are_words, full_words, words_are}

@@ -5,7 +5,8 @@ use Rattle.plfs_types.specs.Names.{IsLogicalName}
 use Rattle.pack_input.specs.declared.files.NamedFile.{NamedFile}
 use Rattle.pack_input.specs.declared.trouble.Kind.{Kind}
 use Rattle.pack_input.specs.declared.trouble.Kind.TheVariants.{Long, Spaces, Count, Name, Data}
-use Rattle.pack_input.specs.Layout.{AreLines, AreWords}
+use Rattle.pack_input.specs.Layout.{AreLines}
+use Rattle.plfs_types.specs.Parts.{AreWords}
 
 -- ---- files
 

@@ -1,28 +1,16 @@
 -- Reading an input, word by word.
-use Rattle.std.specs.Prelude.{ℕ, ◌+◌, ◌^◌, ◌==◌, ◌&&◌, ◌||◌, nat_le, nat_lt, Bool, false, if◌then◌else◌, List, [], ◌∷◌, length, Option, Some, None, Result, Ok, Err}
-use Rattle.std.specs.List.{list_all, list_any}
-use Rattle.hex.specs.declared.error.FromHexError.{FromHexError}
-use Rattle.hex.specs.Hex.{decode_of}
-use Rattle.unit_format.specs.Names.{name_of}
+use Rattle.std.specs.Prelude.{ℕ, ◌+◌, ◌^◌, ◌==◌, nat_lt, Bool, false, if◌then◌else◌, List, [], ◌∷◌, length, Option, Some, None, Result, Ok, Err}
+use Rattle.std.specs.List.{list_any}
+use Rattle.plfs_types.specs.Names.{name_of}
 use Rattle.pack_input.specs.declared.files.NamedFile.{NamedFile}
 use Rattle.pack_input.specs.declared.trouble.Kind.{Kind}
 use Rattle.pack_input.specs.declared.trouble.Kind.TheVariants.{Long, Spaces, Count, Name, Data}
+use Rattle.pack_input.specs.Digits.{digits_of}
 use Rattle.pack_input.specs.Input.{Fault}
-use Rattle.pack_input.specs.Words.{is_empty, lines_of, words_of}
+use Rattle.pack_input.specs.Words.{lines_of}
+use Rattle.plfs_types.specs.Parts.{is_empty, words_of}
 
 -- ---- words
-
--- one of 0-9 and a-f
-abbrev pub is_lower_digit : ℕ → Bool
-is_lower_digit b = (nat_le 48 b && nat_le b 57) || (nat_le 97 b && nat_le b 102)
-
-abbrev pub decoded : Result (List ℕ) FromHexError → Option (List ℕ)
-decoded (Ok bytes) = Some bytes
-decoded (Err why) = None
-
--- an even number of lower-case digits, two a byte
-abbrev pub digits_of : List ℕ → Option (List ℕ)
-digits_of word = if list_all is_lower_digit word then decoded (decode_of word) else None
 
 abbrev pub is_dash : List ℕ → Bool
 is_dash [] = false

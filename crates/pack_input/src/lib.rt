@@ -4,12 +4,14 @@
 //! stands on the shared values, and on `hex` for the digits.
 #![tactic(auto)]
 
+mod content;
 mod files;
 mod laws;
 mod reading;
 mod trouble;
 mod words;
 
+pub use content::Content;
 pub use files::{FileList, NamedFile};
 pub use laws::inputs_are_told_apart;
 pub use reading::read;

@@ -1,7 +1,8 @@
 //! What stands between spaces, and between line feeds.
 ghost use Rattle.std.specs.Prelude.{◌≡◌, ◌<◌, ◌≤◌, ◌==◌, ◌∷◌, length, Some, IfSome, option_map, position};
 ghost use Rattle.std.specs.List.{list_any};
-ghost use Rattle.pack_input.specs.Words.{parts_of, parts_behind, words_of, lines_of, is_empty};
+ghost use Rattle.pack_input.specs.Words.{lines_of};
+ghost use Rattle.plfs_types.specs.Parts.{parts_of, parts_behind, words_of, is_empty};
 
 use memchr::memchr;
 

@@ -69,7 +69,7 @@ fn pack_from<S: Store + Drop, C: Clock + Drop>(
     name: LogicalName,
     region: u64,
     at: u64,
-    files: &FileList,
+    files: &FileList<'_>,
 ) -> Result<Result<Packed, ScanStuck>, NoMemory>
     requires small { All (λ (f : Named). length f.content ≤ MAX_CONTENT) files.now }
     requires known { region < REGIONS }
@@ -101,7 +101,7 @@ pub fn pack<S: Store + Drop, C: Clock + Drop>(
     mount: &mut Mount<S, C>,
     name: LogicalName,
     region: u64,
-    files: &FileList,
+    files: &FileList<'_>,
 ) -> Result<Result<Packed, ScanStuck>, NoMemory>
     requires small { All (λ (f : Named). length f.content ≤ MAX_CONTENT) files.now }
     requires known { region < REGIONS }

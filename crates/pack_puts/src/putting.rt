@@ -1,9 +1,13 @@
 //! Files put one behind the other.
-ghost use Rattle.std.specs.Prelude.{◌≡◌, ◌≤◌, ◌<◌, ◌+◌, ◌*◌, length, IfOk, OnErr};
+ghost use Rattle.std.specs.Prelude.{◌≡◌, ◌≤◌, ◌<◌, ◌+◌, ◌*◌, ◌↔◌, length, Err, IfOk, IfErr, OnErr};
 ghost use Rattle.std.specs.List.{All};
+ghost use Rattle.flow.specs.Standing.{ready};
 ghost use Rattle.mount_sound.specs.Sound.{IsFine};
 ghost use Rattle.unit_format.specs.declared.units.TheConstants.{MAX_CONTENT, REGION_SIZE, REGIONS};
 ghost use Rattle.unit_format.specs.Units.{unit_size as unit_size_of};
+ghost use Rattle.pack_files.specs.Putting.{IsPutTrouble, put_program};
+ghost use Rattle.pack_files.specs.Puts.{put_standing};
+ghost use Rattle.pack_files.specs.declared.put.PutTrouble.TheVariants.{RegionFull as IsFull};
 ghost use Rattle.pack_input.specs.declared.files.NamedFile.{NamedFile as Named};
 ghost use Rattle.pack_puts.specs.Putting.{BeginsToPut, BeginsToPutFile, IsWithin, Puts, PutsAll, put_of as put_of_out, small_file};
 
@@ -16,6 +20,7 @@ use pack_input::NamedFile;
 use plfs_types::NoMemory;
 use std::alloc::Global;
 use store_api::Store;
+use unit_format::REGION_SIZE;
 use writer_flow::{WriterHandle, WriterOut};
 
 /// What a put came to.
@@ -30,11 +35,11 @@ pub(crate) enum Put {
 }
 
 /// How many bytes the file's unit has.
-fn unit_size(file: &NamedFile) -> u64
+fn unit_size(file: &NamedFile<'_>) -> u64
     requires { length file.now.content ≤ MAX_CONTENT }
     ensures { result ≡ unit_size_of (small_file file.now) }
 {
-    16 + file.name.name().bytes().len() as u64 + file.content.as_slice().len() as u64
+    16 + file.name.name().bytes().len() as u64 + file.content.len() as u64
 }
 
 /// What the end of a put's machine comes to.
@@ -50,6 +55,32 @@ fn put_of(next: u64, out: WriterOut) -> Put
     }
 }
 
+/// The machine that puts the file at this place of the region. Its bytes are read off the input's digits here.
+fn put_of_file(
+    alloc: Global,
+    handle: WriterHandle,
+    region: u64,
+    at: u64,
+    file: &NamedFile<'_>,
+) -> Result<PackPut, PutTrouble>
+    requires small { length file.now.content ≤ MAX_CONTENT }
+    requires known { region < REGIONS }
+    requires from { region * REGION_SIZE ≤ at }
+    requires until { at ≤ (region + 1) * REGION_SIZE }
+    ensures standing { IfOk result (λ put. put_standing put ≡ ready (put_program handle at (small_file file.now))) }
+    ensures fits { IfOk result (λ put. at + unit_size_of (small_file file.now) ≤ (region + 1) * REGION_SIZE) }
+    ensures full { (result ≡ Err (IsFull handle)) ↔ ((region + 1) * REGION_SIZE < at + unit_size_of (small_file file.now)) }
+    ensures trouble { IfErr result (IsPutTrouble handle) }
+{
+    if (region + 1) * REGION_SIZE - at < unit_size(file) {
+        return Err(PutTrouble::RegionFull { handle });
+    }
+    match file.content.bytes(alloc) {
+        Ok(content) => PackPut::new(alloc, handle, region, at, &file.name, &content),
+        Err(NoMemory) => Err(PutTrouble::NoMemory { handle }),
+    }
+}
+
 /// Puts a file at this place of the region.
 fn put_file<S: Store + Drop, C: Clock + Drop>(
     alloc: Global,
@@ -57,7 +88,7 @@ fn put_file<S: Store + Drop, C: Clock + Drop>(
     handle: WriterHandle,
     region: u64,
     at: u64,
-    file: &NamedFile,
+    file: &NamedFile<'_>,
 ) -> Result<Put, NoMemory>
     requires small { length file.now.content ≤ MAX_CONTENT }
     requires known { region < REGIONS }
@@ -69,7 +100,7 @@ fn put_file<S: Store + Drop, C: Clock + Drop>(
     ensures within { IfOk result (IsWithin region) }
     ensures fine { IsFine mount.new }
 {
-    match PackPut::new(alloc, handle, region, at, &file.name, &file.content) {
+    match put_of_file(alloc, handle, region, at, file) {
         Ok(machine) => {
             let next = at + unit_size(file);
             let out = drive_freely(mount, machine)?;
@@ -94,7 +125,7 @@ pub(crate) fn put_all<S: Store + Drop, C: Clock + Drop>(
     handle: WriterHandle,
     region: u64,
     at: u64,
-    files: &[NamedFile],
+    files: &[NamedFile<'_>],
 ) -> Result<Put, NoMemory>
     requires small { All (λ (f : Named). length f.content ≤ MAX_CONTENT) files.now }
     requires known { region < REGIONS }

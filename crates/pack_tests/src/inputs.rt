@@ -23,7 +23,8 @@ fn show(alloc: Global, input: &[u8], shown: &mut Line) -> Result<(), NoMemory> {
                 if let Ok(text) = std::str::from_utf8(name.bytes()) {
                     shown.push(text);
                 }
-                for byte in file.content.as_slice() {
+                let content = file.content.bytes(alloc)?;
+                for byte in content.as_slice() {
                     shown.say(" ", u64::from(*byte));
                 }
                 shown.push(";");

@@ -7,11 +7,11 @@ use flow::{Flow, Stuck};
 use index_reader::{OpenReader, Reading};
 use opening_flow::Opening;
 use pack_files::{PackPut, PutTrouble, ScanRegion, ScanStuck};
-use plfs_types::{Bytes, LogicalName, NoMemory};
+use plfs_types::{Bytes, LogicalName, NoMemory, name_in};
 use std::alloc::Global;
 use std::test::Fail;
 use test_lines::Line;
-use unit_format::{Region, RegionList, Unit, find, name_in};
+use unit_format::{Region, RegionList, Unit, find};
 use writer_flow::{WriterHandle, WriterOut};
 
 // What the machine comes to.

@@ -14,3 +14,5 @@ pub mod Marking
 pub mod MoreTruncs
 pub mod Cutting
 pub mod Cuts
+pub mod Living
+pub mod Mended

@@ -32,7 +32,8 @@ use Rattle.mount_model.specs.Finding.{make_outcome}
 use Rattle.mount_model.specs.Flooring.{FloorOutcome, FloorsRow, floored}
 use Rattle.mount_model.specs.History.{Event}
 use Rattle.mount_model.specs.Making.{MakesAct, Refuses, Told, or_reason}
-use Rattle.mount_model.specs.Paths.{Name, access_path, index_path, marks_folder, new_files, new_folders, log_path}
+use Rattle.mount_model.specs.Paths.{Name, access_path, index_path, new_files, new_folders, log_path}
+use Rattle.store_api.specs.Names.{marks_folder}
 use Rattle.mount_model.specs.Regular.{IsDrawn}
 use Rattle.mount_model.specs.State.{State, Table, put}
 use Rattle.mount_model.specs.Step.{Answers}

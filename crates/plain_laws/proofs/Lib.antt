@@ -12,3 +12,4 @@ mod Plainly
 mod WritingPlainly
 mod Steps
 mod ByName
+mod Looks

@@ -18,7 +18,8 @@ use Rattle.gathering.proofs.Facts.{moment-append, sound_after}
 use Rattle.refusal_laws.specs.Reasons.{HasReason}
 use Rattle.refusal_laws.proofs.Facts.{does_work}
 use Rattle.writer_laws.proofs.Stops.{whole_answers}
-use Rattle.plain_laws.specs.Calls.{AreBy, AtSome, HasCalled}
+use Rattle.plain_laws.specs.Calls.{AtSome, HasCalled}
+use Rattle.mount_model.specs.History.{AreBy}
 use Rattle.plain_laws.specs.Served.{GoesWell}
 
 -- what others call keeps it

@@ -28,7 +28,8 @@ use Rattle.mount_model.specs.Entering.{draw_check}
 use Rattle.mount_model.specs.Holding.{HoldOutcome, HoldsRoom, TruncatesAt, holding, truncate_check, truncate_outcome, truncate_stamp}
 use Rattle.mount_model.specs.Looking.{look_outcome, look_step}
 use Rattle.mount_model.specs.Making.{MakesAct, Refuses, Told, UnlessRefused, otherwise, room_check}
-use Rattle.mount_model.specs.Paths.{Name, metadata, openhosts, truncs}
+use Rattle.mount_model.specs.Paths.{Name, metadata, truncs}
+use Rattle.container_layout.specs.Paths.{openhosts}
 use Rattle.mount_model.specs.State.{State, Table}
 use Rattle.mount_model.specs.Step.{Answers}
 use Rattle.mount_model.specs.Table.{holder_at, holder_of, its_hold}

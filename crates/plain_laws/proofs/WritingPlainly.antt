@@ -35,7 +35,8 @@ use Rattle.plain_machine.specs.Machine.{PlainWriter}
 use Rattle.plain_machine.specs.Becoming.{all_landed}
 use Rattle.plain_machine.specs.Landed.{last_of}
 use Rattle.plain_machine.specs.Writers.{issue, one_more}
-use Rattle.plain_laws.specs.Calls.{AreBy, AtSome}
+use Rattle.plain_laws.specs.Calls.{AtSome}
+use Rattle.mount_model.specs.History.{AreBy}
 use Rattle.plain_laws.specs.Plainly.{KeepsPlain, MirrorsOwn, RefusesOne, WritesInto, WritesOne, WritesPlainly, dropping_of, plain_reason}
 use Rattle.plain_laws.specs.Served.{EndsWell, GoesWell, HasOpen, write_reason}
 use Rattle.plain_laws.proofs.Doing.{flush_does, flush_times, found, not_none, refused_same, write_does}

@@ -1,7 +1,7 @@
 -- A machine that begins over a store where nothing was.
 use Rattle.std.specs.Prelude.{ℕ, List, [], ◌∷◌, Option}
 use Rattle.store_api.specs.declared.tree.Tree.{Tree}
-use Rattle.mount_model.specs.Paths.{marks_name}
+use Rattle.store_api.specs.Names.{marks_name}
 use Rattle.plain_machine.specs.Machine.{Plain, PlainActor}
 use Rattle.plain_machine.specs.Becoming.{empty_room}
 

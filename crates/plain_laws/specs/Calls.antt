@@ -1,6 +1,5 @@
 -- Moments and calls among some events.
 use Rattle.std.specs.Prelude.{◌≡◌, ℕ, List, ◌∷◌, ◌++◌}
-use Rattle.std.specs.List.{AllByRecursion}
 use Rattle.mount_model.specs.declared.call.Call.{Call}
 use Rattle.mount_model.specs.declared.reply.Reply.{Reply}
 use Rattle.mount_model.specs.History.{Event}
@@ -22,7 +21,3 @@ pub record HasCalled (caller : ℕ) (call : Call) (reply : Reply) (events : List
   pub own : event.caller ≡ caller
   pub asked : event.ask.call ≡ call
   pub told : event.reply ≡ reply
-
--- all of them are this caller's: nobody else calls
-abbrev pub AreBy : ℕ → List Event → Type 0
-AreBy caller events = AllByRecursion (λ (event : Event). event.caller ≡ caller) events

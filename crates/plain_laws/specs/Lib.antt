@@ -6,3 +6,5 @@ pub mod Tops
 pub mod Mirrors
 pub mod Stepping
 pub mod Beginning
+pub mod Asking
+pub mod Readers

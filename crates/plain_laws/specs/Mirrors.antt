@@ -6,7 +6,8 @@ use Rattle.store_api.specs.declared.tree.Room.{Room}
 use Rattle.store_api.specs.declared.tree.Tree.{Tree}
 use Rattle.store_api.specs.Room.{has_folder}
 use Rattle.mount_model.specs.declared.row.Row.{Row}
-use Rattle.mount_model.specs.Paths.{open_path, openhosts}
+use Rattle.mount_model.specs.Paths.{open_path}
+use Rattle.container_layout.specs.Paths.{openhosts}
 use Rattle.mount_model.specs.State.{last_id}
 use Rattle.mount_model.specs.Table.{is_live, row_of}
 use Rattle.gathering.specs.Listing.{AreTruncsAt}

@@ -5,7 +5,8 @@ use Rattle.mount_model.specs.declared.call.Call.TheVariants.{MakeContainer}
 use Rattle.mount_model.specs.declared.reply.Refusal.TheVariants.{Held, IdsSpent}
 use Rattle.mount_model.specs.declared.reply.Reply.TheVariants.{Room}
 use Rattle.mount_model.specs.History.{Event}
-use Rattle.mount_model.specs.Paths.{Name, openhosts}
+use Rattle.mount_model.specs.Paths.{Name}
+use Rattle.container_layout.specs.Paths.{openhosts}
 use Rattle.flow.specs.declared.stuck.Stuck.{Stuck}
 use Rattle.flow.specs.declared.stuck.Stuck.TheVariants as stuck
 use Rattle.gathering.specs.Moments.{Moment, moment_after}

@@ -21,7 +21,8 @@ use Rattle.plain_machine.specs.Machine.{PlainWriter}
 use Rattle.plain_machine.specs.Becoming.{all_landed, made_room}
 use Rattle.plain_machine.specs.Landed.{last_of}
 use Rattle.plain_machine.specs.Writers.{issue, one_more}
-use Rattle.plain_laws.specs.Calls.{AreBy, AtSome, HasCalled}
+use Rattle.plain_laws.specs.Calls.{AtSome, HasCalled}
+use Rattle.mount_model.specs.History.{AreBy}
 use Rattle.plain_laws.specs.Served.{HasOpen}
 
 -- where the plain writer's index lies

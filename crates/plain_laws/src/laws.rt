@@ -1,6 +1,14 @@
 //! The laws of statements that come to their ends.
-ghost use Rattle.std.specs.Prelude.{◌≡◌, ◌≤◌, ℕ, List, None, Ok, Option, Result, Some, false, length};
+ghost use Rattle.std.specs.Prelude.{[], ◌≡◌, ◌≤◌, ◌⊎◌, ℕ, List, None, Ok, Option, Result, Some, false, length, slice_get, true};
+ghost use Rattle.actor_core.specs.declared.kept.Kept.{Kept};
+ghost use Rattle.actor_core.specs.declared.kept.Stop.{Stop};
+ghost use Rattle.actor_core.specs.Endings.{stopped, told_of};
 ghost use Rattle.actor_core.specs.Names.{names_program};
+ghost use Rattle.actor_core.specs.Opened.{reader_opened, reader_refreshed, without_reader};
+ghost use Rattle.actor_core.specs.Stopping.{carried};
+ghost use Rattle.actor_core.specs.Telling.{tells_of_file};
+ghost use Rattle.actor_core.specs.Work.{finishes};
+ghost use Rattle.attr_flow.specs.declared.attr.Attr.{Attr};
 ghost use Rattle.flow.specs.declared.stuck.Stuck.{Stuck};
 ghost use Rattle.flow.specs.Running.{Runs};
 ghost use Rattle.gathering.specs.Moments.{IsSoundAt, Moment, moment_after};
@@ -9,21 +17,36 @@ ghost use Rattle.mount_model.specs.History.{Event};
 ghost use Rattle.mount_model.specs.Mounting.{IsMounted};
 ghost use Rattle.mount_model.specs.Paths.{Name};
 ghost use Rattle.mount_sound.specs.Owed.{IsLawful};
-ghost use Rattle.outcomes.specs.Data.{bytes_of};
-ghost use Rattle.outcomes.specs.Outcomes.{close_outcome, list_outcome, open_outcome, rename_outcome, sync_outcome, truncate_outcome, write_outcome};
+ghost use Rattle.index_reader.specs.declared.opened.OpenReader.{OpenReader};
+ghost use Rattle.index_reader.specs.Opened.{parts_of};
+ghost use Rattle.index_reader.specs.Reading.{read_program};
+ghost use Rattle.outcomes.specs.Data.{bytes_of, length_of};
+ghost use Rattle.outcomes.specs.Outcomes.{close_outcome, list_outcome, map_text, open_outcome, read_outcome, recover_outcome, rename_outcome, stat_outcome, sync_outcome, truncate_outcome, verify_outcome, write_outcome};
+ghost use Rattle.plain_laws.specs.Asking.{read_in_program, tell_program};
 ghost use Rattle.plain_laws.specs.Beginning.{bare_tree, first_machine};
-ghost use Rattle.plain_laws.specs.Calls.{AreBy};
+ghost use Rattle.mount_model.specs.History.{AreBy};
 ghost use Rattle.plain_laws.specs.Mirrors.{Mirrors};
 ghost use Rattle.plain_laws.specs.Opens.{OpensOrNot};
 ghost use Rattle.plain_laws.specs.Plainly.{ClosesPlainly, MirrorsOwn, SyncsPlainly, WritesPlainly};
+ghost use Rattle.plain_laws.specs.Readers.{HasReader, IsUse, MirrorsReader, TakesOnReader};
 ghost use Rattle.plain_laws.specs.Stepping.{HasActor, TakesStep, handle_in};
-ghost use Rattle.plain_machine.specs.Machine.{Plain, PlainActor, PlainWriter};
+ghost use Rattle.plain_machine.specs.ByName.{dead};
+ghost use Rattle.plain_machine.specs.Finding.{find};
+ghost use Rattle.plain_machine.specs.Machine.{Plain, PlainActor, PlainReader, PlainRoom, PlainWriter};
+ghost use Rattle.read_plan.specs.Plan.{plan_of};
+ghost use Rattle.refresh_index.specs.declared.refreshing.RefreshOut.{RefreshOut};
+ghost use Rattle.refresh_index.specs.Refreshing.{refresh_program};
 ghost use Rattle.plain_laws.specs.Served.{ClosesWell, EndsAsItMay, EndsWell, GoesWell, HasOpen};
 ghost use Rattle.plain_laws.specs.Tops.{TruncatesAbove};
 ghost use Rattle.script_lang.specs.declared.script.ActorDecl.{ActorDecl};
 ghost use Rattle.script_lang.specs.declared.script.Data.{Data};
-ghost use Rattle.script_lang.specs.declared.script.Statement.TheVariants.{Close, Ls, Open, Rename, Sync, Trunc, Write};
+ghost use Rattle.script_lang.specs.declared.line.Outcome.TheVariants.{Map as Mapped, ReaderClosed, Refused};
+ghost use Rattle.script_lang.specs.declared.line.Why.TheVariants.{AlreadyOpen, NotOpen};
+ghost use Rattle.script_lang.specs.declared.script.Statement.{Statement};
+ghost use Rattle.script_lang.specs.declared.script.Statement.TheVariants.{Close, Ls, Map, Open, Rclose, Read, Recover, Refresh, Rename, Ropen, Stat, Sync, Trunc, Verify, Write};
 ghost use Rattle.store_api.specs.Acts.{Stored};
+ghost use Rattle.torn_tail.specs.declared.recovering.Recovered.{Recovered};
+ghost use Rattle.torn_tail.specs.Recovering.{recover_program};
 ghost use Rattle.trunc_rename.specs.Renaming.{rename_program};
 ghost use Rattle.trunc_rename.specs.Truncating.{truncate_program};
 ghost use Rattle.writer_flow.specs.Closing.{close_program};
@@ -95,6 +118,48 @@ pub fn truncates_and_renames_are_steps()
         → Runs me (truncate_program name size) events out → TakesStep m me declared actor p (Trunc name size) (truncate_outcome out) (moment_after m events) handle }
     ensures renames { (m : Moment) (me : ℕ) (p : Plain) (handle : Option WriterHandle) (actor : PlainActor) (declared : ActorDecl) (name to : Name) (events : List Event) (out : Result (Unit {0}) Stuck) → IsLawful m.state events → GoesWell me events → AreBy me events → Mirrors m p → HasActor m me p handle actor
         → Runs me (rename_program name to) events out → TakesStep m me declared actor p (Rename name to) (rename_outcome out) (moment_after m events) handle }
+{}
+
+/// A law: a statement that tells of a file is a step of the plain machine, which it leaves as it was. It tells the size, the bytes of each writer and of all of
+/// them, and the truncates, of what has landed in the machine's room; or that there is no such file. That is so where nobody has the file open, by the names that
+/// writers left, and where somebody has, by their indices. Its caller met no fault and had memory, and nobody else called. An actor's statement makes just these
+/// calls, with its armed stop among them.
+pub fn tellings_are_steps()
+    ensures steps { (m : Moment) (me : ℕ) (p : Plain) (handle : Option WriterHandle) (actor : PlainActor) (declared : ActorDecl) (name : Name) (events : List Event) (out : Result Attr Stuck) → IsLawful m.state events → GoesWell me events → AreBy me events → Mirrors m p → HasActor m me p handle actor
+        → Runs me (tell_program name) events out → TakesStep m me declared actor p (Stat name) (stat_outcome out) (moment_after m events) handle }
+    ensures calls { (kept : Kept) (stop : Option Stop) (name : Name) → tells_of_file kept stop name ≡ carried (tell_program name) stop (λ left result. finishes (told_of kept result)) (finishes (stopped kept)) }
+{}
+
+/// A law: a statement on a reader is a step of the plain machine. Where an actor's reader is that of the machine, a read, a comparison, a map, a refresh and a
+/// close have the machine's outcome, and the actor has then what the machine gives it. So has one that opens a reader, and reads the shares by itself. Without a
+/// reader all but that one are refused, and with one it is. A reader stays that of the machine, whatever is called. The caller met no fault and had memory, and
+/// nobody else called.
+pub fn reader_statements_are_steps()
+    ensures opens { (m : Moment) (me : ℕ) (p : Plain) (handle : Option WriterHandle) (actor : PlainActor) (declared : ActorDecl) (name : Name) (workers : ℕ) (kept : Kept) (events : List Event) (out : Result OpenReader Stuck) → IsLawful m.state events → GoesWell me events → AreBy me events → Mirrors m p → HasActor m me p handle actor → kept.reader ≡ None → actor.reader ≡ None → 1 ≤ workers
+        → Runs me (read_in_program name workers) events out → TakesOnReader m me declared actor p (Ropen name workers) (reader_opened kept out).outcome (moment_after m events) handle (reader_opened kept out).kept.reader }
+    ensures second { (m : Moment) (me : ℕ) (p : Plain) (handle : Option WriterHandle) (actor : PlainActor) (declared : ActorDecl) (reader : OpenReader) (file : PlainReader) (name : Name) (workers : ℕ) → Mirrors m p → HasActor m me p handle actor → actor.reader ≡ Some file → MirrorsReader m reader file
+        → TakesOnReader m me declared actor p (Ropen name workers) (Refused AlreadyOpen) m handle (Some reader) }
+    ensures reads { (m : Moment) (me : ℕ) (p : Plain) (handle : Option WriterHandle) (actor : PlainActor) (declared : ActorDecl) (reader : OpenReader) (file : PlainReader) (at len : ℕ) (events : List Event) (out : Result (List ℕ) Stuck) → IsLawful m.state events → GoesWell me events → AreBy me events → Mirrors m p → HasActor m me p handle actor → actor.reader ≡ Some file → MirrorsReader m reader file
+        → Runs me (read_program reader.room reader.hosts (plan_of reader.pieces reader.size at len)) events out → TakesOnReader m me declared actor p (Read at len) (read_outcome at out) (moment_after m events) handle (Some reader) }
+    ensures verifies { (m : Moment) (me : ℕ) (p : Plain) (handle : Option WriterHandle) (actor : PlainActor) (declared : ActorDecl) (reader : OpenReader) (file : PlainReader) (at : ℕ) (content : Data) (events : List Event) (out : Result (List ℕ) Stuck) → IsLawful m.state events → GoesWell me events → AreBy me events → Mirrors m p → HasActor m me p handle actor → actor.reader ≡ Some file → MirrorsReader m reader file
+        → Runs me (read_program reader.room reader.hosts (plan_of reader.pieces reader.size at (length_of content))) events out → TakesOnReader m me declared actor p (Verify at content) (verify_outcome at content out) (moment_after m events) handle (Some reader) }
+    ensures maps { (m : Moment) (me : ℕ) (p : Plain) (handle : Option WriterHandle) (actor : PlainActor) (declared : ActorDecl) (reader : OpenReader) (file : PlainReader) → Mirrors m p → HasActor m me p handle actor → actor.reader ≡ Some file → MirrorsReader m reader file
+        → TakesOnReader m me declared actor p Map (Mapped (map_text reader.pieces)) m handle (Some reader) }
+    ensures refreshes { (m : Moment) (me : ℕ) (p : Plain) (handle : Option WriterHandle) (actor : PlainActor) (declared : ActorDecl) (kept : Kept) (reader : OpenReader) (file : PlainReader) (events : List Event) (out : RefreshOut) → IsLawful m.state events → GoesWell me events → AreBy me events → Mirrors m p → HasActor m me p handle actor → actor.reader ≡ Some file → MirrorsReader m reader file
+        → Runs me (refresh_program (parts_of reader)) events out → TakesOnReader m me declared actor p Refresh (reader_refreshed (without_reader kept) out).outcome (moment_after m events) handle (reader_refreshed (without_reader kept) out).kept.reader }
+    ensures closes { (m : Moment) (me : ℕ) (p : Plain) (handle : Option WriterHandle) (actor : PlainActor) (declared : ActorDecl) (reader : OpenReader) (file : PlainReader) → Mirrors m p → HasActor m me p handle actor → actor.reader ≡ Some file → MirrorsReader m reader file
+        → TakesOnReader m me declared actor p Rclose ReaderClosed m handle None }
+    ensures without { (m : Moment) (me : ℕ) (p : Plain) (handle : Option WriterHandle) (actor : PlainActor) (declared : ActorDecl) (statement : Statement) → Mirrors m p → HasActor m me p handle actor → IsUse statement → actor.reader ≡ None
+        → TakesOnReader m me declared actor p statement (Refused NotOpen) m handle None }
+    ensures stays { (m : Moment) (events : List Event) (reader : Option OpenReader) (file : Option PlainReader) → IsLawful m.state events → HasReader m reader file → HasReader (moment_after m events) reader file }
+{}
+
+/// A law: a recovery of a room that is held, or in which each open writer is an actor's, is a step of the plain machine. A held room is let go, and the line says that
+/// a hold was ended. Of another one the line tells of its open writers as alive, by rising id, and nothing changes. So is a recovery of a file that isn't there. The
+/// caller met no fault and had memory, and nobody else called.
+pub fn recoveries_without_dead_writers_are_steps()
+    ensures { (m : Moment) (me : ℕ) (p : Plain) (handle : Option WriterHandle) (actor : PlainActor) (declared : ActorDecl) (name : Name) (events : List Event) (out : Result Recovered Stuck) → IsLawful m.state events → GoesWell me events → AreBy me events → Mirrors m p → HasActor m me p handle actor
+        → ((number : ℕ) (room : PlainRoom) → find p name ≡ Some number → slice_get p.rooms number ≡ Some room → (room.is_held ≡ true) ⊎ (dead room ≡ [])) → Runs me (recover_program name) events out → TakesStep m me declared actor p (Recover name) (recover_outcome out) (moment_after m events) handle }
 {}
 
 /// A law: a machine begins with a mount. A mount over a store without rooms has what the machine has that has the room of the marks alone, whatever its actors.

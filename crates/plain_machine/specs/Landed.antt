@@ -4,11 +4,12 @@ use Rattle.plfs_types.specs.declared.entries.ShareBytes.{ShareBytes}
 use Rattle.plfs_types.specs.declared.entries.Trunc.{Trunc}
 use Rattle.plfs_types.specs.declared.entries.WriterCount.{WriterCount}
 use Rattle.plain_file.specs.declared.changes.Change.{Change}
-use Rattle.plain_file.specs.declared.changes.Change.TheVariants.{Truncate, Write}
+use Rattle.plain_file.specs.declared.changes.Change.TheVariants.{Truncate}
 use Rattle.plain_file.specs.File.{plain}
 use Rattle.mount_sound.specs.Entries.{last_stamp, logged}
 use Rattle.mount_sound.specs.Ledger.{Written, entries_in}
 use Rattle.plain_machine.specs.Machine.{PlainReader, PlainRoom, PlainWriter}
+use Rattle.mount_sound.specs.Ledger.{change_of}
 
 abbrev pub landed_of : PlainWriter → List Written
 landed_of w = take w.landed w.issued
@@ -17,9 +18,6 @@ landed_of w = take w.landed w.issued
 abbrev pub landed_writes : List PlainWriter → List Written
 landed_writes [] = []
 landed_writes (w ∷ writers) = landed_of w ++ landed_writes writers
-
-abbrev pub change_of : Written → Change
-change_of w = Write w.entry w.bytes
 
 -- what writes and truncates change in a file
 abbrev pub changes : List Written → List Trunc → List Change

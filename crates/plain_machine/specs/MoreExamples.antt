@@ -1,6 +1,6 @@
 -- Worked examples of truncates, names, attributes and recovery.
 use Rattle.std.specs.Prelude.{ℕ, false, true, List, [], ◌∷◌, map, Some, codes}
-use Rattle.mount_model.specs.Paths.{marks_name}
+use Rattle.store_api.specs.Names.{marks_name}
 use Rattle.script_lang.specs.declared.line.Outcome.TheVariants.{Closed, Listed, Opened, Read as WasRead, Reader, ReaderClosed, Recovered, Refused, Renamed, Stat as Told, Synced, Truncated, Wrote}
 use Rattle.script_lang.specs.declared.line.Why.TheVariants.{Busy, Exists, Held, IdsSpent, NoFile, StampsSpent, TooFar}
 use Rattle.script_lang.specs.declared.script.Data.TheVariants.{Text}

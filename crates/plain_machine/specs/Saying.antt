@@ -4,7 +4,8 @@ use Rattle.plfs_types.specs.declared.entries.Entry.{Entry}
 use Rattle.plfs_types.specs.declared.entries.ShareBytes.{ShareBytes}
 use Rattle.plfs_types.specs.declared.entries.Trunc.{Trunc}
 use Rattle.plfs_types.specs.declared.entries.WriterCount.{WriterCount}
-use Rattle.mount_model.specs.Paths.{Name, marks_name}
+use Rattle.mount_model.specs.Paths.{Name}
+use Rattle.store_api.specs.Names.{marks_name}
 use Rattle.script_lang.specs.declared.line.Line.{Line}
 use Rattle.script_lang.specs.declared.line.Outcome.{Outcome}
 use Rattle.script_lang.specs.declared.script.ActorDecl.{ActorDecl}

@@ -14,11 +14,12 @@ use Rattle.mount_model.specs.declared.reply.Reply.{Reply}
 use Rattle.mount_model.specs.declared.reply.Reply.TheVariants.{Done, Looked, Mended, Refused, Room as Found}
 use Rattle.mount_model.specs.History.{Event}
 use Rattle.mount_model.specs.declared.row.Row.{Row}
-use Rattle.mount_model.specs.Paths.{Name, open_path, openhosts}
+use Rattle.mount_model.specs.Paths.{Name, open_path}
+use Rattle.container_layout.specs.Paths.{openhosts}
 use Rattle.mount_model.specs.State.{State}
 use Rattle.mount_model.specs.Table.{is_live, row_of}
 use Rattle.mount_sound.specs.Owed.{IsNotLive, StandsInRoom}
-use Rattle.gathering.specs.Listing.{IsAmong}
+use Rattle.plfs_types.specs.Places.{IsAmong}
 use Rattle.gathering.specs.Moments.{Moment, landed, moment_after}
 use Rattle.play_laws.specs.Changing.{IsAnswered}
 use Rattle.reader_laws.specs.Naming.{IsRoomNamed}

@@ -8,7 +8,8 @@ use Rattle.mount_model.specs.declared.reply.Refusal.{Refusal}
 use Rattle.mount_model.specs.declared.reply.Refusal.TheVariants.{Busy, Exists, Held, NoRoom}
 use Rattle.mount_model.specs.declared.reply.Reply.TheVariants.{Refused, Room as Found}
 use Rattle.mount_model.specs.History.{Event}
-use Rattle.mount_model.specs.Paths.{Name, open_path, openhosts}
+use Rattle.mount_model.specs.Paths.{Name, open_path}
+use Rattle.container_layout.specs.Paths.{openhosts}
 use Rattle.gathering.specs.Moments.{HadItem, Moment, moment_after}
 use Rattle.play_laws.specs.Changing.{Change, IsAnswered, IsChange, IsFreeName, until_changed}
 use Rattle.reader_laws.specs.Naming.{IsRoomNamed}

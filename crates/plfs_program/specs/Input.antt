@@ -1,6 +1,7 @@
 -- What was read of a source.
-use Rattle.std.specs.Prelude.{ℕ, ◌≡◌, ◌≤◌, ◌⊎◌, List, [], ◌++◌, length, Option, Some, None}
+use Rattle.std.specs.Prelude.{ℕ, ◌≡◌, ◌≤◌, ◌⊎◌, List, ◌++◌, length, Some}
 use Rattle.edge_io.specs.Source.{Given, HandsOver, EndsAtLast}
+use Rattle.edge_io.specs.Source.{IsAtEnd}
 
 -- one read gave n bytes, which stand behind those that were there
 pub record HasMore (n : ℕ) (before after : List ℕ) (old new : Given) : Type 0 where
@@ -9,11 +10,6 @@ pub record HasMore (n : ℕ) (before after : List ℕ) (old new : Given) : Type 
   pub joined : after ≡ before ++ piece
   pub handed : HandsOver piece old.left new.left
   pub end : EndsAtLast n old.left
-
--- no byte is left, where they are told
-abbrev pub IsAtEnd : Option (List ℕ) → Type 0
-IsAtEnd None = Unit {0}
-IsAtEnd (Some left) = left ≡ []
 
 -- the bytes were read from the front of the source, to its end or to the limit, and no read failed
 pub record IsWholeInput (limit : ℕ) (bytes : List ℕ) (old new : Given) : Type 0 where

@@ -30,7 +30,7 @@ fn pack_files<S: Store + Drop, C: Clock + Drop, O: Sink>(
     alloc: Global,
     name: LogicalName,
     region: u64,
-    files: &FileList,
+    files: &FileList<'_>,
     out: &mut O,
     store: S,
     clock: C,

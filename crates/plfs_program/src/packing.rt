@@ -67,7 +67,7 @@ fn say_all<O: Sink>(alloc: Global, out: &mut O, count: u64, end: u64) -> u8
 }
 
 // Says how the packing of these files ended where nothing broke it off, and answers the status.
-fn say_end<O: Sink>(alloc: Global, out: &mut O, files: &[NamedFile], packed: Packed) -> u8
+fn say_end<O: Sink>(alloc: Global, out: &mut O, files: &[NamedFile<'_>], packed: Packed) -> u8
     ensures { IsReported (text_of files.now (Ok packed)) (status_of (Ok packed)) (O.taking out.old) (O.taking out.new) result }
 {
     match packed {
@@ -77,7 +77,7 @@ fn say_end<O: Sink>(alloc: Global, out: &mut O, files: &[NamedFile], packed: Pac
 }
 
 // Says what broke the packing off, and answers the status.
-fn say_stuck<O: Sink>(alloc: Global, out: &mut O, files: &[NamedFile], why: ScanStuck) -> u8
+fn say_stuck<O: Sink>(alloc: Global, out: &mut O, files: &[NamedFile<'_>], why: ScanStuck) -> u8
     ensures { IsReported (text_of files.now (end_of (Err why))) (status_of (end_of (Err why))) (O.taking out.old) (O.taking out.new) result }
 {
     let line = Line {
@@ -91,7 +91,7 @@ fn say_stuck<O: Sink>(alloc: Global, out: &mut O, files: &[NamedFile], why: Scan
 fn say_packed<O: Sink>(
     alloc: Global,
     out: &mut O,
-    files: &[NamedFile],
+    files: &[NamedFile<'_>],
     told: Result<Packed, ScanStuck>,
 ) -> u8
     ensures { IsReported (text_of files.now (end_of told)) (status_of (end_of told)) (O.taking out.old) (O.taking out.new) result }
@@ -108,7 +108,7 @@ pub(crate) fn pack_mounted<S: Store + Drop, C: Clock + Drop, O: Sink>(
     mount: &mut Mount<S, C>,
     name: LogicalName,
     region: u64,
-    files: &FileList,
+    files: &FileList<'_>,
     out: &mut O,
 ) -> u8
     requires small { All (λ (f : Named). length f.content ≤ MAX_CONTENT) files.now }

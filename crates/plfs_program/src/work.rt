@@ -1,12 +1,10 @@
 //! A store is mounted, and a script is played on it, by turns or on threads.
-ghost use Rattle.std.specs.Prelude.{◌≡◌, true, false, Some, IfOk};
+ghost use Rattle.std.specs.Prelude.{◌≡◌, true, false, IfOk};
 ghost use Rattle.plfs_types.specs.Counts.{HasRisen};
 ghost use Rattle.report_text.specs.Text.{HaveText};
-ghost use Rattle.mount_model.specs.Paths.{marks_folder};
 ghost use Rattle.run_core.specs.Conditions.{IsPlayable};
 ghost use Rattle.program_ends.specs.Leaving.{Leaves};
 ghost use Rattle.plfs_program.specs.Lines.{AreLinesOf};
-ghost use Rattle.program_ends.specs.Mounting.{unmounted_of, IsUnmounted};
 ghost use Rattle.program_ends.specs.Outcomes.{has_line, is_damage, is_fault};
 ghost use Rattle.program_ends.specs.SoundTrees.{TellsSoundTree};
 ghost use Rattle.plfs_program.specs.Ways.{HasBegun, by_turns, on_threads};

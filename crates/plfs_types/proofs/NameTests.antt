@@ -1,11 +1,11 @@
 -- The test of a logical name is the rule.
 use Rattle.std.proofs.Common.{◌≡◌, ℕ, true, false, inl, inr, List, [], ◌∷◌, Option, Some, None, length, nat_le, nat_eq, arith, refl, sym, ap, ◌∙◌}
-use Rattle.std.specs.Prelude.{◌≤◌, ◌&&◌, ◌↔◌, All, IsTrue, IsSome, is_some, ◌≢◌}
+use Rattle.std.specs.Prelude.{◌≤◌, ◌&&◌, ◌↔◌, All, IsTrue, IsSome, IfSome, is_some, ◌≢◌}
 use Rattle.std.specs.List.{list_all}
 use Rattle.std.proofs.lemmas.Bool.{and_from, and_parts, cases_Bool, false≢true}
 use Rattle.std.proofs.lemmas.Bool.Decides.{nat_tests}
 use Rattle.std.proofs.lemmas.List.Elements.{All-head, All-tail, All-cons, All-nil}
-use Rattle.plfs_types.specs.Names.{is_name_byte, IsLogicalName, may_begin, is_logical}
+use Rattle.plfs_types.specs.Names.{is_name_byte, IsLogicalName, may_begin, is_logical, name_of}
 
 abbrev Name : Type 0
 Name = List ℕ
@@ -64,4 +64,12 @@ decided name (Some x) rule = sym (rule_passes name (rule.0 refl))
 decided name None rule = elim (cases_Bool (is_logical name)) [
   | inl passed ↦ absurd (false≢true (rule.1 (passes_rule name passed)))
   | inr not_passed ↦ sym not_passed
+]
+
+-- what is read of bytes just by the rule
+pub read_so : (bytes : List ℕ) (read : Option (List ℕ)) → (IsSome read ↔ IsLogicalName bytes) → IfSome read (λ name. name ≡ bytes) → read ≡ name_of bytes
+read_so bytes (Some name) rule value = rw (rule_passes bytes (rule.0 refl)) (ap Some value)
+read_so bytes None rule value = elim (cases_Bool (is_logical bytes)) [
+  | inl passed ↦ absurd (false≢true (rule.1 (passes_rule bytes passed)))
+  | inr not_passed ↦ rw not_passed refl
 ]

@@ -5,4 +5,5 @@ pub mod Outcomes
 pub mod Output
 pub mod Reported
 pub mod SoundTrees
+pub mod Unmounted
 pub mod Usage

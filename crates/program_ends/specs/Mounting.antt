@@ -10,7 +10,8 @@ use Rattle.script_lang.specs.declared.line.Outcome.{Outcome}
 use Rattle.script_lang.specs.declared.line.Outcome.TheVariants.{Refused, Fault, Damaged}
 use Rattle.script_lang.specs.declared.line.Why.TheVariants.{MountsSpent}
 use Rattle.mount_model.specs.Listed.{IsGreatest, IsLeastOther, IsMarkOf}
-use Rattle.mount_model.specs.Paths.{marks_name, marks_folder}
+use Rattle.store_api.specs.Names.{marks_folder}
+use Rattle.store_api.specs.Names.{marks_name}
 use Rattle.mount_model.specs.declared.trouble.MountTrouble.{MountTrouble}
 use Rattle.mount_model.specs.declared.trouble.MountTrouble.TheVariants as trouble
 

@@ -7,6 +7,7 @@ mod lines;
 mod mounting;
 mod output;
 mod texts;
+mod words;
 
 pub use ended::{Ended, USAGE, ends, say};
 pub use laws::{marks_are_why, marks_decide};
@@ -14,3 +15,4 @@ pub use lines::{report_lines, say_line, status_of};
 pub use mounting::{mounting_line, say_unmounted};
 pub use output::{Broken, write_out};
 pub use texts::{push_number, say_text};
+pub use words::{greater, host_of, is_over};

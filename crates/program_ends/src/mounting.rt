@@ -1,6 +1,6 @@
 //! What a mounting that broke off says.
 ghost use Rattle.std.specs.Prelude.{◌≡◌, ◌⊎◌, Some, IfOk, List};
-ghost use Rattle.mount_model.specs.Paths.{marks_folder};
+ghost use Rattle.store_api.specs.Names.{marks_folder as marks_folder_name};
 ghost use Rattle.report_text.specs.Text.{HaveText, text_of};
 ghost use Rattle.script_lang.specs.declared.line.Line.{Line as TheLine};
 ghost use Rattle.program_ends.specs.Mounting.{unmounted_of, IsUnmounted};
@@ -13,13 +13,14 @@ use mount_core::MountTrouble;
 use plfs_types::{Name, NoMemory};
 use script_lang::{Line, Lines, Outcome, Why};
 use std::alloc::Global;
+use store_api::marks_folder;
 
 // A file among the marks is damaged.
 fn damaged_marks(file: Name) -> Outcome
-    ensures { result ≡ Outcome.Damaged marks_folder file 0 }
+    ensures { result ≡ Outcome.Damaged marks_folder_name file 0 }
 {
     Outcome::Damaged {
-        folder: Name::from_bytes(b"mounts").unwrap(),
+        folder: marks_folder(),
         file,
         place: 0,
     }

@@ -23,7 +23,7 @@ use Rattle.unit_format.specs.declared.scanner.Scanner.{Scanner}
 use Rattle.unit_format.specs.declared.finding.Unit.{Unit as Found}
 use Rattle.unit_format.specs.declared.finding.Region.{Region}
 use Rattle.unit_format.specs.Alike.{StandApart}
-use Rattle.unit_format.specs.Names.{name_of}
+use Rattle.plfs_types.specs.Names.{name_of}
 use Rattle.unit_format.specs.Units.{unseen_unit}
 use Rattle.unit_format.specs.Scanning.{begins_at, expects, is_settled, after_count, after_size, after_file, after_name, number_of, sizes_fit, judged, judged_as, kept, less_more, fed, eaten, ends_region}
 use Rattle.pack_files.specs.declared.scan.ScanStuck.TheVariants.{Stuck}

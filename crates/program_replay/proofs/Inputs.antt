@@ -2,7 +2,8 @@
 use Rattle.std.proofs.Common.{◌≡◌, ℕ, ◌+◌, ◌≤◌, ◌⊎◌, inl, inr, List, [], ◌∷◌, ◌++◌, length, Option, Some, refl, sym, ap, ◌∙◌, subst, arith}
 use Rattle.std.proofs.lemmas.List.{length-append}
 use Rattle.edge_io.specs.Source.{Given, HandsOver}
-use Rattle.plfs_program.specs.Input.{IsWholeInput, IsAtEnd}
+use Rattle.plfs_program.specs.Input.{IsWholeInput}
+use Rattle.edge_io.specs.Source.{IsAtEnd}
 
 front_one : (a b r s : List ℕ) → length a ≡ length b → a ++ r ≡ b ++ s → a ≡ b
 front_one [] [] r s long e = refl

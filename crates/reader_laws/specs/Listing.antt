@@ -9,7 +9,8 @@ use Rattle.index_reader.specs.declared.listing.Listing.{Listing}
 use Rattle.index_reader.specs.Listing.{AreByWriter}
 use Rattle.gathering.specs.Moments.{Dropping, IsNamed}
 use Rattle.gathering.specs.Seen.{Asked, asked_in, calls_of}
-use Rattle.gathering.specs.Listing.{IsAmong, IsScan, NamesPack}
+use Rattle.gathering.specs.Listing.{IsScan, NamesPack}
+use Rattle.plfs_types.specs.Places.{IsAmong}
 use Rattle.gathering.specs.Flats.{ReadsFlat, covers_of, pieces_of}
 use Rattle.gathering.specs.Opening.{ListsTruncs}
 use Rattle.reader_laws.specs.Sharing.{in_room}

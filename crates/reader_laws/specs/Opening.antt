@@ -14,7 +14,7 @@ use Rattle.index_reader.specs.Opening.{open_at_program, open_read_program}
 use Rattle.index_reader.specs.Sharing.{share_program}
 use Rattle.index_reader.specs.Truncs.{trunc_program}
 use Rattle.gathering.specs.Seen.{calls_of}
-use Rattle.gathering.specs.Listing.{IsAmong}
+use Rattle.plfs_types.specs.Places.{IsAmong}
 
 -- it lists a container, which it finds by its name or its number
 abbrev pub Lists : Tries Listing → Type 0

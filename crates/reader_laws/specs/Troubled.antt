@@ -9,7 +9,7 @@ use Rattle.index_reader.specs.declared.listing.Dropping.{Dropping as Listed}
 use Rattle.index_reader.specs.declared.listing.Listing.{Listing}
 use Rattle.index_reader.specs.Sharing.{share_program}
 use Rattle.index_reader.specs.Truncs.{trunc_program}
-use Rattle.gathering.specs.Listing.{IsAmong}
+use Rattle.plfs_types.specs.Places.{IsAmong}
 use Rattle.reader_laws.specs.Opening.{Lists}
 
 -- the caller reads a share of what was listed in these events, and ends in this trouble

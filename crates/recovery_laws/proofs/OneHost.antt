@@ -24,7 +24,8 @@ use Rattle.mount_model.specs.declared.row.Flattening.{Flattening}
 use Rattle.mount_model.specs.declared.row.Row.{Row}
 use Rattle.mount_model.specs.Entering.{EntersAs, draw_check, next_id}
 use Rattle.mount_model.specs.Making.{Told}
-use Rattle.mount_model.specs.Paths.{index_path, open_path, openhosts, installed, temporary}
+use Rattle.mount_model.specs.Paths.{index_path, open_path, installed, temporary}
+use Rattle.container_layout.specs.Paths.{openhosts}
 use Rattle.mount_model.specs.Regular.{IsRegular}
 use Rattle.mount_model.specs.Recovering.{IsHostAndWriter, mend_step}
 use Rattle.mount_model.specs.State.{State, last_id, timed}

@@ -38,7 +38,8 @@ use Rattle.mount_sound.proofs.Facts.{is_index, is_log, one_tree, only_dead, some
 use Rattle.holding_laws.proofs.Facts.{may_free}
 use Rattle.torn_tail.specs.Entries.{no_entries, checked, looked}
 use Rattle.torn_tail.specs.Recovering.{recovers, noted}
-use Rattle.torn_tail.specs.Writers.{found, if_checked, measures_index, measures_log, next_read, not_done, reads, reads_left, reads_of, writer_program}
+use Rattle.torn_tail.specs.Writers.{found, if_checked, measures_index, measures_log, not_done, reads, reads_left, writer_program}
+use Rattle.flow.specs.Entries.{next_read, reads_of}
 use Rattle.torn_tail.specs.declared.recovering.Recovered.{Recovered}
 use Rattle.torn_tail.specs.Words.{Went, Run, all_there, ends, breaks}
 use Rattle.recovery_laws.proofs.Checking.{IsSoFar, checked_ended, ended_tells, full_checked, looked_ending, none_left_tells, short_checked, short_tells}

@@ -1,16 +1,8 @@
-//! Copies of lists, and whether two lists of truncates are one.
-ghost use Rattle.std.specs.Prelude.{◌≡◌, IfOk, option_map};
+//! Whether two lists of truncates are one.
+ghost use Rattle.std.specs.Prelude.{◌≡◌, option_map};
 ghost use Rattle.refresh_index.specs.Refreshing.{past_same as past_same_of, same_truncs};
 
-use plfs_types::{NoMemory, Sequence, Trunc};
-use std::alloc::Global;
-
-/// A copy of these items.
-pub(crate) fn copied<T: Copy>(alloc: Global, items: &[T]) -> Result<Sequence<T>, NoMemory>
-    ensures { IfOk result (λ copy. copy ≡ items.now) }
-{
-    Ok(Sequence::from_vec(Vec::from_slice(alloc, items)?))
-}
+use plfs_types::Trunc;
 
 /// The truncates behind the first, where that is this one.
 fn past_same<'a>(trunc: &Trunc, truncs: &'a [Trunc]) -> Option<&'a [Trunc]>

@@ -1,5 +1,5 @@
 //! What comes of all that was read.
-ghost use Rattle.std.specs.Prelude.{◌≡◌, ℕ, true, if◌then◌else◌, IfOk};
+ghost use Rattle.std.specs.Prelude.{◌≡◌, ℕ, if◌then◌else◌, IfOk};
 ghost use Rattle.plain_file.specs.Runs.{AreRuns};
 ghost use Rattle.plain_file.specs.Size.{size_from};
 ghost use Rattle.plain_file.specs.Sources.{source_at, kept_source};
@@ -9,11 +9,11 @@ ghost use Rattle.gather_flow.specs.OneIndex.{gathered_of};
 ghost use Rattle.refresh_index.specs.Parts.{AreInOrder};
 ghost use Rattle.refresh_index.specs.Refreshing.{refreshed as refreshed_of, behind as behind_of, merged as merged_of, clipped as clipped_of, nothing_came as nothing_came_of};
 
-use crate::copying::{are_same, copied};
+use crate::copying::are_same;
 use crate::held::Held;
 use crate::hosts::{hosts_with, unpacked};
 use flat_format::Flat;
-use gather_flow::{AllRead, Listed};
+use gather_flow::{AllRead, Listed, copied};
 use index_reader::{Gathered, Listing};
 use interval_merge::{clip, merge, size};
 use plain_file::{Piece, PieceList, Pieces, ReaderParts};

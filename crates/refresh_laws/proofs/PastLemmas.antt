@@ -21,7 +21,8 @@ use Rattle.index_reader.specs.Packs.{no_tail}
 use Rattle.index_reader.specs.Replies.{log_length_in, number_in}
 use Rattle.index_reader.specs.Scanning.{nothing_found}
 use Rattle.index_reader.specs.Sharing.{added, gathers, nothing, share_program}
-use Rattle.index_reader.specs.Tails.{if_logged, if_told, log_then, looked, next_read, reads, reads_of, tail_program}
+use Rattle.index_reader.specs.Tails.{if_logged, if_told, log_then, looked, reads, tail_program}
+use Rattle.flow.specs.Entries.{next_read, reads_of}
 use Rattle.index_reader.specs.Tops.{top_shows}
 use Rattle.index_reader.specs.Truncs.{trunc_program}
 use Rattle.index_reader.proofs.Facts.{if_checked_asks}

@@ -27,7 +27,8 @@ use Rattle.index_reader.specs.Opening.{no_flat}
 use Rattle.gathering.specs.Moments.{Moment, IsSoundAt, Dropping, Grows, IsNamed, Stood, issued_by, moment_after}
 use Rattle.gathering.specs.Seen.{asked_in, calls_of, IsSeen}
 use Rattle.gathering.specs.Gathering.{Gathered, CoversLanded, IsAdmissible, IsPrefixOf}
-use Rattle.gathering.specs.Listing.{AreTruncsAt, IsAmong}
+use Rattle.gathering.specs.Listing.{AreTruncsAt}
+use Rattle.plfs_types.specs.Places.{IsAmong}
 use Rattle.gathering.specs.Opening.{HasView}
 use Rattle.gathering.specs.View.{changes_in, covered_in, tails_in, tails_of, writes_in, WritersRise}
 use Rattle.gathering.proofs.Facts.{all_at, among_left, among_right, any_found, found_any, grows_after, grows_trans, keys_in, later_truncates, legal_first, legal_rest, length-entries, length_taken, moment-append, prefix_of, same_entries, scan_found, seen, seen_grows, seen_split, sound_after}

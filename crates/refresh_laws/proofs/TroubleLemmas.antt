@@ -18,7 +18,8 @@ use Rattle.index_reader.specs.Truncs.{trunc_program}
 use Rattle.gathering.specs.Moments.{Moment, IsSoundAt, Dropping, Grows, IsNamed, Stood, moment_after}
 use Rattle.gathering.specs.Seen.{calls_of}
 use Rattle.gathering.specs.Gathering.{Gathered, CoversLanded}
-use Rattle.gathering.specs.Listing.{AreFound, IsAmong}
+use Rattle.gathering.specs.Listing.{AreFound}
+use Rattle.plfs_types.specs.Places.{IsAmong}
 use Rattle.gathering.specs.View.{WritersRise}
 use Rattle.gathering.proofs.Facts.{all_at, among, any_found, follows, grows_after, grows_trans, legal_first, legal_rest, scan_finds, scan_found, seen, sound_after}
 use Rattle.reader_laws.specs.Failing.{FailsByStore, IsContainerAt}

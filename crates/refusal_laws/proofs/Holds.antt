@@ -19,7 +19,8 @@ use Rattle.mount_model.specs.Entering.{Enters, EntersAs, draw_check, enter_outco
 use Rattle.mount_model.specs.Finding.{Finds, MakesContainer, NamesRooms, RoomsReply, find_outcome, make_outcome}
 use Rattle.mount_model.specs.Holding.{HoldOutcome, HoldsContainer, HoldsRoom, OnHolder, Releases, Renames, Truncates, TruncatesAt, hold_step, holding, release_outcome, release_step, rename_outcome, rename_step, truncate_check, truncate_outcome, truncate_stamp, truncate_step}
 use Rattle.mount_model.specs.Making.{Refuses, Told}
-use Rattle.mount_model.specs.Paths.{Name, new_files, new_folders, open_path, openhosts, trunc_path, truncs}
+use Rattle.mount_model.specs.Paths.{Name, new_files, new_folders, open_path, trunc_path, truncs}
+use Rattle.container_layout.specs.Paths.{openhosts}
 use Rattle.mount_model.specs.State.{State, Table, timed}
 use Rattle.mount_model.specs.Table.{holder_of}
 use Rattle.mount_model.proofs.Facts.{is_holding, match_cases}

@@ -26,7 +26,8 @@ use Rattle.mount_model.specs.Entering.{draw_check}
 use Rattle.mount_model.specs.Flattening.{InstallsFlat, OnFlattening, PutsFlat, Starts, StartsFlat, StartsPack, StartsPackOf, SyncsFlat, begun_flat, install_outcome, install_step, put_flat_outcome, put_flat_step, start_outcome, start_step, sync_flat_outcome, sync_flat_step}
 use Rattle.mount_model.specs.Looking.{LooksAt, length_reply, listing_reply, look_outcome, look_step, read_reply}
 use Rattle.mount_model.specs.Making.{MakesAct, Refuses, Told, room_check}
-use Rattle.mount_model.specs.Paths.{Name, dropping_path, index_path, installed, meta_path, metadata, open_path, openhosts, temporary}
+use Rattle.mount_model.specs.Paths.{Name, dropping_path, index_path, installed, meta_path, metadata, open_path, temporary}
+use Rattle.container_layout.specs.Paths.{openhosts}
 use Rattle.mount_model.specs.Recovering.{Buries, BuriesIt, Inspects, Mends, MendsHold, MendsIt, MendsItsMeta, MendsMeta, SyncsDropping, SyncsIt, alive_check, bury_outcome, bury_step, done_outcome, mend_check, mend_hold_check, mend_hold_outcome, mend_hold_step, mend_meta_outcome, mend_meta_step, mend_step, mended_file, sync_dropping_step}
 use Rattle.mount_model.specs.State.{State, Table, drawn}
 use Rattle.mount_model.specs.Table.{flattening_of}

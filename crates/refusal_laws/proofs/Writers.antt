@@ -20,7 +20,8 @@ use Rattle.mount_model.specs.Flooring.{FloorOutcome, Floors, FloorsRow}
 use Rattle.mount_model.specs.Flushing.{Flushes, FlushesRow, SyncsIndex, SyncsLog, flush_outcome, flush_step, sync_index_outcome, sync_index_step, sync_log_outcome, sync_log_step}
 use Rattle.mount_model.specs.Leaving.{Exits, PutsMeta, exit_check, exit_outcome, exit_step, meta_file, put_meta_check, put_meta_outcome, put_meta_step}
 use Rattle.mount_model.specs.Making.{MakesAct, OnWriter, Refuses, Told}
-use Rattle.mount_model.specs.Paths.{Name, index_path, log_path, meta_path, metadata, open_path, openhosts, truncs}
+use Rattle.mount_model.specs.Paths.{Name, index_path, log_path, meta_path, metadata, open_path, truncs}
+use Rattle.container_layout.specs.Paths.{openhosts}
 use Rattle.mount_model.specs.State.{State, Table, timed}
 use Rattle.mount_model.specs.Table.{is_live, may_close, only, writer_of}
 use Rattle.mount_model.specs.Writing.{Writes, WritesAt, stamp_at, write_check, write_outcome, write_step}

@@ -15,7 +15,8 @@ use Rattle.mount_model.specs.Entering.{draw_check}
 use Rattle.mount_model.specs.Holding.{truncate_check}
 use Rattle.mount_model.specs.Leaving.{exit_check, put_meta_check}
 use Rattle.mount_model.specs.Making.{room_check}
-use Rattle.mount_model.specs.Paths.{Name, open_path, openhosts}
+use Rattle.mount_model.specs.Paths.{Name, open_path}
+use Rattle.container_layout.specs.Paths.{openhosts}
 use Rattle.mount_model.specs.Recovering.{alive_check, mend_check, mend_hold_check}
 use Rattle.mount_model.specs.State.{State}
 use Rattle.mount_model.specs.Table.{flattening_of, holder_of, is_live, may_close, only, writer_of}

@@ -16,6 +16,7 @@ mod trouble;
 mod words;
 
 pub use laws::{lines_break_nowhere, one_break};
+pub use outcomes::escape;
 pub use printing::print;
 pub use reading::read;
 pub use trouble::ReportTrouble;

@@ -237,7 +237,8 @@ fn damaged(out: &mut Vec<u8>, folder: &[u8], file: &[u8], place: u64) -> Result<
 }
 
 // A name without the bytes that would be unclear.
-fn escape(out: &mut Vec<u8>, name: &[u8]) -> Result<(), NoMemory>
+/// Adds a name: a letter, a digit, `_`, `-` or `.` as it is, and another byte as `%` and two digits.
+pub fn escape(out: &mut Vec<u8>, name: &[u8]) -> Result<(), NoMemory>
     ensures { OnOk result (out.new.items ≡ out.old.items ++ escaped name.now) }
 {
     for byte in name {

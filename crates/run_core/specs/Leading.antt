@@ -1,6 +1,5 @@
 -- Calls that lead from one state of a mount to another.
 use Rattle.std.specs.Prelude.{◌≡◌, ℕ, List, [], ◌∷◌}
-use Rattle.std.specs.List.{AllByRecursion}
 use Rattle.mount_model.specs.declared.call.Ask.{Ask}
 use Rattle.mount_model.specs.declared.reply.Reply.{Reply}
 use Rattle.mount_model.specs.State.{State}
@@ -21,7 +20,3 @@ pub record GoesOn (old new : State) : Type 0 where
 -- one call leads there
 abbrev pub MadeCall : State → ℕ → Ask → Reply → State → Type 0
 MadeCall old caller ask reply new = Leads old (record { caller = caller; ask = ask; reply = reply; after = new } ∷ []) new
-
--- all of them are this caller's
-abbrev pub AreBy : ℕ → List Event → Type 0
-AreBy caller events = AllByRecursion (λ (event : Event). event.caller ≡ caller) events

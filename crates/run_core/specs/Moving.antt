@@ -12,7 +12,8 @@ use Rattle.actor_core.specs.Standings.{progress_of}
 use Rattle.run_core.specs.declared.player.Player.{Player}
 use Rattle.run_core.specs.Course.{Course}
 use Rattle.run_core.specs.Written.{is_greeting}
-use Rattle.run_core.specs.Leading.{AreBy, Leads}
+use Rattle.run_core.specs.Leading.{Leads}
+use Rattle.mount_model.specs.History.{AreBy}
 use Rattle.mount_core.specs.Memory.{HadMemory}
 use Rattle.run_core.specs.Players.{course_left, IsFit, lines_left}
 

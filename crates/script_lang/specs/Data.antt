@@ -1,5 +1,5 @@
 -- Data in words.
-use Rattle.std.specs.Prelude.{ℕ, ◌^◌, ◌==◌, ◌&&◌, ◌||◌, nat_le, Bool, List, drop, Result, Ok, Err, if◌then◌else◌, codes, nat_eq}
+use Rattle.std.specs.Prelude.{ℕ, ◌^◌, ◌==◌, List, drop, Result, Ok, Err, if◌then◌else◌, codes, nat_eq}
 use Rattle.std.specs.List.{list_all, starts_with, before_first, after_first}
 use Rattle.hex.specs.declared.error.FromHexError.{FromHexError}
 use Rattle.hex.specs.Hex.{decode_of}
@@ -9,10 +9,7 @@ use Rattle.script_lang.specs.declared.trouble.Kind.{Kind}
 use Rattle.script_lang.specs.declared.trouble.Kind.TheVariants as kinds
 use Rattle.script_lang.specs.Numbers.{number_within}
 use Rattle.script_lang.specs.Spelling.{is_seen}
-
--- one of 0-9 and a-f
-abbrev pub is_lower_digit : ℕ → Bool
-is_lower_digit b = (nat_le 48 b && nat_le b 57) || (nat_le 97 b && nat_le b 102)
+use Rattle.plfs_types.specs.Parts.{is_lower_digit}
 
 abbrev pub decoded : Result (List ℕ) FromHexError → Result Data Kind
 decoded (Ok bytes) = Ok (data_of.Hex bytes)

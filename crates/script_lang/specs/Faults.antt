@@ -5,7 +5,8 @@ use Rattle.script_lang.specs.declared.trouble.Kind.{Kind}
 use Rattle.script_lang.specs.declared.trouble.Kind.TheVariants.{Long}
 use Rattle.script_lang.specs.Grammar.{AreScript}
 use Rattle.script_lang.specs.Kinds.{IsFirst}
-use Rattle.script_lang.specs.Layout.{AreLines, AreWords, IsPassed}
+use Rattle.script_lang.specs.Layout.{AreLines, IsPassed}
+use Rattle.plfs_types.specs.Parts.{AreWords}
 
 -- the line of a fault, from 1, and its kind
 pub record Fault : Type 0 where

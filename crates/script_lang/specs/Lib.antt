@@ -16,7 +16,6 @@ pub mod Generated
 -- Laws of it.
 pub mod Laws
 -- How scripts are read, step by step.
-pub mod Cuts
 pub mod Data
 pub mod Drafts
 pub mod Lines

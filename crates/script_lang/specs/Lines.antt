@@ -16,7 +16,8 @@ use Rattle.script_lang.specs.Reading.{◌>>=◌}
 use Rattle.script_lang.specs.Spoken.{Spoken, spoken}
 use Rattle.script_lang.specs.Statements.{statement_of}
 use Rattle.script_lang.specs.Verbs.{verb_of, has_words}
-use Rattle.script_lang.specs.Words.{words_of, is_empty, is_passed}
+use Rattle.script_lang.specs.Words.{is_passed}
+use Rattle.plfs_types.specs.Parts.{words_of, is_empty}
 
 -- an actor may not be declared here by this name: the declaration comes late, is the 257th, or is malformed or doubled
 abbrev pub is_refused : List ActorDecl → Bool → List ℕ → Bool

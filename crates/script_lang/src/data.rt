@@ -1,8 +1,9 @@
 //! Data in words.
-ghost use Rattle.std.specs.Prelude.{◌≡◌, ◌==◌, nat_eq, Some, IfSome, IsSome, ◌↔◌, IsTrue, codes, drop, length, MatchOption, ◌≤◌, ◌^◌, IfOk};
+ghost use Rattle.std.specs.Prelude.{◌≡◌, ◌==◌, Some, length, ◌≤◌, ◌^◌, IfOk};
 ghost use Rattle.std.specs.List.{list_all, starts_with, before_first, after_first};
 ghost use Rattle.script_lang.specs.Spelling.{is_seen};
-ghost use Rattle.script_lang.specs.Data.{is_lower_digit, hex_data, text_data, pair_data, counted_data, data_in};
+ghost use Rattle.script_lang.specs.Data.{hex_data, text_data, pair_data, counted_data, data_in};
+ghost use Rattle.plfs_types.specs.Parts.{is_lower_digit};
 ghost use Rattle.script_lang.specs.declared.script.Data.TheVariants as data_of;
 ghost use Rattle.script_lang.specs.Ranges.{FitsData};
 ghost use Rattle.script_lang.specs.Reading.{GivesAsRead};

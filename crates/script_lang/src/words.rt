@@ -1,8 +1,9 @@
 //! Lines and words: what stands between line feeds, and between spaces.
 ghost use Rattle.std.specs.Prelude.{◌≡◌, ◌+◌, ◌<◌, ◌≤◌, ◌^◌, ◌==◌, ◌∷◌, true, false, length, Some, None, IfSome, option_map, position, MatchOption};
 ghost use Rattle.std.specs.List.{list_any};
-ghost use Rattle.script_lang.specs.Words.{parts_of, words_of, is_empty, first_word, later_words};
-ghost use Rattle.script_lang.specs.Cuts.{parts_behind};
+ghost use Rattle.script_lang.specs.Words.{first_word, later_words};
+ghost use Rattle.plfs_types.specs.Parts.{parts_of, words_of, is_empty};
+ghost use Rattle.plfs_types.specs.Parts.{parts_behind};
 ghost use Rattle.script_lang.specs.Shown.{shown};
 ghost use Rattle.script_lang.specs.Spoken.{spoken};
 

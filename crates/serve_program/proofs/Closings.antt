@@ -3,6 +3,7 @@ use Rattle.std.proofs.Common.{◌≡◌, ℕ, suc, ◌+◌, List, [], ◌∷◌,
 use Rattle.std.proofs.lemmas.List.{length-set}
 use Rattle.mount_model.specs.State.{State}
 use Rattle.script_lang.specs.declared.line.Line.{Line}
+use Rattle.script_lang.specs.declared.script.ActorDecl.{ActorDecl}
 use Rattle.script_lang.specs.declared.script.Numbered.{Numbered}
 use Rattle.run_core.specs.Breaking.{IsPlayBroken}
 use Rattle.serve_core.specs.declared.client.Client.{Client}
@@ -48,9 +49,14 @@ one_closed count old mid new start now end so_far trouble h c = record {
   long = ap length c.1.new_is ∙ (length-set mid count c.1.after ∙ h.long);
 }
 
-pub closing_breaks : (count : ℕ) (old mid : List Client) (start now end : State) (so_far : ℕ) → HaveClosed count old start so_far mid now → BeginsToClose count mid now end → BreaksClosing old start end
-closing_breaks count old mid start now end so_far h b = λ declared from asked lines served.
-    let before = h.closed declared from asked lines served in
-    let whole = is_broken declared from now end (asked ++ closings count) (closing count) (lines ++ h.told) mid before b in
+pub closing_breaks : (count : ℕ) (old mid : List Client) (start now end : State) (trouble : ℕ) → HaveClosed count old start trouble mid now → BeginsToClose count mid now end → BreaksClosing old start end
+closing_breaks count old mid start now end trouble h b = record { count = count; trouble = trouble; clients = mid; now = now; so_far = h; begins = b }
+
+-- all calls are then a front of those of a play
+pub broken_closing : (declared : List ActorDecl) (from mid end : State) (asked : List Numbered) (lines : List Line) (old : List Client) → HasServed declared from asked lines old mid → (b : BreaksClosing old mid end)
+    → IsPlayBroken (script_of declared (asked ++ closings (b.count + 1))) from end
+broken_closing declared from mid end asked lines old served b =
+    let before = b.so_far.closed declared from asked lines served in
+    let whole = is_broken declared from b.now end (asked ++ closings b.count) (closing b.count) (lines ++ b.so_far.told) b.clients before b.begins in
     let P : List Numbered → Type 0 = λ z. IsPlayBroken (script_of declared z) from end in
-    (count + 1, subst P (append_assoc asked (closings count) (closing count ∷ []) ∙ ap (λ z. asked ++ z) (sym (next_closing count))) whole)
+    subst P (append_assoc asked (closings b.count) (closing b.count ∷ []) ∙ ap (λ z. asked ++ z) (sym (next_closing b.count))) whole

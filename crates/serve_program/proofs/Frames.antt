@@ -10,12 +10,12 @@ use Rattle.frame_format.specs.declared.head.Head.{Head}
 use Rattle.frame_format.specs.Requests.{IsRequest, head_of, payload_of}
 use Rattle.frame_streams.specs.declared.arriving.Arrival.{Arrival}
 use Rattle.frame_streams.specs.declared.arriving.Arrival.TheVariants.{Frame, End}
-use Rattle.frame_streams.specs.Arriving.{Arrives}
+use Rattle.frame_streams.specs.Arriving.{Arrives, Begins}
 use Rattle.serve_core.specs.declared.client.Client.{Client}
 use Rattle.serve_program.specs.declared.exchange.Stop.{Stop}
 use Rattle.serve_program.specs.declared.exchange.Stop.TheVariants as stops
 use Rattle.serve_program.specs.Answering.{AnswersFrame, AnswersRequest, Asks, AsksNothing, BreaksFrame, BreaksRequest, made}
-use Rattle.serve_program.specs.Exchange.{Comes, IsStill, IsUnread, StepsOn, StepsSo, came, is_over, is_unread}
+use Rattle.serve_program.specs.Exchange.{Comes, IsStill, IsUnread, StepsOn, StepsSo, came, is_over, is_starved, is_unread}
 
 -- ---- what is asked
 
@@ -65,3 +65,6 @@ over_so arrival given given_after taking old start is a =
 pub unread_so : (arrival : Arrival) (given given_after : Given) (taking : Taking) (old : List Client) (start : State) → IsUnread arrival → Arrives arrival given given_after
     → StepsSo old start given taking (Some stops.Unread) old start given_after taking
 unread_so arrival given given_after taking old start not_read a = is_unread arrival refl not_read a (still old start taking)
+
+pub starved_so : (given given_after : Given) (taking : Taking) (old : List Client) (start : State) → Begins given given_after → StepsSo old start given taking (Some stops.NoMemory) old start given_after taking
+starved_so given given_after taking old start begins = is_starved refl begins (still old start taking)

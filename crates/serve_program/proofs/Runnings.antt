@@ -19,8 +19,9 @@ use Rattle.serve_core.proofs.Facts.{is_broken, is_play, one_more, served_is_fron
 use Rattle.serve_program.specs.declared.exchange.Stop.{Stop}
 use Rattle.serve_program.specs.declared.exchange.Stop.TheVariants as stops
 use Rattle.serve_program.specs.Closing.{BreaksClosing, HaveClosed, closings}
-use Rattle.serve_program.specs.Exchange.{ExchangeEnds, HasExchanged, Starves, ended, spent, starved, unread, unwritten}
-use Rattle.serve_program.specs.Running.{Runs, RunsOn, closes, is_starved, mounted, starves, status_of, unmounted, unmounted_status}
+use Rattle.serve_program.specs.Exchange.{ExchangeEnds, HasExchanged, Starves, ended, none_begun, one_begun, spent, starved, unread, unwritten}
+use Rattle.serve_program.specs.Running.{Runs, RunsOn, closes, is_starved, mounted, starves, status_of, unclosed, unmounted, unmounted_status}
+use Rattle.serve_program.proofs.Closings.{broken_closing}
 
 -- ---- whether memory was refused
 
@@ -42,8 +43,8 @@ served_then : (declared : List ActorDecl) (start end : State) (given given_after
 served_then declared start end given given_after taking taking_after stop asked lines new (ended given_now is x arrives) other = x.served
 served_then declared start end given given_after taking taking_after stop asked lines new (unread given_now arrival is not_read x arrives) other = x.served
 served_then declared start end given given_after taking taking_after stop asked lines new (unwritten is x) other = x.served
-served_then declared start end given given_after taking taking_after stop asked lines new (starved clients now given_now is x s) other = absurd (other is)
-served_then declared start end given given_after taking taking_after stop asked lines new (spent is x) other = x.served
+served_then declared start end given given_after taking taking_after stop asked lines new (starved more clients now given_now taking_now is x s) other = absurd (other is)
+served_then declared start end given given_after taking taking_after stop asked lines new (spent is x many) other = x.served
 
 pub closed_so : (declared : List ActorDecl) (start mid end : State) (given given_after : Given) (taking taking_after : Taking) (stop : Stop) (old new : List Client) (status trouble : ℕ)
     → HasExchanged declared start given taking stop old mid given_after taking_after → (stop ≡ stops.NoMemory → ⊥) → HaveClosed (length old) old mid trouble new end → status ≡ status_of stop trouble
@@ -59,35 +60,33 @@ pub closing_starved : (declared : List ActorDecl) (start mid end : State) (given
     → RunsOn declared start given taking status end given_after taking_after
 closing_starved declared start mid end given given_after taking taking_after stop old status x other b is =
     let served = served_then declared start mid given given_after taking taking_after stop x.asked x.lines old x.ends other in
-    let c = b declared start x.asked x.lines served in
-    starves stop x.asked (closings c.0) x.lines old mid x.ends c.1 is
+    unclosed stop x.asked x.lines old mid x.ends other b (broken_closing declared start mid end x.asked x.lines old served b) is
 
 -- memory was refused as frames were exchanged
-front_of : (declared : List ActorDecl) (start now end : State) (asked : List Numbered) (lines : List Line) (old new : List Client) → HasServed declared start asked lines old now → Starves old now new end
-    → (more : List Numbered) × IsPlayBroken (script_of declared (asked ++ more)) start end
-front_of declared start now end asked lines old new h (inl still) =
+front_of : (declared : List ActorDecl) (start now end : State) (given given_after : Given) (taking taking_after : Taking) (asked more : List Numbered) (lines : List Line) (old new : List Client)
+    → HasServed declared start asked lines old now → Starves old now given taking more new end given_after taking_after → IsPlayBroken (script_of declared (asked ++ more)) start end
+front_of declared start now end given given_after taking taking_after asked more lines old new h (none_begun none begins still) =
     let P : List Numbered × State → Type 0 = λ z. IsPlayBroken (script_of declared z.0) start z.1 in
-    ([], subst P (λ i. (sym (append-nil asked) i, sym still.1 i)) (served_is_front declared start now asked lines old h))
-front_of declared start now end asked lines old new h (inr (head, payload, b)) = (
-  b.asked ∷ [],
-  elim b.breaks as (λ _. IsPlayBroken (script_of declared (asked ++ b.asked ∷ [])) start end) [
-    | inl broken ↦ is_broken declared start now end asked b.asked lines old h broken
-    | inr whole ↦ served_is_front declared start end (asked ++ b.asked ∷ []) (lines ++ whole.0 ∷ []) new (one_more declared start now end asked b.asked lines whole.0 old new h whole.1)
-  ],
-)
+    subst P (λ i. ((sym (append-nil asked) ∙ ap (λ z. asked ++ z) (sym none)) i, sym still.state i)) (served_is_front declared start now asked lines old h)
+front_of declared start now end given given_after taking taking_after asked more lines old new h (one_begun head payload one next comes asks breaks told) =
+    subst (λ (z : List Numbered). IsPlayBroken (script_of declared (asked ++ z)) start end) (sym next) (elim breaks as (λ _. IsPlayBroken (script_of declared (asked ++ one ∷ [])) start end) [
+      | inl broken ↦ is_broken declared start now end asked one lines old h broken
+      | inr whole ↦ served_is_front declared start end (asked ++ one ∷ []) (lines ++ whole.0 ∷ []) new (one_more declared start now end asked one lines whole.0 old new h whole.1)
+    ])
+
+starves_so : (declared : List ActorDecl) (start end : State) (given given_after : Given) (taking taking_after : Taking) (stop : Stop) (asked : List Numbered) (lines : List Line) (new : List Client) (status : ℕ)
+    → ExchangeEnds declared start given taking stop asked lines new end given_after taking_after → stop ≡ stops.NoMemory → status ≡ 3 → RunsOn declared start given taking status end given_after taking_after
+starves_so declared start end given given_after taking taking_after stop asked lines new status (ended given_now other x arrives) is status_is = absurd (cc)
+starves_so declared start end given given_after taking taking_after stop asked lines new status (unread given_now arrival other not_read x arrives) is status_is = absurd (cc)
+starves_so declared start end given given_after taking taking_after stop asked lines new status (unwritten other x) is status_is = absurd (cc)
+starves_so declared start end given given_after taking taking_after stop asked lines new status (starved more clients now given_now taking_now other x s) is status_is =
+    starves asked more lines clients new now given_now taking_now x s (front_of declared start now end given_now given_after taking_now taking_after asked more lines clients new x.served s) status_is
+starves_so declared start end given given_after taking taking_after stop asked lines new status (spent other x many) is status_is = absurd (cc)
 
 pub exchange_starved : (declared : List ActorDecl) (start end : State) (given given_after : Given) (taking taking_after : Taking) (stop : Stop) (new : List Client) (status : ℕ)
     → HasExchanged declared start given taking stop new end given_after taking_after → stop ≡ stops.NoMemory → status ≡ 3 → RunsOn declared start given taking status end given_after taking_after
 exchange_starved declared start end given given_after taking taking_after stop new status x is status_is =
-    let f = broken_then x.asked x.lines x.ends in
-    starves stop x.asked f.0 x.lines new end x.ends f.1 status_is
-  where
-    broken_then : (asked : List Numbered) (lines : List Line) → ExchangeEnds declared start given taking stop asked lines new end given_after taking_after → (more : List Numbered) × IsPlayBroken (script_of declared (asked ++ more)) start end
-    broken_then asked lines (ended given_now other x arrives) = absurd (cc)
-    broken_then asked lines (unread given_now arrival other not_read x arrives) = absurd (cc)
-    broken_then asked lines (unwritten other x) = absurd (cc)
-    broken_then asked lines (starved clients now given_now other x s) = front_of declared start now end asked lines clients new x.served s
-    broken_then asked lines (spent other x) = absurd (cc)
+    starves_so declared start end given given_after taking taking_after stop x.asked x.lines new status x.ends is status_is
 
 -- the clients are at rest where memory was not refused
 pub rest_then : (declared : List ActorDecl) (start end : State) (given given_after : Given) (taking taking_after : Taking) (stop : Stop) (new : List Client)

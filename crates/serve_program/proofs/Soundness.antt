@@ -9,11 +9,12 @@ use Rattle.program_ends.specs.Ends.{Ends}
 use Rattle.program_ends.specs.Leaving.{broke_off, ran}
 use Rattle.program_ends.specs.SoundTrees.{LeavesSoundTree, TellsSoundTree}
 use Rattle.program_ends.proofs.Facts.{FailingLeavesSound, all_leave_sound, was_run}
-use Rattle.serve_program.specs.Running.{Runs, RunsOn, closes, mounted, starves, unbegun, unmade, unmounted}
+use Rattle.serve_program.specs.Running.{Runs, RunsOn, closes, mounted, starves, unbegun, unclosed, unmade, unmounted}
 
 runs_go : (declared : List ActorDecl) (start end : State) (given given_after : Given) (taking taking_after : Taking) (status : ℕ) → RunsOn declared start given taking status end given_after taking_after → GoesOn start end
 runs_go declared start end given given_after taking taking_after status (closes stop asked lines more clients mid x other play is) = record { events = play.history; leads = play.leads }
-runs_go declared start end given given_after taking taking_after status (starves stop asked more lines clients mid x front is) = record { events = front.history; leads = front.leads }
+runs_go declared start end given given_after taking taking_after status (starves asked more lines old new now given_now taking_now x s front is) = record { events = front.history; leads = front.leads }
+runs_go declared start end given given_after taking taking_after status (unclosed stop asked lines clients mid x other breaks front is) = record { events = front.history; leads = front.leads }
 runs_go declared start end given given_after taking taking_after status (unmade same unread untaken is) = record { events = []; leads = record { lawful = tt; ends = sym same } }
 
 pub run_leaves : (declared : List ActorDecl) (given given_after : Given) (e : Ends) (status : ℕ) → FailingLeavesSound → Runs declared given given_after e status → TellsSoundTree e.stored → LeavesSoundTree e.stored_after

@@ -7,10 +7,9 @@ use Rattle.script_lang.specs.declared.line.Outcome.TheVariants.{Damaged, Fault}
 use Rattle.script_lang.specs.declared.script.ActorDecl.{ActorDecl}
 use Rattle.script_lang.specs.declared.script.Numbered.{Numbered}
 use Rattle.script_lang.specs.declared.script.Statement.TheVariants.{Close}
-use Rattle.run_core.specs.Breaking.{IsPlayBroken}
 use Rattle.serve_core.specs.declared.client.Client.{Client}
 use Rattle.serve_core.specs.Making.{AreAtRest}
-use Rattle.serve_core.specs.Serving.{HasServed, Serves, ServingBreaks, script_of}
+use Rattle.serve_core.specs.Serving.{HasServed, Serves, ServingBreaks}
 
 -- the client of this place closes its writer
 abbrev pub closing : ℕ → Numbered
@@ -54,7 +53,11 @@ pub record HaveClosed (count : ℕ) (old : List Client) (start : State) (trouble
   pub rest : AreAtRest new
   pub long : length new ≡ length old
 
--- behind what was served, some of them have, and the next one was broken off
-abbrev pub BreaksClosing : List Client → State → State → Type 0
-BreaksClosing old start end = (declared : List ActorDecl) (from : State) (asked : List Numbered) (lines : List Line) → HasServed declared from asked lines old start
-    → (count : ℕ) × IsPlayBroken (script_of declared (asked ++ closings count)) from end
+-- the first so many have, and the next one began to
+pub record BreaksClosing (old : List Client) (start end : State) : Type 0 where
+  pub count : ℕ
+  pub trouble : ℕ
+  pub clients : List Client
+  pub now : State
+  pub so_far : HaveClosed count old start trouble clients now
+  pub begins : BeginsToClose count clients now end

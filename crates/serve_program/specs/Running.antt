@@ -1,5 +1,5 @@
 -- A whole run.
-use Rattle.std.specs.Prelude.{◌≡◌, ◌++◌, ◌==◌, ℕ, Bool, true, false, List, Some, if◌then◌else◌, length}
+use Rattle.std.specs.Prelude.{◌≡◌, ◌+◌, ◌++◌, ◌==◌, ℕ, Bool, true, false, List, Some, if◌then◌else◌, length}
 use Rattle.edge_io.specs.Sink.{Taking}
 use Rattle.edge_io.specs.Source.{Given}
 use Rattle.store_api.specs.Acts.{Stored}
@@ -18,8 +18,8 @@ use Rattle.serve_core.specs.declared.client.Client.{Client}
 use Rattle.serve_core.specs.Serving.{script_of}
 use Rattle.serve_program.specs.declared.exchange.Stop.{Stop}
 use Rattle.serve_program.specs.declared.exchange.Stop.TheVariants as stops
-use Rattle.serve_program.specs.Closing.{closings, worst}
-use Rattle.serve_program.specs.Exchange.{ExchangeEnds}
+use Rattle.serve_program.specs.Closing.{BreaksClosing, closings, worst}
+use Rattle.serve_program.specs.Exchange.{ExchangeEnds, Exchanged, Starves}
 
 -- memory was refused
 abbrev pub is_starved : Stop → Bool
@@ -48,15 +48,20 @@ unmounted_status troubles.Fault = 4
 unmounted_status troubles.NoMemory = 3
 
 -- The frames were exchanged, and then each client closed its writer: what was asked for, with the closings behind it, is a play with these lines. Or memory was
--- refused: the calls until then are a front of those of a play of what was asked for, with some requests behind it. Or there was none for the clients.
+-- refused behind the frames that were exchanged: all calls are a front of those of a play of what was asked for, with the request of the next frame behind it. Or
+-- it was refused behind some closings: they are a front of a play of what was asked for, with these and the next one behind it. Or there was none for the clients.
 pub data RunsOn (declared : List ActorDecl) (start : State) (given : Given) (taking : Taking) (status : ℕ) (end : State) (given_after : Given) (taking_after : Taking) : Type 0 where
   closes : (stop : Stop) (asked : List Numbered) (lines more : List Line) (clients : List Client) (mid : State)
       → ExchangeEnds declared start given taking stop asked lines clients mid given_after taking_after → (stop ≡ stops.NoMemory → ⊥)
       → IsPlay (script_of declared (asked ++ closings (length declared))) start (lines ++ more) end → status ≡ status_of stop (worst more)
       → RunsOn declared start given taking status end given_after taking_after
-  starves : (stop : Stop) (asked more : List Numbered) (lines : List Line) (clients : List Client) (mid : State)
-      → ExchangeEnds declared start given taking stop asked lines clients mid given_after taking_after
+  starves : (asked more : List Numbered) (lines : List Line) (old new : List Client) (now : State) (given_now : Given) (taking_now : Taking)
+      → Exchanged declared start given taking asked lines old now given_now taking_now → Starves old now given_now taking_now more new end given_after taking_after
       → IsPlayBroken (script_of declared (asked ++ more)) start end → status ≡ 3
+      → RunsOn declared start given taking status end given_after taking_after
+  unclosed : (stop : Stop) (asked : List Numbered) (lines : List Line) (clients : List Client) (mid : State)
+      → ExchangeEnds declared start given taking stop asked lines clients mid given_after taking_after → (stop ≡ stops.NoMemory → ⊥)
+      → (breaks : BreaksClosing clients mid end) → IsPlayBroken (script_of declared (asked ++ closings (breaks.count + 1))) start end → status ≡ 3
       → RunsOn declared start given taking status end given_after taking_after
   unmade : end ≡ start → given_after ≡ given → taking_after ≡ taking → status ≡ 3 → RunsOn declared start given taking status end given_after taking_after
 

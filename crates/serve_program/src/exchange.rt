@@ -4,11 +4,12 @@ ghost use Rattle.mount_sound.specs.Sound.{IsFine};
 ghost use Rattle.script_lang.specs.declared.script.ActorDecl.{ActorDecl};
 ghost use Rattle.serve_core.specs.Making.{AreAtRest};
 ghost use Rattle.serve_core.specs.Serving.{AreNew};
-ghost use Rattle.serve_program.specs.Exchange.{HasExchanged, StepsOn, StepsSo};
+ghost use Rattle.frame_format.specs.Telling.{no_memory};
+ghost use Rattle.serve_program.specs.Exchange.{HasExchanged, IsTold, StepsOn, StepsSo};
 
 use crate::answering::answer_frame;
 use edge_io::{Clock, Sink, Source};
-use frame_format::Head;
+use frame_format::{Answer, Head};
 use frame_streams::{Arrival, next_frame, write_answer};
 use mount_core::Mount;
 use plfs_types::Bytes;
@@ -31,6 +32,14 @@ pub enum Stop {
     Spent,
 }
 
+// Tells that memory was refused for the request of this number, as far as the sink takes it.
+fn tell_no_memory<O: Sink>(alloc: Global, out: &mut O, number: u64)
+    ensures told { IsTold (no_memory number) (O.taking out.old) (O.taking out.new) }
+{
+    let answer = Answer::no_memory(alloc, number);
+    let _ = write_answer(out, &answer);
+}
+
 // Answers a frame. None where further ones may follow.
 fn step_on<S: Store + Drop, C: Clock + Drop, O: Sink>(
     alloc: Global,
@@ -47,6 +56,7 @@ fn step_on<S: Store + Drop, C: Clock + Drop, O: Sink>(
     ensures fine { IsFine mount.new }
 {
     let Ok(answer) = answer_frame(alloc, mount, clients, head, payload) else {
+        tell_no_memory(alloc, out, head.number);
         return Some(Stop::NoMemory);
     };
     match write_answer(out, &answer) {

@@ -8,9 +8,11 @@
 mod answering;
 mod closing;
 mod exchange;
+mod laws;
 mod whole;
 mod words;
 
 pub use exchange::Stop;
+pub use laws::a_served_script_fits;
 pub use whole::serve_all;
 pub use words::{ServeCommand, USAGE};

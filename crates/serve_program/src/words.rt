@@ -1,10 +1,10 @@
 //! The words of `plfs_serve`, and the actors of its clients.
-ghost use Rattle.std.specs.Prelude.{◌≡◌, ◌<◌, ◌^◌, ℕ, IfNone, IfOk, IfSome};
-ghost use Rattle.std.specs.Fmt.{decimal};
+ghost use Rattle.std.specs.Prelude.{◌≡◌, ◌<◌, ℕ, IfNone, IfOk, IfSome};
 ghost use Rattle.serve_program.specs.Words.{IsServeCommand, actor_on, actors_on};
 
 use frame_format::ACTORS;
-use plfs_types::{Name, NoMemory, Word, read_decimal};
+use plfs_types::{Name, NoMemory, Word};
+use program_ends::host_of;
 use script_lang::{ActorDecl, ActorList};
 use std::alloc::Global;
 
@@ -15,17 +15,6 @@ pub const USAGE: &[u8] = b"usage: plfs_serve ROOT [HOST]\n";
 #[derive(Clone, Copy)]
 pub struct ServeCommand {
     pub host: u32,
-}
-
-// The host that a word spells.
-fn host_of(word: &Word) -> Option<u32>
-    ensures found { IfSome result (λ host. word.now ≡ decimal host) }
-    ensures none { IfNone result ((host : ℕ) → host < 2 ^ 32 → word.now ≡ decimal host → ⊥) }
-{
-    match read_decimal(word.as_bytes()) {
-        Some(number) => u32::try_from(number).ok(),
-        None => None,
-    }
 }
 
 impl ServeCommand {

@@ -15,7 +15,8 @@ use Rattle.store_laws.specs.Files.{file_at}
 use Rattle.store_laws.specs.Differ.{is_listed}
 use Rattle.store_laws.specs.There.{AreNamesOf}
 use Rattle.store_laws.proofs.Facts.{path_eq}
-use Rattle.mount_model.specs.Paths.{Name, marks_name, metadata, truncs, flats, access_path}
+use Rattle.mount_model.specs.Paths.{Name, metadata, truncs, flats, access_path}
+use Rattle.store_api.specs.Names.{marks_name}
 use Rattle.mount_shape.specs.Container.{IsContainerFolder, IsItemFile, MayHold}
 use Rattle.mount_shape.specs.Marks.{IsOfMark}
 use Rattle.tree_laws.specs.Complaints as complaint

@@ -5,9 +5,10 @@ use Rattle.store_api.specs.declared.step.Answer.{Answer}
 use Rattle.store_api.specs.declared.step.Answer.TheVariants.{Made, Old, Absent, NoRoom, NoFolder, NotEmpty, TargetThere, Names, Number, Bytes, Beyond}
 use Rattle.store_api.specs.Acts.{Stored}
 use Rattle.mount_model.specs.Paths.{Name}
+use Rattle.shape_check.specs.declared.finding.Complaint.{Complaint}
 use Rattle.shape_check.specs.declared.finding.Finding.{Finding}
 use Rattle.shape_check.specs.declared.finding.Finding.TheVariants.{Broken, Fault, NoMemory, Untold}
-use Rattle.shape_check.specs.Rightness.{IsNoComplaint, IsOfRoom, IsOfShape, NoAnswer}
+use Rattle.shape_check.specs.Rightness.{IsFoundIn, IsNoComplaint, IsOfShape, NoAnswer}
 use Rattle.shape_check.specs.Told.{bytes_in, length_in, names_of, number_in, rooms_in}
 
 pub unanswered : (old new : Stored) (finding : Finding) → NoAnswer old new finding → IsNoComplaint finding
@@ -86,11 +87,22 @@ memory_unbroken finding is = subst IsNoComplaint (sym is) tt
 
 -- ---- of the room, and of its shape
 
-pub unbroken_room : (name : Name) (finding : Finding) → IsNoComplaint finding → IsOfRoom name finding
-unbroken_room name (Broken complaint) none = absurd none
-unbroken_room name Fault none = tt
-unbroken_room name NoMemory none = tt
-unbroken_room name Untold none = tt
+pub unbroken_found : (name : Name) (P : Complaint → Type 0) (finding : Finding) → IsNoComplaint finding → IsFoundIn name P finding
+unbroken_found name P (Broken complaint) none = absurd none
+unbroken_found name P Fault none = tt
+unbroken_found name P NoMemory none = tt
+unbroken_found name P Untold none = tt
+
+-- what is found of one thing is found of another one
+pub found_by : (name : Name) (P Q : Complaint → Type 0) → ((complaint : Complaint) → P complaint → Q complaint) → (finding : Finding) → IsFoundIn name P finding → IsFoundIn name Q finding
+found_by name P Q gives (Broken complaint) found = (found.0, gives complaint found.1)
+found_by name P Q gives Fault found = tt
+found_by name P Q gives NoMemory found = tt
+found_by name P Q gives Untold found = tt
+
+pub all_found_by : {A : Type 0} (name : Name) (P Q : Complaint → Type 0) → ((complaint : Complaint) → P complaint → Q complaint) → (result : Result A Finding) → IfErr result (IsFoundIn name P) → IfErr result (IsFoundIn name Q)
+all_found_by name P Q gives (Ok value) found = tt
+all_found_by name P Q gives (Err finding) found = found_by name P Q gives finding found
 
 pub unbroken_shape : (name : Name) (finding : Finding) → IsNoComplaint finding → IsOfShape name finding
 unbroken_shape name (Broken complaint) none = absurd none
@@ -102,8 +114,8 @@ pub unbroken_shapes : {A : Type 0} (name : Name) (result : Result A Finding) →
 unbroken_shapes name (Ok value) none = tt
 unbroken_shapes name (Err finding) none = unbroken_shape name finding none
 
-pub memory_room : (name : Name) (finding : Finding) → finding ≡ NoMemory → IsOfRoom name finding
-memory_room name finding is = subst (IsOfRoom name) (sym is) tt
+pub memory_found : (name : Name) (P : Complaint → Type 0) (finding : Finding) → finding ≡ NoMemory → IsFoundIn name P finding
+memory_found name P finding is = subst (IsFoundIn name P) (sym is) tt
 
 pub memory_shape : (name : Name) (finding : Finding) → finding ≡ NoMemory → IsOfShape name finding
 memory_shape name finding is = subst (IsOfShape name) (sym is) tt

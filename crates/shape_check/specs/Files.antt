@@ -8,7 +8,8 @@ use Rattle.store_api.specs.declared.tree.Room.{Room}
 use Rattle.store_api.specs.declared.tree.Tree.{Tree}
 use Rattle.store_api.specs.Acts.{Stored}
 use Rattle.store_laws.specs.Files.{file_at}
-use Rattle.mount_model.specs.Paths.{Name, marks_name}
+use Rattle.mount_model.specs.Paths.{Name}
+use Rattle.store_api.specs.Names.{marks_name}
 use Rattle.mount_shape.specs.Container.{IsContainerFolder, IsItemFile}
 use Rattle.mount_shape.specs.Marks.{IsOfMark}
 use Rattle.tree_laws.specs.Listable.{IsListable}

@@ -8,7 +8,9 @@ use Rattle.store_api.specs.Acts.{Stored}
 use Rattle.store_laws.specs.Files.{file_at}
 use Rattle.store_laws.specs.Differ.{is_listed}
 use Rattle.store_laws.specs.There.{AreNamesOf}
-use Rattle.mount_model.specs.Paths.{Name, marks_name, marks_folder, mark_name}
+use Rattle.mount_model.specs.Paths.{Name, mark_name}
+use Rattle.store_api.specs.Names.{marks_folder}
+use Rattle.store_api.specs.Names.{marks_name}
 use Rattle.mount_shape.specs.Marks.{IsMarkFile}
 use Rattle.tree_laws.specs.Listable.{IsListable}
 use Rattle.shape_check.specs.Seeing.{IsSeen}

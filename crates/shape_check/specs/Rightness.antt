@@ -5,7 +5,8 @@ use Rattle.store_api.specs.declared.tree.Tree.{Tree}
 use Rattle.store_api.specs.declared.store.Trouble.{Trouble}
 use Rattle.store_api.specs.declared.store.Trouble.TheVariants as trouble
 use Rattle.store_api.specs.Acts.{Stored}
-use Rattle.mount_model.specs.Paths.{Name, marks_name}
+use Rattle.mount_model.specs.Paths.{Name}
+use Rattle.store_api.specs.Names.{marks_name}
 use Rattle.tree_laws.specs.Complaints.{Complaint, IsBroken}
 use Rattle.tree_laws.specs.Complaints as complaint
 use Rattle.shape_check.specs.declared.finding.Complaint as code
@@ -74,14 +75,14 @@ room_of (variant.Between room path stamp) = room
 room_of (variant.TwoTruncates room stamp) = room
 room_of (variant.WrongIndex room path) = room
 
--- what is found wrong, if anything is, is wrong with the room of this name
-abbrev pub IsOfRoom : Name → Finding → Type 0
-IsOfRoom name (Broken complaint) = room_of complaint ≡ name
-IsOfRoom name Fault = Unit {0}
-IsOfRoom name NoMemory = Unit {0}
-IsOfRoom name Untold = Unit {0}
+-- the complaint of what is found wrong, if anything is, is of the room of this name, and P holds of it
+abbrev pub IsFoundIn : Name → (code.Complaint → Type 0) → Finding → Type 0
+IsFoundIn name P (Broken complaint) = (room_of complaint ≡ name) × P complaint
+IsFoundIn name P Fault = Unit {0}
+IsFoundIn name P NoMemory = Unit {0}
+IsFoundIn name P Untold = Unit {0}
 
--- the same, and it is of its shape
+-- what is found wrong, if anything is, is wrong with the shape of the room of this name
 abbrev pub IsOfShape : Name → Finding → Type 0
 IsOfShape name (Broken complaint) = (is_of_shape complaint ≡ true) × (room_of complaint ≡ name)
 IsOfShape name Fault = Unit {0}

@@ -14,5 +14,5 @@ mod shape;
 pub use files::Place;
 pub use finding::{Complaint, Finding};
 pub use looks::{find_room, length, read, rooms};
-pub use marks::{check_marks, marks_name};
+pub use marks::check_marks;
 pub use shape::{PathList, check_shape};

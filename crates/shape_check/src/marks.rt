@@ -1,7 +1,7 @@
 //! The room of the mounts' marks.
 ghost use Rattle.std.specs.Prelude.{◌≡◌, ◌⊎◌, ◌↔◌, [], Some, IfErr, IfOk, IsTrue, OnOk};
 ghost use Rattle.store_api.specs.declared.tree.Tree.{Tree};
-ghost use Rattle.mount_model.specs.Paths.{marks_name as marks_room_name, marks_folder as marks_folder_name};
+ghost use Rattle.store_api.specs.Names.{marks_name as marks_room_name, marks_folder as marks_folder_name};
 ghost use Rattle.mount_shape.specs.Marks.{IsMarksRoom, IsOfMark};
 ghost use Rattle.shape_check.specs.declared.finding.Complaint.TheVariants.{ForeignFolder};
 ghost use Rattle.shape_check.specs.declared.finding.Finding.TheVariants.{Broken};
@@ -13,21 +13,7 @@ use crate::finding::{Complaint, Finding, broken};
 use crate::looks::{length, list};
 use container_layout::{print_number, read_number};
 use plfs_types::{Name, NameList, Path};
-use store_api::Store;
-
-/// The name of the room.
-pub fn marks_name() -> Name
-    ensures { result ≡ marks_room_name }
-{
-    Name::from_bytes(b".plfs").unwrap()
-}
-
-/// The folder of the marks.
-fn marks_folder() -> Name
-    ensures { result ≡ marks_folder_name }
-{
-    Name::from_bytes(b"mounts").unwrap()
-}
+use store_api::{Store, marks_folder, marks_name};
 
 /// Where a file at the top of a room would be.
 pub fn at_top(file: Name) -> Path

@@ -1,8 +1,9 @@
 //! What is told of the shape of a container and of the room of marks, and of changes of them.
 use plfs_types::{Bytes, Name, NameList, NoMemory, Path};
-use shape_check::{Complaint, Finding, Place, check_marks, check_shape, find_room, marks_name};
+use shape_check::{Complaint, Finding, Place, check_marks, check_shape, find_room};
 use std::alloc::Global;
 use std::test::Fail;
+use store_api::marks_name;
 use store_memory::{FailList, File, FileList, MemoryStore, Room, RoomList, Tree};
 
 fn name(text: &str) -> Name {

@@ -8,7 +8,8 @@ use Rattle.store_api.specs.Names.{same_name}
 use Rattle.store_api.specs.Room.{Outcome, has_folder, in_folder, or_absent, at_place, in_file, place_of, removed_if_empty, listing, made_if_absent, without_file, file_named}
 use Rattle.store_api.specs.Effect.{effect, in_room}
 use Rattle.store_api.specs.Leaves.{with_first}
-use Rattle.spread_store.specs.InRoom.{number_in, at_room, room_outcome}
+use Rattle.spread_store.specs.InRoom.{number_in, at_room}
+use Rattle.store_api.specs.InRoom.{room_outcome}
 
 pub effect_at : (step : Step) (tree : Tree) (k i : ℕ) → number_in step ≡ Some k → effect tree (at_room i step) ≡ in_room tree i (room_outcome step)
 effect_at rooms tree k i e = absurd (cc)

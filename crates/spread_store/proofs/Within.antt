@@ -17,7 +17,8 @@ use Rattle.spread_store.specs.declared.places.Doubt.{Doubt}
 use Rattle.spread_store.specs.Asking.{ActsAt}
 use Rattle.spread_store.specs.Joined.{Held, held_by, all_tell, rooms_of, room_at, or_blank, faults_of, joined, spreading, tree_of}
 use Rattle.spread_store.specs.Fits.{Fits, IsFit}
-use Rattle.spread_store.specs.InRoom.{number_in, at_room, room_outcome}
+use Rattle.spread_store.specs.InRoom.{number_in, at_room}
+use Rattle.store_api.specs.InRoom.{room_outcome}
 use Rattle.spread_store.specs.Performs.{Performs, Stays}
 use Rattle.spread_store.proofs.Lists.{get_map_none}
 use Rattle.spread_store.proofs.Steps.{effect_at, at_same, first_at, first_in, name_stays}

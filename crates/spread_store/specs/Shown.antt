@@ -1,7 +1,6 @@
 -- What contracts see of several stores as one.
 use Rattle.std.specs.Prelude.{ℕ, List, Option, refl}
 use Rattle.std.specs.Coded.{Coded, code_by, coded×, coded_ℕ, coded_list, coded_option}
-use Rattle.store_api.specs.declared.tree.Tree.{Tree}
 use Rattle.store_api.specs.contracts.tree.Tree as tree
 use Rattle.store_api.specs.Acts.{Stored}
 use Rattle.spread_store.specs.declared.places.Place.{Place}
@@ -9,6 +8,7 @@ use Rattle.spread_store.specs.declared.places.Doubt.{Doubt}
 use Rattle.spread_store.specs.contracts.places.Place as place
 use Rattle.spread_store.specs.contracts.places.Doubt as doubt
 use Rattle.spread_store.specs.Joined.{Spreading, spreading, tree_of, faults_of}
+use Rattle.store_api.specs.Codes.{stored_code}
 
 pub record Shown : Type 0 where
   -- the stores, in order
@@ -21,11 +21,6 @@ pub record Shown : Type 0 where
   pub acts : ℕ
   -- the store that has the room within which a step was made last
   pub last : ℕ
-
-abbrev pub stored_code : Coded Stored
-stored_code = code_by (Option Tree × (ℕ × ℕ))
-    (coded× (coded_option tree.the_row.coded) (coded× coded_ℕ coded_ℕ))
-    (λ s. (s.tree, (s.acts, s.faults))) (λ p. record { tree = p.0; acts = p.1.0; faults = p.1.1 }) (λ _. refl)
 
 abbrev pub shown_code : Coded Shown
 shown_code = code_by (List Stored × (List Place × (Option Doubt × (ℕ × ℕ))))

@@ -1,8 +1,7 @@
 //! The names of the rooms.
 ghost use Rattle.spread_store.specs.Carrying.{CarriesSurely};
-ghost use Rattle.std.specs.Prelude.{◌≡◌, ◌++◌, map, None, IfOk, OnOk};
+ghost use Rattle.std.specs.Prelude.{◌≡◌, ◌++◌, map, None, OnOk};
 ghost use Rattle.store_api.specs.Step.{rooms};
-ghost use Rattle.store_api.specs.Names.{in_byte_order};
 ghost use Rattle.spread_store.specs.Joined.{spreading};
 ghost use Rattle.spread_store.specs.Fits.{IsFit};
 ghost use Rattle.spread_store.specs.Listing.{AsksRooms, AsksAllRooms, Gathers, GathersIn, names_told};
@@ -12,23 +11,7 @@ use crate::asking::{StoreList, ask};
 use crate::sites::Sites;
 use plfs_types::{Name, NameList, NoMemory};
 use std::alloc::Global;
-use std::collections::BTreeSet;
-use store_api::{Answer, Step, Store, Trouble};
-
-// The names in byte order, each once.
-fn in_byte_order(alloc: Global, names: &[Name]) -> Result<NameList, NoMemory>
-    ensures { IfOk result (λ list. list ≡ in_byte_order names.now) }
-{
-    let mut ordered = BTreeSet::new(alloc);
-    for name in names {
-        ordered.insert(*name)?;
-    }
-    let mut list = NameList::new(alloc);
-    for name in ordered.iter() {
-        list.push(*name)?;
-    }
-    Ok(list)
-}
+use store_api::{Answer, Step, Store, Trouble, in_byte_order};
 
 // The names in an answer.
 fn names_told(alloc: Global, answer: Answer) -> NameList

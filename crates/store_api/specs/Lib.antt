@@ -9,3 +9,5 @@ pub mod Acts
 pub mod Messages
 pub mod AllKept
 pub mod Owned
+pub mod InRoom
+pub mod Codes

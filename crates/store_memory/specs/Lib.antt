@@ -1,4 +1,3 @@
 pub mod Broken
-pub mod InRoom
 pub mod Lost
 pub mod MemoryStore

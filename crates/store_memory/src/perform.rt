@@ -3,13 +3,12 @@ ghost use Rattle.std.specs.Prelude.{◌≡◌, [], map, IfOk, OnOk, OnErr};
 ghost use Rattle.store_api.specs.Step.{step_of, rename_room};
 ghost use Rattle.store_api.specs.Effect.{effect, in_room, number_of, new_room, room_made, renamed};
 ghost use Rattle.store_api.specs.Kept.{empty_file};
-ghost use Rattle.store_memory.specs.InRoom.{room_outcome};
+ghost use Rattle.store_api.specs.InRoom.{room_outcome};
 
-use crate::listing::in_byte_order;
 use crate::room;
 use plfs_types::{Name, NameList, NoMemory};
 use std::alloc::{AllocError, Global};
-use store_api::{Answer, FileList, Room, Step, Tree};
+use store_api::{Answer, FileList, Room, Step, Tree, in_byte_order};
 
 // The number of the room with this name.
 fn number_of(tree: &Tree, name: &Name) -> Option<usize>

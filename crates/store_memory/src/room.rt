@@ -4,7 +4,7 @@ ghost use Rattle.std.specs.List.{list_any};
 ghost use Rattle.store_api.specs.Names.{same_name};
 ghost use Rattle.store_api.specs.Step.{step_of};
 ghost use Rattle.plfs_types.specs.Bytes.{overwritten};
-ghost use Rattle.store_memory.specs.InRoom.{room_outcome};
+ghost use Rattle.store_api.specs.InRoom.{room_outcome};
 ghost use Rattle.store_api.specs.Kept.{common, kept_after, empty_file};
 ghost use Rattle.store_api.specs.Room.{is_top, has_folder, place_of, folder_made, folder_removed, folder_listed, file_created, file_removed, file_named, file_renamed, without_file, length_told, bytes_read, bytes_written, file_cut, file_synced};
 

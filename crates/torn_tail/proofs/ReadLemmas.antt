@@ -12,7 +12,8 @@ use Rattle.flow.specs.Replies.{Tries, given, bytes_in, trouble}
 use Rattle.torn_tail.specs.declared.entries.Went.{Went}
 use Rattle.torn_tail.specs.declared.fates.Fate.{Fate}
 use Rattle.torn_tail.specs.Entries.{looked}
-use Rattle.torn_tail.specs.Writers.{reads_of, next_read, reads, reads_left, reads_on, found, if_checked}
+use Rattle.torn_tail.specs.Writers.{reads, reads_left, reads_on, found, if_checked}
+use Rattle.flow.specs.Entries.{reads_of, next_read}
 
 one_read_less : (left : ℕ) → 0 < left → reads_of left ≡ suc (reads_of (left - next_read left))
 one_read_less left h = elim (cases_lt 4096 left) [

@@ -1,8 +1,7 @@
 -- The calls for one writer that has the container open: Inspect; where it isn't live Length of its index dropping, Length
 -- of its log and Reads of the whole entries; Mend where the index dropping isn't just its landed entries; where there are
 -- some, SyncDropping of the log and of the index dropping, and MendMeta; then Bury.
-use Rattle.std.specs.Prelude.{ℕ, zero, suc, ◌+◌, ◌-◌, ◌*◌, ◌/◌, ◌==◌, nat_le, min, Bool, true, false, if◌then◌else◌, length, Result, Ok, Err}
-use Rattle.plfs_types.specs.declared.limits.TheConstants.{ENTRIES_A_READ}
+use Rattle.std.specs.Prelude.{ℕ, zero, suc, ◌-◌, ◌*◌, ◌/◌, ◌==◌, nat_le, Bool, true, false, if◌then◌else◌, length, Result, Ok, Err}
 use Rattle.flow.specs.declared.stuck.Stuck.{Stuck}
 use Rattle.story.specs.Program.{done, ask}
 use Rattle.mount_model.specs.declared.call.Call.TheVariants.{Look, SyncDropping, Inspect, Mend, MendMeta, Bury}
@@ -19,6 +18,7 @@ use Rattle.torn_tail.specs.declared.entries.Went.TheVariants.{On, Ends, Breaks}
 use Rattle.torn_tail.specs.declared.fates.Fate.{Fate}
 use Rattle.torn_tail.specs.declared.fates.Fate.TheVariants.{Lives, Buried}
 use Rattle.torn_tail.specs.Entries.{no_entries, looked}
+use Rattle.flow.specs.Entries.{reads_of, next_read}
 
 abbrev pub is_alive : Reply → Bool
 is_alive (Refused Alive) = true
@@ -59,14 +59,6 @@ mends room e run = ask (Mend room e.host e.writer run.cover.count) (if_done (kee
 -- the index dropping is so long, and these entries of it have landed
 abbrev pub found : ℕ → OpenEntry → ℕ → Run → Tries Fate
 found room e told run = if told == 40 * run.cover.count then keeps room e run else mends room e run
-
--- how many Reads so many entries take, 4096 by each
-abbrev pub reads_of : ℕ → ℕ
-reads_of left = (left + (ENTRIES_A_READ - 1)) / ENTRIES_A_READ
-
--- how many entries the next Read asks for
-abbrev pub next_read : ℕ → ℕ
-next_read left = min left ENTRIES_A_READ
 
 -- After a Read: an entry that breaks a rule is damage at its first byte. Else it goes on, unless the Read was short.
 abbrev pub if_checked : OpenEntry → (Run → Tries Fate) → (Bool → Run → Tries Fate) → Bool → Went × Run → Tries Fate

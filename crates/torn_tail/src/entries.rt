@@ -1,10 +1,10 @@
 //! The entries of an index dropping, which are checked in order.
-ghost use Rattle.std.specs.Prelude.{◌≡◌, ◌*◌, ◌≤◌, length, drop, true};
+ghost use Rattle.std.specs.Prelude.{◌≡◌, ◌*◌, ◌≤◌, length, true};
 ghost use Rattle.flow.specs.Entries.{is_next as next_of};
 ghost use Rattle.torn_tail.specs.Entries.{no_entries, longer as longer_of, checked as checked_of, looked};
 
 use crate::runs::{Counted, Run};
-use flow::{first_entry, is_next};
+use flow::{first_entry, is_next, past_first};
 use plfs_types::{Cover, Entry};
 
 /// How far the checking of entries went.
@@ -52,14 +52,6 @@ fn longer(counted: Counted, entry: Entry) -> Counted
             last: run.last.max(entry.at + entry.len),
         },
     }
-}
-
-/// The bytes after those of the first entry.
-fn past_first(bytes: &[u8]) -> &[u8]
-    requires { 40 ≤ length bytes.now }
-    ensures { result.now ≡ drop 40 bytes.now }
-{
-    &bytes[40..]
 }
 
 /// Goes on with the first of so many entries of these bytes, up to one that doesn't follow or ends past so many bytes of

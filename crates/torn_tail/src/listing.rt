@@ -1,24 +1,14 @@
 //! Who has a container open.
-ghost use Rattle.std.specs.Prelude.{◌≡◌, ◌<◌, ◌^◌, [], length, IfOk};
+ghost use Rattle.std.specs.Prelude.{◌≡◌, ◌<◌, [], IfOk};
 ghost use Rattle.flow.specs.Listed.{told_by};
-ghost use Rattle.flow.specs.Order.{entries_by_writer as in_order};
-ghost use Rattle.mount_model.specs.Paths as paths;
+ghost use Rattle.container_layout.specs.Paths.{openhosts as openhosts_name};
 ghost use Rattle.torn_tail.specs.Recovering.{entries_named};
 
 use container_layout::openhosts;
-use flow::{OpenEntryList, Stuck, damage, names_in, open_in, trouble};
+use flow::{OpenEntryList, Stuck, damage, file_in, names_in, open_in, trouble};
 use mount_model::Reply;
-use plfs_types::{Name, NoMemory, Path};
+use plfs_types::{Name, NoMemory};
 use std::alloc::Global;
-
-fn file_in(file: Name) -> Path
-    ensures { result ≡ record { folder = paths.openhosts; file = file } }
-{
-    Path {
-        folder: openhosts(),
-        file,
-    }
-}
 
 fn entries_in(alloc: Global, names: &[Name]) -> Result<Result<OpenEntryList, Stuck>, NoMemory>
     ensures { IfOk result (λ found. found ≡ entries_named names.now []) }
@@ -27,7 +17,7 @@ fn entries_in(alloc: Global, names: &[Name]) -> Result<Result<OpenEntryList, Stu
     for name in names {
         let Some(entry) = open_in(*name) else {
             drop(list);
-            return Ok(Err(damage(&file_in(*name), 0)));
+            return Ok(Err(damage(&file_in(openhosts(), *name), 0)));
         };
         let Ok(()) = list.push(entry) else {
             drop(list);
@@ -39,9 +29,9 @@ fn entries_in(alloc: Global, names: &[Name]) -> Result<Result<OpenEntryList, Stu
 
 /// The writers that a listing of those that have the container open tells.
 pub(crate) fn listed(alloc: Global, reply: Reply) -> Result<Result<OpenEntryList, Stuck>, NoMemory>
-    ensures { IfOk result (λ found. found ≡ told_by paths.openhosts (λ names. entries_named names []) reply) }
+    ensures { IfOk result (λ found. found ≡ told_by openhosts_name (λ names. entries_named names []) reply) }
 {
-    let why = trouble(&file_in(Name::empty()), &reply);
+    let why = trouble(&file_in(openhosts(), Name::empty()), &reply);
     let Some(names) = names_in(reply) else {
         return Ok(Err(why));
     };

@@ -3,7 +3,7 @@ ghost use Rattle.std.specs.Prelude.{◌≡◌, ◌≤◌, ◌<◌, ◌+◌, ◌*
 ghost use Rattle.flow.specs.Standing.{ready, next_of, rest_of, replied};
 ghost use Rattle.mount_model.specs.Paths.{index_path as path_of_index, log_path as path_of_log};
 ghost use Rattle.mount_model.specs.Step.{OwedBy};
-ghost use Rattle.torn_tail.specs.Writers.{next_read as read_next, found as found_of, keeps as keeps_of, reads_left, if_checked, is_alive as is_alive_of, not_done as not_done_of, if_done as if_done_of, if_synced as if_synced_of};
+ghost use Rattle.torn_tail.specs.Writers.{found as found_of, keeps as keeps_of, reads_left, if_checked, is_alive as is_alive_of, not_done as not_done_of, if_done as if_done_of, if_synced as if_synced_of};
 ghost use Rattle.torn_tail.specs.declared.fates.Fate.TheVariants.{Buried};
 ghost use Rattle.flow.specs.declared.names.OpenEntry.{OpenEntry as Entered};
 ghost use Rattle.story.specs.Program.{done};
@@ -14,9 +14,9 @@ use crate::fates::Fate;
 use crate::runs::{Counted, Landed, Reads};
 use crate::steps::Step;
 use container_layout::{Item, print};
-use flow::{OpenEntry, Stuck, bytes_in, damage, failure, length_in, trouble};
+use flow::{OpenEntry, Stuck, bytes_in, damage, failure, length_in, next_read, trouble};
 use mount_model::{Call, Look, Refusal, Reply};
-use plfs_types::{ENTRIES_A_READ, Path};
+use plfs_types::Path;
 
 /// What comes after a reply.
 #[derive(Clone, Copy)]
@@ -41,12 +41,6 @@ fn log_path(entry: OpenEntry) -> Path
         host: entry.host,
         writer: entry.writer,
     })
-}
-
-fn next_read(left: u64) -> u64
-    ensures { result ≡ read_next left }
-{
-    left.min(ENTRIES_A_READ)
 }
 
 impl Step {

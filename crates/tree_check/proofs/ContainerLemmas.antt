@@ -32,7 +32,7 @@ use Rattle.shape_check.specs.Seeing.{IsSeen, IsLookedAt}
 use Rattle.shape_check.specs.Shape.{EachAt, HasShape}
 use Rattle.shape_check.proofs.Facts.{kept_whole, seen_on}
 use Rattle.tree_check.specs.declared.owners.Owner.{Owner}
-use Rattle.tree_check.specs.Complaining.{IsRightIn, TellsOfContainer, TellsOfItems}
+use Rattle.tree_check.specs.Complaining.{IsRightOfItem, TellsOfContainer, TellsOfItems}
 use Rattle.tree_check.specs.Known.{IsRightItem, IsRightAt, IsLeftWriter, IsOpenWriter, IsKnownAll, OfKnownAll}
 use Rattle.tree_check.specs.Owners.{AreOwnersAt, AreOwnersOf}
 use Rattle.tree_check.specs.Truncates.{AreTruncsAt}
@@ -141,7 +141,7 @@ module _ (place : Place) (paths : List Path) (owners : BTreeMap ℕ Owner) (trun
         none = λ none. record {
           shape = s.container;
           checked = checked_room old tree seen place.number at.room at.there paths s owners (owners_in_room at.room tree paths s owners owners_are)
-              (each_none (IsRightIn tree at.room.name) (λ (p : Path). IsRightAt p tree at.room) paths (subst (λ (l : List Complaint). TellsOfItems paths l tree at.room) none each)) (truncs_differ at.room tree paths truncs s truncs_are);
+              (each_none (IsRightOfItem tree at.room) (λ (p : Path). IsRightAt p tree at.room) paths (subst (λ (l : List Complaint). TellsOfItems paths l tree at.room) none each)) (truncs_differ at.room tree paths truncs s truncs_are);
         };
       })
 

@@ -26,25 +26,37 @@ use Rattle.shape_check.specs.declared.finding.Finding.{Finding}
 use Rattle.shape_check.specs.declared.finding.Finding.TheVariants.{Broken, Fault}
 use Rattle.shape_check.specs.Files.{IsPlaced, OfPlace}
 use Rattle.shape_check.specs.Rightness.{Fails, IsRight}
-use Rattle.shape_check.specs.Seeing.{IsLookedAt}
-use Rattle.shape_check.proofs.Facts.{no_memory, seen_on}
+use Rattle.shape_check.specs.Seeing.{IsSeen, IsLookedAt}
+use Rattle.shape_check.proofs.Facts.{seen_on}
 use Rattle.tree_check.specs.declared.droppings.Dropping.{Dropping}
 use Rattle.tree_check.specs.declared.droppings.Left.{Left}
-use Rattle.tree_check.specs.Droppings.{IsReadAs, IsOrderly, IsBadDropping, IsDroppingOf, landed_of, IsTruncOf, AreBesideAll, IsBetween, AreOutside, IsFromTo, IsInside, IsLeftRight, IsLeftWrong}
-use Rattle.tree_check.specs.Entries.{AreInOrder, ends_within, IsMisfit}
+use Rattle.tree_check.specs.declared.droppings.Read.{Read}
+use Rattle.tree_check.specs.Droppings.{IsMadeOf, IsReadAs, IsOrderly, IsDroppingOf, IsKept, WasKept, landed_of, IsTruncOf, AreBesideAll, IsBetween, AreOutside, IsFromTo, IsInside, IsLeftRight, IsLeftWrong}
+use Rattle.tree_check.specs.Entries.{AreEntriesIn, AreInOrder, ends_within, IsMisfit}
+use Rattle.tree_check.specs.Whole.{HasLength}
 use Rattle.tree_check.proofs.Failing.{denied}
 use Rattle.tree_check.proofs.EntryLemmas.{within_is, order_front, outside_beside, inside_between, none_there}
 
 -- ---- reading
 
-few : (n : ℕ) → n < 2 ^ 64 → 40 * (n / 40) < 18446744073709551616
-few n less = omega arith
+-- the entries are those of the file there, which has this length
+abbrev pub ShowsEntries : Place → Path → ℕ → List Entry → Stored → Type 0
+ShowsEntries place path size entries stored = OfPlace (λ tree room. (length (bytes_of (file_at room path)) ≡ size) × AreEntriesIn (bytes_of (file_at room path)) entries) place stored
 
--- the entries that bytes are have fewer bytes than a number counts
-pub entries_short : (bytes : List ℕ) (entries : List Entry) → length bytes < 18446744073709551616 → entries ≡ whole_entries bytes → 40 * length entries < 18446744073709551616
-entries_short bytes entries less e =
-    let long : length entries ≡ length bytes / 40 = ap (λ (l : List Entry). length l) e ∙ length-records_in entry_in 40 (length bytes / 40) bytes in
-    omega (arith, long, less)
+-- the file there has this length
+abbrev pub ShowsSize : Place → Path → ℕ → Stored → Type 0
+ShowsSize place path size stored = OfPlace (λ tree room. length (bytes_of (file_at room path)) ≡ size) place stored
+
+-- the entries are those of a file that has this length
+abbrev pub TellsEntries : Place → Path → ℕ → List Entry → Stored → Type 0
+TellsEntries place path size entries stored = (tree : Tree) → IsSeen stored tree → (has : HasLength place path size tree) → AreEntriesIn (bytes_of (file_at has.placed.room path)) entries
+
+pub its_length : (place : Place) (path : Path) (size : ℕ) (stored : Stored) → ShowsSize place path size stored → (tree : Tree) → IsSeen stored tree → IsPlaced place tree → HasLength place path size tree
+its_length place path size stored long tree seen at = record { placed = at; long = long tree seen at }
+
+pub shows_entries : (place : Place) (path : Path) (size : ℕ) (entries : List Entry) (old mid : Stored) → IsLookedAt old mid → ShowsSize place path size old → TellsEntries place path size entries mid → ShowsEntries place path size entries old
+unfolding its_length
+shows_entries place path size entries old mid looked long tells = λ tree seen at. (long tree seen at, tells tree (seen_on old mid tree looked seen) (its_length place path size old long tree seen at))
 
 -- those that have landed of a dropping that was read
 pub landed_is : (host writer : ℕ) (dropping : Dropping) (tree : Tree) (room : Room) → IsDroppingOf host writer dropping tree room → landed_of dropping ≡ landed_entries room host writer
@@ -96,33 +108,60 @@ misfit_no_fault : (room : Name) (path : Path) (writer : ℕ) (es : List Entry) (
 misfit_no_fault room path writer es finding (inl m) e = let is : finding ≡ Broken (misplaced room path (40 * m.0)) = m.1 in cc
 misfit_no_fault room path writer es finding (inr m) e = let is : finding ≡ Broken (LongLog room path) = m.0 in cc
 
-bad_fails : (place : Place) (host writer : ℕ) (old new : Stored) (bytes : List ℕ) (finding : Finding) → host < 2 ^ 32 → writer < 2 ^ 64 → OfPlace (λ tree room. bytes_of (file_at room (index_path host writer)) ≡ bytes) place old
-    → IsBadDropping place.name (index_path host writer) writer bytes finding → Fails (IsPlaced place) old new finding
-bad_fails place host writer old new bytes finding h w read (inl none) = no_memory (IsPlaced place) old new finding none
-bad_fails place host writer old new bytes finding h w read (inr misfit) = record {
-  cause = λ e. absurd (misfit_no_fault place.name (index_path host writer) writer (whole_entries bytes) finding misfit e);
-  right = λ tree seen at. misfit_right place host writer tree at finding h w (subst (λ (l : List ℕ). IsMisfit place.name (index_path host writer) writer (whole_entries l) finding) (sym (read tree seen at)) misfit);
+misfit_fails : (place : Place) (host writer : ℕ) (old new : Stored) (size : ℕ) (entries : List Entry) (finding : Finding) → host < 2 ^ 32 → writer < 2 ^ 64 → ShowsEntries place (index_path host writer) size entries old
+    → IsMisfit place.name (index_path host writer) writer entries finding → Fails (IsPlaced place) old new finding
+misfit_fails place host writer old new size entries finding h w shows misfit = record {
+  cause = λ e. absurd (misfit_no_fault place.name (index_path host writer) writer entries finding misfit e);
+  right = λ tree seen at. misfit_right place host writer tree at finding h w (subst (λ (es : List Entry). IsMisfit place.name (index_path host writer) writer es finding) (shows tree seen at).1.1 misfit);
 }
 
-pub reading_fails : (place : Place) (host writer : ℕ) (old new : Stored) (bytes : List ℕ) (result : Result Dropping Finding) → host < 2 ^ 32 → writer < 2 ^ 64 → OfPlace (λ tree room. bytes_of (file_at room (index_path host writer)) ≡ bytes) place old
-    → IfErr result (IsBadDropping place.name (index_path host writer) writer bytes) → IfErr result (Fails (IsPlaced place) old new)
-reading_fails place host writer old new bytes (Ok dropping) h w read bad = tt
-reading_fails place host writer old new bytes (Err finding) h w read bad = bad_fails place host writer old new bytes finding h w read bad
+pub reading_fails : (place : Place) (host writer : ℕ) (old new : Stored) (size : ℕ) (entries : List Entry) (result : Result Dropping Finding) → host < 2 ^ 32 → writer < 2 ^ 64 → ShowsEntries place (index_path host writer) size entries old
+    → IfErr result (IsMisfit place.name (index_path host writer) writer entries) → IfErr result (Fails (IsPlaced place) old new)
+reading_fails place host writer old new size entries (Ok dropping) h w shows misfit = tt
+reading_fails place host writer old new size entries (Err finding) h w shows misfit = misfit_fails place host writer old new size entries finding h w shows misfit
 
-pub reading_is : (place : Place) (host writer : ℕ) (old mid : Stored) (bytes : List ℕ) (log : ℕ) (result : Result Dropping Finding) → IsLookedAt old mid → OfPlace (λ tree room. bytes_of (file_at room (index_path host writer)) ≡ bytes) place old
-    → OfPlace (λ tree room. length (bytes_of (file_at room (log_path host writer))) ≡ log) place mid → IfOk result (IsReadAs writer bytes log) → IfOk result (λ dropping. OfPlace (IsDroppingOf host writer dropping) place old)
-reading_is place host writer old mid bytes log (Err finding) looked read long is = tt
-reading_is place host writer old mid bytes log (Ok dropping) looked read long is = λ tree seen at.
-    subst (λ (n : ℕ). IsReadAs writer (bytes_of (file_at at.room (index_path host writer))) n dropping) (sym (long tree (seen_on old mid tree looked seen) at))
-    (subst (λ (l : List ℕ). IsReadAs writer l log dropping) (sym (read tree seen at)) is)
+pub reading_is : (place : Place) (host writer : ℕ) (old mid : Stored) (size : ℕ) (entries : List Entry) (log : ℕ) (result : Result Dropping Finding) → IsLookedAt old mid → ShowsEntries place (index_path host writer) size entries old
+    → ShowsSize place (log_path host writer) log mid → IfOk result (IsMadeOf writer size entries log) → IfOk result (λ dropping. OfPlace (IsDroppingOf host writer dropping) place old)
+reading_is place host writer old mid size entries log (Err finding) looked shows long is = tt
+reading_is place host writer old mid size entries log (Ok dropping) looked shows long is = λ tree seen at. record {
+  size = is.size_is ∙ sym (shows tree seen at).0;
+  are_bytes = (shows tree seen at).1.0;
+  are = is.are ∙ (shows tree seen at).1.1;
+  fine = is.fine;
+  landed_are = is.landed_are ∙ ap (λ (n : ℕ). ends_within n dropping.entries) (sym (long tree (seen_on old mid tree looked seen) at));
+  within = is.within;
+}
 
-pub reading_orderly : (writer : ℕ) (bytes : List ℕ) (log : ℕ) (result : Result Dropping Finding) → IfOk result (IsReadAs writer bytes log) → IfOk result (IsOrderly writer)
-reading_orderly writer bytes log (Err finding) is = tt
-reading_orderly writer bytes log (Ok dropping) is = record { fine = is.fine; within = is.within }
+pub reading_orderly : (writer size : ℕ) (entries : List Entry) (log : ℕ) (result : Result Dropping Finding) → IfOk result (IsMadeOf writer size entries log) → IfOk result (IsOrderly writer)
+reading_orderly writer size entries log (Err finding) is = tt
+reading_orderly writer size entries log (Ok dropping) is = record { fine = is.fine; within = is.within }
 
 -- those that have landed of a dropping are in order
 pub orderly_landed : (writer : ℕ) (dropping : Dropping) → IsOrderly writer dropping → AreInOrder writer (landed_of dropping)
 orderly_landed writer dropping is = order_front writer dropping.landed dropping.entries is.fine
+
+-- ---- the one that is kept
+
+seen_back : (old new : Stored) (tree : Tree) → IsLookedAt old new → IsSeen new tree → IsSeen old tree
+seen_back old new tree looked seen = record { told = seen.told; tells = sym looked.same ∙ seen.tells; kept = seen.kept }
+
+pub kept_on : (place : Place) (kept : Option Read) (old new : Stored) → IsLookedAt old new → IsKept place kept old → IsKept place kept new
+kept_on place None old new looked is = tt
+kept_on place (Some read) old new looked (orderly, of) = (orderly, λ tree seen at. of tree (seen_back old new tree looked seen) at)
+
+pub kept_none : (place : Place) (kept : Option Read) (stored : Stored) → kept ≡ None → IsKept place kept stored
+kept_none place kept stored none = subst (λ (k : Option Read). IsKept place k stored) (sym none) tt
+
+-- what was read is so as long as the store is looked at alone
+pub kept_now : (place : Place) (host writer : ℕ) (dropping : Dropping) (old new : Stored) → IsLookedAt old new → IsOrderly writer dropping → OfPlace (IsDroppingOf host writer dropping) place old
+    → IsKept place (Some (record { host = host; writer = writer; dropping = dropping })) new
+kept_now place host writer dropping old new looked orderly of = kept_on place (Some (record { host = host; writer = writer; dropping = dropping })) old new looked (orderly, of)
+
+pub read_as : (read : Read) (host writer : ℕ) → read.host ≡ host → read.writer ≡ writer → read ≡ record { host = host; writer = writer; dropping = read.dropping }
+read_as read host writer h w = ap (λ (x : ℕ). record { host = x; writer = read.writer; dropping = read.dropping }) h ∙ ap (λ (x : ℕ). record { host = host; writer = x; dropping = read.dropping }) w
+
+pub was_kept : (place : Place) (kept : Option Read) (host writer : ℕ) (dropping : Dropping) (stored : Stored) → WasKept host writer kept dropping → IsKept place kept stored → IsOrderly writer dropping × OfPlace (IsDroppingOf host writer dropping) place stored
+was_kept place kept host writer dropping stored was is = subst (λ (k : Option Read). IsKept place k stored) was is
 
 -- ---- truncates
 

@@ -7,7 +7,7 @@ use Rattle.shape_check.specs.declared.finding.Complaint.{Complaint}
 use Rattle.shape_check.specs.Shape.{IsOneOf}
 use Rattle.tree_check.specs.Complaining.{TellsOfEach}
 
-module _ (R : Complaint → Type 0) (Q : Path → Type 0) where
+module _ (R : Path → Complaint → Type 0) (Q : Path → Type 0) where
   -- one more path, of which it is so
   pub each_fine : (paths : List Path) (i : ℕ) (path : Path) (found : List Complaint) → slice_get paths i ≡ Some path → Q path → TellsOfEach R Q (take i paths) found → TellsOfEach R Q (take (suc i) paths) found
   each_fine [] i path found at q told = absurd (cc)
@@ -19,23 +19,23 @@ module _ (R : Complaint → Type 0) (Q : Path → Type 0) where
   ]
 
   -- one more path, of which one complaint is told
-  pub each_wrong : (paths : List Path) (i : ℕ) (path : Path) (found : List Complaint) (complaint : Complaint) → slice_get paths i ≡ Some path → R complaint → TellsOfEach R Q (take i paths) found
+  pub each_wrong : (paths : List Path) (i : ℕ) (path : Path) (found : List Complaint) (complaint : Complaint) → slice_get paths i ≡ Some path → R path complaint → TellsOfEach R Q (take i paths) found
       → TellsOfEach R Q (take (suc i) paths) (found ++ complaint ∷ [])
   each_wrong [] i path found complaint at right told = absurd (cc)
-  each_wrong (p ∷ ps) zero path [] complaint at right told = inr (complaint, [], refl, right, tt)
+  each_wrong (p ∷ ps) zero path [] complaint at right told = (let same : p ≡ path = cc in inr (complaint, [], refl, subst (λ (x : Path). R x complaint) (sym same) right, tt))
   each_wrong (p ∷ ps) zero path (c ∷ found) complaint at right told = absurd told
   each_wrong (p ∷ ps) (suc i) path found complaint at right told = elim told [
     | inl both ↦ inl (both.0, each_wrong ps i path found complaint at right both.1)
     | inr one ↦ inr (one.0, one.1 ++ complaint ∷ [], ap (λ (l : List Complaint). l ++ complaint ∷ []) one.2, one.3, each_wrong ps i path one.1 complaint at right one.4)
   ]
 
-  -- all that is told is right
-  pub each_right : (paths : List Path) (found : List Complaint) → TellsOfEach R Q paths found → AllByRecursion R found
-  each_right [] [] told = tt
-  each_right [] (c ∷ found) told = absurd told
-  each_right (p ∷ ps) found told = elim told [
-    | inl both ↦ each_right ps found both.1
-    | inr one ↦ subst (AllByRecursion R) (sym one.2) (one.3, each_right ps one.1 one.4)
+  -- all that is told has what R gives
+  pub each_right : (S : Complaint → Type 0) → ((path : Path) (complaint : Complaint) → R path complaint → S complaint) → (paths : List Path) (found : List Complaint) → TellsOfEach R Q paths found → AllByRecursion S found
+  each_right S gives [] [] told = tt
+  each_right S gives [] (c ∷ found) told = absurd told
+  each_right S gives (p ∷ ps) found told = elim told [
+    | inl both ↦ each_right S gives ps found both.1
+    | inr one ↦ subst (AllByRecursion S) (sym one.2) (gives p one.0 one.3, each_right S gives ps one.1 one.4)
   ]
 
   -- where nothing is, it is so of each path

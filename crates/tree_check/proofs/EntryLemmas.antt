@@ -24,16 +24,13 @@ use Rattle.tree_check.specs.Entries.{AreInOrder, AreOrdered, ends_within, EndsWi
 -- ---- the entries that bytes are
 
 -- the entries so far, and those that the rest is, are all of them
-abbrev pub AreSoFar : List ℕ → List ℕ → List Entry → Type 0
-AreSoFar bytes rest entries = entries ++ whole_entries rest ≡ whole_entries bytes
-
-pub so_far_none : (bytes : List ℕ) → AreSoFar bytes bytes []
-so_far_none bytes = refl
+abbrev pub AreSoFar : List Entry → List ℕ → List Entry → Type 0
+AreSoFar all rest entries = entries ++ whole_entries rest ≡ all
 
 one_less : (n m : ℕ) → 40 ≤ n → m ≡ n - 40 → n / 40 ≡ suc (m / 40)
 one_less n m long e = omega arith
 
-front_first : (rest : List ℕ) → 40 ≤ length rest → whole_entries rest ≡ entry_in rest ∷ whole_entries (drop 40 rest)
+pub front_first : (rest : List ℕ) → 40 ≤ length rest → whole_entries rest ≡ entry_in rest ∷ whole_entries (drop 40 rest)
 front_first rest long =
     let less : length (drop 40 rest) ≡ length rest - 40 = length-drop 40 rest in
     ap (λ (n : ℕ). records_in entry_in 40 n rest) (one_less (length rest) (length (drop 40 rest)) long less)
@@ -42,8 +39,8 @@ appended : (front rest : List Entry) (e : Entry) → (front ++ e ∷ []) ++ rest
 appended [] rest e = refl
 appended (x ∷ front) rest e = ap (λ (l : List Entry). x ∷ l) (appended front rest e)
 
-pub so_far_more : (bytes rest : List ℕ) (entries : List Entry) → 40 ≤ length rest → AreSoFar bytes rest entries → AreSoFar bytes (drop 40 rest) (entries ++ entry_in rest ∷ [])
-so_far_more bytes rest entries long so_far =
+pub so_far_more : (all : List Entry) (rest : List ℕ) (entries : List Entry) → 40 ≤ length rest → AreSoFar all rest entries → AreSoFar all (drop 40 rest) (entries ++ entry_in rest ∷ [])
+so_far_more all rest entries long so_far =
     appended entries (whole_entries (drop 40 rest)) (entry_in rest) ∙ ap (λ (l : List Entry). entries ++ l) (sym (front_first rest long)) ∙ so_far
 
 no_more : (n : ℕ) → n < 40 → n / 40 ≡ 0
@@ -53,8 +50,8 @@ with_nothing : (xs : List Entry) → xs ++ [] ≡ xs
 with_nothing [] = refl
 with_nothing (x ∷ xs) = ap (λ (l : List Entry). x ∷ l) (with_nothing xs)
 
-pub so_far_all : (bytes rest : List ℕ) (entries : List Entry) → length rest < 40 → AreSoFar bytes rest entries → entries ≡ whole_entries bytes
-so_far_all bytes rest entries short so_far =
+pub so_far_all : (all : List Entry) (rest : List ℕ) (entries : List Entry) → length rest < 40 → AreSoFar all rest entries → entries ≡ all
+so_far_all all rest entries short so_far =
     let none : whole_entries rest ≡ [] = ap (λ (n : ℕ). records_in entry_in 40 n rest) (no_more (length rest) short) in
     sym (with_nothing entries) ∙ ap (λ (l : List Entry). entries ++ l) (sym none) ∙ so_far
 
@@ -287,6 +284,6 @@ ordered writer entries are = record { writer = writer; are = are }
 pub ordered_front : (writer n : ℕ) (entries : List Entry) → AreInOrder writer entries → AreOrdered (take n entries)
 ordered_front writer n entries are = record { writer = writer; are = order_front writer n entries are }
 
-pub so_far_next : (bytes rest after : List ℕ) (entries more : List Entry) → 40 ≤ length rest → after ≡ drop 40 rest → more ≡ entries ++ entry_in rest ∷ [] → AreSoFar bytes rest entries → AreSoFar bytes after more
-so_far_next bytes rest after entries more long back pushed so_far =
-    ap (λ (l : List Entry). l ++ whole_entries after) pushed ∙ ap (λ (l : List ℕ). (entries ++ entry_in rest ∷ []) ++ whole_entries l) back ∙ so_far_more bytes rest entries long so_far
+pub so_far_next : (all : List Entry) (rest after : List ℕ) (entries more : List Entry) → 40 ≤ length rest → after ≡ drop 40 rest → more ≡ entries ++ entry_in rest ∷ [] → AreSoFar all rest entries → AreSoFar all after more
+so_far_next all rest after entries more long back pushed so_far =
+    ap (λ (l : List Entry). l ++ whole_entries after) pushed ∙ ap (λ (l : List ℕ). (entries ++ entry_in rest ∷ []) ++ whole_entries l) back ∙ so_far_more all rest entries long so_far

@@ -15,22 +15,24 @@ use Rattle.store_api.specs.declared.tree.Room.{Room}
 use Rattle.store_api.specs.declared.tree.Tree.{Tree}
 use Rattle.store_api.specs.Acts.{Stored}
 use Rattle.store_laws.specs.Files.{file_at}
+use Rattle.mount_model.specs.Paths.{index_path}
 use Rattle.mount_sound.specs.Items.{HasItem, HasMeta, HasItemOf}
 use Rattle.shape_check.specs.declared.files.Place.{Place}
 use Rattle.shape_check.specs.declared.finding.Complaint.{Complaint}
 use Rattle.shape_check.specs.declared.finding.Finding.{Finding}
 use Rattle.shape_check.specs.declared.finding.Finding.TheVariants.{Broken, Fault, NoMemory, Untold}
 use Rattle.shape_check.specs.Files.{IsPlaced, OfPlace}
-use Rattle.shape_check.specs.Rightness.{Fails, IsOfRoom}
-use Rattle.shape_check.specs.Seeing.{IsLookedAt}
+use Rattle.shape_check.specs.Rightness.{Fails, IsFoundIn, IsRight}
+use Rattle.shape_check.specs.Seeing.{IsLookedAt, IsSeen}
 use Rattle.shape_check.specs.Shape.{IsOneOf}
-use Rattle.shape_check.proofs.Facts.{no_memory, risen_on, seen_on}
+use Rattle.shape_check.proofs.Facts.{found_by, no_memory, risen_on, seen_on}
 use Rattle.tree_check.specs.declared.droppings.Dropping.{Dropping}
 use Rattle.tree_check.specs.declared.owners.Owner.{Owner}
-use Rattle.tree_check.specs.Complaining.{HasNoted, IsRightIn, TellsOfItems}
+use Rattle.tree_check.specs.Complaining.{HasNoted, IsRightOfItem, TellsOfItems}
+use Rattle.tree_check.specs.Concerning.{IsOfFile, IsOfFlat, IsOfItem, IsOfItemAt}
 use Rattle.tree_check.specs.Droppings.{IsDroppingOf, landed_of, AreBesideAll, IsBetween}
-use Rattle.tree_check.specs.Indices.{IsOwnedAt, OfOwnedAt}
-use Rattle.tree_check.specs.Known.{IsRightItem, IsRightAt, IsAtWork, OfWork, IsKnownAt, OfKnownAt, IsKnownAll, OfKnownAll, IsOpenAt, IsOpenEntry}
+use Rattle.tree_check.specs.Indices.{FindsOwned, IsOwnedAt, OfOwnedAt}
+use Rattle.tree_check.specs.Known.{FindsAt, IsRightItem, IsRightAt, IsAtWork, OfWork, IsKnownAt, OfKnownAt, IsKnownAll, OfKnownAll, IsOpenAt, IsOpenEntry}
 use Rattle.tree_check.specs.Owners.{AreOwnersOf, left_before}
 use Rattle.tree_check.proofs.EachLemmas.{each_fine, each_wrong}
 use Rattle.tree_check.proofs.OwnerLemmas.{path_there}
@@ -62,7 +64,24 @@ module _ (place : Place) (owners : BTreeMap ℕ Owner) (truncs : List Trunc) (pa
   pub placed_fails : (old new : Stored) (finding : Finding) → Fails (IsPlaced place) old new finding → Fails (IsKnownAt place owners truncs path) old new finding
   placed_fails old new finding f = record { cause = f.cause; right = λ tree seen known. f.right tree seen known.at.placed }
 
+  -- what is found of it is found of its item
+  pub found_known : (P : Complaint → Type 0) (R : Room → Complaint → Type 0) (old : Stored) (result : Result Unit Finding) → ((room : Room) (complaint : Complaint) → P complaint → R room complaint) → IfErr result (IsFoundIn place.name P)
+      → IfErr result (FindsAt R place owners truncs path old)
+  found_known P R old (Ok done) gives found = tt
+  found_known P R old (Err finding) gives found = λ tree seen known. found_by place.name P (R known.at.placed.room) (gives known.at.placed.room) finding found
+
+  pub flat_known : (id : ℕ) (old : Stored) (result : Result Unit Finding) → IfErr result (FindsOwned (IsOfFlat path) place owners path old) → IfErr result (FindsAt (IsOfItem path (item.Flat id)) place owners truncs path old)
+  unfolding as_owned
+  flat_known id old (Ok done) found = tt
+  flat_known id old (Err finding) found = λ tree seen known.
+      found_by place.name (IsOfFlat path known.at.placed.room) (IsOfItem path (item.Flat id) known.at.placed.room) (λ complaint of. of) finding (found tree seen (as_owned tree known))
+
   -- ---- the item at a path
+
+  pub found_at : (it : Item) (old : Stored) (result : Result Unit Finding) → IsAt path it → IfErr result (FindsAt (IsOfItem path it) place owners truncs path old) → IfErr result (FindsAt (IsOfItemAt path) place owners truncs path old)
+  found_at it old (Ok done) at found = tt
+  found_at it old (Err finding) at found = λ tree seen known.
+      found_by place.name (IsOfItem path it known.at.placed.room) (IsOfItemAt path known.at.placed.room) (λ complaint of. (it, at, of)) finding (found tree seen known)
 
   pub right_at : (it : Item) (old : Stored) (result : Result Unit Finding) → IsAt path it → OnOk result (OfKnownAt (IsRightItem it) place owners truncs path old) → OnOk result (OfKnownAt (IsRightAt path) place owners truncs path old)
   right_at it old (Err finding) at q = tt
@@ -92,6 +111,14 @@ module _ (place : Place) (owners : BTreeMap ℕ Owner) (truncs : List Trunc) (pa
     stays_open room are l meta =
         let gone = are.gone host writer meta in
         false≢true (sym l ∙ ap left_before gone.1 ∙ gone.3)
+
+    -- what is found of the dropping of one that hasn't left
+    pub index_found : (old : Stored) (result : Result Unit Finding) → left_before (get nat_cmp owners writer) ≡ false → IfErr result (IsFoundIn place.name (IsOfFile (index_path host writer)))
+        → IfErr result (FindsAt (IsOfItem path (item.Index host writer)) place owners truncs path old)
+    index_found old (Ok done) l found = tt
+    index_found old (Err finding) l found = λ tree seen known.
+        found_by place.name (IsOfFile (index_path host writer)) (IsOfItem path (item.Index host writer) known.at.placed.room)
+        (λ complaint of. (of ∙ ap Some (sym is_index.printed), stays_open known.at.placed.room known.owners_are l)) finding found
 
     module _ (dropping : Dropping) where
       pub accounted_fails : (old mid new : Stored) (result : Result Unit Finding) → left_before (get nat_cmp owners writer) ≡ false → IsLookedAt old mid → OfPlace (IsDroppingOf host writer dropping) place old
@@ -136,16 +163,23 @@ module _ (place : Place) (owners : BTreeMap ℕ Owner) (truncs : List Trunc) (pa
   so_far : (i : ℕ) (found : List Complaint) (tree : Tree) (room : Room) → TellsOfItems (take (suc i) paths) found tree room → TellsOfItems (take (i + 1) paths) found tree room
   so_far i found tree room told = (let next : suc i ≡ i + 1 = omega arith in subst (λ (n : ℕ). TellsOfItems (take n paths) found tree room) next told)
 
+  -- what is found of the item at a path is right, and of this item
+  wrong_item : (path : Path) (mid : Stored) (complaint : Complaint) (tree : Tree) → IsSeen mid tree → (known : IsKnownAll place owners truncs paths tree) → IsOneOf paths path
+      → ((tree : Tree) → IsSeen mid tree → IsKnownAt place owners truncs path tree → IsRight tree (Broken complaint)) → FindsAt (IsOfItemAt path) place owners truncs path mid (Broken complaint) → IsRightOfItem tree known.placed.room path complaint
+  unfolding at_path
+  wrong_item path mid complaint tree seen known one right named =
+      ((right tree seen (at_path path tree known one), (named tree seen (at_path path tree known one)).0 ∙ sym known.placed.named), (named tree seen (at_path path tree known one)).1)
+
   pub items_more : (i : ℕ) (path : Path) (old mid new : Stored) (told : Result Unit Finding) (found more : List Complaint) → slice_get paths i ≡ Some path → IsLookedAt old mid
       → OfKnownAll (TellsOfItems (take i paths) found) place owners truncs paths old → OnOk told (OfKnownAt (IsRightAt path) place owners truncs path mid) → IfErr told (Fails (IsKnownAt place owners truncs path) mid new)
-      → IfErr told (IsOfRoom place.name) → HasNoted told found more → OfKnownAll (TellsOfItems (take (i + 1) paths) more) place owners truncs paths old
+      → IfErr told (FindsAt (IsOfItemAt path) place owners truncs path mid) → HasNoted told found more → OfKnownAll (TellsOfItems (take (i + 1) paths) more) place owners truncs paths old
   unfolding at_path
   items_more i path old mid new (Ok done) found more at looked before fine wrong named noted = λ tree seen known. so_far i more tree known.placed.room
       (subst (λ (l : List Complaint). TellsOfItems (take (suc i) paths) l tree known.placed.room) (sym noted)
-      (each_fine (IsRightIn tree known.placed.room.name) (λ (p : Path). IsRightAt p tree known.placed.room) paths i path found at (fine tree (seen_on old mid tree looked seen) (at_path path tree known (path_there paths i path at))) (before tree seen known)))
+      (each_fine (IsRightOfItem tree known.placed.room) (λ (p : Path). IsRightAt p tree known.placed.room) paths i path found at (fine tree (seen_on old mid tree looked seen) (at_path path tree known (path_there paths i path at))) (before tree seen known)))
   items_more i path old mid new (Err (Broken complaint)) found more at looked before fine wrong named noted = λ tree seen known. so_far i more tree known.placed.room
       (subst (λ (l : List Complaint). TellsOfItems (take (suc i) paths) l tree known.placed.room) (sym noted)
-      (each_wrong (IsRightIn tree known.placed.room.name) (λ (p : Path). IsRightAt p tree known.placed.room) paths i path found complaint at (wrong.right tree (seen_on old mid tree looked seen) (at_path path tree known (path_there paths i path at)), named ∙ sym known.placed.named) (before tree seen known)))
+      (each_wrong (IsRightOfItem tree known.placed.room) (λ (p : Path). IsRightAt p tree known.placed.room) paths i path found complaint at (wrong_item path mid complaint tree (seen_on old mid tree looked seen) known (path_there paths i path at) wrong.right named) (before tree seen known)))
   items_more i path old mid new (Err Fault) found more at looked before fine wrong named noted = absurd noted
   items_more i path old mid new (Err NoMemory) found more at looked before fine wrong named noted = absurd noted
   items_more i path old mid new (Err Untold) found more at looked before fine wrong named noted = absurd noted

@@ -1,6 +1,7 @@
 pub mod Facts
 mod WholeLemmas
 mod EntryLemmas
+mod PartLemmas
 mod Failing
 mod DroppingLemmas
 mod OwnerLemmas
@@ -11,7 +12,7 @@ mod IndexLemmas
 mod FlatLemmas
 mod EachLemmas
 mod HaltLemmas
-mod OfRoom
+mod OfItem
 mod OfShape
 mod ContainerLemmas
 mod RoomLemmas

@@ -16,7 +16,9 @@ use Rattle.store_laws.specs.Differ.{is_listed}
 use Rattle.store_laws.specs.Says.{AreRoomNames}
 use Rattle.store_laws.specs.There.{IsFree}
 use Rattle.store_laws.proofs.Facts.{name_eq, name_refl}
-use Rattle.mount_model.specs.Paths.{Name, marks_name, marks_folder, installed_item}
+use Rattle.mount_model.specs.Paths.{Name, installed_item}
+use Rattle.store_api.specs.Names.{marks_folder}
+use Rattle.store_api.specs.Names.{marks_name}
 use Rattle.mount_model.specs.declared.row.Making.{Making}
 use Rattle.mount_model.specs.declared.row.Making.TheVariants as making
 use Rattle.mount_shape.specs.Marks.{IsMarksRoom}
@@ -35,7 +37,7 @@ use Rattle.shape_check.specs.Seeing.{IsSeen, IsLookedAt, IsAny}
 use Rattle.shape_check.specs.Told.{TellsRoom}
 use Rattle.shape_check.proofs.Facts.{listed_more, looked_on, seen_on}
 use Rattle.tree_check.specs.declared.halting.Halt.{Halt}
-use Rattle.tree_check.specs.Complaining.{InNamed, IsFirstOf, IsOneFound, IsRightIn, IsRightOf, IsToldOf, TellsOfContainer, TellsOfRoom}
+use Rattle.tree_check.specs.Complaining.{InNamed, IsFirstOf, IsOneFound, IsRightIn, IsRightOf, IsRightOfItem, IsToldOf, TellsOfContainer, TellsOfRoom}
 use Rattle.tree_check.specs.Known.{IsRightAt}
 use Rattle.tree_check.specs.Rooms.{IsCheckedContainer, IsRightRoom, IsNamed, OfNamed, HasRooms, AreRight, OfTree}
 use Rattle.tree_check.proofs.EachLemmas.{each_right}
@@ -119,7 +121,7 @@ module _ (tree : Tree) (room : Room) where
 
   room_wrong : (found : List Complaint) → TellsOfRoom found tree room → AllByRecursion (IsRightIn tree room.name) found
   room_wrong found (inl (fine, nothing)) = subst (AllByRecursion (IsRightIn tree room.name)) (sym nothing) tt
-  room_wrong found (inr told) = each_right (IsRightIn tree room.name) (λ (path : Path). IsRightAt path tree room) told.paths found told.each
+  room_wrong found (inr told) = each_right (IsRightOfItem tree room) (λ (path : Path). IsRightAt path tree room) (IsRightIn tree room.name) (λ path complaint right. right.0) told.paths found told.each
 
 module _ (marks : Option ℕ) (name : Name) (old : Stored) where
   -- of a room that was checked to its end

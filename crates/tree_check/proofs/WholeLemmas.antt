@@ -3,7 +3,6 @@ use Rattle.std.proofs.Common.{◌≡◌, ℕ, ◌+◌, ◌-◌, ◌≤◌, ◌<�
 use Rattle.std.specs.Prelude.{slice_get, is_some, min, IfOk, IfErr}
 use Rattle.std.proofs.Math.Seq.{take-add}
 use Rattle.std.proofs.lemmas.List.{length-drop, length-take-le, take_all}
-use Rattle.plfs_types.specs.declared.limits.TheConstants.{MAX_PIECE}
 use Rattle.plfs_types.specs.declared.names.Path.{Path}
 use Rattle.store_api.specs.declared.tree.Room.{Room}
 use Rattle.store_api.specs.declared.tree.Tree.{Tree}
@@ -84,12 +83,12 @@ piece_read place path size at len old bytes shows tree seen has =
 long_enough : (all : List ℕ) (size at most : ℕ) → length all ≡ size → at < size → length (take (min (size - at) most) (drop at all)) ≡ min (size - at) most
 long_enough all size at most long less = length-take-le (min (size - at) most) (drop at all) (omega (arith, length-drop at all, long))
 
-pub piece_short : (place : Place) (path : Path) (size at len : ℕ) (old new : Stored) (bytes : List ℕ) → ShowsBytes old place.number path at len bytes → at < size → len ≡ min (size - at) MAX_PIECE → (length bytes ≡ len → ⊥) → Fails (HasFileOf place path size) old new Untold
-piece_short place path size at len old new bytes shows less is short = record {
+pub piece_short : (place : Place) (path : Path) (size at most len : ℕ) (old new : Stored) (bytes : List ℕ) → ShowsBytes old place.number path at len bytes → at < size → len ≡ min (size - at) most → (length bytes ≡ len → ⊥) → Fails (HasFileOf place path size) old new Untold
+piece_short place path size at most len old new bytes shows less is short = record {
   cause = λ e. absurd (cc);
   right = λ tree seen has. absurd (short (
       ap (λ (l : List ℕ). length l) (piece_read place path size at len old bytes shows tree seen has)
-      ∙ ap (λ (n : ℕ). length (take n (drop at has.bytes))) is ∙ long_enough has.bytes size at MAX_PIECE has.long less ∙ sym is));
+      ∙ ap (λ (n : ℕ). length (take n (drop at has.bytes))) is ∙ long_enough has.bytes size at most has.long less ∙ sym is));
 }
 
 -- the bytes so far

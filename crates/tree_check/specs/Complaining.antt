@@ -14,6 +14,7 @@ use Rattle.shape_check.specs.Places.{HasMarks}
 use Rattle.shape_check.specs.Rightness.{complaint_of, is_of_shape, room_of}
 use Rattle.shape_check.specs.Seeing.{IsSeen}
 use Rattle.shape_check.specs.Shape.{HasShape}
+use Rattle.tree_check.specs.Concerning.{IsOfItemAt}
 use Rattle.tree_check.specs.Known.{IsRightAt}
 use Rattle.tree_check.specs.Rooms.{IsCheckedContainer, IsRightRoom}
 
@@ -25,17 +26,21 @@ IsRightOf tree complaint = IsBroken tree (complaint_of complaint)
 abbrev pub IsRightIn : Tree → Name → Complaint → Type 0
 IsRightIn tree name complaint = IsRightOf tree complaint × (room_of complaint ≡ name)
 
--- Of each of these paths, in their order, it is so, or one such complaint is told. Nothing else is told.
-abbrev pub TellsOfEach : (Complaint → Type 0) → (Path → Type 0) → List Path → List Complaint → Type 0
+-- the same, and it is of the item at this path
+abbrev pub IsRightOfItem : Tree → Room → Path → Complaint → Type 0
+IsRightOfItem tree room path complaint = IsRightIn tree room.name complaint × IsOfItemAt path room complaint
+
+-- Q holds of each of these paths, in their order, or one complaint is told of which R holds with the path. Nothing else is told.
+abbrev pub TellsOfEach : (Path → Complaint → Type 0) → (Path → Type 0) → List Path → List Complaint → Type 0
 TellsOfEach R Q [] [] = Unit {0}
 TellsOfEach R Q [] (complaint ∷ found) = ⊥
 TellsOfEach R Q (path ∷ paths) found =
     (Q path × TellsOfEach R Q paths found)
-    ⊎ ((complaint : Complaint) × (rest : List Complaint) × (found ≡ complaint ∷ rest) × R complaint × TellsOfEach R Q paths rest)
+    ⊎ ((complaint : Complaint) × (rest : List Complaint) × (found ≡ complaint ∷ rest) × R path complaint × TellsOfEach R Q paths rest)
 
--- the item at each of these paths is right, or one complaint is told of the container that is right
+-- the item at each of these paths is right, or one complaint is told that is right and of this item
 abbrev pub TellsOfItems : List Path → List Complaint → Tree → Room → Type 0
-TellsOfItems paths found tree room = TellsOfEach (IsRightIn tree room.name) (λ path. IsRightAt path tree room) paths found
+TellsOfItems paths found tree room = TellsOfEach (IsRightOfItem tree room) (λ path. IsRightAt path tree room) paths found
 
 -- the container has the shape of one in a sound tree, and of each of its items that isn't right one complaint is told
 pub record TellsOfContainer (found : List Complaint) (tree : Tree) (room : Room) : Type 0 where

@@ -1,5 +1,5 @@
 -- An index dropping that was read, and what is judged of its writer.
-use Rattle.std.specs.Prelude.{◌≡◌, ◌⊎◌, ℕ, ◌*◌, ◌≤◌, ◌<◌, List, [], ◌∷◌, length, take}
+use Rattle.std.specs.Prelude.{◌≡◌, ◌⊎◌, ℕ, ◌*◌, ◌≤◌, ◌<◌, List, [], ◌∷◌, length, take, Option, Some, None}
 use Rattle.plfs_types.specs.declared.limits.TheConstants.{ENTRY_SIZE}
 use Rattle.plfs_types.specs.declared.entries.Entry.{Entry}
 use Rattle.plfs_types.specs.declared.entries.Trunc.{Trunc}
@@ -7,16 +7,20 @@ use Rattle.plfs_types.specs.declared.names.Path.{Path}
 use Rattle.index_entry.specs.Records.{IsBytes}
 use Rattle.store_api.specs.declared.tree.Room.{Room}
 use Rattle.store_api.specs.declared.tree.Tree.{Tree}
+use Rattle.store_api.specs.Acts.{Stored}
 use Rattle.store_laws.specs.Files.{file_at}
 use Rattle.mount_model.specs.Paths.{Name, index_path}
 use Rattle.mount_sound.specs.Dropping.{bytes_of, log_bytes, AreBeside, IsToldOf}
 use Rattle.tree_laws.specs.Checked.{whole_entries}
+use Rattle.shape_check.specs.declared.files.Place.{Place}
 use Rattle.shape_check.specs.declared.finding.Complaint.TheVariants.{Between, Untrue, Unsettled}
 use Rattle.shape_check.specs.declared.finding.Finding.{Finding}
-use Rattle.shape_check.specs.declared.finding.Finding.TheVariants.{Broken, NoMemory}
+use Rattle.shape_check.specs.declared.finding.Finding.TheVariants.{Broken}
+use Rattle.shape_check.specs.Files.{OfPlace}
 use Rattle.tree_check.specs.declared.droppings.Dropping.{Dropping}
 use Rattle.tree_check.specs.declared.droppings.Left.{Left}
-use Rattle.tree_check.specs.Entries.{AreInOrder, ends_within, IsMisfit}
+use Rattle.tree_check.specs.declared.droppings.Read.{Read}
+use Rattle.tree_check.specs.Entries.{AreInOrder, ends_within}
 
 -- the dropping is what these bytes are, beside a log of so many
 pub record IsReadAs (writer : ℕ) (bytes : List ℕ) (log : ℕ) (dropping : Dropping) : Type 0 where
@@ -27,18 +31,31 @@ pub record IsReadAs (writer : ℕ) (bytes : List ℕ) (log : ℕ) (dropping : Dr
   pub landed_are : dropping.landed ≡ ends_within log dropping.entries
   pub within : dropping.landed ≤ length dropping.entries
 
+-- the dropping has this length and these entries, beside a log of so many bytes
+pub record IsMadeOf (writer size : ℕ) (entries : List Entry) (log : ℕ) (dropping : Dropping) : Type 0 where
+  pub size_is : dropping.size ≡ size
+  pub are : dropping.entries ≡ entries
+  pub fine : AreInOrder writer dropping.entries
+  pub landed_are : dropping.landed ≡ ends_within log dropping.entries
+  pub within : dropping.landed ≤ length dropping.entries
+
 -- its entries are in order, and no more of them have landed
 pub record IsOrderly (writer : ℕ) (dropping : Dropping) : Type 0 where
   pub fine : AreInOrder writer dropping.entries
   pub within : dropping.landed ≤ length dropping.entries
 
--- memory was refused, or the entries that the bytes are don't fit
-abbrev pub IsBadDropping : Name → Path → ℕ → List ℕ → Finding → Type 0
-IsBadDropping room path writer bytes finding = (finding ≡ NoMemory) ⊎ IsMisfit room path writer (whole_entries bytes) finding
-
 -- the dropping is what the room has of this writer, where a missing file counts as empty
 abbrev pub IsDroppingOf : ℕ → ℕ → Dropping → Tree → Room → Type 0
 IsDroppingOf host writer dropping tree room = IsReadAs writer (bytes_of (file_at room (index_path host writer))) (length (log_bytes room host writer)) dropping
+
+-- the dropping that is kept, if one is, is what the room has of its writer
+abbrev pub IsKept : Place → Option Read → Stored → Type 0
+IsKept place None stored = Unit {0}
+IsKept place (Some read) stored = IsOrderly read.writer read.dropping × OfPlace (IsDroppingOf read.host read.writer read.dropping) place stored
+
+-- this one of the writer was kept
+abbrev pub WasKept : ℕ → ℕ → Option Read → Dropping → Type 0
+WasKept host writer kept dropping = kept ≡ Some (record { host = host; writer = writer; dropping = dropping })
 
 -- those of its entries that have landed
 abbrev pub landed_of : Dropping → List Entry

@@ -4,7 +4,9 @@ use Rattle.plfs_types.specs.declared.limits.TheConstants.{ENTRY_SIZE, MAX_LOG}
 use Rattle.plfs_types.specs.declared.entries.Entry.{Entry}
 use Rattle.plfs_types.specs.declared.names.Path.{Path}
 use Rattle.index_entry.specs.Entries.{AreEntriesOf, logged}
+use Rattle.index_entry.specs.Records.{IsBytes}
 use Rattle.mount_model.specs.Paths.{Name}
+use Rattle.tree_laws.specs.Checked.{whole_entries}
 use Rattle.shape_check.specs.declared.finding.Complaint.TheVariants.{Entry as misplaced, LongLog}
 use Rattle.shape_check.specs.declared.finding.Finding.{Finding}
 use Rattle.shape_check.specs.declared.finding.Finding.TheVariants.{Broken}
@@ -22,6 +24,10 @@ pub record AreOrdered (entries : List Entry) : Type 0 where
 -- the entry ends within so many bytes of a log
 abbrev pub EndsWithin : ℕ → Entry → Type 0
 EndsWithin log e = e.physical + e.len ≤ log
+
+-- the entries are the whole ones of these bytes
+abbrev pub AreEntriesIn : List ℕ → List Entry → Type 0
+AreEntriesIn bytes entries = IsBytes bytes × (entries ≡ whole_entries bytes)
 
 -- how many of the first entries end within so many bytes of a log
 abbrev pub ends_within : ℕ → List Entry → ℕ

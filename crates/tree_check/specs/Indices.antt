@@ -18,7 +18,10 @@ use Rattle.store_api.specs.Acts.{Stored}
 use Rattle.store_laws.specs.Files.{file_at}
 use Rattle.mount_sound.specs.Flats.{IsCovered, AreCovered, covered_entries}
 use Rattle.shape_check.specs.declared.files.Place.{Place}
+use Rattle.shape_check.specs.declared.finding.Complaint.{Complaint}
+use Rattle.shape_check.specs.declared.finding.Finding.{Finding}
 use Rattle.shape_check.specs.Files.{IsPlaced}
+use Rattle.shape_check.specs.Rightness.{IsFoundIn}
 use Rattle.shape_check.specs.Seeing.{IsSeen}
 use Rattle.tree_check.specs.declared.owners.Owner.{Owner}
 use Rattle.tree_check.specs.Owners.{AreOwnersOf}
@@ -36,6 +39,10 @@ pub record IsOwnedAt (place : Place) (owners : BTreeMap ℕ Owner) (path : Path)
 
 abbrev pub OfOwnedAt : (Tree → Room → Type 0) → Place → BTreeMap ℕ Owner → Path → Stored → Type 0
 OfOwnedAt Q place owners path stored = (tree : Tree) → IsSeen stored tree → (at : IsOwnedAt place owners path tree) → Q tree at.owned.placed.room
+
+-- what is found wrong of it is of it, and R holds of the complaint there
+abbrev pub FindsOwned : (Room → Complaint → Type 0) → Place → BTreeMap ℕ Owner → Path → Stored → Finding → Type 0
+FindsOwned R place owners path stored finding = OfOwnedAt (λ tree room. IsFoundIn place.name (R room) finding) place owners path stored
 
 -- the writer is of this host, and has left
 abbrev pub IsLeftOf : BTreeMap ℕ Owner → ℕ → ℕ → Type 0

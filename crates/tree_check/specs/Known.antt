@@ -17,7 +17,10 @@ use Rattle.mount_sound.specs.Items.{HasItem, HasMeta}
 use Rattle.mount_sound.specs.There.{landed_entries, landed_in}
 use Rattle.tree_laws.specs.Checked.{IsCheckedDropping}
 use Rattle.shape_check.specs.declared.files.Place.{Place}
+use Rattle.shape_check.specs.declared.finding.Complaint.{Complaint}
+use Rattle.shape_check.specs.declared.finding.Finding.{Finding}
 use Rattle.shape_check.specs.Files.{IsPlaced}
+use Rattle.shape_check.specs.Rightness.{IsFoundIn}
 use Rattle.shape_check.specs.Seeing.{IsSeen}
 use Rattle.shape_check.specs.Shape.{HaveFiles}
 use Rattle.tree_check.specs.declared.owners.Owner.{Owner}
@@ -79,6 +82,10 @@ pub record IsKnownAt (place : Place) (owners : BTreeMap ℕ Owner) (truncs : Lis
 
 abbrev pub OfKnownAt : (Tree → Room → Type 0) → Place → BTreeMap ℕ Owner → List Trunc → Path → Stored → Type 0
 OfKnownAt Q place owners truncs path stored = (tree : Tree) → IsSeen stored tree → (known : IsKnownAt place owners truncs path tree) → Q tree known.at.placed.room
+
+-- what is found wrong of it is of it, and R holds of the complaint there
+abbrev pub FindsAt : (Room → Complaint → Type 0) → Place → BTreeMap ℕ Owner → List Trunc → Path → Stored → Finding → Type 0
+FindsAt R place owners truncs path stored finding = OfKnownAt (λ tree room. IsFoundIn place.name (R room) finding) place owners truncs path stored
 
 -- the same of a container that has a file at each of these paths
 pub record IsKnownAll (place : Place) (owners : BTreeMap ℕ Owner) (truncs : List Trunc) (paths : List Path) (tree : Tree) : Type 0 where

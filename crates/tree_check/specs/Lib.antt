@@ -6,5 +6,6 @@ pub mod Truncates
 pub mod Known
 pub mod Indices
 pub mod Rooms
+pub mod Concerning
 pub mod Complaining
 pub mod Halting

@@ -3,7 +3,7 @@ ghost use Rattle.std.specs.Prelude.{◌≡◌, [], Some, IfErr, IfOk, OnOk};
 ghost use Rattle.plfs_types.specs.Counts.{HasRisen};
 ghost use Rattle.store_api.specs.declared.tree.Tree.{Tree};
 ghost use Rattle.store_api.specs.AllKept.{all_kept};
-ghost use Rattle.mount_model.specs.Paths.{marks_name as marks_room_name};
+ghost use Rattle.store_api.specs.Names.{marks_name as marks_room_name};
 ghost use Rattle.mount_shape.specs.Marks.{IsMarksRoom};
 ghost use Rattle.mount_sound.specs.Sound.{IsSoundTree};
 ghost use Rattle.tree_laws.specs.Checked.{HoldsBytes};
@@ -23,9 +23,9 @@ use crate::owners::owners_of;
 use crate::truncates::truncs_of;
 use crate::writers::check_items;
 use plfs_types::Name;
-use shape_check::{Finding, Place, check_marks, check_shape, find_room, marks_name, rooms};
+use shape_check::{Finding, Place, check_marks, check_shape, find_room, rooms};
 use std::alloc::Global;
-use store_api::Store;
+use store_api::{Store, marks_name};
 use tree_laws::a_checked_tree_is_sound;
 
 /// Whether the tree of the store is sound, where all its bytes are kept. It makes looks alone.
@@ -89,7 +89,8 @@ fn check_first<S: Store>(
 /// What is complained of the room of this name.
 ///
 /// A room with another shape than those of a sound tree, or where a writer has two hosts or two truncates have one stamp, has one
-/// complaint. Another container has one for each item that isn't as in a sound tree, in the order of their paths.
+/// complaint. Another container has one for each item that isn't as in a sound tree, in the order of their paths. It is of that item, or
+/// of an index dropping that the item tells of.
 pub fn check_room<S: Store>(
     alloc: Global,
     store: &mut S,
@@ -98,7 +99,7 @@ pub fn check_room<S: Store>(
 ) -> Result<ComplaintList, Halt>
     // Nothing changes.
     ensures looked { IsLookedAt (S.stored store.old) (S.stored store.new) }
-    // What is complained of the room is right, and it is all that is wrong with its items.
+    // What is complained of the room is right, and it is all that is wrong with its items: each complaint is of its item.
     ensures ok { IfOk result (λ found. (tree : Tree) → IsSeen (S.stored store.old) tree → IsNamed marks name tree → IsToldOf found name tree) }
     // A fault comes only where the count rose.
     ensures err { IfErr result (Halts (IsNamed marks name) (S.stored store.old) (S.stored store.new)) }

@@ -1,18 +1,20 @@
 //! An index dropping that was read, and what is told of its writer.
-ghost use Rattle.std.specs.Prelude.{◌≡◌, ◌≤◌, ◌↔◌, IsTrue, length, take, IfOk, IfErr, OnOk};
-ghost use Rattle.tree_check.specs.Entries.{AreInOrder};
+ghost use Rattle.std.specs.Prelude.{◌≡◌, ◌≤◌, ◌↔◌, IsTrue, None, length, take, IfOk, IfErr, IfSome, OnOk};
+ghost use Rattle.tree_check.specs.Entries.{AreInOrder, IsMisfit};
 ghost use Rattle.mount_model.specs.Paths.{index_path, log_path as log_path_of};
 ghost use Rattle.shape_check.specs.Files.{IsPlaced, OfPlace};
-ghost use Rattle.shape_check.specs.Rightness.{Fails, IsOfRoom};
+ghost use Rattle.shape_check.specs.Rightness.{Fails, IsFoundIn};
 ghost use Rattle.shape_check.specs.Seeing.{IsLookedAt};
-ghost use Rattle.tree_check.specs.Droppings.{IsReadAs, IsOrderly, IsBadDropping, IsDroppingOf, AreBesideAll, IsBetween, AreOutside, IsFromTo, IsInside, IsLeftRight, IsLeftWrong};
+ghost use Rattle.tree_check.specs.Concerning.{IsOfEntries};
+ghost use Rattle.tree_check.specs.Droppings.{IsMadeOf, IsOrderly, IsDroppingOf, IsKept, WasKept, AreBesideAll, IsBetween, AreOutside, IsFromTo, IsInside, IsLeftRight, IsLeftWrong};
 
-use crate::entries::{entries_of, judge, landed_of, sum_of};
-use crate::whole::{bytes_or_none, length_or_none};
+use crate::entries::{entries_at, judge, landed_of, sum_of};
+use crate::whole::length_or_none;
 use container_layout::{Item, print};
 use plfs_types::{ENTRY_SIZE, Entry, EntryList, Name, Path, Trunc};
 use shape_check::{Complaint, Finding, Place};
 use std::alloc::Global;
+use std::mem;
 use store_api::Store;
 
 /// An index dropping that was read.
@@ -51,8 +53,8 @@ fn log_of(host: u32, writer: u64) -> Path
 }
 
 /// Reads a writer's index dropping, none where it isn't there, unless its entries aren't in order.
-#[tactic(auto, using(shape_check::proofs::Facts::unbroken_room, crate::proofs::OfRoom::bad_named))]
-pub(crate) fn read_dropping<S: Store>(
+#[tactic(auto, using(shape_check::proofs::Facts::unbroken_found))]
+fn read_dropping<S: Store>(
     alloc: Global,
     store: &mut S,
     place: &Place,
@@ -63,31 +65,87 @@ pub(crate) fn read_dropping<S: Store>(
     ensures orderly { IfOk result (IsOrderly writer) }
     ensures ok { IfOk result (λ dropping. OfPlace (IsDroppingOf host writer dropping) place.now (S.stored store.old)) }
     ensures err { IfErr result (Fails (IsPlaced place.now) (S.stored store.old) (S.stored store.new)) }
-    ensures named { IfErr result (IsOfRoom place.now.name) }
+    ensures named { IfErr result (IsFoundIn place.now.name (IsOfEntries (index_path host writer))) }
 {
     let path = index_of(host, writer);
-    let bytes = bytes_or_none(alloc, store, place, &path)?;
+    let size = length_or_none(store, place, &path)?;
+    let entries = entries_at(alloc, store, place, &path, size)?;
     let log = length_or_none(store, place, &log_of(host, writer))?;
-    dropping_of(alloc, place.name, &path, writer, bytes.as_slice(), log)
+    dropping_of(place.name, &path, writer, size, entries, log)
 }
 
-/// The dropping that these bytes are, beside a log of this length.
-fn dropping_of(
+/// An index dropping that was read, and whose it is.
+#[derive(Drop)]
+pub(crate) struct Read {
+    pub(crate) host: u32,
+    pub(crate) writer: u64,
+    pub(crate) dropping: Dropping,
+}
+
+/// The index dropping that was read last, if it is kept: one that a flattened index covers isn't read again for its writer.
+pub(crate) type Kept = Option<Read>;
+
+/// Whether it is of this writer, of this host.
+fn is_of(read: &Read, host: u32, writer: u64) -> bool
+    ensures { IsTrue result ↔ ((read.now.host ≡ host) × (read.now.writer ≡ writer)) }
+{
+    read.host == host && read.writer == writer
+}
+
+/// This writer's dropping, if it is the one that is kept. None is kept from then on.
+fn take_kept(host: u32, writer: u64, kept: &mut Kept) -> Option<Dropping>
+    ensures none { kept.new ≡ None }
+    ensures some { IfSome result (WasKept host writer kept.old) }
+{
+    let Some(read) = mem::replace(kept, None) else {
+        return None;
+    };
+    if is_of(&read, host, writer) {
+        Some(read.dropping)
+    } else {
+        None
+    }
+}
+
+/// This writer's dropping, which is read where it isn't the one that is kept. None is kept from then on.
+pub(crate) fn take_dropping<S: Store>(
     alloc: Global,
+    store: &mut S,
+    place: &Place,
+    host: u32,
+    writer: u64,
+    kept: &mut Kept,
+) -> Result<Dropping, Finding>
+    requires { IsKept place.now kept.old (S.stored store.old) }
+    ensures none { kept.new ≡ None }
+    ensures looked { IsLookedAt (S.stored store.old) (S.stored store.new) }
+    ensures orderly { IfOk result (IsOrderly writer) }
+    ensures ok { IfOk result (λ dropping. OfPlace (IsDroppingOf host writer dropping) place.now (S.stored store.old)) }
+    ensures err { IfErr result (Fails (IsPlaced place.now) (S.stored store.old) (S.stored store.new)) }
+    ensures named { IfErr result (IsFoundIn place.now.name (IsOfEntries (index_path host writer))) }
+{
+    match take_kept(host, writer, kept) {
+        Some(dropping) => Ok(dropping),
+        None => read_dropping(alloc, store, place, host, writer),
+    }
+}
+
+/// The dropping of this length that has these entries, beside a log of that length.
+fn dropping_of(
     room: Name,
     path: &Path,
     writer: u64,
-    bytes: &[u8],
+    size: u64,
+    entries: EntryList,
     log: u64,
 ) -> Result<Dropping, Finding>
-    ensures ok { IfOk result (IsReadAs writer bytes.now log) }
-    ensures err { IfErr result (IsBadDropping room path.now writer bytes.now) }
+    ensures ok { IfOk result (IsMadeOf writer size entries log) }
+    ensures err { IfErr result (IsMisfit room path.now writer entries) }
 {
-    let entries = entries_of(alloc, bytes)?;
     judge(room, path, writer, entries.as_slice())?;
     let landed = landed_of(log, entries.as_slice());
     Ok(Dropping {
-        size: bytes.len() as u64,
+        size,
         entries,
         landed,
     })

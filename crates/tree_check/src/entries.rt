@@ -1,28 +1,63 @@
-//! Entries in memory: which ones may follow each other, which have landed, and what they tell together.
-ghost use Rattle.std.specs.Prelude.{◌≡◌, ◌*◌, ◌+◌, ◌<◌, ◌≤◌, ◌^◌, ◌↔◌, length, IfOk, IfErr, OnOk, IsTrue};
+//! Entries that are read: which ones may follow each other, which have landed, and what they tell together.
+ghost use Rattle.std.specs.Prelude.{◌≡◌, ◌++◌, ◌*◌, ◌+◌, ◌<◌, ◌≤◌, ◌^◌, ◌↔◌, length, IfOk, IfErr, OnOk, IsTrue};
 ghost use Rattle.index_entry.specs.Entries.{MayFollow, AreEntriesOf, logged as logged_in, last_stamp};
 ghost use Rattle.index_entry.specs.Records.{IsBytes};
 ghost use Rattle.mount_sound.specs.Entries.{greatest_end};
+ghost use Rattle.store_api.specs.declared.tree.Tree.{Tree};
+ghost use Rattle.store_laws.specs.Files.{file_at};
+ghost use Rattle.mount_sound.specs.Dropping.{bytes_of};
 ghost use Rattle.tree_laws.specs.Checked.{whole_entries};
-ghost use Rattle.tree_check.specs.Entries.{AreInOrder, AreOrdered, ends_within, EndsWithin, IsMisfit};
+ghost use Rattle.shape_check.specs.Rightness.{Fails, IsNoComplaint};
+ghost use Rattle.shape_check.specs.Seeing.{IsSeen, IsLookedAt};
+ghost use Rattle.tree_check.specs.Whole.{HasLength};
+ghost use Rattle.tree_check.specs.Entries.{AreEntriesIn, AreInOrder, AreOrdered, ends_within, EndsWithin, IsMisfit};
 
+use crate::whole::piece;
 use flow::first_entry;
-use plfs_types::{ENTRY_SIZE, Entry, EntryList, MAX_LOG, MAX_STAMP, Name, NoMemory, Path, fits};
-use shape_check::{Complaint, Finding};
+use plfs_types::{
+    ENTRIES_A_READ, ENTRY_SIZE, Entry, EntryList, MAX_LOG, MAX_STAMP, Name, NoMemory, Path, fits,
+};
+use shape_check::{Complaint, Finding, Place};
 use std::alloc::Global;
+use store_api::Store;
 
-/// The whole entries that the bytes of an index dropping are, valid or not.
-#[tactic(auto, using(crate::proofs::EntryLemmas::so_far_none, crate::proofs::EntryLemmas::so_far_more, crate::proofs::EntryLemmas::so_far_all))]
-pub(crate) fn entries_of(alloc: Global, bytes: &[u8]) -> Result<EntryList, NoMemory>
-    ensures value { IfOk result (λ entries. entries ≡ whole_entries bytes.now) }
+/// The most bytes of an index dropping that are read at once: those of whole entries.
+const PART: u64 = ENTRIES_A_READ * ENTRY_SIZE as u64;
+
+/// Adds the whole entries that the bytes are, valid or not.
+fn add_entries(entries: &mut EntryList, bytes: &[u8]) -> Result<(), NoMemory>
+    ensures value { OnOk result (entries.new ≡ entries.old ++ whole_entries bytes.now) }
     ensures bytes { IsBytes bytes.now }
 {
-    let mut entries = EntryList::new(alloc);
     let mut rest = bytes;
     while rest.len() >= ENTRY_SIZE {
         entries.push(first_entry(rest))?;
         let (_entry, after) = rest.split_at(ENTRY_SIZE);
         rest = after;
+    }
+    Ok(())
+}
+
+/// The whole entries of an index dropping of this length, valid or not. It is read part by part.
+#[tactic(auto, using(crate::proofs::WholeLemmas::no_memory, crate::proofs::WholeLemmas::looked_same, crate::proofs::WholeLemmas::looked_on, shape_check::proofs::Facts::memory_unbroken))]
+pub(crate) fn entries_at<S: Store>(
+    alloc: Global,
+    store: &mut S,
+    place: &Place,
+    path: &Path,
+    size: u64,
+) -> Result<EntryList, Finding>
+    ensures looked { IsLookedAt (S.stored store.old) (S.stored store.new) }
+    ensures ok { IfOk result (λ entries. (tree : Tree) → IsSeen (S.stored store.old) tree → (has : HasLength place.now path.now size tree) → AreEntriesIn (bytes_of (file_at has.placed.room path.now)) entries) }
+    ensures err { IfErr result (Fails (HasLength place.now path.now size) (S.stored store.old) (S.stored store.new)) }
+    ensures unbroken { IfErr result IsNoComplaint }
+{
+    let mut entries = EntryList::from_vec(Vec::with_capacity(alloc, size as usize / ENTRY_SIZE)?);
+    let mut at = 0;
+    while at < size {
+        let bytes = piece(store, place, path, size, at, PART)?;
+        add_entries(&mut entries, bytes.as_slice())?;
+        at += (size - at).min(PART);
     }
     Ok(entries)
 }

@@ -3,6 +3,7 @@ ghost use Rattle.std.specs.Prelude.{◌≡◌, ◌↔◌, ◌<◌, ◌^◌, leng
 ghost use Rattle.store_api.specs.declared.tree.Tree.{Tree};
 ghost use Rattle.container_layout.specs.declared.items.Item.TheVariants.{Packed, Flat as FlatItem};
 ghost use Rattle.container_layout.specs.Paths.{IsAt};
+ghost use Rattle.mount_model.specs.Paths.{index_path};
 ghost use Rattle.index_pack.specs.Spelling.{Packs};
 ghost use Rattle.plfs_types.specs.declared.entries.Entry.{Entry as Covered};
 ghost use Rattle.plain_file.specs.Runs.{AreRuns, ArePieces};
@@ -10,13 +11,15 @@ ghost use Rattle.flat_format.specs.Valid.{IsFlat};
 ghost use Rattle.interval_merge.specs.Lists.{joined, ArePiecesOfEach};
 ghost use Rattle.mount_sound.specs.Flats.{IsRightFlat, IsRightPack};
 ghost use Rattle.shape_check.specs.declared.finding.Finding.TheVariants.{NoMemory as NoMemoryLeft};
-ghost use Rattle.shape_check.specs.Rightness.{Fails, IsOfRoom};
+ghost use Rattle.shape_check.specs.Rightness.{Fails, IsFoundIn};
 ghost use Rattle.shape_check.specs.Seeing.{IsSeen, IsLookedAt};
+ghost use Rattle.tree_check.specs.Droppings.{IsKept};
+ghost use Rattle.tree_check.specs.Concerning.{IsOfCover, IsOfCovered, IsOfEntries, IsOfFlat, IsOfPack, IsOfWriter};
 ghost use Rattle.tree_check.specs.Entries.{AreInOrder};
-ghost use Rattle.tree_check.specs.Indices.{IsOwned, IsOwnedAt, OfOwnedAt, IsLeftOf, IsDecoded, IsUnpacked, AreTheirs, TellsCover, TellsCovers, IsCoverOf};
+ghost use Rattle.tree_check.specs.Indices.{FindsOwned, IsOwned, IsOwnedAt, OfOwnedAt, IsLeftOf, IsDecoded, IsUnpacked, AreTheirs, TellsCover, TellsCovers, IsCoverOf};
 ghost use Rattle.tree_check.specs.Known.{IsRightItem};
 
-use crate::droppings::{index_of, read_dropping};
+use crate::droppings::{Kept, Read, index_of, take_dropping};
 use crate::entries::sum_of;
 use crate::owners::{Owners, owner_of};
 use crate::whole::{bytes_or_none, has_file};
@@ -38,14 +41,17 @@ pub(crate) fn check_pack<S: Store>(
     path: &Path,
     host: u32,
     writer: u64,
+    kept: &mut Kept,
 ) -> Result<(), Finding>
-    requires { IsAt path.now (Packed host writer) }
+    requires at { IsAt path.now (Packed host writer) }
+    requires kept { IsKept place.now kept.old (S.stored store.old) }
+    ensures kept { IsKept place.now kept.new (S.stored store.new) }
     ensures looked { IsLookedAt (S.stored store.old) (S.stored store.new) }
     ensures ok { OnOk result (OfOwnedAt (IsRightItem (Packed host writer)) place.now owners.now path.now (S.stored store.old)) }
     ensures err { IfErr result (Fails (IsOwnedAt place.now owners.now path.now) (S.stored store.old) (S.stored store.new)) }
-    ensures named { IfErr result (IsOfRoom place.now.name) }
+    ensures named { IfErr result (IsFoundIn place.now.name (IsOfPack path.now host writer)) }
 {
-    let holds = is_right_pack(alloc, store, place, owners, path, host, writer)?;
+    let holds = is_right_pack(alloc, store, place, owners, path, host, writer, kept)?;
     if holds {
         return Ok(());
     }
@@ -57,7 +63,7 @@ pub(crate) fn check_pack<S: Store>(
     })
 }
 
-#[tactic(auto, using(shape_check::proofs::Facts::unbroken_room, shape_check::proofs::Facts::memory_room))]
+#[tactic(auto, using(shape_check::proofs::Facts::unbroken_found, shape_check::proofs::Facts::memory_found, crate::proofs::DroppingLemmas::kept_on, crate::proofs::DroppingLemmas::kept_none))]
 fn is_right_pack<S: Store>(
     alloc: Global,
     store: &mut S,
@@ -66,11 +72,14 @@ fn is_right_pack<S: Store>(
     path: &Path,
     host: u32,
     writer: u64,
+    kept: &mut Kept,
 ) -> Result<bool, Finding>
+    requires kept { IsKept place.now kept.old (S.stored store.old) }
+    ensures kept { IsKept place.now kept.new (S.stored store.new) }
     ensures looked { IsLookedAt (S.stored store.old) (S.stored store.new) }
     ensures ok { IfOk result (λ is. (tree : Tree) → IsSeen (S.stored store.old) tree → (at : IsOwnedAt place.now owners.now path.now tree) → IsTrue is ↔ IsRightPack at.owned.placed.room host writer at.bytes) }
     ensures err { IfErr result (Fails (IsOwnedAt place.now owners.now path.now) (S.stored store.old) (S.stored store.new)) }
-    ensures named { IfErr result (IsOfRoom place.now.name) }
+    ensures named { IfErr result (IsFoundIn place.now.name (IsOfEntries (index_path host writer))) }
 {
     if !is_left_of(owners, host, writer) {
         return Ok(false);
@@ -80,7 +89,7 @@ fn is_right_pack<S: Store>(
         return Ok(false);
     }
     let bytes = bytes_or_none(alloc, store, place, path)?;
-    let dropping = read_dropping(alloc, store, place, host, writer)?;
+    let dropping = take_dropping(alloc, store, place, host, writer, kept)?;
     let holds = packs(alloc, bytes.as_slice(), dropping.landed())?;
     Ok(holds)
 }
@@ -125,14 +134,17 @@ pub(crate) fn check_flat<S: Store>(
     owners: &Owners,
     path: &Path,
     id: u64,
+    kept: &mut Kept,
 ) -> Result<(), Finding>
-    requires { IsAt path.now (FlatItem id) }
+    requires at { IsAt path.now (FlatItem id) }
+    requires kept { IsKept place.now kept.old (S.stored store.old) }
+    ensures kept { IsKept place.now kept.new (S.stored store.new) }
     ensures looked { IsLookedAt (S.stored store.old) (S.stored store.new) }
     ensures ok { OnOk result (OfOwnedAt (IsRightItem (FlatItem id)) place.now owners.now path.now (S.stored store.old)) }
     ensures err { IfErr result (Fails (IsOwnedAt place.now owners.now path.now) (S.stored store.old) (S.stored store.new)) }
-    ensures named { IfErr result (IsOfRoom place.now.name) }
+    ensures named { IfErr result (FindsOwned (IsOfFlat path.now) place.now owners.now path.now (S.stored store.old)) }
 {
-    let holds = is_right_flat(alloc, store, place, owners, path)?;
+    let holds = is_right_flat(alloc, store, place, owners, path, kept)?;
     if holds {
         return Ok(());
     }
@@ -144,23 +156,26 @@ pub(crate) fn check_flat<S: Store>(
     })
 }
 
-#[tactic(auto, using(shape_check::proofs::Facts::unbroken_room, shape_check::proofs::Facts::memory_room))]
+#[tactic(auto, using(shape_check::proofs::Facts::unbroken_found, shape_check::proofs::Facts::memory_found, crate::proofs::DroppingLemmas::kept_on, crate::proofs::DroppingLemmas::kept_none))]
 fn is_right_flat<S: Store>(
     alloc: Global,
     store: &mut S,
     place: &Place,
     owners: &Owners,
     path: &Path,
+    kept: &mut Kept,
 ) -> Result<bool, Finding>
+    requires kept { IsKept place.now kept.old (S.stored store.old) }
+    ensures kept { IsKept place.now kept.new (S.stored store.new) }
     ensures looked { IsLookedAt (S.stored store.old) (S.stored store.new) }
     ensures ok { IfOk result (λ is. (tree : Tree) → IsSeen (S.stored store.old) tree → (at : IsOwnedAt place.now owners.now path.now tree) → IsTrue is ↔ IsRightFlat at.owned.placed.room at.bytes) }
     ensures err { IfErr result (Fails (IsOwnedAt place.now owners.now path.now) (S.stored store.old) (S.stored store.new)) }
-    ensures named { IfErr result (IsOfRoom place.now.name) }
+    ensures named { IfErr result (FindsOwned (IsOfCovered path.now) place.now owners.now path.now (S.stored store.old)) }
 {
     let bytes = bytes_or_none(alloc, store, place, path)?;
     let found = decoded(alloc, bytes.as_slice())?;
     match found {
-        Some(flat) => are_covered(alloc, store, place, owners, &flat),
+        Some(flat) => are_covered(alloc, store, place, owners, &flat, kept),
         None => Ok(false),
     }
 }
@@ -178,21 +193,24 @@ fn decoded(alloc: Global, bytes: &[u8]) -> Result<Option<Flat>, NoMemory>
 }
 
 /// Whether its covers tell of the first entries of their writers, and its pieces are theirs.
-#[tactic(auto, using(shape_check::proofs::Facts::memory_room))]
+#[tactic(auto, using(shape_check::proofs::Facts::memory_found))]
 fn are_covered<S: Store>(
     alloc: Global,
     store: &mut S,
     place: &Place,
     owners: &Owners,
     flat: &Flat,
+    kept: &mut Kept,
 ) -> Result<bool, Finding>
-    requires { IsFlat flat.now }
+    requires valid { IsFlat flat.now }
+    requires kept { IsKept place.now kept.old (S.stored store.old) }
+    ensures kept { IsKept place.now kept.new (S.stored store.new) }
     ensures looked { IsLookedAt (S.stored store.old) (S.stored store.new) }
     ensures ok { IfOk result (λ is. (tree : Tree) → IsSeen (S.stored store.old) tree → (at : IsOwned place.now owners.now tree) → IsTrue is ↔ AreTheirs at.placed.room flat.now) }
     ensures err { IfErr result (Fails (IsOwned place.now owners.now) (S.stored store.old) (S.stored store.new)) }
-    ensures named { IfErr result (IsOfRoom place.now.name) }
+    ensures named { IfErr result (IsFoundIn place.now.name (IsOfCover flat.now.covers)) }
 {
-    let found = pieces_of(alloc, store, place, owners, flat.covers.as_slice())?;
+    let found = pieces_of(alloc, store, place, owners, flat.covers.as_slice(), kept)?;
     match found {
         Some(lists) => are_merged(alloc, lists, flat.pieces.as_slice()),
         None => Ok(false),
@@ -210,22 +228,25 @@ fn are_merged(alloc: Global, lists: PiecesList, pieces: &[Piece]) -> Result<bool
 }
 
 /// The pieces of the entries that each cover tells of, where all covers tell of the first entries of their writers.
-#[tactic(auto, using(shape_check::proofs::Facts::memory_room))]
+#[tactic(auto, using(shape_check::proofs::Facts::memory_found))]
 fn pieces_of<S: Store>(
     alloc: Global,
     store: &mut S,
     place: &Place,
     owners: &Owners,
     covers: &[Cover],
+    kept: &mut Kept,
 ) -> Result<Option<PiecesList>, Finding>
+    requires kept { IsKept place.now kept.old (S.stored store.old) }
+    ensures kept { IsKept place.now kept.new (S.stored store.new) }
     ensures looked { IsLookedAt (S.stored store.old) (S.stored store.new) }
     ensures ok { IfOk result (λ found. (tree : Tree) → IsSeen (S.stored store.old) tree → (at : IsOwned place.now owners.now tree) → TellsCovers at.placed.room covers.now found) }
     ensures err { IfErr result (Fails (IsOwned place.now owners.now) (S.stored store.old) (S.stored store.new)) }
-    ensures named { IfErr result (IsOfRoom place.now.name) }
+    ensures named { IfErr result (IsFoundIn place.now.name (IsOfCover covers.now)) }
 {
     let mut lists = PiecesList::new(alloc);
     for cover in covers {
-        let found = covered(alloc, store, place, owners, cover)?;
+        let found = covered(alloc, store, place, owners, cover, kept)?;
         match found {
             Some(pieces) => lists.push(pieces)?,
             None => return Ok(None),
@@ -235,18 +256,21 @@ fn pieces_of<S: Store>(
 }
 
 /// The pieces of the entries that are covered, where so many have landed and the cover tells of them.
-#[tactic(auto, using(shape_check::proofs::Facts::unbroken_room, shape_check::proofs::Facts::memory_room))]
+#[tactic(auto, using(shape_check::proofs::Facts::unbroken_found, shape_check::proofs::Facts::memory_found, crate::proofs::DroppingLemmas::kept_on, crate::proofs::DroppingLemmas::kept_none))]
 fn covered<S: Store>(
     alloc: Global,
     store: &mut S,
     place: &Place,
     owners: &Owners,
     cover: &Cover,
+    kept: &mut Kept,
 ) -> Result<Option<Pieces>, Finding>
+    requires kept { IsKept place.now kept.old (S.stored store.old) }
+    ensures kept { IsKept place.now kept.new (S.stored store.new) }
     ensures looked { IsLookedAt (S.stored store.old) (S.stored store.new) }
     ensures ok { IfOk result (λ found. (tree : Tree) → IsSeen (S.stored store.old) tree → (at : IsOwned place.now owners.now tree) → TellsCover at.placed.room cover.now found) }
     ensures err { IfErr result (Fails (IsOwned place.now owners.now) (S.stored store.old) (S.stored store.new)) }
-    ensures named { IfErr result (IsOfRoom place.now.name) }
+    ensures named { IfErr result (IsFoundIn place.now.name (IsOfWriter cover.now.writer)) }
 {
     let Some(owner) = owner_of(owners, cover.writer) else {
         return Ok(None);
@@ -255,8 +279,13 @@ fn covered<S: Store>(
     if !has {
         return Ok(None);
     }
-    let dropping = read_dropping(alloc, store, place, owner.host, cover.writer)?;
+    let dropping = take_dropping(alloc, store, place, owner.host, cover.writer, kept)?;
     let pieces = first_pieces(alloc, cover, dropping.landed())?;
+    *kept = Some(Read {
+        host: owner.host,
+        writer: cover.writer,
+        dropping,
+    });
     Ok(pieces)
 }
 

@@ -78,33 +78,34 @@ fn whole<S: Store>(
     ensures err { IfErr result (Fails (HasFileOf place.now path.now size) (S.stored store.old) (S.stored store.new)) }
     ensures unbroken { IfErr result IsNoComplaint }
 {
-    let mut all = Vec::new(alloc);
+    let mut all = Vec::with_capacity(alloc, size as usize)?;
     let mut at = 0;
     while at < size {
-        let bytes = piece(store, place, path, size, at)?;
+        let bytes = piece(store, place, path, size, at, MAX_PIECE)?;
         all.extend_from_slice(bytes.as_slice())?;
         at += (size - at).min(MAX_PIECE);
     }
     Ok(Bytes::from_vec(all))
 }
 
-/// The next bytes of a file of this length, at most so many as one read gives.
+/// The next bytes of a file of this length, at most so many.
 #[tactic(auto, using(crate::proofs::WholeLemmas::file_orderly, crate::proofs::WholeLemmas::piece_read, crate::proofs::WholeLemmas::piece_short))]
-fn piece<S: Store>(
+pub(crate) fn piece<S: Store>(
     store: &mut S,
     place: &Place,
     path: &Path,
     size: u64,
     at: u64,
+    most: u64,
 ) -> Result<Bytes, Finding>
     requires { at < size }
     ensures looked { IsLookedAt (S.stored store.old) (S.stored store.new) }
-    ensures some { IfOk result (λ bytes. length bytes ≡ min (size - at) MAX_PIECE) }
-    ensures ok { IfOk result (λ bytes. (tree : Tree) → IsSeen (S.stored store.old) tree → (has : HasFileOf place.now path.now size tree) → bytes ≡ take (min (size - at) MAX_PIECE) (drop at has.bytes)) }
+    ensures some { IfOk result (λ bytes. length bytes ≡ min (size - at) most) }
+    ensures ok { IfOk result (λ bytes. (tree : Tree) → IsSeen (S.stored store.old) tree → (has : HasFileOf place.now path.now size tree) → bytes ≡ take (min (size - at) most) (drop at has.bytes)) }
     ensures err { IfErr result (Fails (HasFileOf place.now path.now size) (S.stored store.old) (S.stored store.new)) }
     ensures unbroken { IfErr result IsNoComplaint }
 {
-    let some = (size - at).min(MAX_PIECE);
+    let some = (size - at).min(most);
     let bytes = read(store, place.number, path, at, some)?;
     if bytes.as_slice().len() as u64 != some {
         return Err(Finding::Untold);

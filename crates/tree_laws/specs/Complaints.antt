@@ -10,7 +10,9 @@ use Rattle.store_api.specs.declared.tree.Room.{Room}
 use Rattle.store_api.specs.declared.tree.Tree.{Tree}
 use Rattle.store_api.specs.Room.{has_folder}
 use Rattle.store_laws.specs.Files.{file_at, kept_at}
-use Rattle.mount_model.specs.Paths.{Name, open_path, index_path, installed_item, installed_of, marks_name, marks_folder, access_path, metadata, truncs, flats}
+use Rattle.mount_model.specs.Paths.{Name, open_path, index_path, installed_item, installed_of, access_path, metadata, truncs, flats}
+use Rattle.store_api.specs.Names.{marks_folder}
+use Rattle.store_api.specs.Names.{marks_name}
 use Rattle.mount_model.specs.declared.row.Making.{Making}
 use Rattle.mount_shape.specs.Container.{IsContainerFolder, MayHold, IsOfId}
 use Rattle.mount_shape.specs.Marks.{IsMarkFile, IsOfMark}

@@ -24,7 +24,8 @@ use Rattle.mount_model.specs.declared.reply.Reply.{Reply}
 use Rattle.mount_model.specs.declared.reply.Reply.TheVariants.{Damaged, Looked}
 use Rattle.mount_model.specs.Looking.{listing_reply, look_outcome, look_step}
 use Rattle.mount_model.specs.Making.{MakesAct, Refuses, Told, room_check}
-use Rattle.mount_model.specs.Paths.{Name, metadata, openhosts, truncs}
+use Rattle.mount_model.specs.Paths.{Name, metadata, truncs}
+use Rattle.container_layout.specs.Paths.{openhosts}
 use Rattle.mount_model.specs.Recovering.{IsHostAndWriter}
 use Rattle.mount_model.specs.State.{State, last_id}
 use Rattle.mount_model.specs.Step.{IsStep}

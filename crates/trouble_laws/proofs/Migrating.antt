@@ -33,7 +33,8 @@ use Rattle.index_reader.specs.declared.listing.Dropping.{Dropping as Listed}
 use Rattle.index_reader.specs.declared.listing.Listing.{Listing}
 use Rattle.index_reader.specs.Opening.{no_flat, scans}
 use Rattle.index_reader.specs.Scanning.{nothing_found}
-use Rattle.index_reader.specs.Tops.{hostdirs, shown, top_shows}
+use Rattle.index_reader.specs.Tops.{shown, top_shows}
+use Rattle.container_layout.specs.Paths.{hostdirs}
 use Rattle.migrate_core.specs.declared.migrated.Migrated.{Migrated}
 use Rattle.migrate_core.specs.Chosen.{chosen, chosen_behind, is_again, is_open_to, metas_named}
 use Rattle.migrate_core.specs.Counting.{noted, nothing}
@@ -41,7 +42,9 @@ use Rattle.migrate_core.specs.Entries.{checked, no_entries}
 use Rattle.migrate_core.specs.Longest.{packing}
 use Rattle.migrate_core.specs.Migrating.{lists_metadata, migrate_at_program, migrate_program, migrates, migrates_listed, migrates_shown, scans_then}
 use Rattle.migrate_core.specs.Words.{Fate, Packed, Tail, is_packed, passed_over}
-use Rattle.migrate_core.specs.Writers.{counts_of, flat_in, if_done, installs, next_read, number_in, or_damage, puts, reads, reads_left, reads_of, sized, starts, syncs, writer_program}
+use Rattle.migrate_core.specs.Writers.{counts_of, flat_in, if_done, installs, or_damage, puts, reads, reads_left, sized, starts, syncs, writer_program}
+use Rattle.flow.specs.Entries.{next_read, reads_of}
+use Rattle.index_reader.specs.Replies.{number_in}
 use Rattle.migrate_laws.proofs.Facts.{IsWhole, IsWholeIn, all_ordered, all_push, whole_stays}
 use Rattle.reader_laws.proofs.Facts.{HasShown, shown_at, shown_fails, shown_stays}
 use Rattle.trouble_laws.specs.Undamaged.{IsNoDamage, IsUndamaged}

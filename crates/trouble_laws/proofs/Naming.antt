@@ -7,7 +7,8 @@ use Rattle.mount_model.specs.declared.call.Call.TheVariants.{Hold, Look, Mark, M
 use Rattle.mount_model.specs.declared.call.Look.TheVariants.{List as ListFolder}
 use Rattle.mount_model.specs.declared.reply.Reply.{Reply}
 use Rattle.mount_model.specs.declared.reply.Reply.TheVariants.{Done, Marked}
-use Rattle.mount_model.specs.Paths.{Name, metadata, openhosts, truncs}
+use Rattle.mount_model.specs.Paths.{Name, metadata, truncs}
+use Rattle.container_layout.specs.Paths.{openhosts}
 use Rattle.mount_model.specs.State.{State}
 use Rattle.mount_undamaged.specs.Damage.{ShowsNoDamage}
 use Rattle.flow.specs.declared.stuck.Stuck.{Stuck}

@@ -37,7 +37,8 @@ use Rattle.story.specs.Program.{ask, done}
 use Rattle.flow.specs.declared.names.OpenEntry.{OpenEntry}
 use Rattle.flow.specs.Replies.{Tries, bytes_in, failure, given, length_in, trouble}
 use Rattle.torn_tail.specs.Entries.{looked, no_entries}
-use Rattle.torn_tail.specs.Writers.{buries, found, if_checked, if_done, if_synced, keeps, measures_index, measures_log, mends, mends_meta, next_read, not_done, reads, reads_left, reads_of, syncs_index, syncs_log, writer_program}
+use Rattle.torn_tail.specs.Writers.{buries, found, if_checked, if_done, if_synced, keeps, measures_index, measures_log, mends, mends_meta, not_done, reads, reads_left, syncs_index, syncs_log, writer_program}
+use Rattle.flow.specs.Entries.{next_read, reads_of}
 use Rattle.torn_tail.specs.Words.{Run, Went}
 use Rattle.gathering.specs.Moments.{Dropping, Moment, IsSoundAt, file_in_room, file_told, file_then}
 use Rattle.gathering.proofs.Facts.{length_told, read_ends}

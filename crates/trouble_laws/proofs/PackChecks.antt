@@ -12,7 +12,7 @@ use Rattle.index_entry.proofs.Facts.{drop-spelling_all, entries_format, length-s
 use Rattle.flow.specs.Entries.{is_next}
 use Rattle.migrate_core.specs.Entries.{checked, longer}
 use Rattle.migrate_core.specs.Words.{Tail}
-use Rattle.migrate_core.specs.Writers.{next_read}
+use Rattle.flow.specs.Entries.{next_read}
 use Rattle.reader_laws.proofs.Facts.{follows_fits, next_true}
 
 -- the next entries behind those that the cover tells of are these, by its writer's rules

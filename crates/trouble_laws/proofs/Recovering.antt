@@ -8,7 +8,8 @@ use Rattle.mount_model.specs.declared.call.Look.TheVariants.{List as ListFolder}
 use Rattle.mount_model.specs.declared.call.Ask.{Ask}
 use Rattle.mount_model.specs.declared.reply.Reply.{Reply}
 use Rattle.mount_model.specs.declared.reply.Reply.TheVariants.{Damaged, Looked, Mended}
-use Rattle.mount_model.specs.Paths.{Name, openhosts}
+use Rattle.mount_model.specs.Paths.{Name}
+use Rattle.container_layout.specs.Paths.{openhosts}
 use Rattle.mount_model.specs.Recovering.{IsHostAndWriter}
 use Rattle.mount_model.specs.State.{State, last_id}
 use Rattle.mount_model.specs.Step.{IsStep}

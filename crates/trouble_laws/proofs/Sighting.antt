@@ -31,7 +31,7 @@ use Rattle.mount_sound.proofs.Facts.{some_room}
 use Rattle.flow.specs.Running.{unbroken}
 use Rattle.flow.specs.declared.names.Metadata.{Metadata}
 use Rattle.flow.specs.Replies.{bytes_in, trouble, names_in}
-use Rattle.migrate_core.specs.Writers.{number_in}
+use Rattle.index_reader.specs.Replies.{number_in}
 use Rattle.gathering.specs.Moments.{Moment, file_in_room, file_told, file_then}
 use Rattle.gathering.proofs.Facts.{read_ends}
 use Rattle.reader_laws.proofs.Facts.{answered}

@@ -5,15 +5,9 @@ ghost use Rattle.flow.specs.Listed.{told_by};
 ghost use Rattle.mount_model.specs.Paths as paths;
 
 use container_layout::{metadata, truncs};
-use flow::{Stuck, damage, meta_in, names_in, trouble, trunc_in};
+use flow::{Stuck, damage, file_in, meta_in, names_in, trouble, trunc_in};
 use mount_model::Reply;
-use plfs_types::{Name, Path};
-
-fn file_in(folder: Name, file: Name) -> Path
-    ensures { result ≡ record { folder = folder; file = file } }
-{
-    Path { folder, file }
-}
+use plfs_types::Name;
 
 /// The greatest of this stamp and those of the metadata droppings of these names.
 fn metadata_top(names: &[Name]) -> Result<u64, Stuck>

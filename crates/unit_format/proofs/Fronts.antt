@@ -16,7 +16,7 @@ use Rattle.unit_format.specs.declared.finding.Unit.{Unit as Found}
 use Rattle.unit_format.specs.declared.finding.Region.{Region}
 use Rattle.unit_format.specs.declared.scanner.Part.TheVariants.{Size, Name, Content, Over, Bad}
 use Rattle.unit_format.specs.declared.scanner.Scanner.{Scanner}
-use Rattle.unit_format.specs.Names.{name_of}
+use Rattle.plfs_types.specs.Names.{name_of}
 use Rattle.unit_format.specs.Units.{unit_size, unseen_unit}
 use Rattle.unit_format.specs.Regions.{IsOver, BeginsUnit, placed_at}
 use Rattle.unit_format.specs.Scanning.{number_of, begins_at, expects, after_count, after_size, after_file, after_name, sizes_fit, eaten, finished}

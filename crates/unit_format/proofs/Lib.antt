@@ -1,5 +1,4 @@
 pub mod Facts
-mod NameTests
 mod Eating
 mod Spelled
 mod Fronts

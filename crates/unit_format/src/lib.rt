@@ -6,7 +6,6 @@
 
 mod finding;
 mod laws;
-mod names;
 mod numbers;
 mod scanner;
 mod scanning;
@@ -14,7 +13,6 @@ mod units;
 
 pub use finding::{Region, RegionList, Unit, UnitList, find};
 pub use laws::others_change_nothing;
-pub use names::name_in;
 pub use scanner::Scanner;
 pub use scanning::scan;
 pub use units::{MAX_CONTENT, REGION_SIZE, REGIONS, unit_bytes};

@@ -12,10 +12,11 @@ use Rattle.store_laws.specs.Files.{file_at}
 use Rattle.store_laws.specs.Tells.{Tells}
 use Rattle.store_laws.specs.There.{HoldsFile, LacksFile, LacksFolder}
 use Rattle.store_laws.proofs.Facts.{create_told, make_folder_told, make_room_told, sync_told, write_refused}
-use Rattle.mount_model.specs.Paths.{Name, openhosts}
+use Rattle.mount_model.specs.Paths.{Name}
+use Rattle.container_layout.specs.Paths.{openhosts}
 use Rattle.drain_copy.specs.declared.outcome.DrainStuck.{DrainStuck}
 use Rattle.drain_copy.specs.declared.outcome.DrainStuck.TheVariants.{TargetDamaged, TargetFault}
-use Rattle.drain_copy.specs.Asking.{Told}
+use Rattle.mount_model.specs.Making.{Told}
 use Rattle.drain_copy.specs.Telling.{entry_made, made_now, made_or_old, or_damaged, roomed, told_well}
 use Rattle.drain_sound.specs.Steps.{IsNamedRoom}
 use Rattle.drain_laws.specs.Ending.{LacksOpenhosts}

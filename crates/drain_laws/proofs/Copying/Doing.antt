@@ -40,10 +40,10 @@ parts_done size left e = omega (arith, e)
 pub part_left : (n left : ℕ) → suc n ≡ left / 4096 + min (left % 4096) 1 → (1 ≤ left) × (n ≡ (left - min left 4096) / 4096 + min ((left - min left 4096) % 4096) 1)
 part_left n left e = (omega (arith, e), omega (arith, e))
 
-pub bytes_done : (left : ℕ) → 0 ≡ left / 131072 + min (left % 131072) 1 → left ≡ 0
+pub bytes_done : (left : ℕ) → 0 ≡ left / 262144 + min (left % 262144) 1 → left ≡ 0
 bytes_done left e = omega (arith, e)
 
-pub bytes_left : (n left : ℕ) → suc n ≡ left / 131072 + min (left % 131072) 1 → (1 ≤ left) × (n ≡ (left - min left 131072) / 131072 + min ((left - min left 131072) % 131072) 1)
+pub bytes_left : (n left : ℕ) → suc n ≡ left / 262144 + min (left % 262144) 1 → (1 ≤ left) × (n ≡ (left - min left 262144) / 262144 + min ((left - min left 262144) % 262144) 1)
 bytes_left n left e = (omega (arith, e), omega (arith, e))
 
 pub read_at_place : (a b : Path) (room from at len place most : ℕ) → Look room (Read a at len) ≡ Look from (Read b place most) → (a ≡ b) × (at ≡ place)

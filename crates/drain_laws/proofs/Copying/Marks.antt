@@ -16,7 +16,9 @@ use Rattle.store_laws.specs.Naming.{NamesRoom, OnlyAdds}
 use Rattle.store_laws.specs.Tells.{Tells}
 use Rattle.store_laws.specs.There.{IsFree}
 use Rattle.store_laws.proofs.Facts.{changed_room, create_told, keeps_rooms, lengthens_told, other_room}
-use Rattle.mount_model.specs.Paths.{Name, index_path, mark_path, marks_folder, marks_name, new_files, new_folders}
+use Rattle.mount_model.specs.Paths.{Name, index_path, mark_path, new_files, new_folders}
+use Rattle.store_api.specs.Names.{marks_folder}
+use Rattle.store_api.specs.Names.{marks_name}
 use Rattle.mount_model.specs.State.{id_of}
 use Rattle.mount_shape.specs.Marks.{HasMark}
 use Rattle.mount_sound.specs.Dropping.{bytes_of, log_bytes}
@@ -27,7 +29,8 @@ use Rattle.drain_copy.specs.declared.outcome.Drained.{Drained}
 use Rattle.drain_copy.specs.declared.outcome.DrainStuck.{DrainStuck}
 use Rattle.drain_copy.specs.declared.plan.Due.{Due}
 use Rattle.drain_copy.specs.declared.plan.Job.{Job}
-use Rattle.drain_copy.specs.Asking.{Told, acts}
+use Rattle.drain_copy.specs.Asking.{acts}
+use Rattle.mount_model.specs.Making.{Told}
 use Rattle.drain_copy.specs.Draining.{copies_to, makes_all_marks, makes_container, makes_marks, makes_marks_room}
 use Rattle.drain_copy.specs.Telling.{DrainsOn, folder_alone, made_or_old, on_good, roomed, told_well}
 use Rattle.drain_sound.specs.Steps.{IsNamedRoom}

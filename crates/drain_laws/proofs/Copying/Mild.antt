@@ -23,7 +23,7 @@ use Rattle.mount_sound.specs.Dropping.{bytes_of, log_bytes}
 use Rattle.mount_sound.specs.Items.{HasItem, HasMeta}
 use Rattle.mount_sound.proofs.Facts.{apart}
 use Rattle.drain_copy.specs.declared.plan.Due.{Due}
-use Rattle.drain_copy.specs.Asking.{Told}
+use Rattle.mount_model.specs.Making.{Told}
 use Rattle.drain_sound.specs.Steps.{IsNamedRoom}
 use Rattle.drain_sound.proofs.Facts.{item_apart}
 

@@ -12,7 +12,8 @@ use Rattle.gathering.specs.Moments.{IsSoundAt, Moment}
 use Rattle.drain_copy.specs.declared.outcome.Drained.{Drained}
 use Rattle.drain_copy.specs.declared.outcome.DrainStuck.{DrainStuck}
 use Rattle.drain_copy.specs.declared.plan.Due.{Due}
-use Rattle.drain_copy.specs.Asking.{Told, acts}
+use Rattle.drain_copy.specs.Asking.{acts}
+use Rattle.mount_model.specs.Making.{Told}
 use Rattle.drain_copy.specs.Telling.{DrainsOn, on_good}
 use Rattle.drain_sound.specs.Steps.{IsNamedRoom}
 use Rattle.drain_laws.proofs.Planning.Aims.{EndsSo, IsFair, IsFitting, IsGood, IsRight, IsSince, Safely}

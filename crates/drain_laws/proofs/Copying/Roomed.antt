@@ -13,7 +13,7 @@ use Rattle.store_laws.specs.There.{IsFree}
 use Rattle.store_laws.proofs.Facts.{added_room, earlier_room, make_room_told}
 use Rattle.mount_model.specs.Paths.{Name}
 use Rattle.mount_sound.proofs.Facts.{IsBare, made_bare}
-use Rattle.drain_copy.specs.Asking.{Told}
+use Rattle.mount_model.specs.Making.{Told}
 use Rattle.drain_copy.specs.Telling.{folder_alone, or_damaged, roomed, told_well}
 use Rattle.drain_sound.specs.Steps.{IsNamedRoom}
 

@@ -22,7 +22,7 @@ use Rattle.mount_sound.specs.Dropping.{bytes_of}
 use Rattle.flow.specs.Replies.{damage}
 use Rattle.drain_copy.specs.declared.outcome.DrainStuck.{DrainStuck}
 use Rattle.drain_copy.specs.declared.outcome.DrainStuck.TheVariants.{Source}
-use Rattle.drain_copy.specs.Asking.{Told}
+use Rattle.mount_model.specs.Making.{Told}
 use Rattle.drain_copy.specs.Copying.{part_told, whole_part}
 use Rattle.drain_copy.specs.Telling.{entry_made, made_now, made_or_old, or_damaged, told_well}
 use Rattle.drain_laws.proofs.Copying.Mild.{some_room}

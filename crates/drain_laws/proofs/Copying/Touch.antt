@@ -16,12 +16,15 @@ use Rattle.store_laws.specs.Naming.{KeepsRoom, NamesFolder, NamesRoom, OnlyAdds}
 use Rattle.store_laws.specs.Changes.{RoomMade, Wrote}
 use Rattle.store_laws.specs.Tells.{Tells}
 use Rattle.store_laws.proofs.Facts.{changed_room, create_told, keeps_rooms, length-overwritten, lengthens_told, look_told, make_room_told, other_room, path_cases, write_told}
-use Rattle.mount_model.specs.Paths.{Name, mark_path, marks_folder, marks_name, new_files, new_folders, openhosts}
+use Rattle.mount_model.specs.Paths.{Name, mark_path, new_files, new_folders}
+use Rattle.store_api.specs.Names.{marks_folder}
+use Rattle.container_layout.specs.Paths.{openhosts}
+use Rattle.store_api.specs.Names.{marks_name}
 use Rattle.mount_sound.specs.Dropping.{bytes_of}
 use Rattle.mount_sound.proofs.Facts.{IsBare, made_bare}
 use Rattle.gathering.specs.Moments.{Moment}
 use Rattle.reader_laws.proofs.Faults.ScanFails.{no_openhosts}
-use Rattle.drain_copy.specs.Asking.{Told}
+use Rattle.mount_model.specs.Making.{Told}
 use Rattle.drain_sound.specs.Fronts.{IsTarget}
 use Rattle.drain_sound.specs.Steps.{IsDrainStep, IsNamedRoom}
 use Rattle.drain_sound.specs.Steps as step

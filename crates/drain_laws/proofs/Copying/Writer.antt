@@ -199,7 +199,7 @@ module _ (number : ℕ) (name : Name) (g : Moment) (s : IsSoundAt g) (Sure : Typ
 
     -- ---- its log
 
-    write_safe : (part place len : ℕ) (bytes : List ℕ) (on : DrainsOn) → 1 ≤ part → part ≤ due.bytes - due.log → place ≡ due.bytes - part → len ≡ min part 131072 → len ≤ length bytes → bytes ≡ take len (drop place (log_there g (dropping_in number due.host due.writer)))
+    write_safe : (part place len : ℕ) (bytes : List ℕ) (on : DrainsOn) → 1 ≤ part → part ≤ due.bytes - due.log → place ≡ due.bytes - part → len ≡ min part 262144 → len ≤ length bytes → bytes ≡ take len (drop place (log_there g (dropping_in number due.host due.writer)))
         → ((t : Tree) (room : Room) → Good t → Named t room → Doing true (due.bytes - (part - len)) due.count t room → Safe on t)
         → (t : Tree) (room : Room) → Good t → Named t room → Doing true place due.count t room
         → Safe (acts (write_at to (log_of due).folder (log_of due).file place bytes) (λ told. on_good (λ made. on) (told_well (log_of due) made_now told))) t
@@ -251,14 +251,14 @@ module _ (number : ℕ) (name : Name) (g : Moment) (s : IsSoundAt g) (Sure : Typ
           | suc k ↦ λ e. omega arith
         ] refl
 
-    log_safe : (n part : ℕ) → n ≡ parts_of 131072 part → part ≤ due.bytes - due.log → (t : Tree) (room : Room) → Good t → Named t room → Doing true (due.bytes - part) due.count t room → Safe (copies_log next n c part) t
+    log_safe : (n part : ℕ) → n ≡ parts_of 262144 part → part ≤ due.bytes - due.log → (t : Tree) (room : Room) → Good t → Named t room → Doing true (due.bytes - part) due.count t room → Safe (copies_log next n c part) t
     log_safe zero part count within t room good at o =
         let none : due.bytes - part ≡ due.bytes = omega (arith, bytes_done part count) in
         kept_safe t room good at (subst (λ k. Doing true k due.count t room) none o)
     log_safe (suc n) part count within t room good at o =
         let left = bytes_left n part count in
         let place : ℕ = due.bytes - part in
-        let len : ℕ = min part 131072 in
+        let len : ℕ = min part 262144 in
         let fits : place + len ≤ due.bytes = omega (arith, within) in (
           record {
             due = due;
@@ -294,7 +294,7 @@ module _ (number : ℕ) (name : Name) (g : Moment) (s : IsSoundAt g) (Sure : Typ
         ] refl
 
     bytes_safe : (t : Tree) (room : Room) → Good t → Named t room → Doing true (due.bytes - (due.bytes - due.log)) due.count t room → Safe (copies_bytes next c) t
-    bytes_safe t room good at o = log_safe (parts_of 131072 (due.bytes - due.log)) (due.bytes - due.log) refl (omega arith) t room good at o
+    bytes_safe t room good at o = log_safe (parts_of 262144 (due.bytes - due.log)) (due.bytes - due.log) refl (omega arith) t room good at o
 
     -- ---- its files
 

@@ -17,7 +17,8 @@ use Rattle.store_laws.specs.Files.{file_at}
 use Rattle.store_laws.specs.Tells.{Tells}
 use Rattle.store_laws.proofs.Facts.{prefix_length}
 use Rattle.mount_model.specs.History.{Event}
-use Rattle.mount_model.specs.Paths.{index_path, log_path, openhosts}
+use Rattle.mount_model.specs.Paths.{index_path, log_path}
+use Rattle.container_layout.specs.Paths.{openhosts}
 use Rattle.mount_sound.specs.Dropping.{bytes_of, log_bytes}
 use Rattle.mount_sound.specs.Entries.{logged}
 use Rattle.mount_sound.specs.Keeping.{kept_in}
@@ -28,7 +29,7 @@ use Rattle.gathering.specs.Moments.{Dropping, Grows, IsSoundAt, Moment, index_th
 use Rattle.gathering.proofs.Facts.{entries_stay, grows_after, grows_refl, grows_trans, in_a_room, in_tree, landed_whole, sound_after}
 use Rattle.drain_copy.specs.declared.outcome.Drained.{Drained}
 use Rattle.drain_copy.specs.declared.plan.Due.{Due}
-use Rattle.drain_copy.specs.Asking.{Told}
+use Rattle.mount_model.specs.Making.{Told}
 use Rattle.drain_copy.specs.Copying.{index_of, log_of}
 use Rattle.drain_copy.specs.Telling.{DrainsOn}
 use Rattle.drain_sound.specs.Draining.{Happening, at_source, at_target, source_after, target_after}

@@ -21,7 +21,7 @@ use Rattle.flow.specs.declared.stuck.Stuck.TheVariants as stuck
 use Rattle.gathering.specs.Moments.{Moment}
 use Rattle.drain_copy.specs.declared.outcome.DrainStuck.{DrainStuck}
 use Rattle.drain_copy.specs.declared.outcome.DrainStuck.TheVariants.{Source, TargetFault}
-use Rattle.drain_copy.specs.Asking.{Told}
+use Rattle.mount_model.specs.Making.{Told}
 use Rattle.drain_copy.specs.Telling.{folder_alone, found_room, or_damaged, sought, told_well}
 use Rattle.drain_sound.specs.Draining.{Happening, at_source, at_target}
 use Rattle.drain_sound.specs.Steps.{IsNamedRoom}

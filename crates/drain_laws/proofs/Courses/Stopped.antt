@@ -4,7 +4,8 @@ use Rattle.std.specs.Prelude.{Err}
 use Rattle.store_api.specs.declared.tree.Tree.{Tree}
 use Rattle.store_api.specs.Acts.{Stored}
 use Rattle.mount_model.specs.declared.reply.Refusal.TheVariants.{NoRoom}
-use Rattle.mount_model.specs.Paths.{Name, openhosts}
+use Rattle.mount_model.specs.Paths.{Name}
+use Rattle.container_layout.specs.Paths.{openhosts}
 use Rattle.flow.specs.declared.stuck.Stuck.TheVariants as stuck
 use Rattle.gathering.specs.Moments.{IsSoundAt, Moment}
 use Rattle.drain_copy.specs.declared.outcome.DrainStuck.{DrainStuck}

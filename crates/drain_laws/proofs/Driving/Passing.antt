@@ -24,7 +24,8 @@ use Rattle.story.specs.Calls.{AreCallsOf}
 use Rattle.story.proofs.Facts.{after_own, entries_not_first}
 use Rattle.gathering.specs.Moments.{Moment, next_moment}
 use Rattle.drain_copy.specs.declared.outcome.DrainStuck.{DrainStuck}
-use Rattle.drain_copy.specs.Asking.{Told, acts, at_source as on_source, at_target as on_target, calls, ends, look_reply, look_step}
+use Rattle.drain_copy.specs.Asking.{acts, at_source as on_source, at_target as on_target, calls, ends, look_reply, look_step}
+use Rattle.mount_model.specs.Making.{Told}
 use Rattle.drain_copy.specs.Telling.{DrainsOn, Outcome, on_good}
 use Rattle.drain_sound.specs.Draining.{Happening, at_source, at_target}
 use Rattle.drain_laws.specs.Driving.{AreMade, Drives}

@@ -12,7 +12,8 @@ use Rattle.mount_sound.specs.Owed.{IsLawful}
 use Rattle.flow.specs.Running.{unbroken}
 use Rattle.gathering.specs.Moments.{Moment, next_moment}
 use Rattle.drain_copy.specs.declared.outcome.DrainStuck.{DrainStuck}
-use Rattle.drain_copy.specs.Asking.{Told, acts, calls, ends}
+use Rattle.drain_copy.specs.Asking.{acts, calls, ends}
+use Rattle.mount_model.specs.Making.{Told}
 use Rattle.drain_copy.specs.Telling.{DrainsOn, Outcome, on_good}
 use Rattle.drain_sound.specs.Draining.{Act, Happening, at_source, at_target}
 use Rattle.drain_laws.specs.Driving.{AreMade, Drives, IsReplied, IsTold}

@@ -15,7 +15,8 @@ use Rattle.gathering.proofs.Facts.{grows_after, grows_refl, grows_trans, sound_a
 use Rattle.drain_copy.specs.declared.outcome.Drained.{Drained}
 use Rattle.drain_copy.specs.declared.outcome.DrainStuck.{DrainStuck}
 use Rattle.drain_copy.specs.declared.plan.Due.{Due}
-use Rattle.drain_copy.specs.Asking.{Told, ends}
+use Rattle.drain_copy.specs.Asking.{ends}
+use Rattle.mount_model.specs.Making.{Told}
 use Rattle.drain_copy.specs.Telling.{DrainsOn}
 use Rattle.drain_sound.specs.Draining.{Happening, IsDraining, at_source, at_target, target_after}
 use Rattle.drain_sound.specs.Fronts.{IsTarget}

@@ -12,7 +12,8 @@ use Rattle.store_laws.specs.Files.{file_at}
 use Rattle.mount_model.specs.declared.call.Call.{Call}
 use Rattle.mount_model.specs.declared.call.Call.TheVariants.{Look}
 use Rattle.mount_model.specs.declared.call.Look.TheVariants.{Read}
-use Rattle.mount_model.specs.Paths.{Name, index_path, log_path, openhosts}
+use Rattle.mount_model.specs.Paths.{Name, index_path, log_path}
+use Rattle.container_layout.specs.Paths.{openhosts}
 use Rattle.mount_sound.specs.Dropping.{log_bytes}
 use Rattle.mount_sound.proofs.Facts.{AreKeptIn}
 use Rattle.flow.specs.declared.stuck.Stuck.TheVariants as stuck

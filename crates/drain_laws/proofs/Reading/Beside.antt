@@ -44,7 +44,8 @@ use Rattle.flow.specs.Running.{Runs, asking, unbroken}
 use Rattle.story.specs.Program.{done, ask}
 use Rattle.story.proofs.Facts.{after_own}
 use Rattle.gathering.specs.Moments.{IsSoundAt, Moment, moment_after}
-use Rattle.drain_copy.specs.Asking.{Told, look_reply, look_step}
+use Rattle.drain_copy.specs.Asking.{look_reply, look_step}
+use Rattle.mount_model.specs.Making.{Told}
 use Rattle.drain_laws.proofs.Driving.Passing.{Sees}
 
 -- ---- a mount that has drawn all ids

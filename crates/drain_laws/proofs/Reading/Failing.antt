@@ -17,7 +17,7 @@ use Rattle.index_reader.specs.Opening.{no_flat, scan_program}
 use Rattle.index_reader.specs.Packs.{no_tail}
 use Rattle.index_reader.specs.Tails.{tail_program}
 use Rattle.index_reader.specs.Truncs.{trunc_program}
-use Rattle.gathering.specs.Listing.{IsAmong}
+use Rattle.plfs_types.specs.Places.{IsAmong}
 use Rattle.gathering.specs.Moments.{Dropping, Grows, IsNamed, IsSoundAt, Moment, Stood, moment_after}
 use Rattle.gathering.specs.Seen.{calls_of}
 use Rattle.gathering.proofs.Facts.{all_at, among, follows, grows_after, grows_trans, legal_first, legal_rest, scan_finds, seen, sound_after, stood_grows}

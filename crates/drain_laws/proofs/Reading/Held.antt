@@ -43,7 +43,8 @@ use Rattle.gathering.specs.Moments.{Dropping, Grows, IsSoundAt, Moment, Stood, f
 use Rattle.gathering.proofs.Facts.{among_left, among_right, any_found, found_any, grows_after, landed_logged, landed_whole, legal_first, legal_rest, length-entries, length_taken, moment-append, sound_after}
 use Rattle.gathering.proofs.Containers.Entries.{file_named, named_file}
 use Rattle.reader_laws.specs.Covering.{cover_with, empty_cover}
-use Rattle.drain_copy.specs.Asking.{Told, look_reply}
+use Rattle.drain_copy.specs.Asking.{look_reply}
+use Rattle.mount_model.specs.Making.{Told}
 use Rattle.drain_read.specs.declared.held.Held.{Held}
 use Rattle.drain_read.specs.declared.held.Mirror.{Mirror}
 use Rattle.drain_read.specs.declared.read.Contained.{Contained}

@@ -12,7 +12,9 @@ use Rattle.store_api.specs.Step.{Step, create, make_room}
 use Rattle.store_laws.specs.Files.{file_at}
 use Rattle.store_laws.specs.Says.{WhyNotCreated, WhyNoRoomMade}
 use Rattle.store_laws.proofs.Facts.{changed_room, create_cases, make_room_cases, other_room}
-use Rattle.mount_model.specs.Paths.{Name, mark_path, marks_folder, marks_name}
+use Rattle.mount_model.specs.Paths.{Name, mark_path}
+use Rattle.store_api.specs.Names.{marks_folder}
+use Rattle.store_api.specs.Names.{marks_name}
 use Rattle.mount_shape.specs.Marks.{IsMarksRoom}
 use Rattle.gathering.specs.Moments.{IsSoundAt, Moment}
 use Rattle.drain_copy.specs.Telling.{roomed}

@@ -28,7 +28,8 @@ use Rattle.index_reader.specs.Packs.{no_tail}
 use Rattle.index_reader.specs.Tails.{tail_program}
 use Rattle.index_reader.specs.Truncs.{trunc_program}
 use Rattle.gathering.specs.Gathering.{Gathered, Gathers, GathersIndex, IsPrefixOf}
-use Rattle.gathering.specs.Listing.{AreTruncsAt, IsAmong}
+use Rattle.gathering.specs.Listing.{AreTruncsAt}
+use Rattle.plfs_types.specs.Places.{IsAmong}
 use Rattle.gathering.specs.Moments.{Dropping, Grows, IsNamed, IsSoundAt, Moment, Stood, landed, moment_after}
 use Rattle.gathering.specs.Seen.{asked_in, calls_of}
 use Rattle.gathering.proofs.Facts.{all_at, among, any_found, entries_stay, found_any, grows_after, grows_trans, issued_grows, legal_first, legal_rest, moment-append, scan_finds, scan_found, seen, sound_after, stood_grows}

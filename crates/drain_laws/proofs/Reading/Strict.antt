@@ -36,7 +36,8 @@ use Rattle.index_reader.specs.Opening.{no_flat, scan_program, scans}
 use Rattle.index_reader.specs.Packs.{no_tail}
 use Rattle.index_reader.specs.Replies.{log_length_in, number_in}
 use Rattle.index_reader.specs.Scanning.{nothing_found, scanned}
-use Rattle.index_reader.specs.Tails.{if_checked, if_logged, if_told, log_then, looked, next_read, reads, reads_left, reads_of, tail_program}
+use Rattle.index_reader.specs.Tails.{if_checked, if_logged, if_told, log_then, looked, reads, reads_left, tail_program}
+use Rattle.flow.specs.Entries.{next_read, reads_of}
 use Rattle.index_reader.specs.Tops.{top_shows}
 use Rattle.index_reader.specs.Truncs.{trunc_program, truncs_of}
 use Rattle.flat_format.specs.declared.flat.Flat.{Flat}

@@ -43,7 +43,8 @@ use Rattle.gathering.proofs.Containers.Entries.{named_file}
 use Rattle.reader_laws.specs.Failing.{FailsByStore, IsContainerAt}
 use Rattle.reader_laws.specs.Sharing.{in_room}
 use Rattle.reader_laws.proofs.Faults.TailFails.{IsCoverOf}
-use Rattle.drain_copy.specs.Asking.{Told, look_reply}
+use Rattle.drain_copy.specs.Asking.{look_reply}
+use Rattle.mount_model.specs.Making.{Told}
 use Rattle.drain_read.specs.declared.held.Held.{Held}
 use Rattle.drain_read.specs.declared.held.Mirror.{Mirror}
 use Rattle.drain_read.specs.declared.read.Contained.{Contained}

@@ -15,11 +15,13 @@ use Rattle.store_laws.specs.Files.{file_at}
 use Rattle.mount_model.specs.declared.call.Call.TheVariants.{Look}
 use Rattle.mount_model.specs.declared.call.Look.TheVariants.{Top, List as ListFolder}
 use Rattle.mount_model.specs.declared.reply.Reply.TheVariants.{Looked}
-use Rattle.mount_model.specs.Paths.{Name, marks_folder, index_path}
+use Rattle.mount_model.specs.Paths.{Name, index_path}
+use Rattle.store_api.specs.Names.{marks_folder}
 use Rattle.plain_file.proofs.Facts.{Among}
 use Rattle.gathering.specs.Moments.{Moment, IsSoundAt, Dropping, IsNamed, Stood, Grows}
 use Rattle.gathering.specs.Seen.{Asked, IsSeenCall, IsSeen}
-use Rattle.gathering.specs.Listing.{IsIndexName, AreDroppingsOf, ShowsHostdir, ListsHostdirs, hostdirs, IsScan}
+use Rattle.gathering.specs.Listing.{IsIndexName, AreDroppingsOf, ShowsHostdir, ListsHostdirs, IsScan}
+use Rattle.container_layout.specs.Paths.{hostdirs}
 use Rattle.gathering.proofs.Moments.Growing.{in_a_room, grows_trans, stood_grows}
 use Rattle.gathering.proofs.Moments.Seeing.{seen_grows, seen_split}
 use Rattle.gathering.proofs.Containers.Looking.{top_listed, folder_listed}

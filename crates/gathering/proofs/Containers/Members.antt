@@ -3,7 +3,7 @@ use Rattle.std.proofs.Common.{List, [], ◌∷◌, ◌++◌, refl, inl, inr, sub
 use Rattle.std.specs.List.{All, Any}
 use Rattle.std.proofs.lemmas.List.Elements.{recursion_from_All}
 use Rattle.plain_file.proofs.Facts.{Among, Among-at, All-Among, Contains-from_Among}
-use Rattle.gathering.specs.Listing.{IsAmong}
+use Rattle.plfs_types.specs.Places.{IsAmong}
 
 pub any_found : {X : Type 0} (P : X → Type 0) (xs : List X) → Any P xs → (x : X) × Among x xs × P x
 any_found P xs (k, x, l, e, p) = (x, Among-at xs k x l e, p)

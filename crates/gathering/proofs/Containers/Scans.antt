@@ -12,7 +12,8 @@ use Rattle.plain_file.proofs.Facts.{Among, All-Among}
 use Rattle.mount_model.specs.Paths.{Name, index_path}
 use Rattle.gathering.specs.Moments.{Moment, IsSoundAt, file_in_room, file_told, Dropping, Stood, Grows}
 use Rattle.gathering.specs.Seen.{Asked, IsSeenCall, IsSeen}
-use Rattle.gathering.specs.Listing.{IsIndexName, AreDroppingsOf, ListsHostdir, ShowsHostdir, ListsHostdirs, hostdirs, IsScan, WritersDiffer, AreFound}
+use Rattle.gathering.specs.Listing.{IsIndexName, AreDroppingsOf, ListsHostdir, ShowsHostdir, ListsHostdirs, IsScan, WritersDiffer, AreFound}
+use Rattle.container_layout.specs.Paths.{hostdirs}
 use Rattle.gathering.proofs.Moments.Seeing.{seen_grows, seen_split}
 use Rattle.gathering.proofs.Containers.Looking.{folder_listed}
 use Rattle.gathering.proofs.Logs.Fronts.{stands}

@@ -15,7 +15,8 @@ use Rattle.flat_format.specs.declared.flat.Flat.{Flat}
 use Rattle.flat_format.specs.Spelling.{SpellsFlat}
 use Rattle.flat_format.proofs.Facts.{one_flat, valid_spells}
 use Rattle.store_api.specs.declared.tree.Room.{Room}
-use Rattle.mount_model.specs.Paths.{flat_path, index_path, marks_folder}
+use Rattle.mount_model.specs.Paths.{flat_path, index_path}
+use Rattle.store_api.specs.Names.{marks_folder}
 use Rattle.mount_model.specs.State.{last_id}
 use Rattle.mount_shape.specs.Shape.{IsDrawnBy}
 use Rattle.mount_shape.proofs.Facts.{item_held}

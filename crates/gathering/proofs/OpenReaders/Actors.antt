@@ -9,7 +9,8 @@ use Rattle.mount_sound.specs.Ledger.{entries_in}
 use Rattle.gathering.specs.Moments.{Moment, IsSoundAt, moment_after, Grows}
 use Rattle.gathering.specs.Seen.{Asked, asked_in, calls_of}
 use Rattle.gathering.specs.Gathering.{Gathered}
-use Rattle.gathering.specs.View.{change_of, cut_off, writes_in, view}
+use Rattle.gathering.specs.View.{cut_off, writes_in, view}
+use Rattle.mount_sound.specs.Ledger.{change_of}
 use Rattle.gathering.specs.Opening.{IsOpening, ReadsSo, HasOpened}
 use Rattle.gathering.proofs.Moments.Seeing.{sound_after, grows_after}
 use Rattle.gathering.proofs.Moments.Placing.{legal_first, legal_rest, moment-append, place_of, its_call, parted}

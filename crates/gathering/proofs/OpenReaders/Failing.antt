@@ -32,7 +32,7 @@ use Rattle.mount_sound.specs.Dropping.{bytes_of}
 use Rattle.mount_model.proofs.Facts.{match_cases}
 use Rattle.gathering.specs.Failing.{BytesOrTrouble}
 use Rattle.gathering.specs.Gathering.{Gathered}
-use Rattle.gathering.specs.Listing.{IsAmong}
+use Rattle.plfs_types.specs.Places.{IsAmong}
 use Rattle.gathering.specs.Moments.{Moment, IsSoundAt, file_in_room, file_told, file_then, Dropping, Stood, issued_by, log_then, Grows}
 use Rattle.gathering.specs.Opening.{HasView}
 use Rattle.gathering.proofs.Moments.Growing.{in_a_room, stood_grows}

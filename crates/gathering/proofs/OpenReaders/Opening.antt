@@ -13,7 +13,8 @@ use Rattle.mount_sound.specs.Ledger.{Written}
 use Rattle.gathering.specs.Moments.{Moment, IsSoundAt, moment_after, Dropping, Stood, issued_by, Grows}
 use Rattle.gathering.specs.Seen.{Asked, asked_in, calls_of, IsSeen}
 use Rattle.gathering.specs.Gathering.{Gathered, IsAdmissible}
-use Rattle.gathering.specs.View.{change_of, covered_in, cut_off, writes_in, view}
+use Rattle.gathering.specs.View.{covered_in, cut_off, writes_in, view}
+use Rattle.mount_sound.specs.Ledger.{change_of}
 use Rattle.gathering.specs.Flats.{pieces_of}
 use Rattle.gathering.specs.Opening.{IsCutOf, IsOpening, IsSharedOpening, ReadsSo, HasView}
 use Rattle.gathering.proofs.Moments.Growing.{grows_trans, stood_grows}

@@ -5,7 +5,7 @@ use Rattle.std.proofs.lemmas.List.Elements.{recursion_from_All}
 use Rattle.plain_file.proofs.Facts.{Among, All-Among}
 use Rattle.mount_model.specs.History.{Event}
 use Rattle.mount_sound.specs.Owed.{IsLawful}
-use Rattle.gathering.specs.Listing.{IsAmong}
+use Rattle.plfs_types.specs.Places.{IsAmong}
 use Rattle.gathering.specs.Moments.{Moment, IsSoundAt, moment_after, Grows}
 use Rattle.gathering.specs.Seen.{calls_of}
 use Rattle.gathering.specs.Gathering.{Gathered, AreGathered, Share, GatherShares, AreShared, CoversLanded, IsPrefixOf, IsAdmissible}

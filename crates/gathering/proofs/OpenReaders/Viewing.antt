@@ -16,7 +16,8 @@ use Rattle.mount_sound.specs.Entries.{AreEntriesOf}
 use Rattle.mount_sound.specs.Ledger.{Written, entries_in, content, AreFull}
 use Rattle.gathering.specs.Moments.{Moment, IsSoundAt, issued_by}
 use Rattle.gathering.specs.Gathering.{Gathered, IsAdmissible}
-use Rattle.gathering.specs.View.{change_of, cut_off, writes_in, changes_in, tails_of, own_entries, tails_in, WritersRise, logs_of}
+use Rattle.gathering.specs.View.{cut_off, writes_in, changes_in, tails_of, own_entries, tails_in, WritersRise, logs_of}
+use Rattle.mount_sound.specs.Ledger.{change_of}
 use Rattle.gathering.proofs.Logs.Fronts.{entries-append}
 
 -- ---------- entries and truncates of the changes

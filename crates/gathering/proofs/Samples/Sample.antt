@@ -18,7 +18,10 @@ use Rattle.mount_model.specs.declared.reply.Reply.TheVariants.{Room as RoomIs, L
 use Rattle.mount_model.specs.declared.row.Row.{Row}
 use Rattle.mount_model.specs.declared.row.Stage.{Stage}
 use Rattle.mount_model.specs.declared.row.Stage.TheVariants as stage
-use Rattle.mount_model.specs.Paths.{flats, Name, new_folders, marks_name, marks_folder, mark_path, access_path, open_path, index_path, log_path, openhosts, truncs}
+use Rattle.mount_model.specs.Paths.{flats, Name, new_folders, mark_path, access_path, open_path, index_path, log_path, truncs}
+use Rattle.store_api.specs.Names.{marks_folder}
+use Rattle.container_layout.specs.Paths.{openhosts}
+use Rattle.store_api.specs.Names.{marks_name}
 use Rattle.mount_model.specs.History.{Event}
 use Rattle.mount_model.specs.State.{State, id_of}
 use Rattle.mount_model.specs.Writing.{wrote, entry_of}

@@ -29,7 +29,8 @@ use Rattle.mount_sound.proofs.Facts.{no_writes, mounted_sound}
 use Rattle.gathering.specs.Moments.{Moment, IsSoundAt, moment_after, Dropping}
 use Rattle.gathering.specs.Seen.{Asked, asked_in, calls_of}
 use Rattle.gathering.specs.Gathering.{Gathered, Gathers}
-use Rattle.gathering.specs.Listing.{IsAmong, IsListed, IsIndexName, AreDroppingsOf, ListsHostdirs, IsScan}
+use Rattle.gathering.specs.Listing.{IsListed, IsIndexName, AreDroppingsOf, ListsHostdirs, IsScan}
+use Rattle.plfs_types.specs.Places.{IsAmong}
 use Rattle.gathering.specs.Flats.{IsCoveredSo}
 use Rattle.gathering.specs.View.{writes_in}
 use Rattle.gathering.specs.Opening.{IsOpening, IsPackedSo, ReadsSo}

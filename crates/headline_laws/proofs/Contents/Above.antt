@@ -14,12 +14,13 @@ use Rattle.mount_sound.proofs.Facts.{take_less}
 use Rattle.gathering.specs.Gathering.{Gathered, IsAdmissible}
 use Rattle.gathering.specs.Moments.{Dropping, HadTrunc, IsSoundAt, Moment, file_then, issued_by, landed, landed_by, moment_after}
 use Rattle.gathering.specs.Opening.{HasView}
-use Rattle.gathering.specs.View.{WritersRise, change_of, own_entries, writes_in}
+use Rattle.gathering.specs.View.{WritersRise, own_entries, writes_in}
+use Rattle.mount_sound.specs.Ledger.{change_of}
 use Rattle.gathering.proofs.Facts.{All-append, All-weaker, landed_is_first}
 use Rattle.gathering.proofs.Moments.Bounds.{truncs_above}
 use Rattle.gathering.proofs.Moments.Stepping.{IsAboveThen}
 use Rattle.gathering.proofs.OpenReaders.Viewing.{All-take, entries_split}
-use Rattle.headline.specs.Run.{IsAmong}
+use Rattle.plfs_types.specs.Places.{IsAmong}
 use Rattle.headline.specs.Views.{stamp_of}
 
 abbrev pub IsBelow : ℕ → Change → Type 0

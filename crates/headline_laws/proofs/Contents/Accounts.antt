@@ -22,7 +22,7 @@ use Rattle.mount_sound.specs.Owed.{IsLawful}
 use Rattle.flow.specs.Running.{unbroken}
 use Rattle.writer_laws.specs.Counting.{writes_told}
 use Rattle.gathering.specs.Moments.{Dropping, IsSoundAt, Moment, moment_after}
-use Rattle.gathering.specs.View.{change_of}
+use Rattle.mount_sound.specs.Ledger.{change_of}
 use Rattle.gathering.proofs.Facts.{among, any_found, legal_first, legal_rest, moment-append, sound_after}
 use Rattle.script_lang.specs.Ranges.{FitsScript}
 use Rattle.script_lang.specs.declared.line.Outcome.{Outcome}

@@ -9,7 +9,7 @@ use Rattle.plain_file.specs.declared.changes.Change.{Change}
 use Rattle.plain_file.specs.File.{stored_by, stored_bytes}
 use Rattle.mount_sound.specs.Entries.{AreEntriesOf, greatest_end, last_stamp, logged}
 use Rattle.mount_sound.specs.Ledger.{Written, entries_in}
-use Rattle.gathering.specs.View.{change_of}
+use Rattle.mount_sound.specs.Ledger.{change_of}
 use Rattle.headline.specs.Changes.{last_stamp_of}
 use Rattle.headline.specs.Left.{end_of}
 

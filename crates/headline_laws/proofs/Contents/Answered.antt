@@ -23,7 +23,8 @@ use Rattle.mount_sound.specs.Owed.{IsLawful}
 use Rattle.mount_sound.specs.Sound.{IsSoundTree}
 use Rattle.gathering.specs.Moments.{HadTrunc, IsSoundAt, Moment, file_told, moment_after}
 use Rattle.gathering.specs.Opening.{HasView}
-use Rattle.gathering.specs.View.{WritersRise, change_of, changes_in, cut_off, writes_in}
+use Rattle.gathering.specs.View.{WritersRise, changes_in, cut_off, writes_in}
+use Rattle.mount_sound.specs.Ledger.{change_of}
 use Rattle.gathering.proofs.Facts.{All-weaker, among, legal_first, legal_rest, moment-append, sound_after}
 use Rattle.gathering.proofs.OpenReaders.Viewing.{entries_of-changes, truncs_of-changes}
 use Rattle.script_lang.specs.Ranges.{FitsScript}
@@ -37,10 +38,12 @@ use Rattle.play_laws.specs.OneFile.{ArePiecesSeen, OneFile}
 use Rattle.play_laws.specs.OneWriter.{OneWriter}
 use Rattle.play_laws.specs.Showing.{TellsOneFile}
 use Rattle.play_laws.proofs.Facts.{Next}
-use Rattle.headline.specs.Run.{IsAmong, IsLine, Run, Says, Told, before, own, phased, told}
+use Rattle.headline.specs.Run.{IsLine, Run, Says, Told, before, own, phased, told}
+use Rattle.plfs_types.specs.Places.{IsAmong}
 use Rattle.headline.specs.Trees.{Has}
 use Rattle.headline.specs.Views.{IsCut, Seen, changes_of, item_of, writes_of}
-use Rattle.headline.specs.Files.{Answers, entry_of, reader_after, reader_at, reader_next}
+use Rattle.headline.specs.Files.{Answers, reader_after, reader_at, reader_next}
+use Rattle.outcomes.specs.Outcomes.{entry_of}
 use Rattle.headline.specs.Changes.{writing_at}
 use Rattle.headline.specs.Contents.{HasContents, ShowsContents}
 use Rattle.headline_laws.proofs.OrderlyLines.AnswerSteps.{MapsSo, step_of}

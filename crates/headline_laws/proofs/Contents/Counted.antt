@@ -27,7 +27,8 @@ use Rattle.mount_sound.specs.Sound.{IsSoundTree}
 use Rattle.mount_sound.proofs.Facts.{mounted_sound}
 use Rattle.gathering.specs.Gathering.{Gathered, IsAdmissible}
 use Rattle.gathering.specs.Moments.{Dropping, IsSoundAt, Moment, file_in_room, issued_by, moment_after}
-use Rattle.gathering.specs.View.{WritersRise, change_of, own_entries, writes_in}
+use Rattle.gathering.specs.View.{WritersRise, own_entries, writes_in}
+use Rattle.mount_sound.specs.Ledger.{change_of}
 use Rattle.gathering.proofs.Facts.{length-entries, sound_after}
 use Rattle.script_lang.specs.Ranges.{FitsScript}
 use Rattle.script_lang.specs.declared.line.Outcome.TheVariants as line

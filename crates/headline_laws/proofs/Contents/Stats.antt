@@ -18,14 +18,16 @@ use Rattle.mount_model.specs.State.{State}
 use Rattle.mount_sound.specs.Sound.{IsSoundTree}
 use Rattle.attr_flow.specs.Shares.{stored_in}
 use Rattle.gathering.specs.Moments.{HadItem, IsSoundAt, Moment, moment_after}
-use Rattle.gathering.specs.View.{WritersRise, change_of, changes_in, cut_off, writes_in}
+use Rattle.gathering.specs.View.{WritersRise, changes_in, cut_off, writes_in}
+use Rattle.mount_sound.specs.Ledger.{change_of}
 use Rattle.gathering.proofs.Facts.{All-weaker}
 use Rattle.script_lang.specs.Ranges.{FitsScript}
 use Rattle.script_lang.specs.declared.line.Outcome.TheVariants as line
 use Rattle.run_core.specs.Play.{IsRight}
 use Rattle.play_laws.specs.OneFile.{printed_cut}
 use Rattle.play_laws.specs.Telling.{TellsOfFile}
-use Rattle.headline.specs.Run.{IsAmong, Run, Says, Told}
+use Rattle.headline.specs.Run.{Run, Says, Told}
+use Rattle.plfs_types.specs.Places.{IsAmong}
 use Rattle.headline.specs.Trees.{Has}
 use Rattle.headline.specs.Views.{Seen, changes_of, item_of, shared, writes_of}
 use Rattle.headline.specs.Files.{reader_at}

@@ -27,7 +27,8 @@ use Rattle.mount_model.specs.declared.row.Making.TheVariants as making
 use Rattle.mount_model.specs.Entering.{draw_check, next_id}
 use Rattle.mount_model.specs.History.{Event}
 use Rattle.mount_model.specs.Making.{Told}
-use Rattle.mount_model.specs.Paths.{Name, installed, installed_of, open_path, openhosts, temporary, temporary_of}
+use Rattle.mount_model.specs.Paths.{Name, installed, installed_of, open_path, temporary, temporary_of}
+use Rattle.container_layout.specs.Paths.{openhosts}
 use Rattle.mount_model.specs.State.{State, last_id, timed}
 use Rattle.mount_model.specs.Step.{Answers, IsStep}
 use Rattle.mount_model.specs.Stopped.{IsLeftBy}

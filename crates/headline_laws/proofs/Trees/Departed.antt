@@ -17,7 +17,7 @@ use Rattle.mount_sound.specs.Ledger.{Written, entries_in}
 use Rattle.mount_sound.specs.Owed.{IsLawful}
 use Rattle.mount_sound.specs.Sound.{IsSoundTree}
 use Rattle.gathering.specs.Moments.{Dropping, IsSoundAt, Moment, file_in_room, file_in_tree, issued_by, moment_after}
-use Rattle.gathering.specs.View.{change_of}
+use Rattle.mount_sound.specs.Ledger.{change_of}
 use Rattle.gathering.proofs.Facts.{among, is_among, legal_rest, moment-append}
 use Rattle.script_lang.specs.Ranges.{FitsScript}
 use Rattle.script_lang.specs.declared.line.Outcome.{Outcome}

@@ -45,8 +45,10 @@ use Rattle.actor_core.specs.Statements.{disarmed, work_of}
 use Rattle.actor_core.specs.Work.{finishes}
 use Rattle.run_core.specs.Play.{IsRight}
 use Rattle.play_laws.proofs.Facts.{ComesTo}
-use Rattle.headline.specs.Run.{IsAmong, IsLine, Run, Says, Told, surely_before}
-use Rattle.headline.specs.Names.{marks_room, names_in}
+use Rattle.headline.specs.Run.{IsLine, Run, Says, Told, surely_before}
+use Rattle.plfs_types.specs.Places.{IsAmong}
+use Rattle.headline.specs.Names.{names_in}
+use Rattle.store_api.specs.Names.{marks_name}
 use Rattle.headline.specs.Readers.{RenamesNone, SpeaksOf}
 use Rattle.headline.specs.Files.{reader_at}
 use Rattle.headline.specs.Changes.{Writing, writing_at}
@@ -139,7 +141,7 @@ mounting_names times opened start tree n name mounted is room there named =
 same_tree : (x y : Tree) (o : Option Tree) → o ≡ Some x → o ≡ Some y → x ≡ y
 same_tree x y o p q = cc
 
-not_marks : (name : Name) → IsLogicalName name → name ≡ marks_room → ⊥
+not_marks : (name : Name) → IsLogicalName name → name ≡ marks_name → ⊥
 not_marks name logical is = let clash : false ≡ true = sym (ap is_logical is) ∙ rule_passes name logical in absurd (cc)
 
 module _ (run : Run) (times : Option (List ℕ)) (mount : Stored) (start end : State) (fits : FitsScript run.script) (mounted : IsMounted 0 times mount start) (tells : mount.tree ≡ Some run.before) (sound : IsSoundTree run.before)
@@ -193,7 +195,7 @@ module _ (run : Run) (times : Option (List ℕ)) (mount : Stored) (start end : S
     X = l.line.part.earlier ++ z.upto
 
     -- a container that has the name then, but that of the marks
-    in_list : (n : ℕ) (name : Name) → (name ≡ marks_room → ⊥) → HasName (moment_after Begins X).state n name → IsAmong name names
+    in_list : (n : ℕ) (name : Name) → (name ≡ marks_name → ⊥) → HasName (moment_after Begins X).state n name → IsAmong name names
     in_list n name apart has =
         let there : slice_get z.sound_there.shape.tree.rooms n ≡ Some has.room = subst (λ (x : Tree). slice_get x.rooms n ≡ Some has.room) (same_tree has.tree z.sound_there.shape.tree (moment_after Begins X).state.store.tree has.told z.sound_there.shape.told) has.there in
         elim (z.sound_there.shape.shaped.rooms n has.room there) as (λ _. IsAmong name names) [
@@ -215,13 +217,13 @@ module _ (run : Run) (times : Option (List ℕ)) (mount : Stored) (start end : S
         each [] all = tt
         each (x ∷ xs) all = (one x (all x (inl refl)), each xs (λ name at. all name (inr at)))
 
-    stood_so : (name : Name) → IsAmong name (names_in run.before) → (name ≡ marks_room → ⊥) → IsAmong name names
+    stood_so : (name : Name) → IsAmong name (names_in run.before) → (name ≡ marks_name → ⊥) → IsAmong name names
     stood_so name at apart =
         let f = name_of_room run.before.rooms name (among (names_in run.before) name at) in
         in_list f.number name apart (stays_to none [] X z.rest z.split f.number name (mounting_names times mount start run.before f.number name mounted tells f.room f.there f.is))
 
   -- one by which a line spoke of a container before
-  spoken_so : RenamesNone run → (t : Told) (names : List Name) → Says run t (line.Listed names) → (s : Told) (name : Name) → IsLine run s → SpeaksOf name s.statement s.outcome → surely_before run s t ≡ true → (name ≡ marks_room → ⊥) → IsAmong name names
+  spoken_so : RenamesNone run → (t : Told) (names : List Name) → Says run t (line.Listed names) → (s : Told) (name : Name) → IsLine run s → SpeaksOf name s.statement s.outcome → surely_before run s t ≡ true → (name ≡ marks_name → ⊥) → IsAmong name names
   spoken_so none t names says s name is_line speaks sooner apart =
       let two = two_here run Begins end fits sound_begins right free s t is_line says.is_line sooner in
       let l = two.one.line in
@@ -245,13 +247,13 @@ module _ (run : Run) (times : Option (List ℕ)) (mount : Stored) (start end : S
       let z = listing (reader_at run t) (writing_at run t) t l names says.says in
       record {
         ordered = z.listed.ordered;
-        unmarked = λ at. unmarked_so names z.listed.logical (among names marks_room at);
+        unmarked = λ at. unmarked_so names z.listed.logical (among names marks_name at);
         known = λ none. known_so none t names says (reader_at run t) (writing_at run t) l z;
         stood = λ none name at apart. stood_so none t names says (reader_at run t) (writing_at run t) l z name at apart;
         spoken = λ none s name is_line speaks sooner apart. spoken_so none t names says s name is_line speaks sooner apart;
       }
     where
-      unmarked_so : (xs : List Name) → AllByRecursion IsLogicalName xs → Among marks_room xs → ⊥
+      unmarked_so : (xs : List Name) → AllByRecursion IsLogicalName xs → Among marks_name xs → ⊥
       unmarked_so [] all at = absurd at
       unmarked_so (x ∷ xs) all (inl same) = not_marks x all.0 (sym same)
       unmarked_so (x ∷ xs) all (inr at) = unmarked_so xs all.1 at

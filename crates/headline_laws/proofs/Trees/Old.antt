@@ -16,7 +16,7 @@ use Rattle.store_api.specs.declared.tree.Tree.{Tree}
 use Rattle.store_laws.specs.Files.{file_at}
 use Rattle.mount_model.specs.History.{Event, state_after}
 use Rattle.mount_model.specs.Mounting.{IsMounted}
-use Rattle.mount_model.specs.Paths.{marks_folder}
+use Rattle.store_api.specs.Names.{marks_folder}
 use Rattle.mount_model.specs.State.{State}
 use Rattle.mount_sound.specs.Items.{HasItem}
 use Rattle.mount_sound.specs.Sound.{IsSoundTree}
@@ -29,7 +29,8 @@ use Rattle.script_lang.specs.Ranges.{FitsScript}
 use Rattle.script_lang.specs.declared.line.Outcome.TheVariants as line
 use Rattle.run_core.specs.Play.{IsRight}
 use Rattle.play_laws.specs.OneFile.{OneFile, printed_cut}
-use Rattle.headline.specs.Run.{IsAmong, Run, Says, Told}
+use Rattle.headline.specs.Run.{Run, Says, Told}
+use Rattle.plfs_types.specs.Places.{IsAmong}
 use Rattle.headline.specs.Trees.{Has, landed_writes}
 use Rattle.headline.specs.Views.{item_of}
 use Rattle.headline.specs.Files.{reader_at}

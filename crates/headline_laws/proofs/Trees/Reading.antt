@@ -29,7 +29,8 @@ use Rattle.play_laws.specs.Opening.{SeesOneFile, Stretch}
 use Rattle.play_laws.specs.Showing.{Shows, TellsOneFile}
 use Rattle.play_laws.specs.Writing.{ShowsWriting}
 use Rattle.play_laws.proofs.Facts.{any_back, any_front}
-use Rattle.headline.specs.Run.{IsAmong, IsLine, Run, Says, Told, surely_before}
+use Rattle.headline.specs.Run.{IsLine, Run, Says, Told, surely_before}
+use Rattle.plfs_types.specs.Places.{IsAmong}
 use Rattle.headline.specs.Trees.{Has}
 use Rattle.headline.specs.Views.{IdsRise, item_of}
 use Rattle.headline.specs.Files.{reader_at}

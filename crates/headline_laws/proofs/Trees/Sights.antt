@@ -23,7 +23,8 @@ use Rattle.play_laws.specs.OneWriter.{OneWriter}
 use Rattle.play_laws.specs.Opening.{SeesOneFile}
 use Rattle.play_laws.specs.Showing.{Shows}
 use Rattle.play_laws.specs.Telling.{TellsOfFile}
-use Rattle.headline.specs.Run.{IsAmong, IsLine, Run, Says, Told, surely_before}
+use Rattle.headline.specs.Run.{IsLine, Run, Says, Told, surely_before}
+use Rattle.plfs_types.specs.Places.{IsAmong}
 use Rattle.headline.specs.Trees.{Has}
 use Rattle.headline.specs.Views.{IdsRise, item_of}
 use Rattle.headline.specs.Changes.{Writing}

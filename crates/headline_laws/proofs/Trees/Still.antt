@@ -27,7 +27,7 @@ use Rattle.mount_model.specs.declared.reply.Reply.{Reply}
 use Rattle.mount_model.specs.History.{Event}
 use Rattle.mount_model.specs.Making.{Told}
 use Rattle.mount_model.specs.Mounting.{IsMounted, list_step, mark_step, marks_step}
-use Rattle.mount_model.specs.Paths.{marks_folder}
+use Rattle.store_api.specs.Names.{marks_folder}
 use Rattle.mount_model.specs.State.{State, last_id}
 use Rattle.mount_model.specs.Step.{IsStep}
 use Rattle.mount_model.specs.Table.{is_live, row_of}

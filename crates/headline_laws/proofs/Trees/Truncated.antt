@@ -30,7 +30,7 @@ use Rattle.mount_sound.specs.Sound.{IsSoundTree}
 use Rattle.mount_sound.specs.There.{entries_there}
 use Rattle.mount_sound.proofs.Facts.{take_all}
 use Rattle.gathering.specs.Moments.{Dropping, IsNamed, IsSoundAt, Moment, Stood, index_then, issued_by, landed, landed_by, log_then, moment_after}
-use Rattle.gathering.specs.View.{change_of}
+use Rattle.mount_sound.specs.Ledger.{change_of}
 use Rattle.flow.specs.Running.{unbroken}
 use Rattle.gathering.proofs.Facts.{any_found, in_a_room, in_tree, landed_at, landed_is_first, landed_whole, legal_first, legal_rest, moment-append, sound_after}
 use Rattle.script_lang.specs.Ranges.{FitsScript}

@@ -9,7 +9,8 @@ use Rattle.std.proofs.lemmas.Option.{none-some, same_Some}
 use Rattle.std.proofs.lemmas.List.Elements.{All-head, All-tail}
 use Rattle.mount_model.specs.Regular.{Ascend}
 use Rattle.mount_model.proofs.Facts.{all-unmap}
-use Rattle.index_reader.specs.Found.{item_of, HasPassed}
+use Rattle.index_reader.specs.Found.{item_of}
+use Rattle.plfs_types.specs.Places.{HasPassed}
 
 same_test : (a b : ℕ) → a ≡ b → nat_eq a b ≡ true
 same_test a b e = grind (arith, nat_tests)

@@ -26,7 +26,8 @@ use Rattle.index_reader.specs.PackRules.{pack_told}
 use Rattle.index_reader.specs.Packs.{head_fault, head_then, if_headed, no_tail, pack_program, pack_rest, pack_tail, packed_path}
 use Rattle.index_reader.specs.Scanning.{nothing_found, scanned}
 use Rattle.index_reader.specs.Sharing.{added, dropping_program, gathers, nothing, share_program}
-use Rattle.index_reader.specs.Tails.{if_logged, if_told, log_then, looked, next_read, reads, reads_of, tail_program}
+use Rattle.index_reader.specs.Tails.{if_logged, if_told, log_then, looked, reads, tail_program}
+use Rattle.flow.specs.Entries.{next_read, reads_of}
 use Rattle.index_reader.specs.Tops.{top_shows}
 use Rattle.index_reader.specs.Truncs.{trunc_program}
 use Rattle.index_reader.proofs.Indices.TailLemmas.{if_checked_asks}

@@ -24,7 +24,8 @@ use Rattle.index_reader.specs.declared.sharing.Share.{Share}
 use Rattle.index_reader.specs.Stages.{step_program, pack_step, dropping_left}
 use Rattle.flow.specs.declared.stuck.Stuck.{Stuck}
 use Rattle.flow.specs.Replies.{Tries}
-use Rattle.index_reader.specs.Tails.{if_checked, reads_of, next_read, reads, reads_left, reads_on}
+use Rattle.index_reader.specs.Tails.{if_checked, reads, reads_left, reads_on}
+use Rattle.flow.specs.Entries.{reads_of, next_read}
 
 one_read_less : (left : ℕ) → 0 < left → reads_of left ≡ suc (reads_of (left - next_read left))
 one_read_less left h = elim (cases_lt 4096 left) [

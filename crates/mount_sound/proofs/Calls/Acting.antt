@@ -35,7 +35,8 @@ use Rattle.mount_model.specs.declared.reply.Reply.TheVariants.{Done}
 use Rattle.mount_model.specs.Holding.{HoldsRoom, OnHolder, RenamesRoom, TruncatesAt, hold_step, truncate_check, truncate_stamp, truncate_step, rename_step, release_step}
 use Rattle.mount_model.specs.Flattening.{OnFlattening, begun_flat, StartsPackOf, start_step, put_flat_step, sync_flat_step, install_step}
 use Rattle.mount_model.specs.Recovering.{IsHostAndWriter, SyncsIt, MendsIt, MendsItsMeta, BuriesIt, alive_check, sync_dropping_step, mend_step, mend_meta_step, bury_step, mend_hold_step}
-use Rattle.mount_model.specs.Paths.{Name, new_folders, new_files, openhosts, open_path}
+use Rattle.mount_model.specs.Paths.{Name, new_folders, new_files, open_path}
+use Rattle.container_layout.specs.Paths.{openhosts}
 use Rattle.mount_model.specs.State.{State, Table, drawn, timed}
 use Rattle.mount_model.specs.Step.{Answers, IsStep}
 use Rattle.mount_model.specs.Stopped.{IsCutShort, IsLeftBy}

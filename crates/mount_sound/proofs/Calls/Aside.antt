@@ -19,7 +19,8 @@ use Rattle.mount_model.specs.declared.row.Flattening.{Flattening}
 use Rattle.mount_model.specs.declared.row.Holder.{Holder}
 use Rattle.mount_model.specs.declared.row.Making.{Making}
 use Rattle.mount_model.specs.declared.row.Making.TheVariants as making
-use Rattle.mount_model.specs.Paths.{openhosts, installed_item, installed_of, flat_path, temporary}
+use Rattle.mount_model.specs.Paths.{installed_item, installed_of, flat_path, temporary}
+use Rattle.container_layout.specs.Paths.{openhosts}
 use Rattle.mount_model.specs.State.{Table}
 use Rattle.mount_model.specs.Table.{holder_at, flattening_at}
 use Rattle.mount_sound.specs.Flats.{IsBegunIn, IsRightFor, IsFlatteningIn, AreRightFlats, AreBeingMade}

@@ -18,7 +18,8 @@ use Rattle.mount_model.specs.declared.call.Call.TheVariants.{PutFlat, InstallFla
 use Rattle.mount_model.specs.declared.row.Flattening.{Flattening}
 use Rattle.mount_model.specs.Flattening.{put_flat_step, install_step}
 use Rattle.mount_model.specs.Making.{Told}
-use Rattle.mount_model.specs.Paths.{Name, index_path, log_path, meta_path, open_path, openhosts}
+use Rattle.mount_model.specs.Paths.{Name, index_path, log_path, meta_path, open_path}
+use Rattle.container_layout.specs.Paths.{openhosts}
 use Rattle.mount_model.specs.State.{Table}
 use Rattle.mount_model.specs.Table.{flattening_at}
 use Rattle.mount_sound.proofs.Calls.Acting.{OfEachAct, ActsOn}

@@ -24,7 +24,8 @@ use Rattle.mount_model.specs.declared.reply.Reply.TheVariants.{Done}
 use Rattle.mount_model.specs.declared.row.Row.{Row}
 use Rattle.mount_model.specs.declared.row.Stage.TheVariants as stage
 use Rattle.mount_model.specs.Making.{Told, UnlessRefused, room_check}
-use Rattle.mount_model.specs.Paths.{Name, dropping_path, index_path, meta_path, open_path, openhosts}
+use Rattle.mount_model.specs.Paths.{Name, dropping_path, index_path, meta_path, open_path}
+use Rattle.container_layout.specs.Paths.{openhosts}
 use Rattle.mount_model.specs.Recovering.{BuriesIt, IsHostAndWriter, MendsIt, MendsItsMeta, SyncsIt, alive_check, bury_outcome, bury_step, done_outcome, mend_check, mend_meta_outcome, mend_meta_step, mend_step, mended_file, sync_dropping_step}
 use Rattle.mount_model.specs.State.{State, Table, last_id}
 use Rattle.mount_model.specs.Step.{Answers, IsStep, OwedBy}

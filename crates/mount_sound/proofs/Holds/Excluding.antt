@@ -20,7 +20,8 @@ use Rattle.mount_model.specs.Entering.{draw_check, enter_outcome, enter_step, en
 use Rattle.mount_model.specs.History.{Event}
 use Rattle.mount_model.specs.Holding.{truncate_check, truncate_outcome, truncate_stamp}
 use Rattle.mount_model.specs.Making.{Told}
-use Rattle.mount_model.specs.Paths.{openhosts, open_path}
+use Rattle.mount_model.specs.Paths.{open_path}
+use Rattle.container_layout.specs.Paths.{openhosts}
 use Rattle.mount_model.specs.State.{State, Table}
 use Rattle.mount_model.specs.Step.{Answers, IsStep}
 use Rattle.mount_model.specs.declared.reply.Refusal.TheVariants.{NotOpen}

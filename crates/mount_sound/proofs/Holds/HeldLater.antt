@@ -13,7 +13,7 @@ use Rattle.store_laws.specs.Changes.{FolderRemoved}
 use Rattle.store_laws.proofs.Facts.{acts_told, keeps_rooms, make_folder_told, other_room, remove_folder_told, slice_get-slice_set}
 use Rattle.mount_model.specs.declared.row.Holder.{Holder}
 use Rattle.mount_model.specs.declared.reply.Reply.{Reply}
-use Rattle.mount_model.specs.Paths.{openhosts}
+use Rattle.container_layout.specs.Paths.{openhosts}
 use Rattle.mount_model.specs.Table.{holder_at, flattening_at, without_holder}
 use Rattle.mount_model.specs.State.{State, Table}
 use Rattle.mount_model.specs.Making.{Told, MakesAct}

@@ -11,7 +11,8 @@ use Rattle.store_laws.specs.Files.{SameButFolder}
 use Rattle.store_laws.specs.Changes.{FolderMade, FolderRemoved, RoomRenamed}
 use Rattle.store_laws.proofs.Facts.{has_folder_same, make_folder_told, remove_folder_told, rename_room_told}
 use Rattle.mount_model.specs.declared.row.Row.{Row}
-use Rattle.mount_model.specs.Paths.{Name, openhosts}
+use Rattle.mount_model.specs.Paths.{Name}
+use Rattle.container_layout.specs.Paths.{openhosts}
 use Rattle.mount_model.specs.Making.{Told}
 use Rattle.mount_model.specs.Holding.{hold_step}
 use Rattle.mount_sound.specs.Ledger.{Ledger}

@@ -14,7 +14,8 @@ use Rattle.store_laws.proofs.Facts.{acts_told}
 use Rattle.mount_model.specs.declared.row.Holder.{Holder}
 use Rattle.mount_model.specs.declared.reply.Reply.{Reply}
 use Rattle.mount_model.specs.declared.call.Call.TheVariants.{Mark}
-use Rattle.mount_model.specs.Paths.{Name, openhosts, open_path}
+use Rattle.mount_model.specs.Paths.{Name, open_path}
+use Rattle.container_layout.specs.Paths.{openhosts}
 use Rattle.mount_model.specs.Table.{holder_at, holder_of}
 use Rattle.mount_model.specs.State.{State, Table, drawn, timed, last_id}
 use Rattle.mount_model.specs.Making.{Told, MakesAct, UnlessRefused}

@@ -23,7 +23,9 @@ use Rattle.mount_model.specs.declared.trouble.MountTrouble.{MountTrouble}
 use Rattle.mount_model.specs.Failing.{FailsToMount, no_room, no_names, no_next, no_mark}
 use Rattle.mount_model.specs.Making.{Told}
 use Rattle.mount_model.specs.Mounting.{marks_step, list_step, mark_step, IsMounted}
-use Rattle.mount_model.specs.Paths.{Name, marks_name, marks_folder, mark_path, log_path}
+use Rattle.mount_model.specs.Paths.{Name, mark_path, log_path}
+use Rattle.store_api.specs.Names.{marks_folder}
+use Rattle.store_api.specs.Names.{marks_name}
 use Rattle.mount_model.specs.State.{State, last_id}
 use Rattle.mount_model.proofs.Facts.{mounted_regular}
 use Rattle.mount_shape.specs.Marks.{IsMarksRoom, IsOfMark}

@@ -10,7 +10,8 @@ use Rattle.mount_model.specs.declared.call.Call.TheVariants.{Hold, Release, Star
 use Rattle.mount_model.specs.declared.reply.Reply.{Reply}
 use Rattle.mount_model.specs.Entering.{next_id}
 use Rattle.mount_model.specs.History.{Event, state_after}
-use Rattle.mount_model.specs.Paths.{Name, index_path, log_path, openhosts}
+use Rattle.mount_model.specs.Paths.{Name, index_path, log_path}
+use Rattle.container_layout.specs.Paths.{openhosts}
 use Rattle.mount_model.specs.Regular.{IsRegular}
 use Rattle.mount_model.specs.State.{State, Table, timed}
 use Rattle.mount_model.specs.Step.{Answers, IsStep, IsOwed}

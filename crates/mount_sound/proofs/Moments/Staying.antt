@@ -33,7 +33,8 @@ use Rattle.mount_model.specs.Flushing.{flush_step, sync_index_step, sync_log_ste
 use Rattle.mount_model.specs.Holding.{hold_step, release_step, rename_step, truncate_step}
 use Rattle.mount_model.specs.Leaving.{put_meta_step}
 use Rattle.mount_model.specs.Making.{Told}
-use Rattle.mount_model.specs.Paths.{Name, new_files, new_folders, openhosts, open_path, index_path, installed, installed_item, temporary, temporary_item}
+use Rattle.mount_model.specs.Paths.{Name, new_files, new_folders, open_path, index_path, installed, installed_item, temporary, temporary_item}
+use Rattle.container_layout.specs.Paths.{openhosts}
 use Rattle.mount_model.specs.Regular.{IsOfSerial}
 use Rattle.mount_model.specs.Recovering.{IsHostAndWriter, mend_hold_step, mend_meta_step, mend_step, sync_dropping_step}
 use Rattle.mount_model.specs.State.{State}

@@ -25,7 +25,7 @@ use Rattle.mount_sound.specs.Owed.{IsLawful}
 use Rattle.mount_sound.specs.Sound.{IsSoundFor}
 use Rattle.mount_sound.proofs.Facts.{kept_landed, lawful_first, mounted_keeps, mounted_sound, one_tree, same_host, writer_told, writes_take}
 use Rattle.gathering.specs.Gathering.{Gathered, IsPrefixOf}
-use Rattle.gathering.specs.Listing.{IsAmong}
+use Rattle.plfs_types.specs.Places.{IsAmong}
 use Rattle.gathering.specs.Moments.{Dropping, Grows, HadItem, IsSoundAt, Moment, Stood, file_in_room, file_told, issued_by, landed, landed_by, moment_after}
 use Rattle.gathering.specs.Opening.{HasView}
 use Rattle.gathering.specs.View.{writes_in}

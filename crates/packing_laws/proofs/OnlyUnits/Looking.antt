@@ -22,7 +22,7 @@ use Rattle.mount_sound.specs.Owed.{IsLawful}
 use Rattle.mount_sound.specs.There.{entries_there}
 use Rattle.mount_sound.proofs.Facts.{ActsOn, OfEachAct, step_acts}
 use Rattle.gathering.specs.Moments.{Dropping, HadItem, HadTrunc, IsSoundAt, Moment, Stood, file_told, issued_by, landed, moment_after, next_moment}
-use Rattle.gathering.specs.View.{change_of}
+use Rattle.mount_sound.specs.Ledger.{change_of}
 use Rattle.gathering.proofs.Facts.{sound_after}
 use Rattle.pack_core.specs.Looking.{GreetsOrLooks}
 use Rattle.packing_laws.specs.HasOnly.{HasOnlyUnits}

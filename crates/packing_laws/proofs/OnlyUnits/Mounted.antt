@@ -17,14 +17,16 @@ use Rattle.store_laws.specs.Files.{file_at}
 use Rattle.store_laws.specs.There.{IsRoomOf}
 use Rattle.store_laws.proofs.Facts.{acts_told, changed_room, create_told, keeps_rooms, look_told, make_room_told, other_room, slice_get_more}
 use Rattle.mount_model.specs.Mounting.{IsMounted, list_step, mark_step, marks_step}
-use Rattle.mount_model.specs.Paths.{Name, mark_path, marks_folder, marks_name}
+use Rattle.mount_model.specs.Paths.{Name, mark_path}
+use Rattle.store_api.specs.Names.{marks_folder}
+use Rattle.store_api.specs.Names.{marks_name}
 use Rattle.mount_model.specs.State.{State}
 use Rattle.mount_sound.specs.Items.{HasItem}
 use Rattle.mount_sound.specs.Ledger.{Written}
 use Rattle.mount_sound.specs.Sound.{IsSoundTree}
 use Rattle.mount_sound.proofs.Facts.{one_tree}
 use Rattle.gathering.specs.Moments.{Moment, file_told, issued_by, landed}
-use Rattle.gathering.specs.View.{change_of}
+use Rattle.mount_sound.specs.Ledger.{change_of}
 use Rattle.gathering.proofs.Facts.{in_a_room}
 use Rattle.packing_laws.specs.HasOnly.{IsOfUnits, TreeIsOfUnits, TreeHasOnlyUnits}
 use Rattle.packing_laws.specs.OnlyUnits.{Filing, PutsUnit}

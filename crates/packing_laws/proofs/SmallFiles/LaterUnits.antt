@@ -11,10 +11,11 @@ use Rattle.mount_sound.specs.Ledger.{Written}
 use Rattle.unit_format.specs.declared.units.TheConstants.{REGION_SIZE}
 use Rattle.unit_format.specs.Units.{SmallFile, unit_size, unit_spelling, units_spelling}
 use Rattle.gathering.specs.Gathering.{Gathered}
-use Rattle.gathering.specs.Listing.{IsAmong}
+use Rattle.plfs_types.specs.Places.{IsAmong}
 use Rattle.gathering.specs.Moments.{Dropping, Moment}
 use Rattle.gathering.specs.Opening.{HasView}
-use Rattle.gathering.specs.View.{change_of, changes_in, cut_off, writes_in}
+use Rattle.gathering.specs.View.{changes_in, cut_off, writes_in}
+use Rattle.mount_sound.specs.Ledger.{change_of}
 use Rattle.gathering.proofs.Facts.{all_at, among, among_left}
 use Rattle.pack_input.specs.declared.files.NamedFile.{NamedFile}
 use Rattle.pack_laws.specs.Scanned.{region_start, region_stop}

@@ -17,7 +17,8 @@ use Rattle.gathering.specs.Gathering.{Gathered, IsAdmissible, IsPrefixOf}
 use Rattle.gathering.specs.Listing.{AreTruncsAt}
 use Rattle.gathering.specs.Moments.{HadTrunc, IsSoundAt, Moment, issued_by, landed}
 use Rattle.gathering.specs.Opening.{HasView}
-use Rattle.gathering.specs.View.{WritersRise, change_of, changes_in, cut_off, writes_in}
+use Rattle.gathering.specs.View.{WritersRise, changes_in, cut_off, writes_in}
+use Rattle.mount_sound.specs.Ledger.{change_of}
 use Rattle.gathering.proofs.Facts.{All-append}
 use Rattle.gathering.proofs.OpenReaders.Viewing.{bytes_all, keys_differ}
 use Rattle.unit_format.specs.Units.{SmallFile, unit_spelling}

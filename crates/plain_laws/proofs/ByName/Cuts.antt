@@ -79,10 +79,10 @@ truncs_one m n xs ys a b = stamps_same xs ys a.rise b.rise
 -- ---- those of whom some has landed
 
 module _ (e : Moment) where
-  abbrev some : Dropping → Bool
+  abbrev pub some : Dropping → Bool
   some d = nat_le 1 (landed e d)
 
-  abbrev only_some : List Dropping → List Dropping
+  abbrev pub only_some : List Dropping → List Dropping
   only_some ds = filter some ds
 
   -- what has landed of these, one after the other
@@ -144,10 +144,10 @@ module _ (e : Moment) where
 
 -- ---- a cut
 
-abbrev droppings_in : List Gathered → List Dropping
+abbrev pub droppings_in : List Gathered → List Dropping
 droppings_in cut = map (λ (g : Gathered). g.dropping) cut
 
-abbrev droppings_of : ℕ → List PlainWriter → List Dropping
+abbrev pub droppings_of : ℕ → List PlainWriter → List Dropping
 droppings_of n ws = map (dropping_of n) ws
 
 cut_among : (cut : List Gathered) (d : Dropping) → Among d (droppings_in cut) → (g : Gathered) × Among g cut × (d ≡ g.dropping)
@@ -196,7 +196,7 @@ module _ (s e : Moment) (n : ℕ) (cut : List Gathered) (truncs : List Trunc) (v
   its_prefix g a = All-Among (IsPrefixOf s e) cut g v.admissible a
 
   -- the count of each is what has landed
-  count_is : (g : Gathered) → IsPrefixOf s e g → g.count ≡ landed e g.dropping
+  pub count_is : (g : Gathered) → IsPrefixOf s e g → g.count ≡ landed e g.dropping
   count_is g p = let a = p.least in let b = p.most in let k = same g.dropping in omega (arith, a, b, k)
 
   writes_parts : (gs : List Gathered) → AllByRecursion (IsPrefixOf s e) gs → writes_in e gs ≡ parts e (droppings_in gs)
@@ -214,7 +214,7 @@ module _ (s e : Moment) (n : ℕ) (cut : List Gathered) (truncs : List Trunc) (v
       ap (λ k. if nat_eq k 0 then counts ws else record { writer = w.id; count = k } ∷ counts ws) (sym a.0.landed_is) ∙ ap (λ l. if nat_eq (landed e (dropping_of n w)) 0 then l else record { writer = w.id; count = landed e (dropping_of n w) } ∷ l) (counts_tallies ws a.1)
 
   -- the same writers have something that has landed
-  some_same : only_some e (droppings_in cut) ≡ only_some e (droppings_of n room.writers)
+  pub some_same : only_some e (droppings_in cut) ≡ only_some e (droppings_of n room.writers)
   some_same = same_droppings (only_some e (droppings_in cut)) (only_some e (droppings_of n room.writers)) (rise_some e (droppings_in cut) (cut_rise n cut v.rise)) (rise_some e (droppings_of n room.writers) (writers_rise n room.writers o.rise)) to back
     where
       to : (d : Dropping) → Among d (only_some e (droppings_in cut)) → Among d (only_some e (droppings_of n room.writers))

@@ -29,7 +29,8 @@ use Rattle.mount_model.specs.declared.row.Holder.{Holder}
 use Rattle.mount_model.specs.History.{Event}
 use Rattle.mount_model.specs.Holding.{TruncatesAt, truncate_check, truncate_stamp, truncate_step}
 use Rattle.mount_model.specs.Making.{Refuses, UnlessRefused}
-use Rattle.mount_model.specs.Paths.{Name, metadata, openhosts, trunc_path, truncs}
+use Rattle.mount_model.specs.Paths.{Name, metadata, trunc_path, truncs}
+use Rattle.container_layout.specs.Paths.{openhosts}
 use Rattle.mount_model.specs.State.{State, Table}
 use Rattle.mount_model.specs.Step.{Answers}
 use Rattle.mount_model.specs.Table.{holder_of}
@@ -53,7 +54,7 @@ use Rattle.plain_machine.specs.ByName.{Holds, cut_to}
 use Rattle.plain_machine.specs.Cases.{IsRefused, When}
 use Rattle.plain_machine.specs.Landed.{top_of}
 use Rattle.plain_machine.specs.Statements.{Takes}
-use Rattle.plain_laws.specs.Calls.{AreBy}
+use Rattle.mount_model.specs.History.{AreBy}
 use Rattle.plain_laws.specs.Mirrors.{Mirrors, MirrorsRoom, room_told}
 use Rattle.plain_laws.specs.Served.{GoesWell}
 use Rattle.plain_laws.specs.Stepping.{HasActor, TakesStep}

@@ -1,5 +1,5 @@
 -- A statement finds its room by the name, as a plain machine does.
-use Rattle.std.proofs.Common.{◌≡◌, ◌⊎◌, ℕ, List, [], Option, Some, None, Ok, Err, sym, ap, ◌∙◌, inl, inr, subst}
+use Rattle.std.proofs.Common.{◌≡◌, ◌⊎◌, ℕ, List, ◌∷◌, [], Option, Some, None, Ok, Err, sym, ap, ◌∙◌, inl, inr, subst}
 use Rattle.std.specs.Prelude.{MatchOption, slice_get, slice_index}
 use Rattle.script_lang.specs.declared.line.Outcome.{Outcome}
 use Rattle.script_lang.specs.declared.line.Why.TheVariants as why
@@ -34,7 +34,7 @@ use Rattle.writer_flow.specs.declared.handle.WriterHandle.{WriterHandle}
 use Rattle.plain_machine.specs.Machine.{Plain, PlainActor, PlainRoom}
 use Rattle.plain_machine.specs.Cases.{InRoom, IsRefused, OnRoom}
 use Rattle.plain_machine.specs.Finding.{find}
-use Rattle.plain_laws.specs.Calls.{AreBy}
+use Rattle.mount_model.specs.History.{AreBy}
 use Rattle.plain_laws.specs.Mirrors.{Mirrors, MirrorsAt, MirrorsRoom, room_then, room_told}
 use Rattle.plain_laws.specs.Served.{GoesWell}
 use Rattle.plain_laws.specs.Stepping.{TakesStep}
@@ -83,7 +83,10 @@ pub record IsFound (m mid : Moment) (p : Plain) (name : Name) (number : ℕ) : T
 pub record GoesOn {R : Type 0} (m : Moment) (me : ℕ) (k : Reply → Program Call Reply R) (reply : Reply) (events : List Event) (out : R) : Type 0 where
   pub mid : Moment
   pub sound : IsSoundAt mid
+  pub event : Event
+  pub told : event.reply ≡ reply
   pub rest : List Event
+  pub are : events ≡ event ∷ rest
   pub lawful : IsLawful mid.state rest
   pub well : GoesWell me rest
   pub by : AreBy me rest
@@ -128,7 +131,10 @@ module _ {R : Type 0} (m : Moment) (me : ℕ) (p : Plain) (o : Mirrors m p) (nam
   goes_on reply told = record {
     mid = next_moment m FirstCall.event;
     sound = FirstCall.sound;
+    event = FirstCall.event;
+    told = told;
     rest = FirstCall.rest;
+    are = FirstCall.are;
     lawful = FirstCall.whole.2;
     well = FirstCall.well;
     by = FirstCall.by;

@@ -19,7 +19,7 @@ use Rattle.mount_model.specs.Entering.{draw_check}
 use Rattle.mount_model.specs.History.{Event}
 use Rattle.mount_model.specs.Holding.{HoldOutcome, HoldsRoom, hold_step, holding, let_go, release_outcome, release_step}
 use Rattle.mount_model.specs.Making.{MakesAct, Refuses, Told, otherwise}
-use Rattle.mount_model.specs.Paths.{openhosts}
+use Rattle.container_layout.specs.Paths.{openhosts}
 use Rattle.mount_model.specs.State.{State, Table}
 use Rattle.mount_model.specs.Step.{Answers}
 use Rattle.mount_model.specs.Table.{holder_of, without_holder}
@@ -31,7 +31,7 @@ use Rattle.flow.specs.declared.stuck.Stuck.{Stuck}
 use Rattle.flow.specs.Running.{Runs, unbroken}
 use Rattle.gathering.specs.Moments.{IsSoundAt, Moment, moment_after, next_moment}
 use Rattle.trunc_rename.specs.Holding.{lets_go, released}
-use Rattle.plain_laws.specs.Calls.{AreBy}
+use Rattle.mount_model.specs.History.{AreBy}
 use Rattle.plain_laws.specs.Mirrors.{room_then, room_told}
 use Rattle.plain_laws.specs.Served.{GoesWell}
 use Rattle.plain_laws.proofs.Reaching.{ended, over_alone}

@@ -26,7 +26,8 @@ use Rattle.mount_model.specs.Entering.{draw_check}
 use Rattle.mount_model.specs.History.{Event}
 use Rattle.mount_model.specs.Holding.{HoldOutcome, HoldsRoom, hold_step, holding}
 use Rattle.mount_model.specs.Making.{Refuses, Told, otherwise}
-use Rattle.mount_model.specs.Paths.{Name, openhosts}
+use Rattle.mount_model.specs.Paths.{Name}
+use Rattle.container_layout.specs.Paths.{openhosts}
 use Rattle.mount_model.specs.State.{State, Table}
 use Rattle.mount_model.specs.Step.{Answers}
 use Rattle.mount_model.proofs.Facts.{match_cases}
@@ -47,7 +48,7 @@ use Rattle.plain_machine.specs.Becoming.{drawn, is_spent}
 use Rattle.plain_machine.specs.ByName.{Holds, IsLeastOpen}
 use Rattle.plain_machine.specs.Finding.{open_writers}
 use Rattle.plain_machine.specs.Statements.{Takes}
-use Rattle.plain_laws.specs.Calls.{AreBy}
+use Rattle.mount_model.specs.History.{AreBy}
 use Rattle.plain_laws.specs.Mirrors.{Mirrors, MirrorsRoom, room_then, room_told}
 use Rattle.plain_laws.specs.Opens.{IsSpent}
 use Rattle.plain_laws.specs.Served.{GoesWell}

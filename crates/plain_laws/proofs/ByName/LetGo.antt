@@ -11,7 +11,8 @@ use Rattle.store_api.specs.Room.{has_folder}
 use Rattle.store_laws.specs.Files.{SameButFolder, file_at}
 use Rattle.store_laws.proofs.Facts.{file_at_same}
 use Rattle.mount_model.specs.History.{Event}
-use Rattle.mount_model.specs.Paths.{Name, index_path, log_path, open_path, openhosts}
+use Rattle.mount_model.specs.Paths.{Name, index_path, log_path, open_path}
+use Rattle.container_layout.specs.Paths.{openhosts}
 use Rattle.mount_model.specs.Table.{holder_of}
 use Rattle.mount_sound.specs.Owed.{IsLawful}
 use Rattle.flow.specs.declared.stuck.Stuck.{Stuck}
@@ -23,7 +24,7 @@ use Rattle.trunc_rename.specs.Holding.{lets_go}
 use Rattle.writer_flow.specs.declared.handle.WriterHandle.{WriterHandle}
 use Rattle.plain_machine.specs.Machine.{Plain, PlainActor, PlainRoom, PlainWriter}
 use Rattle.plain_machine.specs.Statements.{Takes}
-use Rattle.plain_laws.specs.Calls.{AreBy}
+use Rattle.mount_model.specs.History.{AreBy}
 use Rattle.plain_laws.specs.Mirrors.{Mirrors, MirrorsRoom}
 use Rattle.plain_laws.specs.Served.{GoesWell}
 use Rattle.plain_laws.specs.Stepping.{HasActor, TakesStep}

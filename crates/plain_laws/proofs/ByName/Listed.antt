@@ -27,7 +27,8 @@ use Rattle.mount_model.specs.declared.reply.Reply.{Reply}
 use Rattle.mount_model.specs.declared.reply.Reply.TheVariants.{Looked, Refused}
 use Rattle.mount_model.specs.Looking.{listing_reply, look_outcome, look_step}
 use Rattle.mount_model.specs.Making.{MakesAct, Refuses, Told, room_check}
-use Rattle.mount_model.specs.Paths.{Name, access_path, marks_folder, metadata, truncs}
+use Rattle.mount_model.specs.Paths.{Name, access_path, metadata, truncs}
+use Rattle.store_api.specs.Names.{marks_folder}
 use Rattle.mount_model.specs.State.{State}
 use Rattle.mount_model.specs.Step.{Answers}
 use Rattle.mount_model.proofs.Facts.{match_cases}

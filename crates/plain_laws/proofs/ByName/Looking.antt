@@ -140,7 +140,7 @@ run_alike (e ∷ events) m sound lawful are =
 
 -- ---- what a machine has of it
 
-landed_alike : (m next : Moment) (d : Dropping) → next.state.store.tree ≡ m.state.store.tree → landed next d ≡ landed m d
+pub landed_alike : (m next : Moment) (d : Dropping) → next.state.store.tree ≡ m.state.store.tree → landed next d ≡ landed m d
 landed_alike m next d tree = ap (λ t. length (entries_there (bytes_of (file_told t d.room (index_path d.host d.writer))) (bytes_of (file_told t d.room (log_path d.host d.writer))))) tree
 
 module _ (m next : Moment) (l : IsAlike m next) (sound : IsSoundAt next) where

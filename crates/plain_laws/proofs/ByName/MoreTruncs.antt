@@ -13,7 +13,8 @@ use Rattle.container_layout.proofs.Facts.{elsewhere, same_items}
 use Rattle.store_api.specs.declared.tree.Room.{Room as RoomThere}
 use Rattle.store_laws.specs.Files.{file_at}
 use Rattle.mount_model.specs.Paths.{Name, trunc_path, truncs}
-use Rattle.gathering.specs.Listing.{AreTruncsAt, IsAmong, StampsRise}
+use Rattle.gathering.specs.Listing.{AreTruncsAt, StampsRise}
+use Rattle.plfs_types.specs.Places.{IsAmong}
 use Rattle.gathering.specs.Moments.{HadTrunc, Moment, file_in_room}
 use Rattle.gathering.proofs.Facts.{all_at, among, among_left, among_right, is_among}
 use Rattle.plain_machine.specs.Machine.{PlainRoom}

@@ -33,7 +33,7 @@ use Rattle.outcomes.specs.Outcomes.{list_outcome}
 use Rattle.actor_core.specs.Names.{names_program, names_told}
 use Rattle.writer_flow.specs.declared.handle.WriterHandle.{WriterHandle}
 use Rattle.plain_machine.specs.Machine.{Plain, PlainActor, PlainRoom}
-use Rattle.plain_laws.specs.Calls.{AreBy}
+use Rattle.mount_model.specs.History.{AreBy}
 use Rattle.plain_laws.specs.Mirrors.{Mirrors, MirrorsAt, room_told}
 use Rattle.plain_laws.specs.Served.{GoesWell}
 use Rattle.plain_laws.specs.Stepping.{HasActor, TakesStep}

@@ -15,7 +15,9 @@ use Rattle.store_laws.specs.Differ.{is_listed}
 use Rattle.store_laws.specs.Files.{file_at}
 use Rattle.store_laws.specs.There.{AreNamesOf, ListsFolder, has_entry}
 use Rattle.store_laws.proofs.Facts.{in_order, listed_in_order, ordered_one}
-use Rattle.mount_model.specs.Paths.{Name, access_path, marks_folder, open_path, openhosts}
+use Rattle.mount_model.specs.Paths.{Name, access_path, open_path}
+use Rattle.store_api.specs.Names.{marks_folder}
+use Rattle.container_layout.specs.Paths.{openhosts}
 use Rattle.gathering.specs.Moments.{Dropping, HadItem, IsNamed, IsSoundAt, Moment, file_in_room, file_then}
 use Rattle.gathering.proofs.Containers.Entries.{among_listed, listed_among}
 use Rattle.gathering.proofs.Facts.{any_found, found_any}
@@ -29,14 +31,14 @@ use Rattle.plain_laws.proofs.ByName.Turning.{by_room}
 
 -- ---- lists
 
-among_filter : (ws : List PlainWriter) (w : PlainWriter) → Among w ws → w.is_open ≡ true → Among w (filter (λ (x : PlainWriter). x.is_open) ws)
+pub among_filter : (ws : List PlainWriter) (w : PlainWriter) → Among w ws → w.is_open ≡ true → Among w (filter (λ (x : PlainWriter). x.is_open) ws)
 among_filter [] w a e = absurd a
 among_filter (x ∷ ws) w (inl same) e =
     let t : x.is_open ≡ true = ap (λ (y : PlainWriter). y.is_open) (sym same) ∙ e in
     subst (λ b. Among w (if b then x ∷ filter (λ (y : PlainWriter). y.is_open) ws else filter (λ (y : PlainWriter). y.is_open) ws)) (sym t) (inl same)
 among_filter (x ∷ ws) w (inr a) e = elim x.is_open as (λ b. Among w (if b then x ∷ filter (λ (y : PlainWriter). y.is_open) ws else filter (λ (y : PlainWriter). y.is_open) ws)) [ true ↦ inr (among_filter ws w a e) | false ↦ among_filter ws w a e ]
 
-of_filter : (ws : List PlainWriter) (w : PlainWriter) → Among w (filter (λ (x : PlainWriter). x.is_open) ws) → Among w ws × (w.is_open ≡ true)
+pub of_filter : (ws : List PlainWriter) (w : PlainWriter) → Among w (filter (λ (x : PlainWriter). x.is_open) ws) → Among w ws × (w.is_open ≡ true)
 of_filter [] w a = absurd a
 of_filter (x ∷ ws) w a = elim x.is_open as (λ b. x.is_open ≡ b → Among w (if b then x ∷ filter (λ (y : PlainWriter). y.is_open) ws else filter (λ (y : PlainWriter). y.is_open) ws) → Among w (x ∷ ws) × (w.is_open ≡ true)) [
   | true ↦ λ t m. elim m as (λ _. Among w (x ∷ ws) × (w.is_open ≡ true)) [
@@ -55,7 +57,7 @@ name_among [] name a = absurd a
 name_among (w ∷ ws) name (inl same) = (w, inl refl, same)
 name_among (w ∷ ws) name (inr a) = let r = name_among ws name a in (r.0, inr r.1, r.2)
 
-among_names : (ws : List PlainWriter) (w : PlainWriter) → Among w ws → Among (open_name w) (map open_name ws)
+pub among_names : (ws : List PlainWriter) (w : PlainWriter) → Among w ws → Among (open_name w) (map open_name ws)
 among_names [] w a = absurd a
 among_names (x ∷ ws) w (inl same) = inl (ap open_name same)
 among_names (x ∷ ws) w (inr a) = inr (among_names ws w a)
@@ -87,11 +89,11 @@ no_mark : [] ≡ marks_folder → ⊥
 no_mark clash = elsewhere (first_byte _ _ clash) refl
 
 -- an entry of an open writer
-record IsEntryOf (room : PlainRoom) (name : Name) : Type 0 where
-  w : PlainWriter
-  among : Among w (open_writers room)
-  name_is : name ≡ open_name w
-  is_item : IsItem (item.OpenHost w.host w.id)
+pub record IsEntryOf (room : PlainRoom) (name : Name) : Type 0 where
+  pub w : PlainWriter
+  pub among : Among w (open_writers room)
+  pub name_is : name ≡ open_name w
+  pub is_item : IsItem (item.OpenHost w.host w.id)
 
 module _ (m : Moment) (s : IsSoundAt m) (n : ℕ) (had : IsContainerAt n m) (r : Room) (at : room_then m n ≡ Some r) (room : PlainRoom) (o : MirrorsRoom m n r room) where
   in_tree : slice_get s.shape.tree.rooms n ≡ Some r
@@ -114,7 +116,7 @@ module _ (m : Moment) (s : IsSoundAt m) (n : ℕ) (had : IsContainerAt n m) (r :
       each [] among = tt
       each (w ∷ ws) among = (sym (opens_so w (among w (inl refl))) ∙ ap is_some (bare (open_path w.host w.id).file), each ws (λ x a. among x (inr a)))
 
-  its_writer : (name : Name) (bytes : List ℕ) → file_at r (record { folder = openhosts; file = name }) ≡ Some bytes → IsEntryOf room name
+  pub its_writer : (name : Name) (bytes : List ℕ) → file_at r (record { folder = openhosts; file = name }) ≡ Some bytes → IsEntryOf room name
   its_writer name bytes there = elim (s.shape.shaped.rooms n r in_tree) as (λ _. IsEntryOf room name) [
     | inl marks ↦ absurd (let mark = marks.files access_path had.bytes (sym (file_here access_path) ∙ had.there) in no_mark (ap (λ (p : Path). p.folder) mark.3))
     | inr c ↦
@@ -156,7 +158,7 @@ module _ (m : Moment) (s : IsSoundAt m) (n : ℕ) (had : IsContainerAt n m) (r :
       absurd (cc)
 
   -- whether a name is that of an open writer
-  names_open : (name : Name) → is_listed name Names ≡ has_entry r openhosts name
+  pub names_open : (name : Name) → is_listed name Names ≡ has_entry r openhosts name
   names_open name = both name (is_listed name Names) (entry_at name) refl refl
 
   some_entry : (name : Name) (later : List Name) → AreNamesOf r openhosts (name ∷ later) → (f : Option (List ℕ)) → entry_at name ≡ f → (bytes : List ℕ) × (entry_at name ≡ Some bytes)

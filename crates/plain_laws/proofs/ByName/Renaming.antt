@@ -23,7 +23,8 @@ use Rattle.mount_model.specs.declared.row.Holder.{Holder}
 use Rattle.mount_model.specs.History.{Event}
 use Rattle.mount_model.specs.Holding.{RenamesRoom, rename_outcome, rename_step}
 use Rattle.mount_model.specs.Making.{Refuses, Told}
-use Rattle.mount_model.specs.Paths.{Name, openhosts}
+use Rattle.mount_model.specs.Paths.{Name}
+use Rattle.container_layout.specs.Paths.{openhosts}
 use Rattle.mount_model.specs.State.{State, Table}
 use Rattle.mount_model.specs.Step.{Answers}
 use Rattle.mount_model.specs.Table.{holder_of}
@@ -44,7 +45,7 @@ use Rattle.plain_machine.specs.ByName.{Holds, named}
 use Rattle.plain_machine.specs.Cases.{IsRefused}
 use Rattle.plain_machine.specs.Finding.{find}
 use Rattle.plain_machine.specs.Statements.{Takes}
-use Rattle.plain_laws.specs.Calls.{AreBy}
+use Rattle.mount_model.specs.History.{AreBy}
 use Rattle.plain_laws.specs.Mirrors.{Mirrors, MirrorsRoom, room_then, room_told}
 use Rattle.plain_laws.specs.Served.{GoesWell}
 use Rattle.plain_laws.specs.Stepping.{HasActor, TakesStep}

@@ -17,7 +17,8 @@ use Rattle.store_api.specs.Room.{has_folder}
 use Rattle.store_laws.specs.Changes.{with_room}
 use Rattle.store_laws.specs.Files.{file_at}
 use Rattle.store_laws.proofs.Facts.{changed_room, other_room}
-use Rattle.mount_model.specs.Paths.{Name, index_path, log_path, open_path, openhosts}
+use Rattle.mount_model.specs.Paths.{Name, index_path, log_path, open_path}
+use Rattle.container_layout.specs.Paths.{openhosts}
 use Rattle.mount_model.specs.State.{State, last_id}
 use Rattle.mount_model.specs.Table.{row_of}
 use Rattle.mount_sound.specs.Dropping.{bytes_of}

@@ -25,7 +25,7 @@ use Rattle.writer_flow.specs.Opening.{finds_floor, if_done, if_floored, makes_in
 use Rattle.writer_flow.specs.Syncing.{flushes_and_syncs, if_log_synced, if_synced, sync_program, syncs_index}
 use Rattle.writer_flow.specs.Writing.{flush_then, if_flushed, if_wrote, write_program, writes}
 use Rattle.writer_laws.specs.Waiting.{IsOn}
-use Rattle.plain_laws.specs.Calls.{AreBy}
+use Rattle.mount_model.specs.History.{AreBy}
 use Rattle.plain_laws.proofs.Steps.Leaving.{IsNoExit, IsNoWrite}
 
 -- ---- where nobody else calls, each event is the program's next call

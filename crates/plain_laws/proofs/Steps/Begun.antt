@@ -15,7 +15,9 @@ use Rattle.store_laws.specs.Changes.{Created}
 use Rattle.store_laws.specs.Files.{file_at}
 use Rattle.store_laws.proofs.Facts.{acts_told, create_told, look_told, make_room_told}
 use Rattle.mount_model.specs.Mounting.{IsMounted, list_step, mark_step, marks_step}
-use Rattle.mount_model.specs.Paths.{Name, mark_path, marks_folder, marks_name}
+use Rattle.mount_model.specs.Paths.{Name, mark_path}
+use Rattle.store_api.specs.Names.{marks_folder}
+use Rattle.store_api.specs.Names.{marks_name}
 use Rattle.mount_shape.specs.Marks.{IsMarksRoom}
 use Rattle.mount_sound.specs.Dropping.{bytes_of}
 use Rattle.mount_sound.specs.There.{entries_there}

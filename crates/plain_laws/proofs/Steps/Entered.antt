@@ -24,7 +24,8 @@ use Rattle.mount_model.specs.Entering.{EntersAs, draw_check, enter_outcome, ente
 use Rattle.mount_model.specs.Flooring.{floored}
 use Rattle.mount_model.specs.History.{Event}
 use Rattle.mount_model.specs.Making.{Refuses, Told}
-use Rattle.mount_model.specs.Paths.{open_path, openhosts}
+use Rattle.mount_model.specs.Paths.{open_path}
+use Rattle.container_layout.specs.Paths.{openhosts}
 use Rattle.mount_model.specs.State.{State, Table, last_id}
 use Rattle.mount_model.specs.Step.{Answers}
 use Rattle.mount_model.specs.Table.{at_stage, only, row_of}
@@ -49,7 +50,7 @@ use Rattle.plain_machine.specs.Becoming.{drawn, is_spent, next_of, with_actor, w
 use Rattle.plain_machine.specs.Finding.{owned_writer, writer_in, writer_of_room}
 use Rattle.plain_machine.specs.Landed.{last_trunc_of}
 use Rattle.plain_machine.specs.Writers.{Enters, entered, entering}
-use Rattle.plain_laws.specs.Calls.{AreBy}
+use Rattle.mount_model.specs.History.{AreBy}
 use Rattle.plain_laws.specs.Mirrors.{Mirrors, MirrorsAt, MirrorsHandle, MirrorsRoom, MirrorsWriter, room_then, room_told}
 use Rattle.plain_laws.specs.Opens.{IsSpent, WasShut}
 use Rattle.plain_laws.specs.Plainly.{MirrorsOwn, dropping_of, new_writer}

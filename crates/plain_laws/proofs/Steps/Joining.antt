@@ -23,7 +23,7 @@ use Rattle.plain_machine.specs.Becoming.{made}
 use Rattle.plain_machine.specs.Cases.{InRoom, IsRefused}
 use Rattle.plain_machine.specs.Finding.{find}
 use Rattle.plain_machine.specs.Writers.{Enters, Opens}
-use Rattle.plain_laws.specs.Calls.{AreBy}
+use Rattle.mount_model.specs.History.{AreBy}
 use Rattle.plain_laws.specs.Mirrors.{Mirrors, MirrorsAt, MirrorsHandle, room_then, room_told}
 use Rattle.plain_laws.specs.Served.{GoesWell}
 use Rattle.plain_laws.specs.Stepping.{HasActor, TakesStep, handle_in}

@@ -34,7 +34,7 @@ use Rattle.plain_machine.specs.Landed.{last_of}
 use Rattle.plain_machine.specs.Statements.{Takes}
 use Rattle.plain_machine.specs.Writers.{WritesNow, issue, one_more}
 use Rattle.script_lang.specs.declared.line.Why.TheVariants.{NotOpen}
-use Rattle.plain_laws.specs.Calls.{AreBy}
+use Rattle.mount_model.specs.History.{AreBy}
 use Rattle.plain_laws.specs.Mirrors.{Mirrors, MirrorsHandle, MirrorsWriter}
 use Rattle.plain_laws.specs.Plainly.{MirrorsOwn, RefusesOne, WritesOne, dropping_of}
 use Rattle.plain_laws.specs.Served.{GoesWell}

@@ -47,7 +47,7 @@ use Rattle.writer_laws.proofs.Stops.{whole_answers}
 use Rattle.plain_machine.specs.Machine.{Plain, PlainActor, PlainWriter}
 use Rattle.plain_machine.specs.Becoming.{all_landed, room_with, with_actor, with_room}
 use Rattle.plain_machine.specs.Writers.{left}
-use Rattle.plain_laws.specs.Calls.{AreBy}
+use Rattle.mount_model.specs.History.{AreBy}
 use Rattle.plain_laws.specs.Mirrors.{Mirrors, MirrorsHandle, MirrorsWriter, is_live_in}
 use Rattle.plain_laws.specs.Plainly.{dropping_of}
 use Rattle.plain_laws.specs.Served.{GoesWell}

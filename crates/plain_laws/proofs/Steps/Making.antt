@@ -26,7 +26,8 @@ use Rattle.mount_model.specs.declared.reply.Reply.TheVariants.{Room}
 use Rattle.mount_model.specs.Finding.{make_outcome}
 use Rattle.mount_model.specs.History.{Event}
 use Rattle.mount_model.specs.Making.{Told}
-use Rattle.mount_model.specs.Paths.{Name, new_files, new_folders, openhosts}
+use Rattle.mount_model.specs.Paths.{Name, new_files, new_folders}
+use Rattle.container_layout.specs.Paths.{openhosts}
 use Rattle.mount_model.specs.State.{State, Table, last_id}
 use Rattle.mount_model.specs.Step.{Answers}
 use Rattle.mount_model.specs.Table.{row_of}

@@ -22,7 +22,8 @@ use Rattle.store_laws.proofs.Facts.{create_told, cut_told, keeps_rooms, look_tol
 use Rattle.mount_model.specs.declared.call.Call.{Call}
 use Rattle.mount_model.specs.declared.call.Call.TheVariants.{Enter}
 use Rattle.mount_model.specs.declared.row.Row.{Row}
-use Rattle.mount_model.specs.Paths.{Name, metadata, openhosts}
+use Rattle.mount_model.specs.Paths.{Name, metadata}
+use Rattle.container_layout.specs.Paths.{openhosts}
 use Rattle.mount_model.specs.State.{Table}
 use Rattle.mount_model.specs.Table.{row_of}
 use Rattle.mount_sound.proofs.Facts.{ActsOn, OfEachAct}

@@ -22,7 +22,7 @@ use Rattle.writer_flow.specs.declared.handle.WriterHandle.{WriterHandle}
 use Rattle.plain_machine.specs.Machine.{Plain, PlainOwn, PlainRoom, PlainWriter}
 use Rattle.plain_machine.specs.Becoming.{room_with}
 use Rattle.plain_machine.specs.Finding.{owned_writer, writer_in, writer_of_room}
-use Rattle.plain_laws.specs.Calls.{AreBy}
+use Rattle.mount_model.specs.History.{AreBy}
 use Rattle.plain_laws.specs.Mirrors.{Mirrors, MirrorsAt, MirrorsHandle, MirrorsRoom, MirrorsWriter, is_live_in, room_then}
 use Rattle.plain_laws.specs.Plainly.{MirrorsOwn, dropping_of}
 use Rattle.plain_laws.proofs.Having.{has_stays}

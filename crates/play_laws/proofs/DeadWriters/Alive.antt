@@ -10,7 +10,8 @@ use Rattle.mount_model.specs.declared.reply.Refusal.TheVariants.{Alive, NoRoom}
 use Rattle.mount_model.specs.declared.reply.Reply.TheVariants.{Done, Refused}
 use Rattle.mount_model.specs.declared.row.Row.{Row}
 use Rattle.mount_model.specs.Making.{Refuses, Told, or_reason, otherwise}
-use Rattle.mount_model.specs.Paths.{Name, metadata, openhosts}
+use Rattle.mount_model.specs.Paths.{Name, metadata}
+use Rattle.container_layout.specs.Paths.{openhosts}
 use Rattle.mount_model.specs.Recovering.{BuriesIt, MendsIt, MendsItsMeta, alive_check, bury_outcome, done_outcome, live_reason, mend_check, mend_meta_outcome}
 use Rattle.mount_model.specs.State.{State, Table}
 use Rattle.mount_model.specs.Step.{Answers}

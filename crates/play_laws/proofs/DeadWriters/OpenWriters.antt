@@ -12,7 +12,8 @@ use Rattle.store_api.specs.Room.{is_top}
 use Rattle.store_laws.specs.Files.{file_at}
 use Rattle.store_laws.specs.There.{ListsFolder}
 use Rattle.store_laws.proofs.Facts.{ordered_differ}
-use Rattle.mount_model.specs.Paths.{Name, openhosts}
+use Rattle.mount_model.specs.Paths.{Name}
+use Rattle.container_layout.specs.Paths.{openhosts}
 use Rattle.mount_sound.specs.Items.{HasItem}
 use Rattle.flow.specs.declared.names.OpenEntry.{OpenEntry}
 use Rattle.flow.specs.Names.{open_in}

@@ -32,7 +32,8 @@ use Rattle.torn_tail.specs.declared.recovering.Recovered.{Recovered}
 use Rattle.torn_tail.specs.Recovering.{noted}
 use Rattle.torn_tail.specs.Entries.{checked, longer, looked, no_entries}
 use Rattle.torn_tail.specs.Words.{Run, Went, all_there, breaks, ends}
-use Rattle.torn_tail.specs.Writers.{buries, found, if_checked, if_done, if_synced, keeps, measures_index, measures_log, mends, mends_meta, next_read, not_done, reads, reads_of, syncs_index, syncs_log, writer_program}
+use Rattle.torn_tail.specs.Writers.{buries, found, if_checked, if_done, if_synced, keeps, measures_index, measures_log, mends, mends_meta, not_done, reads, syncs_index, syncs_log, writer_program}
+use Rattle.flow.specs.Entries.{next_read, reads_of}
 use Rattle.gathering.specs.Moments.{Dropping, IsNamed, IsSoundAt, Moment, landed, moment_after}
 use Rattle.gathering.proofs.Facts.{landed_at, legal_first, legal_rest, sound_after}
 use Rattle.reader_laws.proofs.Facts.{answered, first_of}

@@ -12,7 +12,8 @@ use Rattle.mount_model.specs.declared.call.Look.TheVariants.{List as ListFolder}
 use Rattle.mount_model.specs.declared.reply.Reply.{Reply}
 use Rattle.mount_model.specs.declared.reply.Reply.TheVariants.{Looked, Mended, Room}
 use Rattle.mount_model.specs.History.{Event}
-use Rattle.mount_model.specs.Paths.{Name, openhosts}
+use Rattle.mount_model.specs.Paths.{Name}
+use Rattle.container_layout.specs.Paths.{openhosts}
 use Rattle.mount_model.specs.Step.{IsStep}
 use Rattle.mount_sound.specs.Owed.{IsLawful, IsNotLive}
 use Rattle.flow.specs.declared.stuck.Stuck.{Stuck}

@@ -30,7 +30,8 @@ use Rattle.flatten_core.specs.Installing.{done_or, if_done}
 use Rattle.flatten_core.specs.Starting.{begun}
 use Rattle.gathering.specs.Moments.{Dropping, IsSoundAt, Moment, Stood, moment_after}
 use Rattle.gathering.specs.Seen.{calls_of}
-use Rattle.gathering.specs.Listing.{AreFound, IsAmong}
+use Rattle.gathering.specs.Listing.{AreFound}
+use Rattle.plfs_types.specs.Places.{IsAmong}
 use Rattle.gathering.proofs.Facts.{alike, all_at, among, few_covers, its_writers, scan_finds, seen, sound_after, stands}
 use Rattle.reader_laws.specs.Sharing.{in_room}
 use Rattle.reader_laws.proofs.Facts.{HasTop, top_run}

@@ -17,7 +17,8 @@ use Rattle.mount_model.specs.Entering.{draw_check, next_id}
 use Rattle.mount_model.specs.History.{Event}
 use Rattle.mount_model.specs.Holding.{HoldOutcome, HoldsRoom, holding}
 use Rattle.mount_model.specs.Making.{Refuses, Told, otherwise}
-use Rattle.mount_model.specs.Paths.{Name, openhosts}
+use Rattle.mount_model.specs.Paths.{Name}
+use Rattle.container_layout.specs.Paths.{openhosts}
 use Rattle.mount_model.specs.State.{State, Table}
 use Rattle.mount_model.specs.Step.{Answers, IsStep}
 use Rattle.mount_model.specs.Table.{holder_at}

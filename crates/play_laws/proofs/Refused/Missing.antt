@@ -30,7 +30,9 @@ use Rattle.mount_model.specs.History.{Event}
 use Rattle.mount_model.specs.Holding.{HoldOutcome, HoldsRoom, TruncatesAt, hold_step, holding, release_outcome, release_step, rename_outcome, rename_step, truncate_check, truncate_outcome, truncate_stamp, truncate_step}
 use Rattle.mount_model.specs.Looking.{listing_reply, look_outcome, look_step}
 use Rattle.mount_model.specs.Making.{MakesAct, Refuses, Told, otherwise, room_check}
-use Rattle.mount_model.specs.Paths.{Name, access_path, marks_folder, openhosts, trunc_path, truncs}
+use Rattle.mount_model.specs.Paths.{Name, access_path, trunc_path, truncs}
+use Rattle.store_api.specs.Names.{marks_folder}
+use Rattle.container_layout.specs.Paths.{openhosts}
 use Rattle.mount_model.specs.State.{State, Table}
 use Rattle.mount_model.specs.Step.{Answers}
 use Rattle.mount_model.specs.Table.{holder_of}

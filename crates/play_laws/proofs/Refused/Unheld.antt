@@ -24,7 +24,8 @@ use Rattle.mount_model.specs.Entering.{draw_check}
 use Rattle.mount_model.specs.History.{Event}
 use Rattle.mount_model.specs.Holding.{HoldOutcome, HoldsRoom, hold_step, holding}
 use Rattle.mount_model.specs.Making.{Refuses, Told, or_reason, otherwise}
-use Rattle.mount_model.specs.Paths.{Name, open_path, openhosts}
+use Rattle.mount_model.specs.Paths.{Name, open_path}
+use Rattle.container_layout.specs.Paths.{openhosts}
 use Rattle.mount_model.specs.Replies.{FitsAsk, FitsCall}
 use Rattle.mount_model.specs.State.{State, Table}
 use Rattle.mount_model.specs.Step.{Answers}

@@ -8,13 +8,14 @@ use Rattle.plain_file.specs.declared.parts.WriterHost.{WriterHost}
 use Rattle.flow.specs.declared.names.Metadata.{Metadata}
 use Rattle.flow.specs.declared.names.OpenEntry.{OpenEntry}
 use Rattle.flow.specs.declared.stuck.Stuck.{Stuck}
-use Rattle.flow.specs.Entries.{is_next}
+use Rattle.flow.specs.Entries.{is_next, next_read, reads_of}
 use Rattle.flow.specs.Listed.{told_by}
 use Rattle.flow.specs.Order.{entries_by_writer}
 use Rattle.flow.specs.Replies.{Tries, bytes_in, failure, given, is_no_folder, length_in, on_ok, room_in, trouble, damage}
 use Rattle.story.specs.Program.{AsksOnly, Program, ask, done, followed_by}
 use Rattle.store_api.specs.declared.step.Answer.TheVariants.{Names}
-use Rattle.mount_model.specs.Paths.{Name, index_path, log_path, metadata, openhosts, truncs}
+use Rattle.mount_model.specs.Paths.{Name, index_path, log_path, metadata, truncs}
+use Rattle.container_layout.specs.Paths.{openhosts}
 use Rattle.mount_model.specs.declared.call.Call.{Call}
 use Rattle.mount_model.specs.declared.call.Call.TheVariants.{Find, Hold, Look, Mark, Move, Release}
 use Rattle.mount_model.specs.declared.call.Look.{Look as Sight}
@@ -251,17 +252,17 @@ module _ (room : ℕ) (e : OpenEntry) where
     tt,
     λ reply. given_none (bytes_in reply) (trouble (index_path e.host e.writer) reply) _
         (λ bytes.
-        let full : Bool = nat_le (40 * bury.next_read left) (length bytes) in
-        let more : Bool → Run → Tries _ = λ past longer_run. bury.reads n room e told log (left - bury.next_read left) past longer_run in
+        let full : Bool = nat_le (40 * next_read left) (length bytes) in
+        let more : Bool → Run → Tries _ = λ past longer_run. bury.reads n room e told log (left - next_read left) past longer_run in
         looked_none (λ w. AsksQuiet (bury.if_checked e (bury.found room e told) more full w))
-        (λ r. either_none full (more false r) (bury.found room e told r) (reads_none n told log (left - bury.next_read left) false r) (found_none told r))
-        (λ r. either_none full (more true r) (bury.found room e told r) (reads_none n told log (left - bury.next_read left) true r) (found_none told r))
+        (λ r. either_none full (more false r) (bury.found room e told r) (reads_none n told log (left - next_read left) false r) (found_none told r))
+        (λ r. either_none full (more true r) (bury.found room e told r) (reads_none n told log (left - next_read left) true r) (found_none told r))
         (λ r. tt)
-        ended log (bury.next_read left) bytes run),
+        ended log (next_read left) bytes run),
   )
 
   log_none : (told : ℕ) → AsksQuiet (bury.measures_log room e told)
-  log_none told = (tt, λ reply. given_none (length_in reply) (trouble (log_path e.host e.writer) reply) _ (λ log. reads_none (bury.reads_of (told / 40)) told log (told / 40) false _))
+  log_none told = (tt, λ reply. given_none (length_in reply) (trouble (log_path e.host e.writer) reply) _ (λ log. reads_none (reads_of (told / 40)) told log (told / 40) false _))
 
   writer_none : AsksQuiet (bury.writer_program room e)
   writer_none = (tt, λ reply. fate_none (bury.measures_index room e) reply (tt, λ told. given_none (length_in told) (trouble (index_path e.host e.writer) told) (bury.measures_log room e) log_none))

@@ -6,7 +6,8 @@ use Rattle.plfs_types.specs.Names.{IsLogicalName}
 use Rattle.store_api.specs.Acts.{Stored}
 use Rattle.store_api.specs.declared.tree.Tree.{Tree}
 use Rattle.mount_model.specs.Mounting.{IsMounted}
-use Rattle.mount_model.specs.Paths.{Name, marks_name}
+use Rattle.mount_model.specs.Paths.{Name}
+use Rattle.store_api.specs.Names.{marks_name}
 use Rattle.mount_model.specs.State.{State}
 use Rattle.mount_sound.specs.Sound.{IsSoundTree}
 use Rattle.mount_sound.proofs.Facts.{mounted_sound}

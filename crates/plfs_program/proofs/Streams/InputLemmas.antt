@@ -4,7 +4,8 @@ use Rattle.std.proofs.lemmas.Bool.{cases_lt}
 use Rattle.std.proofs.lemmas.Grind.{common_steps}
 use Rattle.std.proofs.lemmas.List.{drop_all, length-take, take-append-drop}
 use Rattle.edge_io.specs.Source.{HandsOver, EndsAtLast}
-use Rattle.plfs_program.specs.Input.{IsAtEnd, IsWholeInput, held}
+use Rattle.plfs_program.specs.Input.{IsWholeInput, held}
+use Rattle.edge_io.specs.Source.{IsAtEnd}
 
 -- two pieces, one after the other, are one
 pub handed_both : (a b : List ℕ) (old mid new : Option (List ℕ)) → HandsOver a old mid → HandsOver b mid new → HandsOver (a ++ b) old new

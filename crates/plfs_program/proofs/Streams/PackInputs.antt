@@ -7,7 +7,8 @@ use Rattle.hex.specs.Hex.{lower_digits}
 use Rattle.hex.proofs.HexLemmas.{length-encode_with}
 use Rattle.unit_format.specs.declared.units.TheConstants.{MAX_CONTENT}
 use Rattle.pack_input.specs.Input.{AreFiles, HasFault, IsInput, SaysFile, content_word}
-use Rattle.pack_input.specs.Layout.{ended, unless_empty}
+use Rattle.pack_input.specs.Layout.{unless_empty}
+use Rattle.plfs_types.specs.Parts.{ended}
 use Rattle.pack_input.specs.declared.files.NamedFile.{NamedFile}
 use Rattle.pack_input.specs.declared.trouble.Kind.{Kind}
 

@@ -24,7 +24,8 @@ use Rattle.store_api.specs.Step.{Name, Step}
 use Rattle.script_lang.specs.declared.line.Line.{Line}
 use Rattle.script_lang.specs.declared.line.Outcome.{Outcome}
 use Rattle.mount_model.specs.Making.{Told}
-use Rattle.mount_model.specs.Paths.{marks_name, marks_folder}
+use Rattle.store_api.specs.Names.{marks_folder}
+use Rattle.store_api.specs.Names.{marks_name}
 use Rattle.mount_model.specs.State.{State}
 use Rattle.mount_model.specs.Listed.{IsGreatest, IsMarkOf}
 use Rattle.mount_model.specs.Mounting.{marks_step, list_step, mark_step, room_told, IsMounted}

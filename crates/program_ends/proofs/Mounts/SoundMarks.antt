@@ -23,7 +23,8 @@ use Rattle.store_laws.proofs.Facts.{list_tells, name_eq, name_same}
 use Rattle.mount_model.specs.Failing.{FailsToMount}
 use Rattle.mount_model.specs.Listed.{IsLeastOther, IsMarkOf}
 use Rattle.mount_model.specs.Mounting.{list_step}
-use Rattle.mount_model.specs.Paths.{marks_name, marks_folder}
+use Rattle.store_api.specs.Names.{marks_folder}
+use Rattle.store_api.specs.Names.{marks_name}
 use Rattle.mount_model.specs.declared.trouble.MountTrouble.{MountTrouble}
 use Rattle.mount_model.specs.declared.trouble.MountTrouble.TheVariants as trouble
 use Rattle.mount_shape.specs.Container.{IsContainer}

@@ -26,13 +26,15 @@ use Rattle.index_reader.specs.Newest.{newest_in}
 use Rattle.index_reader.specs.Opening.{no_flat, flat_program, uncovered, lone_pack, dropping_of, listing_of, unless_uncovered, unless_lone, listed, scans, top_program, if_newest, open_at_program, open_read_program}
 use Rattle.index_reader.specs.Scanning.{nothing_found, unless_foreign, scanned}
 use Rattle.index_reader.specs.Searching.{same_bytes, has_name}
-use Rattle.index_reader.specs.Tops.{access, hostdirs, foreign_at_top, required, shown, top_shows}
+use Rattle.index_reader.specs.Tops.{access, foreign_at_top, required, shown, top_shows}
+use Rattle.container_layout.specs.Paths.{hostdirs}
 use Rattle.index_reader.proofs.Facts.{same_bytes-itself, same_bytes-eq}
 use Rattle.gathering.specs.Moments.{Moment, IsSoundAt, Dropping, IsNamed, moment_after, next_moment}
 use Rattle.gathering.specs.Seen.{Asked, asked_in, calls_of}
 use Rattle.gathering.specs.Flats.{IsFlatName, ReadsFlat, covers_of, pieces_of}
 use Rattle.mount_model.specs.declared.call.Look.TheVariants.{List as ListFolder}
-use Rattle.gathering.specs.Listing.{IsAmong, IsListed, ListsHostdirs, IsScan}
+use Rattle.gathering.specs.Listing.{IsListed, ListsHostdirs, IsScan}
+use Rattle.plfs_types.specs.Places.{IsAmong}
 use Rattle.gathering.proofs.Facts.{All-append, among, any_found, found_any, is_among, legal_first, legal_rest, seen, sound_after}
 use Rattle.reader_laws.specs.Listing.{AreListed, HasListed, IsPackedAs}
 use Rattle.reader_laws.specs.Opening.{Lists}

@@ -21,7 +21,8 @@ use Rattle.index_reader.specs.Opening.{is_of_host, has_owner, lone_pack, droppin
 use Rattle.index_reader.specs.Scanning.{owner, owner_of, has_writer, nothing_found}
 use Rattle.gathering.specs.Moments.{Dropping, IsNamed}
 use Rattle.gathering.specs.Seen.{Asked}
-use Rattle.gathering.specs.Listing.{IsAmong, IsListed, NamesPack}
+use Rattle.gathering.specs.Listing.{IsListed, NamesPack}
+use Rattle.plfs_types.specs.Places.{IsAmong}
 use Rattle.gathering.proofs.Facts.{alike, among, any_found, found_any, is_among}
 use Rattle.reader_laws.specs.Listing.{IsPackedAs}
 use Rattle.reader_laws.proofs.OpenReaders.Cuts.{all_by, map_among}

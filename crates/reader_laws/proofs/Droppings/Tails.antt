@@ -24,7 +24,8 @@ use Rattle.index_reader.specs.declared.entries.Tail.{Tail}
 use Rattle.index_reader.specs.Replies.{log_length_in, number_in}
 use Rattle.index_reader.specs.Entries.{longer, checked}
 use Rattle.index_reader.specs.Packs.{no_tail}
-use Rattle.index_reader.specs.Tails.{next_read, if_checked, looked, reads_left, reads_on, log_then, tail_program}
+use Rattle.index_reader.specs.Tails.{if_checked, looked, reads_left, reads_on, log_then, tail_program}
+use Rattle.flow.specs.Entries.{next_read}
 use Rattle.index_reader.proofs.Indices.TailLemmas.{reads_going_on}
 use Rattle.gathering.specs.Seen.{asked_in}
 use Rattle.gathering.specs.Gathering.{IsLength, IsLogLength, IsRead, AreReads, GathersIndex}

@@ -33,7 +33,8 @@ use Rattle.mount_model.specs.declared.row.Making.TheVariants as making
 use Rattle.mount_model.specs.Finding.{find_outcome}
 use Rattle.mount_model.specs.Looking.{look_outcome, look_reply, look_step}
 use Rattle.mount_model.specs.Making.{MakesAct, Refuses, Told, room_check}
-use Rattle.mount_model.specs.Paths.{Name, access_path, flat_path, flats, marks_name}
+use Rattle.mount_model.specs.Paths.{Name, access_path, flat_path, flats}
+use Rattle.store_api.specs.Names.{marks_name}
 use Rattle.mount_model.specs.State.{State, last_id}
 use Rattle.mount_model.specs.Step.{Answers}
 use Rattle.mount_model.specs.History.{Event}

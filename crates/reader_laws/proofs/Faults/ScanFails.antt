@@ -13,7 +13,8 @@ use Rattle.store_api.specs.Room.{has_folder}
 use Rattle.store_laws.specs.Files.{file_at}
 use Rattle.store_laws.specs.There.{ListsFolder}
 use Rattle.flat_format.specs.declared.flat.Flat.{Flat}
-use Rattle.mount_model.specs.Paths.{Name, index_path, openhosts}
+use Rattle.mount_model.specs.Paths.{Name, index_path}
+use Rattle.container_layout.specs.Paths.{openhosts}
 use Rattle.mount_model.specs.History.{Event}
 use Rattle.mount_model.specs.State.{last_id}
 use Rattle.mount_shape.specs.Container.{IsContainer}
@@ -28,7 +29,8 @@ use Rattle.index_reader.specs.declared.scanning.Scan.{Scan}
 use Rattle.index_reader.specs.Opening.{listed, listing_of, scans, top_program}
 use Rattle.index_reader.specs.Scanning.{nothing_found, scanned}
 use Rattle.index_reader.specs.Searching.{has_name}
-use Rattle.index_reader.specs.Tops.{hostdirs, shown, top_shows}
+use Rattle.index_reader.specs.Tops.{shown, top_shows}
+use Rattle.container_layout.specs.Paths.{hostdirs}
 use Rattle.gathering.specs.Moments.{Moment, IsSoundAt, Grows, HadItem, moment_after, next_moment}
 use Rattle.gathering.proofs.Facts.{folder_named, grows_after, in_range, legal_first, not_top}
 use Rattle.reader_laws.specs.Failing.{FailsByStore, IsContainerAt}

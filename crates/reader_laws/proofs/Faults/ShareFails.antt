@@ -13,7 +13,8 @@ use Rattle.container_layout.specs.Paths.{hostdir_of, path_of}
 use Rattle.container_layout.proofs.Facts.{elsewhere}
 use Rattle.mount_model.specs.declared.call.Look.TheVariants.{List as ListFolder}
 use Rattle.mount_model.specs.declared.row.Making.TheVariants as making
-use Rattle.mount_model.specs.Paths.{Name, access_path, flats, marks_folder}
+use Rattle.mount_model.specs.Paths.{Name, access_path, flats}
+use Rattle.store_api.specs.Names.{marks_folder}
 use Rattle.mount_model.specs.History.{Event, state_after}
 use Rattle.mount_sound.specs.Owed.{IsLawful}
 use Rattle.flow.specs.declared.stuck.Stuck.{Stuck}
@@ -34,7 +35,8 @@ use Rattle.gathering.specs.Moments.{Moment, IsSoundAt, Dropping, IsNamed, Stood,
 use Rattle.gathering.specs.Seen.{Asked, calls_of, IsSeen, IsSeenCall}
 use Rattle.gathering.specs.Flats.{IsCoveredSo, covered_count, covers_of}
 use Rattle.gathering.specs.Gathering.{Gathered, CoversLanded}
-use Rattle.gathering.specs.Listing.{IsAmong, IsListed, NamesPack, AreFound}
+use Rattle.gathering.specs.Listing.{IsListed, NamesPack, AreFound}
+use Rattle.plfs_types.specs.Places.{IsAmong}
 use Rattle.gathering.specs.Opening.{IsCutOf}
 use Rattle.gathering.proofs.Facts.{IsTaken, all_at, among, answers_as, any_found, flat_taken, folder_listed, follows, found_any, grows_after, grows_refl, grows_trans, legal_first, legal_rest, moment-append, named_file, not_top, scan_finds, scan_found, seen, seen_grows, seen_split, sound_after, stood_grows}
 use Rattle.reader_laws.specs.Failing.{FailsByStore, IsContainerAt}

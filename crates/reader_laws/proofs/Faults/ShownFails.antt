@@ -18,7 +18,8 @@ use Rattle.flow.specs.declared.stuck.Stuck.{Stuck}
 use Rattle.flow.specs.Running.{Runs}
 use Rattle.index_reader.specs.Opening.{no_flat, scans}
 use Rattle.index_reader.specs.Scanning.{nothing_found}
-use Rattle.index_reader.specs.Tops.{hostdirs, shown, top_shows}
+use Rattle.index_reader.specs.Tops.{shown, top_shows}
+use Rattle.container_layout.specs.Paths.{hostdirs}
 use Rattle.gathering.specs.Moments.{Moment, Grows, file_in_room, file_told, next_moment}
 use Rattle.gathering.proofs.Facts.{grows_after}
 use Rattle.reader_laws.specs.Failing.{FailsByStore, IsContainerAt}

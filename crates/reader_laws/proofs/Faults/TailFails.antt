@@ -31,7 +31,8 @@ use Rattle.index_reader.specs.declared.listing.Dropping.{Dropping as Listed}
 use Rattle.index_reader.specs.declared.entries.Tail.{Tail}
 use Rattle.index_reader.specs.Packs.{no_tail}
 use Rattle.index_reader.specs.Replies.{log_length_in, number_in}
-use Rattle.index_reader.specs.Tails.{if_checked, if_logged, if_told, log_then as log_program, looked, next_read, reads_left, reads_on, tail_program}
+use Rattle.index_reader.specs.Tails.{if_checked, if_logged, if_told, log_then as log_program, looked, reads_left, reads_on, tail_program}
+use Rattle.flow.specs.Entries.{next_read}
 use Rattle.index_reader.proofs.Indices.TailLemmas.{reads_going_on}
 use Rattle.gathering.specs.Failing.{BytesOrTrouble}
 use Rattle.gathering.specs.Moments.{Moment, IsSoundAt, Dropping, IsNamed, Stood, Grows, file_in_room, file_told, index_then, log_then, issued_by, landed, moment_after, next_moment}

@@ -32,7 +32,8 @@ use Rattle.index_reader.specs.Gathered.{ArePiecesOfAll, IsGatheredOf, pieces_of_
 use Rattle.gathering.specs.Moments.{Moment, IsSoundAt, Dropping, IsNamed, moment_after}
 use Rattle.gathering.specs.Seen.{Asked, asked_in, calls_of}
 use Rattle.gathering.specs.Gathering.{Gathered, GathersAll}
-use Rattle.gathering.specs.Listing.{IsAmong, NamesPack}
+use Rattle.gathering.specs.Listing.{NamesPack}
+use Rattle.plfs_types.specs.Places.{IsAmong}
 use Rattle.gathering.specs.Flats.{IsCoveredSo, covered_count, covers_of}
 use Rattle.gathering.specs.Opening.{IsCutOf, IsPackedSo, HasView}
 use Rattle.gathering.specs.View.{covered_in, changes_in, tails_in, tails_of, writes_in, WritersRise}

@@ -18,7 +18,7 @@ use Rattle.plain_file.specs.Runs.{ArePieces}
 use Rattle.gathering.specs.Moments.{Moment, IsSoundAt, Dropping, Grows, Stood, issued_by, moment_after}
 use Rattle.gathering.specs.Seen.{Asked, asked_in, calls_of, IsSeen}
 use Rattle.gathering.specs.Gathering.{Gathered, GathersAll, IsPrefixOf}
-use Rattle.gathering.specs.Listing.{IsAmong}
+use Rattle.plfs_types.specs.Places.{IsAmong}
 use Rattle.gathering.specs.Flats.{covers_of as flat_covers, IsFlatName, TakesNewest, pieces_of}
 use Rattle.gathering.specs.Opening.{IsCutOf, IsOpening, HasView, ListsTruncs}
 use Rattle.gathering.specs.View.{covered_in, WritersRise}

@@ -23,7 +23,7 @@ use Rattle.index_reader.specs.Sharing.{share_program}
 use Rattle.gathering.specs.Moments.{Moment, IsNamed, IsSoundAt, Grows, moment_after}
 use Rattle.gathering.specs.Seen.{asked_in, calls_of, Asked}
 use Rattle.gathering.specs.Gathering.{Gathered, Share as Gathering, GatherShares}
-use Rattle.gathering.specs.Listing.{IsAmong}
+use Rattle.plfs_types.specs.Places.{IsAmong}
 use Rattle.gathering.specs.Flats.{pieces_of}
 use Rattle.gathering.specs.Opening.{IsSharedOpening, HasView, ListsTruncs}
 use Rattle.gathering.specs.View.{covered_in, tails_of}

@@ -22,7 +22,8 @@ use Rattle.index_reader.specs.Items.{flat_item, hostdir_item, is_flats, is_of_ho
 use Rattle.index_reader.specs.Newest.{flats_path, greater_id, if_flat, newest_in}
 use Rattle.index_reader.specs.Scanning.{foreign_in, foreign_or, unless_foreign}
 use Rattle.index_reader.specs.Searching.{has_name, same_bytes}
-use Rattle.index_reader.specs.Tops.{access, foreign_at_top, hostdirs, required, shown, top_names, top_shows}
+use Rattle.index_reader.specs.Tops.{access, foreign_at_top, required, shown, top_names, top_shows}
+use Rattle.container_layout.specs.Paths.{hostdirs}
 use Rattle.index_reader.proofs.Facts.{same_bytes-itself}
 use Rattle.gathering.proofs.Facts.{among_listed, file_named, file_of, folder_named, in_range}
 use Rattle.reader_laws.proofs.OpenReaders.Cuts.{among_map}

@@ -24,7 +24,8 @@ use Rattle.mount_model.specs.declared.call.Look.TheVariants as sight
 use Rattle.mount_model.specs.declared.reply.Reply.{Reply}
 use Rattle.mount_model.specs.declared.reply.Reply.TheVariants.{Looked, Fault, NoMemory}
 use Rattle.mount_model.specs.declared.reply.Refusal.{Refusal}
-use Rattle.mount_model.specs.Paths.{Name, access_path, marks_folder}
+use Rattle.mount_model.specs.Paths.{Name, access_path}
+use Rattle.store_api.specs.Names.{marks_folder}
 use Rattle.mount_model.specs.State.{State, last_id}
 use Rattle.mount_model.specs.Making.{Told, MakesAct, Refuses, room_check}
 use Rattle.mount_model.specs.Looking.{look_step, look_outcome, look_reply}

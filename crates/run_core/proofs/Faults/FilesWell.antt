@@ -14,7 +14,8 @@ use Rattle.mount_model.specs.declared.call.Look.TheVariants.{Length, Read, List 
 use Rattle.mount_model.specs.declared.reply.Refusal.{Refusal}
 use Rattle.mount_model.specs.declared.reply.Reply.{Reply}
 use Rattle.mount_model.specs.declared.reply.Reply.TheVariants.{Damaged, Done, Holding, Looked, Marked, Mended, Refused, Room, Rooms}
-use Rattle.mount_model.specs.Paths.{Name, index_path, log_path, metadata, openhosts, truncs}
+use Rattle.mount_model.specs.Paths.{Name, index_path, log_path, metadata, truncs}
+use Rattle.container_layout.specs.Paths.{openhosts}
 use Rattle.mount_model.specs.Replies.{IsTrouble}
 use Rattle.mount_model.specs.Shown.{MayShow}
 use Rattle.flow.specs.declared.names.Metadata.{Metadata}
@@ -36,7 +37,8 @@ use Rattle.index_entry.specs.Spelling.{entry_in}
 use Rattle.flow.specs.Entries.{is_next}
 use Rattle.torn_tail.specs.Entries.{checked, longer, looked, no_entries}
 use Rattle.torn_tail.specs.Recovering.{entries_named, hold_mended, lists_open as lists_writers, mends_hold, noted, nothing, recover_program, recovers, recovers_listed}
-use Rattle.torn_tail.specs.Writers.{buries, found, if_checked, if_done, if_synced, is_alive, keeps, measures_index, measures_log, mends, mends_meta, next_read, not_done, reads, reads_left, reads_of, reads_then, syncs_index, syncs_log, writer_program}
+use Rattle.torn_tail.specs.Writers.{buries, found, if_checked, if_done, if_synced, is_alive, keeps, measures_index, measures_log, mends, mends_meta, not_done, reads, reads_left, reads_then, syncs_index, syncs_log, writer_program}
+use Rattle.flow.specs.Entries.{next_read, reads_of}
 use Rattle.actor_core.specs.Names.{names_program, names_told}
 use Rattle.run_core.proofs.Faults.EndsWell.{EndsIn, GoesWell, by_reply, is_no_fault, then_well}
 

@@ -40,8 +40,10 @@ use Rattle.index_reader.specs.Reading.{placed_all, ends_at, spells, read_program
 use Rattle.index_reader.specs.Scanning.{foreign_in, has_writer, nothing_found, scanned, taken, taken_all, unless_foreign}
 use Rattle.index_reader.specs.Searching.{has_name}
 use Rattle.index_reader.specs.Sharing.{added, dropping_program, gathers, nothing, share_program}
-use Rattle.index_reader.specs.Tails.{if_checked, if_logged, if_told, log_then, looked, next_read, reads, reads_of, tail_program}
-use Rattle.index_reader.specs.Tops.{access, foreign_at_top, hostdirs, required, shown, top_shows}
+use Rattle.index_reader.specs.Tails.{if_checked, if_logged, if_told, log_then, looked, reads, tail_program}
+use Rattle.flow.specs.Entries.{next_read, reads_of}
+use Rattle.index_reader.specs.Tops.{access, foreign_at_top, required, shown, top_shows}
+use Rattle.container_layout.specs.Paths.{hostdirs}
 use Rattle.flow.specs.Names.{trunc_in}
 use Rattle.index_reader.specs.Truncs.{if_trunc, inserted, trunc_program, truncs_of, truncs_path}
 use Rattle.run_core.proofs.Faults.Looking.{IsFine, Looks, either_of, either_looks, on_ok_looks, then_looks, look_looks, find_looks}

@@ -17,7 +17,8 @@ use Rattle.actor_core.specs.Progress.{Progress, idle, going, asked, handed, told
 use Rattle.actor_core.specs.Standings.{progress_of}
 use Rattle.run_core.specs.declared.player.Player.{Player}
 use Rattle.run_core.specs.Course.{Course}
-use Rattle.run_core.specs.Leading.{AreBy, MadeCall}
+use Rattle.run_core.specs.Leading.{MadeCall}
+use Rattle.mount_model.specs.History.{AreBy}
 use Rattle.run_core.specs.Players.{course_at, course_left, IsSafeProgress, IsMade, IsFit, in_progress, lines_left}
 use Rattle.run_core.specs.Moving.{Approaches, Passes, Begins, IsDone}
 use Rattle.run_core.proofs.Players.Leading.{leads_none, leads_both, by_both}

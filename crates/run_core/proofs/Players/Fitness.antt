@@ -16,7 +16,8 @@ use Rattle.actor_core.specs.declared.kept.Kept.{Kept}
 use Rattle.actor_core.specs.Progress.{Progress, idle, going, asked, handed, told}
 use Rattle.actor_core.specs.Standings.{progress_of}
 use Rattle.run_core.specs.declared.player.Player.{Player}
-use Rattle.run_core.specs.Leading.{AreBy, Leads}
+use Rattle.run_core.specs.Leading.{Leads}
+use Rattle.mount_model.specs.History.{AreBy}
 use Rattle.run_core.specs.Players.{IsFit, IsMade, IsSafeProgress}
 
 fine_along : (old : State) (events : List Event) (new : State) → Leads old events new → IsFine old → IsFine new

@@ -6,7 +6,8 @@ use Rattle.mount_model.specs.State.{State}
 use Rattle.mount_model.specs.Step.{IsStep}
 use Rattle.mount_model.specs.History.{Event, state_after}
 use Rattle.mount_sound.specs.Owed.{IsLawful, May}
-use Rattle.run_core.specs.Leading.{AreBy, GoesOn, Leads, MadeCall}
+use Rattle.run_core.specs.Leading.{GoesOn, Leads, MadeCall}
+use Rattle.mount_model.specs.History.{AreBy}
 
 -- a call that its caller may make leads on
 pub called : (old : State) (caller : ℕ) (ask : Ask) (reply : Reply) (new : State) → May old caller ask → IsStep old caller ask reply new → MadeCall old caller ask reply new

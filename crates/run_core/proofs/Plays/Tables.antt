@@ -9,7 +9,8 @@ use Rattle.mount_model.specs.History.{Event}
 use Rattle.script_lang.specs.declared.script.Numbered.{Numbered}
 use Rattle.run_core.specs.declared.player.Player.{Player}
 use Rattle.run_core.specs.Course.{own}
-use Rattle.run_core.specs.Leading.{AreBy, Leads}
+use Rattle.run_core.specs.Leading.{Leads}
+use Rattle.mount_model.specs.History.{AreBy}
 use Rattle.run_core.specs.Players.{IsFit}
 use Rattle.run_core.specs.World.{AllStand, AllFit, KeepsLines, AllKeep}
 use Rattle.run_core.proofs.Players.Fitness.{fit_lasts}

@@ -18,7 +18,8 @@ use Rattle.script_lang.specs.declared.script.Data.{Data}
 use Rattle.script_lang.specs.declared.script.Data.TheVariants as data_of
 use Rattle.script_lang.specs.declared.trouble.Kind.{Kind}
 use Rattle.script_lang.specs.declared.trouble.Kind.TheVariants as kinds
-use Rattle.script_lang.specs.Data.{is_lower_digit, decoded, hex_data, text_data, length_and_byte, pair_data, counted_data, data_in}
+use Rattle.script_lang.specs.Data.{decoded, hex_data, text_data, length_and_byte, pair_data, counted_data, data_in}
+use Rattle.plfs_types.specs.Parts.{is_lower_digit}
 use Rattle.script_lang.specs.Numbers.{number_within}
 use Rattle.script_lang.specs.Spelling.{is_seen, data_word, IsData}
 use Rattle.script_lang.proofs.Arguments.Decimals.{own}

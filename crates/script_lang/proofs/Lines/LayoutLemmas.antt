@@ -6,8 +6,10 @@ use Rattle.std.proofs.lemmas.Bool.Decides.{nat_tests}
 use Rattle.std.proofs.lemmas.List.{append-nil, append_cancel_right}
 use Rattle.std.proofs.lemmas.List.Elements.{All-nil, All-cons, All-weaker, All-tail, All-append, All-from_recursion, recursion_from_All}
 use Rattle.std.proofs.lemmas.List.Splits.{slice_split_none, slice_split_at, length-slice_split, join_with_byte-slice_split}
-use Rattle.script_lang.specs.Layout.{Lacks, ended, AreLines, IsPassed, AreWords}
-use Rattle.script_lang.specs.Words.{parts_of, lines_of, words_of, is_empty, is_passed}
+use Rattle.script_lang.specs.Layout.{AreLines, IsPassed}
+use Rattle.plfs_types.specs.Parts.{Lacks, ended, AreWords}
+use Rattle.script_lang.specs.Words.{lines_of, is_passed}
+use Rattle.plfs_types.specs.Parts.{parts_of, words_of, is_empty}
 
 -- ---- parts
 

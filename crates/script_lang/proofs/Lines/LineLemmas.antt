@@ -10,10 +10,12 @@ use Rattle.script_lang.specs.declared.script.Script.{Script}
 use Rattle.script_lang.specs.declared.trouble.Kind.{Kind}
 use Rattle.script_lang.specs.declared.trouble.Kind.TheVariants as kinds
 use Rattle.script_lang.specs.Kinds.{HasKind, order, IsFirst}
-use Rattle.script_lang.specs.Layout.{IsPassed, AreWords, HasWords}
+use Rattle.script_lang.specs.Layout.{IsPassed, HasWords}
+use Rattle.plfs_types.specs.Parts.{AreWords}
 use Rattle.script_lang.specs.Lines.{meaning_of, line_meaning}
 use Rattle.script_lang.specs.Spoken.{spoken}
-use Rattle.script_lang.specs.Words.{words_of, is_empty, is_passed}
+use Rattle.script_lang.specs.Words.{is_passed}
+use Rattle.plfs_types.specs.Parts.{words_of, is_empty}
 use Rattle.script_lang.proofs.Lines.FirstKinds.{first_found, first_is_found}
 use Rattle.script_lang.proofs.Lines.KindLemmas.{IsPlace, same_kind}
 use Rattle.script_lang.proofs.Lines.LayoutLemmas.{are_words, words_are, empty_word, full_words, none_empty, passed, passed_over, not_passed, is_said}

@@ -12,7 +12,8 @@ use Rattle.script_lang.specs.Grammar.{AreScript, IsScript}
 use Rattle.script_lang.specs.Kinds.{IsFirst}
 use Rattle.script_lang.specs.Layout.{AreLines}
 use Rattle.script_lang.specs.Scripts.{lines_draft, finished, script_of}
-use Rattle.script_lang.specs.Words.{lines_of, words_of}
+use Rattle.script_lang.specs.Words.{lines_of}
+use Rattle.plfs_types.specs.Parts.{words_of}
 use Rattle.script_lang.proofs.Scripts.DraftLemmas.{holds_first, place_in}
 use Rattle.script_lang.proofs.Lines.LayoutLemmas.{are_lines, lines_are, are_words}
 use Rattle.script_lang.proofs.Lines.LineLemmas.{line_fault, line_first}

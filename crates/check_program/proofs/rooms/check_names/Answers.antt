@@ -1,5 +1,5 @@
 use Rattle.std.proofs.Common.{rules, ◌≡◌, true, false, refl}
-use Rattle.mount_model.specs.Paths.{marks_name}
+use Rattle.store_api.specs.Names.{marks_name}
 use Rattle.check_program.specs.Course.{AreThere, marks_untold}
 use Rattle.check_program.proofs.Telling.{any_halt, rooms_broken, rooms_sound, rooms_stop}
 use Rattle.check_program.proofs.rooms.check_names.Goals as goal

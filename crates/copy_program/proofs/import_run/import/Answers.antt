@@ -2,8 +2,8 @@ use Rattle.std.proofs.Common.{ap, sym}
 use Rattle.std.specs.Option.{option_map}
 use Rattle.mount_sound.proofs.Facts.{mounted_fine}
 use Rattle.program_ends.specs.Ends.{Ends, ends_of}
-use Rattle.copy_program.specs.Importing.{imported, sources_of, unmounted}
-use Rattle.copy_program.proofs.Imports.{imported_leaves}
+use Rattle.copy_program.specs.Importing.{sources_of, unmounted}
+use Rattle.copy_program.proofs.Imports.{imported_leaves, imported_so}
 use Rattle.copy_program.proofs.import_run.import.Goals as goal
 
 pub put_each-status-requires : goal.put_each-status-requires
@@ -11,27 +11,16 @@ put_each-status-requires g c = mounted_fine 0 (g.C.Clock.times c.args.clock) (g.
 
 pub returns-in-Ok-clause-course : goal.returns-in-Ok-clause-course
 returns-in-Ok-clause-course g c =
-    imported (g.S.Store.stored c.close.result) (ap (option_map g.S.Store.stored) c.ends.ensures.store)
-    (record {
-      start = c.in-Ok.mount;
-      end = c.put_each-status.new.mount;
-      mounted = c.in-Ok.ensures.ok;
-      puts = rw (sym c.ends.ensures.status) at c.put_each-status.ensures.put;
-      left = sym c.close.ensures;
-    })
+    let e : Ends = ends_of (g.C.Clock.times c.args.clock) (g.O.Sink.taking c.args.out.now) (g.O.Sink.taking c.put_each-status.new.out) (g.S.Store.stored c.args.store) (option_map g.S.Store.stored c.ends.result.store) in
+    imported_so c.args.host c.args.over (sources_of g.I.Source.given c.args.files.items) e c.ends.result.status c.in-Ok.mount c.put_each-status.new.mount (g.S.Store.stored c.close.result)
+    (ap (option_map g.S.Store.stored) c.ends.ensures.store) c.in-Ok.ensures.ok (rw (sym c.ends.ensures.status) at c.put_each-status.ensures.put) (sym c.close.ensures)
 
 pub returns-in-Ok-clause-sound : goal.returns-in-Ok-clause-sound
 returns-in-Ok-clause-sound g c =
     let e : Ends = ends_of (g.C.Clock.times c.args.clock) (g.O.Sink.taking c.args.out.now) (g.O.Sink.taking c.put_each-status.new.out) (g.S.Store.stored c.args.store) (option_map g.S.Store.stored c.ends.result.store) in
     imported_leaves c.args.host c.args.over (sources_of g.I.Source.given c.args.files.items) e c.ends.result.status c.a_failed_mounting_leaves_a_sound_tree.ensures
-    (imported (g.S.Store.stored c.close.result) (ap (option_map g.S.Store.stored) c.ends.ensures.store)
-    (record {
-      start = c.in-Ok.mount;
-      end = c.put_each-status.new.mount;
-      mounted = c.in-Ok.ensures.ok;
-      puts = rw (sym c.ends.ensures.status) at c.put_each-status.ensures.put;
-      left = sym c.close.ensures;
-    }))
+    (imported_so c.args.host c.args.over (sources_of g.I.Source.given c.args.files.items) e c.ends.result.status c.in-Ok.mount c.put_each-status.new.mount (g.S.Store.stored c.close.result)
+    (ap (option_map g.S.Store.stored) c.ends.ensures.store) c.in-Ok.ensures.ok (rw (sym c.ends.ensures.status) at c.put_each-status.ensures.put) (sym c.close.ensures))
 
 pub returns-in-Err-clause-course : goal.returns-in-Err-clause-course
 returns-in-Err-clause-course g c =

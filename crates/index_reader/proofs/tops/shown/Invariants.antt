@@ -1,6 +1,7 @@
 use Rattle.std.proofs.Common.{◌≡◌, ◌≤◌, ◌++◌, ◌-◌, length}
 use Rattle.std.specs.List.{range_with_len}
-use Rattle.index_reader.specs.Tops.{shown, hostdirs}
+use Rattle.index_reader.specs.Tops.{shown}
+use Rattle.container_layout.specs.Paths.{hostdirs}
 use Rattle.index_reader.proofs.tops.shown.Given as goal
 
 abbrev pub invariant-loop-folder : goal.invariant-loop-folder

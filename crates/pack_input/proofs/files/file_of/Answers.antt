@@ -1,5 +1,5 @@
 use Rattle.std.proofs.Common.{◌∷◌, ap, sym, ◌∙◌, option_map}
-use Rattle.pack_input.specs.Words.{parts_behind}
+use Rattle.plfs_types.specs.Parts.{parts_behind}
 use Rattle.pack_input.proofs.SaidFiles.{too_many}
 use Rattle.pack_input.proofs.files.file_of.Goals as goal
 

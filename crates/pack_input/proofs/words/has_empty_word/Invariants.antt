@@ -1,6 +1,6 @@
 use Rattle.std.proofs.Common.{◌≡◌, ◌+◌, length, option_map, unwrap_or}
 use Rattle.std.specs.List.{list_any}
-use Rattle.pack_input.specs.Words.{words_of, is_empty, parts_behind}
+use Rattle.plfs_types.specs.Parts.{words_of, is_empty, parts_behind}
 use Rattle.pack_input.proofs.words.has_empty_word.Given as goal
 
 abbrev pub invariant-loop-rest : goal.invariant-loop-rest

@@ -14,6 +14,6 @@ drive_freely-requires g c = record { free = asks_so _ _ c.in-Ok.ensures.standing
 
 pub returns-in-Err-NoMemory-clause-broken_off : goal.returns-in-Err-NoMemory-clause-broken_off
 returns-in-Err-NoMemory-clause-broken_off g c = record {
-  fits = fits_so _ (c.args.at + unit_size (small_file c.args.file.now)) ((c.args.region + 1) * REGION_SIZE) c.new.ensures.full (λ full. let is = c.in-Err-NoMemory.is in let which = c.in-Err-NoMemory.field-0-is in cc);
+  fits = fits_so _ (c.args.at + unit_size (small_file c.args.file.now)) ((c.args.region + 1) * REGION_SIZE) c.put_of_file.ensures.full (λ full. let is = c.in-Err-NoMemory.is in let which = c.in-Err-NoMemory.field-0-is in cc);
   begins = begins_none (put_program c.args.handle c.args.at (small_file c.args.file.now)) c.args.mount.now;
 }

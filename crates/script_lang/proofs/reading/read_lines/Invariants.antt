@@ -1,5 +1,5 @@
 use Rattle.std.proofs.Common.{◌≡◌, ◌+◌, ◌≤◌, ◌^◌, length, option_map, unwrap_or}
-use Rattle.script_lang.specs.Cuts.{parts_behind}
+use Rattle.plfs_types.specs.Parts.{parts_behind}
 use Rattle.script_lang.specs.Drafts.{FitsDraft, empty_draft}
 use Rattle.script_lang.specs.Scripts.{lines_draft}
 use Rattle.script_lang.specs.Words.{lines_of}

@@ -1,7 +1,7 @@
 use Rattle.std.proofs.Common.{◌≡◌, ◌+◌, ◌≤◌, length, option_map, unwrap_or}
 use Rattle.std.specs.List.{list_any}
-use Rattle.script_lang.specs.Words.{words_of, is_empty}
-use Rattle.script_lang.specs.Cuts.{parts_behind}
+use Rattle.plfs_types.specs.Parts.{words_of, is_empty}
+use Rattle.plfs_types.specs.Parts.{parts_behind}
 use Rattle.script_lang.proofs.words.count_words.Given as goal
 
 abbrev pub invariant-loop-rest : goal.invariant-loop-rest

@@ -11,7 +11,7 @@ invariant-loop-i g l =
     let given = g.I.Source.given in
     let taking = g.O.Sink.taking in
     record {
-      so_far : (declared : List ActorDecl) → AreNew declared l.fn.clients → SoFar declared l.fn.mount (given l.fn.input) (taking l.fn.out) l.clients l.mount (given l.input) (taking l.out);
+      so_far : (declared : List ActorDecl) → AreNew declared l.fn.clients → SoFar declared l.fn.mount (given l.fn.input) (taking l.fn.out) l._i l.clients l.mount (given l.input) (taking l.out);
       rest : AreAtRest l.clients;
       fine : IsFine l.mount;
     }

@@ -1,6 +1,6 @@
 use Rattle.std.proofs.Common.{rules, ◌≡◌, ℕ, Option, None, subst}
 use Rattle.std.specs.Prelude.{◌≢◌}
-use Rattle.mount_model.specs.Paths.{marks_name}
+use Rattle.store_api.specs.Names.{marks_name}
 use Rattle.tree_check.specs.Rooms.{IsNamed}
 use Rattle.shape_check.proofs.Facts.{looked_same}
 use Rattle.tree_check.proofs.RoomLemmas.{ShowsRoom, any_fails, container_named, container_named_fails, marks_fail, marks_told, no_room_named}

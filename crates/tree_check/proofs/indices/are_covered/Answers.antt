@@ -1,10 +1,14 @@
+use Rattle.std.proofs.Common.{rules}
+use Rattle.std.specs.Prelude.{IfErr}
+use Rattle.shape_check.specs.Rightness.{IsFoundIn}
+use Rattle.tree_check.specs.Concerning.{IsOfCover}
 use Rattle.tree_check.specs.Indices.{IsOwned}
 use Rattle.tree_check.proofs.Failing.{none_left}
 use Rattle.tree_check.proofs.IndexLemmas.{all_theirs_tell, none_theirs}
 use Rattle.tree_check.proofs.indices.are_covered.Goals as goal
 
 pub are_merged-requires : goal.are_merged-requires
-are_merged-requires g c = rw c.as_slice-in-Some.ensures.value c.requires.pieces.runs
+are_merged-requires g c = rw c.as_slice-in-Some.ensures.value c.requires.valid.pieces.runs
 
 pub returns-in-Some-clause-ok : goal.returns-in-Some-clause-ok
 returns-in-Some-clause-ok g c =
@@ -18,3 +22,8 @@ returns-in-Some-clause-err g c =
 pub returns-in-None-clause-ok : goal.returns-in-None-clause-ok
 returns-in-None-clause-ok g c =
     none_theirs (g.S.Store.stored c.args.store.now) c.args.place.now c.args.owners.now c.args.flat.now.covers c.args.flat.now.pieces (rw c.in-None.is at (rw c.as_slice.ensures at c.in_ok-found.ensures.ok))
+
+pub returns-in_err-found-clause-named : goal.returns-in_err-found-clause-named
+returns-in_err-found-clause-named g c =
+    let found : IfErr c.from_residual.result (IsFoundIn c.args.place.now.name (IsOfCover c.as_slice.result.now)) = search rules in
+    rw c.as_slice.ensures at found

@@ -29,7 +29,7 @@ returns-in_err-dropping-clause-err g c =
     let old = g.S.Store.stored c.args.store.now in
     let a = g.S.Store.stored c.has_file.new.store in
     let b = g.S.Store.stored c.bytes_or_none.new.store in
-    all_fail_for (IsOwnedAt c.args.place.now c.args.owners.now c.args.path.now) (IsPlaced c.args.place.now) old b (g.S.Store.stored c.read_dropping.new.store) c.from_residual-in_err-dropping.result
+    all_fail_for (IsOwnedAt c.args.place.now c.args.owners.now c.args.path.now) (IsPlaced c.args.place.now) old b (g.S.Store.stored c.take_dropping.new.store) c.from_residual-in_err-dropping.result
     (λ tree seen at. at.owned.placed) (looked_on old a b c.has_file.ensures.looked c.bytes_or_none.ensures.looked) (search rules)
 
 pub landed-requires : goal.landed-requires
@@ -37,7 +37,7 @@ landed-requires g c = c.in_ok-dropping.ensures.orderly.within
 
 pub returns-in_err-holds-clause-err : goal.returns-in_err-holds-clause-err
 returns-in_err-holds-clause-err g c =
-    none_left (IsOwnedAt c.args.place.now c.args.owners.now c.args.path.now) (g.S.Store.stored c.args.store.now) (g.S.Store.stored c.read_dropping.new.store) c.from_residual-in_err-holds.result (search rules)
+    none_left (IsOwnedAt c.args.place.now c.args.owners.now c.args.path.now) (g.S.Store.stored c.args.store.now) (g.S.Store.stored c.take_dropping.new.store) c.from_residual-in_err-holds.result (search rules)
 
 pub returns-clause-ok : goal.returns-clause-ok
 returns-clause-ok g c =

@@ -1,5 +1,6 @@
 use Rattle.std.proofs.Common.{rules}
-use Rattle.shape_check.proofs.Facts.{looked_on}
+use Rattle.shape_check.proofs.Facts.{all_found_by, looked_on}
+use Rattle.tree_check.specs.Concerning.{IsOfCover, IsOfWriter}
 use Rattle.tree_check.specs.Indices.{IsOwned}
 use Rattle.tree_check.proofs.Failing.{all_fail_for}
 use Rattle.tree_check.proofs.IndexLemmas.{cover_at, cover_at_hand, none_covered, tells_all, tells_more}
@@ -11,6 +12,7 @@ loop-cover-preserved g c =
     let mid = g.S.Store.stored c.loop-cover.store in
     let i = c.loop-cover.cover-index in
     record {
+      kept = c.covered.ensures.kept;
       looked = looked_on old mid (g.S.Store.stored c.covered.new.store) c.loop-cover.invariant.looked c.covered.ensures.looked;
       tells = tells_more old mid c.args.place.now c.args.owners.now c.args.covers.now i (cover_at c.args.covers.now i) c.loop-cover.lists c.in-Some.pieces c.push.new.self (cover_at_hand c.args.covers.now i c.loop-cover-test.true)
           c.loop-cover.invariant.looked c.loop-cover.invariant.tells (rw c.in-Some.is at c.in_ok-found.ensures.ok) (search rules);
@@ -29,3 +31,9 @@ returns-in-None-clause-ok g c =
 
 pub returns-clause-ok : goal.returns-clause-ok
 returns-clause-ok g c = tells_all (g.S.Store.stored c.args.store.now) c.args.place.now c.args.owners.now c.args.covers.now c.loop-cover.cover-index c.loop-cover.lists (search rules) c.loop-cover.invariant.tells
+
+pub returns-in_err-found-clause-named : goal.returns-in_err-found-clause-named
+returns-in_err-found-clause-named g c =
+    let i = c.loop-cover.cover-index in
+    let cover = cover_at c.args.covers.now i in
+    all_found_by c.args.place.now.name (IsOfWriter cover.writer) (IsOfCover c.args.covers.now) (λ complaint of. (i, cover, cover_at_hand c.args.covers.now i c.loop-cover-test.true, of)) c.from_residual.result (search rules)

@@ -1,4 +1,4 @@
-use Rattle.std.proofs.Common.{rules}
+use Rattle.std.proofs.Common.{rules, refl}
 use Rattle.shape_check.specs.Files.{IsPlaced}
 use Rattle.shape_check.proofs.Facts.{looked_same}
 use Rattle.tree_check.specs.Known.{IsOpenAt}
@@ -21,3 +21,6 @@ returns-then-has-clause-ok g c =
 pub returns-clause-err : goal.returns-clause-err
 returns-clause-err g c =
     rw c.index_of.ensures (unaccounted c.args.place.now c.args.host c.args.writer c.args.landed (g.S.Store.stored c.args.store.now) (g.S.Store.stored c.has_file.new.store) c.in_ok-has.has (λ none. search rules) (rw c.open_of.ensures at c.in_ok-has.ensures.ok) c.if-has.false)
+
+pub returns-clause-named : goal.returns-clause-named
+returns-clause-named g c = rw c.index_of.ensures (refl, refl)

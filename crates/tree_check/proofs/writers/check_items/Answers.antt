@@ -9,6 +9,7 @@ loop-path-preserved g c =
     let mid = g.S.Store.stored c.loop-path.store in
     let new = g.S.Store.stored c.check_item-told.new.store in
     record {
+      kept = c.check_item-told.ensures.kept;
       looked = looked_on old mid new c.loop-path.invariant.looked c.check_item-told.ensures.looked;
       told = items_more c.args.place.now c.args.owners.now c.args.truncs.now c.args.paths.now c.loop-path.path-index c.path-item.result old mid new c.check_item-told.result c.loop-path.found c.note.new.found
           (path_at_hand c.args.paths.now c.loop-path.path-index c.path-item.result c.loop-path-test.true c.path-item.is) c.loop-path.invariant.looked c.loop-path.invariant.told c.check_item-told.ensures.ok c.check_item-told.ensures.err c.check_item-told.ensures.named (search rules);

@@ -1,8 +1,0 @@
-use Rattle.std.proofs.Common.{rules, ◌≡◌, drop}
-use Rattle.tree_check.proofs.EntryLemmas.{so_far_next}
-use Rattle.tree_check.proofs.entries.entries_of.Goals as goal
-
-pub loop-rest-preserved : goal.loop-rest-preserved
-loop-rest-preserved c =
-    let back : c.split_at.result.1.now ≡ drop 40 c.loop-rest.rest.now = search rules in
-    so_far_next c.args.bytes.now c.loop-rest.rest.now c.split_at.result.1.now c.loop-rest.entries c.push.new.self c.loop-rest-test.true back (search rules) c.loop-rest.invariant
